@@ -37,7 +37,7 @@ meaning_steps setup s p k x left ready marks acts own =
 
 -- The machine's step of a private operation.
 pub machine_steps : (G : Ground) (clock : ℕ) (o : PrivateState) (x : Operation) → o.activity ≡ machine.Running → o.gate ≡ 0
-    → operation_at G.program o.place ≡ Some x → steps.is_kernel_operation x ≡ false
+    → operation_at G.program o.counter ≡ Some x → steps.is_kernel_operation x ≡ false
     → steps.private_step G.program clock o ≡ (act G.program (alone clock o) o x).0
 machine_steps G clock o x running gate there own =
     (λ i. if machine.is_running (running i) then (if steps.is_private o (there i) then (act_on G.program (alone clock o) o (there i)).0 else o) else o)

@@ -17,13 +17,14 @@ use Rattle.cp_program_model.specs.TermsFor.{Knowns, TermFor, nothing_known}
 use Rattle.cp_program_model.specs.StatementsFor.{CodeFor}
 use Rattle.cp_machine_model.specs.PrivateStates as machine
 use Rattle.cp_machine_model.specs.Addresses.{Ground}
-use Rattle.cp_machine_model.specs.Left.{IsTask, Left, RepeatLeft, Running, WhileLeft, held_below, kept_below, site}
+use Rattle.cp_machine_model.specs.Left.{IsTask, Left, Loop, LoopLeft, Repeat, Running, While, held_below, kept_below, site}
 use Rattle.cp_machine_model.specs.PartOf.{CallsBehind}
 use Rattle.cp_machine_model.proofs.Layouts.{same_some}
 use Rattle.cp_machine_model.proofs.NextCalls.{AllMade, Calling, Follows, Learns, Next}
 use Rattle.cp_machine_model.proofs.FirstCalls.{TermAdvances, term_next}
 use Rattle.cp_machine_model.proofs.AssignCalls.{StatementAdvances}
 use Rattle.cp_machine_model.proofs.StatementCalls.{IsFunction, own_no_function, own_place, statement_next}
+use Rattle.cp_machine_model.proofs.Loops.{AtTest, left_at_test, loop_task, made_at_test}
 use Rattle.cp_machine_model.proofs.LeftKept.{SameBelow, left_kept}
 
 abbrev call_or : Call → Option Operation → Call
@@ -163,95 +164,45 @@ module _ (G : Ground) (temps : List ℤ) (limit : ℕ) (R : Running) (fs : List 
               (λ i. elim (in_context (λ y. Do y env) (call_in_statement (h.0 i) v s)) [ None ↦ Do s env ∷ k | Some f ↦ f.1 ∷ k ])
               ∙ (λ i. elim (in_context (λ y. Do y env) (X.found v i)) [ None ↦ Do s env ∷ k | Some f ↦ f.1 ∷ k ])
 
-  while_answered : (now e : a.Expression) (s : a.Statement) (env : Environment) (k : List Task)
-      → Left G temps limit Known R fs place R.unit.temps (WhileTest now e s env ∷ k) → LeftAnswered (WhileTest now e s env ∷ k)
-  while_answered now e s env k h = by (term_next (site G R) Known now W.term W.base place W.last h.1.1 R.unit.temps W.rest)
+  loop_answered : (loop : Loop) (now e : a.Expression) (s : a.Statement) (env : Environment) (k : List Task)
+      → AtTest loop G temps limit Known R fs place R.unit.temps now e s env k → LeftAnswered (loop_task loop now e s env ∷ k)
+  loop_answered loop now e s env k h = by (term_next (site G R) Known now W.term W.base place W.last h.1.1 R.unit.temps W.rest)
     where
-      W : WhileLeft (site G R) Known now e s place h.1.0 h.1.1
+      W : LoopLeft loop (site G R) Known now e s place h.1.0 h.1.1
       W = h.1.3
 
       none : IsFunction (operation_at G.program W.last) → ⊥
       none f = subst IsFunction W.test f
 
-      by : TermAdvances (site G R) Known now W.term W.base place W.last h.1.1 R.unit.temps → LeftAnswered (WhileTest now e s env ∷ k)
+      learnt : (n : ℤ) (x : a.Expression) → TermFor (site G R) (Learnt n) x W.term W.base next W.last h.1.1 R.unit.temps → LoopLeft loop (site G R) (Learnt n) x e s next h.1.0 h.1.1
+      learnt n x rest = record {
+        start = W.start;
+        last = W.last;
+        way = W.way;
+        term = W.term;
+        base = W.base;
+        test = W.test;
+        rest = rest;
+        whole = W.whole;
+        again = W.again;
+      }
+
+      answer : (v x : a.Expression) (u : UserCall) → first_call R.env v now ≡ Some (u, x) → with_answer v (loop_task loop now e s env ∷ k) ≡ loop_task loop x e s env ∷ k
+      answer v x u found =
+          ap (λ (z : Found Task). elim z as (λ y. List Task) [ None ↦ loop_task loop now e s env ∷ k | Some f ↦ f.1 ∷ k ])
+          (made_at_test now e s env loop v R.env h.0 u x found)
+
+      by : TermAdvances (site G R) Known now W.term W.base place W.last h.1.1 R.unit.temps → LeftAnswered (loop_task loop now e s env ∷ k)
       by (AllMade p q r) = absurd (none (subst IsFunction (sym at ∙ ap (operation_at G.program) p) tt))
       by (Calling N) =
           let X = by_next (λ v. first_call R.env v now) (λ L x after. TermFor (site G R) L x W.term W.base after W.last h.1.1 R.unit.temps) W.last h.1.1 N in (
             X.base,
             X.base_is,
             X.follows none,
-            λ n. subst (λ z. Left G (answered_temps n) limit (Learnt n) R fs next R.unit.temps z) (sym (answer X (a.Known X.base n))) (
-              h.0,
-              (
-                h.1.0,
-                h.1.1,
-                h.1.2,
-                record {
-                  start = W.start;
-                  last = W.last;
-                  way = W.way;
-                  term = W.term;
-                  base = W.base;
-                  test = W.test;
-                  rest = X.code n;
-                  whole = W.whole;
-                  again = W.again;
-                },
-                rest_kept n h.1.0 h.1.1 k (X.below n) h.1.4,
-              ),
-            ),
+            λ n. subst (λ z. Left G (answered_temps n) limit (Learnt n) R fs next R.unit.temps z) (sym (answer (a.Known X.base n) (X.fill (a.Known X.base n)) X.user (X.found (a.Known X.base n))))
+                (left_at_test G (answered_temps n) limit (Learnt n) R fs next R.unit.temps (X.fill (a.Known X.base n)) e s env k loop
+                (h.0, (h.1.0, h.1.1, h.1.2, learnt n (X.fill (a.Known X.base n)) (X.code n), rest_kept n h.1.0 h.1.1 k (X.below n) h.1.4))),
           )
-        where
-          answer : (X : Answer (λ v. first_call R.env v now) (λ L x after. TermFor (site G R) L x W.term W.base after W.last h.1.1 R.unit.temps) W.last h.1.1) (v : a.Expression)
-              → with_answer v (WhileTest now e s env ∷ k) ≡ WhileTest (X.fill v) e s env ∷ k
-          answer X v =
-              (λ i. elim (in_context (λ y. WhileTest y e s env) (first_call (h.0 i) v now)) [ None ↦ WhileTest now e s env ∷ k | Some f ↦ f.1 ∷ k ])
-              ∙ (λ i. elim (in_context (λ y. WhileTest y e s env) (X.found v i)) [ None ↦ WhileTest now e s env ∷ k | Some f ↦ f.1 ∷ k ])
-
-  repeat_answered : (now : a.Expression) (s : a.Statement) (e : a.Expression) (env : Environment) (k : List Task)
-      → Left G temps limit Known R fs place R.unit.temps (RepeatTest now s e env ∷ k) → LeftAnswered (RepeatTest now s e env ∷ k)
-  repeat_answered now s e env k h = by (term_next (site G R) Known now W.term W.base place W.last h.1.1 R.unit.temps W.rest)
-    where
-      W : RepeatLeft (site G R) Known now e s place h.1.0 h.1.1
-      W = h.1.3
-
-      none : IsFunction (operation_at G.program W.last) → ⊥
-      none f = subst IsFunction W.test f
-
-      by : TermAdvances (site G R) Known now W.term W.base place W.last h.1.1 R.unit.temps → LeftAnswered (RepeatTest now s e env ∷ k)
-      by (AllMade p q r) = absurd (none (subst IsFunction (sym at ∙ ap (operation_at G.program) p) tt))
-      by (Calling N) =
-          let X = by_next (λ v. first_call R.env v now) (λ L x after. TermFor (site G R) L x W.term W.base after W.last h.1.1 R.unit.temps) W.last h.1.1 N in (
-            X.base,
-            X.base_is,
-            X.follows none,
-            λ n. subst (λ z. Left G (answered_temps n) limit (Learnt n) R fs next R.unit.temps z) (sym (answer X (a.Known X.base n))) (
-              h.0,
-              (
-                h.1.0,
-                h.1.1,
-                h.1.2,
-                record {
-                  start = W.start;
-                  last = W.last;
-                  way = W.way;
-                  term = W.term;
-                  base = W.base;
-                  test = W.test;
-                  rest = X.code n;
-                  whole = W.whole;
-                  again = W.again;
-                },
-                rest_kept n h.1.0 h.1.1 k (X.below n) h.1.4,
-              ),
-            ),
-          )
-        where
-          answer : (X : Answer (λ v. first_call R.env v now) (λ L x after. TermFor (site G R) L x W.term W.base after W.last h.1.1 R.unit.temps) W.last h.1.1) (v : a.Expression)
-              → with_answer v (RepeatTest now s e env ∷ k) ≡ RepeatTest (X.fill v) s e env ∷ k
-          answer X v =
-              (λ i. elim (in_context (λ y. RepeatTest y s e env) (first_call (h.0 i) v now)) [ None ↦ RepeatTest now s e env ∷ k | Some f ↦ f.1 ∷ k ])
-              ∙ (λ i. elim (in_context (λ y. RepeatTest y s e env) (X.found v i)) [ None ↦ RepeatTest now s e env ∷ k | Some f ↦ f.1 ∷ k ])
 
   no_function : {A : Type 0} (place' : ℕ) (o : Operation) → place ≡ place' → operation_at G.program place' ≡ Some o → (IsFunction (Some o) → ⊥) → A
   no_function place' o e is none = absurd (none (subst IsFunction (sym at ∙ (ap (operation_at G.program) e ∙ is)) tt))
@@ -259,8 +210,8 @@ module _ (G : Ground) (temps : List ℤ) (limit : ℕ) (R : Running) (fs : List 
   pub task_answered : (k : List Task) → Left G temps limit Known R fs place R.unit.temps k → LeftAnswered k
   task_answered [] h = absurd h
   task_answered (Do s env ∷ k) h = statement_answered s env k h
-  task_answered (WhileTest now e s env ∷ k) h = while_answered now e s env k h
-  task_answered (RepeatTest now s e env ∷ k) h = repeat_answered now s e env k h
+  task_answered (WhileTest now e s env ∷ k) h = loop_answered While now e s env k h
+  task_answered (RepeatTest now s e env ∷ k) h = loop_answered Repeat now e s env k h
   task_answered (ForNext x down n last s env ∷ k) h = no_function place _ refl h.1.3.test (λ f. f)
   task_answered (EndCall env gate ∷ k) h = by fs h
     where

@@ -64,8 +64,8 @@ module _ (G : Ground) (s : State) (w : Outside) (before : List ℕ) (o : Private
 -- An assignment of a simple value to a variable.
 pub set_steps : (G : Ground) (s : State) (w : Outside) (before : List ℕ) (o : PrivateState) (d : a.Designator) (e : a.Expression) (env : Environment) (k : List Task)
     → (Y : Ready G s w before o (a.Assign d e) env k) (to : Spot) (lower upper : ℤ) (c : Term) (n : ℕ)
-    → operation_at G.program o.place ≡ Some (op.Set to lower upper c n)
-    → AssignsBy (site G Y.now.on.running) (known G s w before o (Do (a.Assign d e) env) k Y.now) d e (op.Set to lower upper c n) o.place Y.now.on.left.2.3.0 Y.now.on.left.2.0 Y.now.on.left.2.1
+    → operation_at G.program o.counter ≡ Some (op.Set to lower upper c n)
+    → AssignsBy (site G Y.now.on.running) (known G s w before o (Do (a.Assign d e) env) k Y.now) d e (op.Set to lower upper c n) o.counter Y.now.on.left.2.3.0 Y.now.on.left.2.0 Y.now.on.left.2.1
     → Stepped G s w before o
 set_steps G s w before o d e env k Y to lower upper c n there h =
     let N = Y.now in
@@ -73,7 +73,7 @@ set_steps G s w before o d e env k Y to lower upper c n there h =
     let none = or_else_none (in_context (λ y. a.Assign y e) (call_in_designator here (a.Literal 0) d)) (in_context (a.Assign d) (first_call here (a.Literal 0) e)) Y.none in
     statement_steps G s w before o (a.Assign d e) env k Y (op.Set to lower upper c n) refl refl there refl
     (by _ _ _ _
-    (place_here G s w before o (Do (a.Assign d e) env) k N N.sees d to (Simple h.0 lower upper h.2) o.place h.3 N.on.left.2.1 h.4 h.8 (in_context_none (λ y. a.Assign y e) (call_in_designator here (a.Literal 0) d) none.0))
+    (place_here G s w before o (Do (a.Assign d e) env) k N N.sees d to (Simple h.0 lower upper h.2) o.counter h.3 N.on.left.2.1 h.4 h.8 (in_context_none (λ y. a.Assign y e) (call_in_designator here (a.Literal 0) d) none.0))
     (value_here G s w before o (Do (a.Assign d e) env) k N N.sees e c h.1 h.3 N.on.left.2.3.0 h.4 N.on.running.unit.temps h.9 (in_context_none (a.Assign d) (first_call here (a.Literal 0) e) none.1)))
     (quietly G s w before o (a.Assign d e) env k Y (op.Set to lower upper c n) tt tt)
   where

@@ -74,5 +74,5 @@ module _ (G : Ground) (q own : ℕ) (o : PrivateState) (number : o.number ≡ q)
       same : block l.shared (suc P.row.parameters) (P.row.waiting - 1) ≡ block k.shared (suc P.row.parameters) (P.row.waiting - 1)
       same = block_same k.shared l.shared (suc P.row.parameters) (P.row.waiting - 1) (λ i low high. waiting i (omega (arith, low)) (omega (arith, high, low)))
 
-      given : AllHaveRights H u.store (components o)
+      given : AllHaveRights H u.store (components o.component o.frames)
       given = subst (AllHaveRights H u.store) (λ i. sym B.at_start.component i ∷ map (λ (f : machine.Frame). f.component) (sym B.at_start.frames i)) (first_has_rights H u.store)

@@ -11,17 +11,16 @@ use Rattle.cp_program_model.specs.StandsFor.{Apart, system_of_monitor, system_of
 use Rattle.cp_program_model.specs.Starts.{word}
 use Rattle.cp_machine_model.specs.PrivateStates.{PrivateState}
 use Rattle.cp_machine_model.specs.Addresses.{Activation, ClassLies, ComponentLies, Ground, MonitorLies, ProcessLies, activation_at, activations, component_type, lies, part_at, scope}
-use Rattle.cp_machine_model.specs.Left.{held_below, site}
+use Rattle.cp_machine_model.specs.Left.{site}
 use Rattle.cp_machine_model.specs.Means.{CellMeans}
 use Rattle.cp_machine_model.specs.Passing.{monitor_start}
-use Rattle.cp_machine_model.specs.PartOf.{RunsOn, components}
+use Rattle.cp_machine_model.specs.PartOf.{RunsOn}
 use Rattle.cp_machine_model.proofs.Apart.{InHead, IsCell, cell_head, head_inside}
 use Rattle.cp_machine_model.proofs.Finding.{some_is_not_none}
-use Rattle.cp_machine_model.proofs.Given.{all_kept}
 use Rattle.cp_machine_model.proofs.Heres.{lies_any}
-use Rattle.cp_machine_model.proofs.Keeping.{KeepsActivation, KeepsData, activation_kept, activations_kept, data_kept, keeps_given, local_named, right_place}
+use Rattle.cp_machine_model.proofs.Keeping.{KeepsActivation, KeepsData, each_kept, local_named, right_place}
 use Rattle.cp_machine_model.proofs.Owned.{OwnRight, component_part, found_monitor, reference_inside, result_inside}
-use Rattle.cp_machine_model.proofs.RunningOn.{runs_stacked}
+use Rattle.cp_machine_model.proofs.RunningOn.{runs_stacked, runs_with_data}
 use Rattle.cp_machine_model.proofs.Separate.{bottom_below, own_below}
 use Rattle.cp_machine_model.proofs.Stacks.{Stacked, found_inside}
 
@@ -126,22 +125,5 @@ runs_beside G store after o new k R r from count B same =
     let xs = activations o.base o.frames k in
     let top = o.base + (site G R.running).words in
     let stack = runs_stacked G store o k R in
-    let keeps = data_beside G xs top stack r from count store after o.words new B in
-    record {
-      running = R.running;
-      runs = R.runs;
-      base = R.base;
-      temp = R.temp;
-      component = R.component;
-      gate = R.gate;
-      live = R.live;
-      left = R.left;
-      next_value = R.next_value;
-      count = same ∙ R.count;
-      activations_mean =
-          activations_kept G store after o.words new o.temps o.limit o.base (held_below R.live o.temps R.running.temp) R.running o.frames o.place R.running.unit.temps k R.left
-          (λ rest f c owner there. activation_kept G store after o.words new rest c (length rest) f owner
-          (activation_beside G xs top stack r from count store after o.words new B (length rest) (record { base = c; routine = f.routine }) there)) R.activations_mean;
-      data_means = data_kept G store after o.words new xs keeps R.data_means;
-      given = all_kept G store after (keeps_given G store after o.words new xs keeps) (components o) R.given;
-    }
+    runs_with_data G store after o new k R same (each_kept G store after o.words new xs (activation_beside G xs top stack r from count store after o.words new B))
+    (data_beside G xs top stack r from count store after o.words new B)

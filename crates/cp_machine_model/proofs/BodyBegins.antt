@@ -19,8 +19,8 @@ use Rattle.cp_machine_model.specs.PrivateStates as machine
 use Rattle.cp_machine_model.specs.PrivateStates.{PrivateState}
 use Rattle.cp_machine_model.proofs.Layouts.{same_some}
 use Rattle.cp_machine_model.proofs.OtherGround.{first_has_rights}
-use Rattle.cp_machine_model.proofs.Pushing.{activations_push, marks_push, mean_push, push_left}
-use Rattle.cp_machine_model.proofs.RunningOn.{left_afresh}
+use Rattle.cp_machine_model.proofs.Pushing.{marks_push, push_left}
+use Rattle.cp_machine_model.proofs.RunningOn.{left_afresh, words_pushed}
 
 -- The body of the process, and then its end.
 abbrev pub process_body : Ground → System → List Task
@@ -51,7 +51,7 @@ module _ (G : Ground) (F : StandsFor G.program G.setup) (texts : F.texts ≡ G.t
 
   -- The same, with the private state at the start written out.
   abbrev begun : PrivateState
-  begun = record o { activity = machine.Running; words = words; place = P.unit.start; base = P.row.words; temp = 0; component = 0; gate = 0; frames = [] }
+  begun = record o { activity = machine.Running; words = words; counter = P.unit.start; base = P.row.words; temp = 0; component = 0; gate = 0; frames = [] }
 
   unit_fits : (P.row.words + P.unit.words ≤ G.own) × (P.unit.temps ≤ length o.temps) × (P.unit.frames ≤ o.limit)
   unit_fits = (
@@ -62,44 +62,43 @@ module _ (G : Ground) (F : StandsFor G.program G.setup) (texts : F.texts ≡ G.t
 
   runs_begun : RunsOn G store begun body
   runs_begun = record {
-    running = running;
-    runs = record {
-      unit = P.unit_there;
-      text = ap (λ ts. slice_get ts P.row.body) (sym texts) ∙ P.body;
-      globals = refl;
-      system = refl;
-      frame = tt;
-      component = ProcessLies refl P.is_system refl;
-      words_fit = unit_fits.0;
-      temps_fit = omega (arith, unit_fits.1);
-      frames_fit = omega (arith, unit_fits.2);
-      activation_fits = omega arith;
+    at = record {
+      running = running;
+      runs = record {
+        unit = P.unit_there;
+        text = ap (λ ts. slice_get ts P.row.body) (sym texts) ∙ P.body;
+        globals = refl;
+        system = refl;
+        frame = tt;
+        component = ProcessLies refl P.is_system refl;
+        words_fit = unit_fits.0;
+        temps_fit = omega (arith, unit_fits.1);
+        frames_fit = omega (arith, unit_fits.2);
+        activation_fits = omega arith;
+      };
+      base = refl;
+      temp = refl;
+      component = refl;
+      gate = ap innermost_gate (sym (marks_push P.system.body env (EndProcess ∷ [])));
+      live = 0;
+      left = left_afresh G o.temps o.limit 0 running [] P.unit.start 0 body (omega arith)
+          (push_left G o.temps o.limit running [] P.system.body P.unit.start (stands.2 at).0 0 (EndProcess ∷ []) (stands.2 at).2 (
+            refl,
+            refl,
+            refl,
+            (stands.2 at).1 ∙ ap (λ z. Some (end_of z)) sort,
+            (P.system, P.is_system, omega (arith, P.words)),
+          ));
+      next_value = λ c n m e. omega arith;
     };
-    base = refl;
-    temp = refl;
-    component = refl;
-    gate = ap innermost_gate (sym (marks_push P.system.body env (EndProcess ∷ [])));
-    live = 0;
-    left = left_afresh G o.temps o.limit 0 running [] P.unit.start 0 body (omega arith)
-        (push_left G o.temps o.limit running [] P.system.body P.unit.start (stands.2 at).0 0 (EndProcess ∷ []) (stands.2 at).2 (
-          refl,
-          refl,
-          refl,
-          (stands.2 at).1 ∙ ap (λ z. Some (end_of z)) sort,
-          (P.system, P.is_system, omega (arith, P.words)),
-        ));
-    next_value = λ c n m e. omega arith;
-    count = count;
-    activations_mean = subst (λ (T : Type 0). T) (sym (mean_push G store words P.row.words [] P.system.body env (EndProcess ∷ []))) tt;
-    data_means = subst (λ ys. DataMeans G ys (in_sight G) store words) (sym (activations_push P.row.words [] P.system.body env (EndProcess ∷ []))) means;
-    given = first_has_rights G store;
+    words_mean = words_pushed G store words P.row.words 0 [] P.system.body env (EndProcess ∷ []) record { count = count; activations_mean = tt; data_means = means; given = first_has_rights G store };
   }
 
   pub runs_from_start : RunsOn G store (record o { activity = machine.Running; words = words }) (process_body G P.system)
   runs_from_start = subst (λ (x : PrivateState). RunsOn G store x body) same runs_begun
     where
-      place_is : P.unit.start ≡ o.place
-      place_is = ap (λ (u : CodeUnit). u.start) (sym same_unit) ∙ sym A.place
+      counter_is : P.unit.start ≡ o.counter
+      counter_is = ap (λ (u : CodeUnit). u.start) (sym same_unit) ∙ sym A.counter
 
       base_is : P.row.words ≡ o.base
       base_is = ap (λ (r : code.Process). r.words) (sym same_row) ∙ sym A.base
@@ -108,7 +107,7 @@ module _ (G : Ground) (F : StandsFor G.program G.setup) (texts : F.texts ≡ G.t
       same = λ i. record o {
         activity = machine.Running;
         words = words;
-        place = place_is i;
+        counter = counter_is i;
         base = base_is i;
         temp = sym A.temp i;
         component = sym A.component i;

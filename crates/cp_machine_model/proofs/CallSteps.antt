@@ -164,8 +164,8 @@ parameters_distinct G g c y same h =
 
 -- A function that a task calls.
 pub function_steps : (G : Ground) (s : State) (w : Outside) (before : List ℕ) (o : PrivateState) (i : Task) (l : List Task) (N : Now G s w before o i l) → Sees G (in_sight G) s.store N.on.running.env → StoreInvariant s.store → UnitsStand G
-    → (v : UserCall) (temp after : ℕ) (base : BaseType) (C : CallReady (site G N.on.running) (held_below N.on.live o.temps N.on.running.temp) v o.place temp after base) (j : Task) → call_in_task (a.Literal 0) i ≡ Some (v, j)
-    → Left G o.temps o.limit (kept_below C.low N.on.live o.temps N.on.running.temp) N.on.running o.frames o.place C.low (i ∷ l) → Declares G N.on.running.env
+    → (v : UserCall) (temp after : ℕ) (base : BaseType) (C : CallReady (site G N.on.running) (held_below N.on.live o.temps N.on.running.temp) v o.counter temp after base) (j : Task) → call_in_task (a.Literal 0) i ≡ Some (v, j)
+    → Left G o.temps o.limit (kept_below C.low N.on.live o.temps N.on.running.temp) N.on.running o.frames o.counter C.low (i ∷ l) → Declares G N.on.running.env
     → Stepped G s w before o
 function_steps G s w before o i l N sees I units v temp after base C j found left declares = by (is_monitor C.call.target) refl
   where
@@ -188,10 +188,10 @@ function_steps G s w before o i l N sees I units v temp after base C j found lef
 
     called : TargetIs G s.store target_here (component_called G.program w o C.call.target) (system_of_callee N.on.running.env v.callee.of) → Called
     called T =
-        let back : Back = record { place = after; into = temp } in
-        let W : Waits G o (i ∷ l) (i ∷ l) N.on.running o.place C.low N.on.live = record { same = refl; means = λ store words. refl; marks = refl; left = left; kept_fit = omega (arith, C.calls.runs.fits.temps) } in
+        let back : Back = record { counter = after; into = temp } in
+        let W : Waits G o (i ∷ l) (i ∷ l) N.on.running o.counter C.low N.on.live = record { same = refl; means = λ store words. refl; marks = refl; left = left; kept_fit = omega (arith, C.calls.runs.fits.temps) } in
         let stands = units C.call.routine C.calls.runs.unit (RoutineOf (system_of_callee N.on.running.env v.callee.of) v.callee.routine) C.calls.runs.there C.calls.runs.text in
-        invoked G s w before o i l N sees (i ∷ l) v C.call back o.place C.low N.on.live C.from o.place C.low C.high
+        invoked G s w before o i l N sees (i ∷ l) v C.call back o.counter C.low N.on.live C.from o.counter C.low C.high
         record {
           waits = W;
           runs = C.calls.runs;
@@ -201,9 +201,9 @@ function_steps G s w before o i l N sees I units v temp after base C j found lef
           where_is = C.where_is;
           distinct = parameters_distinct G N.on.running.env.globals v.callee (system_of_callee N.on.running.env v.callee.of) N.on.runs.globals stands.2;
           target_is = T;
-          caller = subst (λ z. CallerAt G C.call.routine C.low N.on.live z (frame_of o (component_called G.program w o C.call.target) back) o.place) (sym C.answers.1)
+          caller = subst (λ z. CallerAt G C.call.routine C.low N.on.live z (frame_of o (component_called G.program w o C.call.target) back) o.counter) (sym C.answers.1)
               (C.call, temp, refl, C.calls.runs.temps, N.on.next_value C.call temp after C.op, C.op, refl);
-          opens = opens G s w before o i l N sees (i ∷ l) v C.call back o.place C.low N.on.live W C.calls.runs stands C.from o.place C.low C.high C.arguments;
+          opens = opens G s w before o i l N sees (i ∷ l) v C.call back o.counter C.low N.on.live W C.calls.runs stands C.from o.counter C.low C.high C.arguments;
         }
 
     by : (b : Bool) → is_monitor C.call.target ≡ b → Stepped G s w before o
@@ -222,8 +222,8 @@ function_steps G s w before o i l N sees I units v temp after base C j found lef
 
 -- A procedure statement whose arguments contain no more calls.
 pub procedure_steps : (G : Ground) (s : State) (w : Outside) (before : List ℕ) (o : PrivateState) (d : a.Designator) (es : a.Expressions) (env : Environment) (k : List Task) → StoreInvariant s.store → UnitsStand G
-    → (Y : Ready G s w before o (a.Perform d es) env k) (call : Call) (n : ℕ) → operation_at G.program o.place ≡ Some (op.Procedure call n)
-    → PerformsBy (site G Y.now.on.running) (known G s w before o (Do (a.Perform d es) env) k Y.now) d es (op.Procedure call n) o.place Y.now.on.left.2.3.0 Y.now.on.left.2.0 Y.now.on.left.2.1
+    → (Y : Ready G s w before o (a.Perform d es) env k) (call : Call) (n : ℕ) → operation_at G.program o.counter ≡ Some (op.Procedure call n)
+    → PerformsBy (site G Y.now.on.running) (known G s w before o (Do (a.Perform d es) env) k Y.now) d es (op.Procedure call n) o.counter Y.now.on.left.2.3.0 Y.now.on.left.2.0 Y.now.on.left.2.1
     → Declares G Y.now.on.running.env → Stepped G s w before o
 procedure_steps G s w before o d es env k I units Y call n there h declares = by (is_monitor call.target) refl
   where
@@ -258,11 +258,11 @@ procedure_steps G s w before o d es env k I units Y call n there h declares = by
         let N = Y.now in
         let i = Do (a.Perform d es) env in
         let left = N.on.left.2 in
-        let back : Back = record { place = n; into = 0 } in
+        let back : Back = record { counter = n; into = 0 } in
         let rest = left_kept G o.temps o.temps o.limit refl nothing_known (kept_below left.1 0 o.temps N.on.running.temp) N.on.running o.frames left.0 left.1 k (λ m q z. absurd z) (λ m q. refl) left.4 in
         let W : Waits G o (i ∷ k) k N.on.running left.0 left.1 0 = record { same = refl; means = λ store words. refl; marks = refl; left = rest; kept_fit = left.2 } in
         let stands = units call.routine h.2.runs.unit (RoutineOf (system_of_callee N.on.running.env h.0.of) h.0.routine) h.2.runs.there h.2.runs.text in
-        invoked G s w before o i k N N.sees k v call back left.0 left.1 0 o.place left.3.0 left.1 h.1
+        invoked G s w before o i k N N.sees k v call back left.0 left.1 0 o.counter left.3.0 left.1 h.1
         record {
           waits = W;
           runs = h.2.runs;
@@ -274,7 +274,7 @@ procedure_steps G s w before o d es env k I units Y call n there h declares = by
           target_is = T;
           caller = subst (λ z. CallerAt G call.routine left.1 0 z (frame_of o (component_called G.program w o call.target) back) left.0) (sym h.3)
               (sym h.4, refl);
-          opens = opens G s w before o i k N N.sees k v call back left.0 left.1 0 W h.2.runs stands o.place left.3.0 left.1 h.1 h.6;
+          opens = opens G s w before o i k N N.sees k v call back left.0 left.1 0 W h.2.runs stands o.counter left.3.0 left.1 h.1 h.6;
         }
 
     by : (b : Bool) → is_monitor call.target ≡ b → Stepped G s w before o

@@ -49,8 +49,8 @@ pub case_steps : (G : Ground) (s : State) (w : Outside) (before : List ℕ) (o :
 case_steps G s w before o e arms env k Y =
     let N = Y.now in
     let h = N.on.left.2.3 in
-    statement_steps G s w before o (a.Case e arms) env k Y (op.Case h.1 h.3) refl refl (ap (operation_at G.program) Y.place ∙ h.4) refl
-    (by _ _ (value_here G s w before o (Do (a.Case e arms) env) k N N.sees e h.1 h.2 o.place h.0 N.on.left.2.1 N.on.running.unit.temps h.5
+    statement_steps G s w before o (a.Case e arms) env k Y (op.Case h.1 h.3) refl refl (ap (operation_at G.program) Y.counter ∙ h.4) refl
+    (by _ _ (value_here G s w before o (Do (a.Case e arms) env) k N N.sees e h.1 h.2 o.counter h.0 N.on.left.2.1 N.on.running.unit.temps h.5
     (in_context_none (λ y. a.Case y arms) (first_call N.on.running.env (a.Literal 0) e) Y.none)))
     (quietly G s w before o (a.Case e arms) env k Y (op.Case h.1 h.3) tt tt)
   where

@@ -71,19 +71,19 @@ module _ (G : Ground) (s : State) (w : Outside) (before : List ℕ) (o : Private
   ys = activations P.base P.frames mark
 
   -- The routine has reached its end mark.
-  abbrev at_mark : RunsOn G s.store (go_to I.place P) mark
-  at_mark = runs_moved G s.store P (first ∷ k) mark I.place I.low Y.now.on (I.same P.base) (I.means s.store P.words P.base) (sym I.marks) I.left I.fits
+  abbrev at_mark : RunsOn G s.store (go_to I.counter P) mark
+  at_mark = runs_moved G s.store P (first ∷ k) mark I.counter I.low Y.now.on (I.same P.base) (I.means s.store P.words P.base) (sym I.marks) I.left I.fits
 
   module _ (q : Location) (at : ℕ) (mine : in_sight G q.owner ≡ true) (is : lies G (activations P.base P.frames (first ∷ k)) q ≡ Some (at, Queue)) where
     abbrev store : Store
     store = put q (QueueHolds None) s.store
 
     abbrev emptied : PrivateState
-    emptied = go_to I.place (set_word P at (pos 0))
+    emptied = go_to I.counter (set_word P at (pos 0))
 
     abbrev at_end : RunsOn G store emptied mark
     at_end =
-        runs_stored G s.store (go_to I.place P) mark at_mark q at Queue (QueueHolds None) (pos 0) tt refl mine (ap (λ zs. lies G zs q) (I.same P.base) ∙ is)
+        runs_stored G s.store (go_to I.counter P) mark at_mark q at Queue (QueueHolds None) (pos 0) tt refl mine (ap (λ zs. lies G zs q) (I.same P.base) ∙ is)
         (λ y sort e set. absurd (true≢false (sym set)))
 
     abbrev frame : Frame
@@ -147,7 +147,7 @@ module _ (G : Ground) (s : State) (w : Outside) (before : List ℕ) (o : Private
         let z : Activation = record { base = P.base; routine = frame.routine } in
         changed_other P.words P.base at (pos 0)
         (λ same.
-        cell_no_result G ys _ (runs_stacked G s.store (go_to I.place P) mark at_mark) q at Queue 0 (length rest) z t mine refl (ap (λ zs. lies G zs q) (I.same P.base) ∙ is)
+        cell_no_result G ys _ (runs_stacked G s.store (go_to I.counter P) mark at_mark) q at Queue 0 (length rest) z t mine refl (ap (λ zs. lies G zs q) (I.same P.base) ∙ is)
         (ap (λ e. activation_at (length rest) (activation_of P.base e rest)) frame_is ∙ ap (λ b. if b then Some z else activation_at (length rest) rest) (eq-eqb (length rest) (length rest) refl))
         sets (omega (arith, same)))
 
@@ -277,5 +277,5 @@ continue_steps G s w before o x env k d Y queue function h names =
         subst (λ z. Both z (steps.with_place w o queue (λ at. steps.continue o at function)))
         (sym (continues (context G.setup s G.p) (configuration s G.p) Y.now.on.running.env k x (a.Use d) h.1.0.1 h.1.0.2 h.1.0.3))
         (by_place _ _
-        (place_here G s w before o first k Y.now Y.now.sees d queue Queue o.place Y.now.on.left.2.3.0 Y.now.on.left.2.1 Y.now.on.running.unit.temps h.1.2
+        (place_here G s w before o first k Y.now Y.now.sees d queue Queue o.counter Y.now.on.left.2.3.0 Y.now.on.left.2.1 Y.now.on.running.unit.temps h.1.2
         (used_none G s w before o x env k Y.now.on.running.env d (argument_none G s w before o x env k Y.now.on.running.env (a.Use d) Y.none))))

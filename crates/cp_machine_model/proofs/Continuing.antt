@@ -27,28 +27,28 @@ pub record Innermost (G : Ground) (temps : List ℤ) (limit : ℕ) (R : Running)
   pub marks : marked_monitors k ≡ marked_monitors (EndCall env gate ∷ rest)
   pub same : (b : ℕ) → activations b fs (EndCall env gate ∷ rest) ≡ activations b fs k
   pub means : (store : Store) (words : List ℤ) (b : ℕ) → ActivationsMean G store words b fs (EndCall env gate ∷ rest) ≡ ActivationsMean G store words b fs k
-  pub place : ℕ
+  pub counter : ℕ
   pub low : ℕ
   pub fits : low ≤ high
-  pub left : Left G temps limit nothing_known R fs place low (EndCall env gate ∷ rest)
+  pub left : Left G temps limit nothing_known R fs counter low (EndCall env gate ∷ rest)
 
 module _ (G : Ground) (temps : List ℤ) (limit : ℕ) (R : Running) (F : Frame) (runs : R.env.frame ≡ Some F) where
   pub innermost : (K : Knowns) (fs : List machine.Frame) (place low high : ℕ) (k : List Task) → low ≤ high → Left G temps limit K R fs place low k → Innermost G temps limit R fs high k
   innermost K fs place low high [] up h = absurd h
   innermost K fs place low high (Do s e ∷ k) up h =
       let I = innermost nothing_known fs h.2.0 h.2.1 high k (omega (arith, up, h.2.2)) h.2.4 in
-      record { env = I.env; gate = I.gate; rest = I.rest; is = I.is; marks = I.marks; same = I.same; means = I.means; place = I.place; low = I.low; fits = I.fits; left = I.left }
+      record { env = I.env; gate = I.gate; rest = I.rest; is = I.is; marks = I.marks; same = I.same; means = I.means; counter = I.counter; low = I.low; fits = I.fits; left = I.left }
   innermost K fs place low high (WhileTest now e s env ∷ k) up h =
       let I = innermost nothing_known fs h.1.0 h.1.1 high k (omega (arith, up, h.1.2)) h.1.4 in
-      record { env = I.env; gate = I.gate; rest = I.rest; is = I.is; marks = I.marks; same = I.same; means = I.means; place = I.place; low = I.low; fits = I.fits; left = I.left }
+      record { env = I.env; gate = I.gate; rest = I.rest; is = I.is; marks = I.marks; same = I.same; means = I.means; counter = I.counter; low = I.low; fits = I.fits; left = I.left }
   innermost K fs place low high (RepeatTest now s e env ∷ k) up h =
       let I = innermost nothing_known fs h.1.0 h.1.1 high k (omega (arith, up, h.1.2)) h.1.4 in
-      record { env = I.env; gate = I.gate; rest = I.rest; is = I.is; marks = I.marks; same = I.same; means = I.means; place = I.place; low = I.low; fits = I.fits; left = I.left }
+      record { env = I.env; gate = I.gate; rest = I.rest; is = I.is; marks = I.marks; same = I.same; means = I.means; counter = I.counter; low = I.low; fits = I.fits; left = I.left }
   innermost K fs place low high (ForNext x down n last s env ∷ k) up h =
       let I = innermost nothing_known fs h.1.0 h.1.1 high k (omega (arith, up, h.1.2)) h.1.4 in
-      record { env = I.env; gate = I.gate; rest = I.rest; is = I.is; marks = I.marks; same = I.same; means = I.means; place = I.place; low = I.low; fits = I.fits; left = I.left }
+      record { env = I.env; gate = I.gate; rest = I.rest; is = I.is; marks = I.marks; same = I.same; means = I.means; counter = I.counter; low = I.low; fits = I.fits; left = I.left }
   innermost K (f ∷ fs) place low high (EndCall env gate ∷ k) up h =
-      record { env = env; gate = gate; rest = k; is = refl; marks = refl; same = λ b. refl; means = λ store words b. refl; place = place; low = low; fits = up; left = h }
+      record { env = env; gate = gate; rest = k; is = refl; marks = refl; same = λ b. refl; means = λ store words b. refl; counter = place; low = low; fits = up; left = h }
   innermost K (f ∷ fs) place low high (EndBody gate ∷ k) up h = absurd (some_is_not_none F (sym runs ∙ h.0))
   innermost K fs place low high (EndProcess ∷ k) up h = absurd (some_is_not_none F (sym runs ∙ h.0))
   innermost K [] place low high (EndCall env gate ∷ k) up h = absurd h

@@ -30,7 +30,7 @@ use Rattle.cp_machine_model.specs.Steps.{copy_words}
 use Rattle.cp_machine_model.specs.Values.{place_of}
 use Rattle.cp_machine_model.specs.Means.{PlaceAgrees}
 use Rattle.cp_machine_model.specs.Addresses.{Ground, activations, in_sight, lies, scope, lies_in_sight}
-use Rattle.cp_machine_model.specs.Left.{held_below, site}
+use Rattle.cp_machine_model.specs.Left.{site}
 use Rattle.cp_machine_model.specs.PartOf.{PartOf, RunsOn, components}
 use Rattle.cp_machine_model.proofs.Apart.{cell_has_word, cell_head}
 use Rattle.cp_machine_model.proofs.Bounds.{part_fits}
@@ -39,10 +39,10 @@ use Rattle.cp_machine_model.proofs.Doing.{Ready, known, place_here, quietly, sta
 use Rattle.cp_machine_model.proofs.Evaluates.{value_reads}
 use Rattle.cp_machine_model.proofs.Finding.{in_context_none, or_else_none}
 use Rattle.cp_machine_model.proofs.Heres.{seen_mine}
-use Rattle.cp_machine_model.proofs.Keeping.{activation_kept, activations_kept}
+use Rattle.cp_machine_model.proofs.Keeping.{each_kept}
 use Rattle.cp_machine_model.proofs.Layouts.{lies_under}
 use Rattle.cp_machine_model.proofs.LeafWords.{word_is_part}
-use Rattle.cp_machine_model.proofs.RunningOn.{runs_here, runs_moved, runs_stacked}
+use Rattle.cp_machine_model.proofs.RunningOn.{runs_here, runs_kept, runs_moved, runs_stacked}
 use Rattle.cp_machine_model.proofs.Separate.{cell_inside}
 use Rattle.cp_machine_model.proofs.StartLeaves.{IsSimple}
 use Rattle.cp_machine_model.proofs.Stepping.{Stepped, clock_of, faulted, went}
@@ -66,30 +66,15 @@ abbrev pub runs_copied : (G : Ground) (store : Store) (o : PrivateState) (k : Li
     → SoundType t → has_queues t ≡ false → in_sight G to.owner ≡ true → in_sight G from.owner ≡ true
     → lies G (activations o.base o.frames k) to ≡ Some (n, t) → lies G (activations o.base o.frames k) from ≡ Some (b, t)
     → RunsOn G (put_all (leaf_writes to (read_below store from) (leaves t)) store) (record o { words = paste n (block o.words b (words (scope G) t)) o.words }) k
-runs_copied G store o k R to from n b t sound free own_to own_from to_is from_is = record {
-  running = R.running;
-  runs = R.runs;
-  base = R.base;
-  temp = R.temp;
-  component = R.component;
-  gate = R.gate;
-  live = R.live;
-  left = R.left;
-  next_value = R.next_value;
-  count = copied_length o.words o.words n b (words (scope G) t) ∙ R.count;
-  activations_mean =
-      activations_kept G store (put_all (leaf_writes to (read_below store from) (leaves t)) store) o.words (paste n (block o.words b (words (scope G) t)) o.words) o.temps o.limit o.base
-      (held_below R.live o.temps R.running.temp) R.running o.frames o.place R.running.unit.temps k R.left
-      (λ rest f c owner there. activation_kept G store (put_all (leaf_writes to (read_below store from) (leaves t)) store) o.words (paste n (block o.words b (words (scope G) t)) o.words) rest c (length rest) f owner
-      (activation_changed G (activations o.base o.frames k) _ (runs_stacked G store o k R) store o.words (paste n (block o.words b (words (scope G) t)) o.words) to n t (read_below store from) sound free own_to to_is inside outside
-      (length rest) (record { base = c; routine = f.routine }) there)) R.activations_mean;
-  data_means =
-      data_changed G (activations o.base o.frames k) _ (runs_stacked G store o k R) store o.words (paste n (block o.words b (words (scope G) t)) o.words) to n t (read_below store from) sound free own_to to_is inside outside R.data_means;
-  given =
-      all_kept G store (put_all (leaf_writes to (read_below store from) (leaves t)) store)
-      (changed_keeps G (activations o.base o.frames k) _ (runs_stacked G store o k R) store o.words (paste n (block o.words b (words (scope G) t)) o.words) to n t (read_below store from) sound free own_to to_is inside outside)
-      (components o) R.given;
-}
+runs_copied G store o k R to from n b t sound free own_to own_from to_is from_is =
+    let xs = activations o.base o.frames k in
+    let after = put_all (leaf_writes to (read_below store from) (leaves t)) store in
+    let new = paste n (block o.words b (words (scope G) t)) o.words in
+    let stack = runs_stacked G store o k R in
+    runs_kept G store after o new k R (copied_length o.words o.words n b (words (scope G) t))
+    (each_kept G store after o.words new xs (activation_changed G xs _ stack store o.words new to n t (read_below store from) sound free own_to to_is inside outside))
+    (data_changed G xs _ stack store o.words new to n t (read_below store from) sound free own_to to_is inside outside R.data_means)
+    (all_kept G store after (changed_keeps G xs _ stack store o.words new to n t (read_below store from) sound free own_to to_is inside outside) (components o.component o.frames) R.given)
   where
     outside : (i : ℕ) → (i < n) ⊎ (n + words (scope G) t ≤ i) → word (paste n (block o.words b (words (scope G) t)) o.words) i ≡ word o.words i
     outside i h = copied_outside o.words o.words n b (words (scope G) t) i h
@@ -104,8 +89,8 @@ runs_copied G store o k R to from n b t sound free own_to own_from to_is from_is
 -- An assignment of an array or a record.
 pub copy_steps : (G : Ground) (s : State) (w : Outside) (before : List ℕ) (o : PrivateState) (d e : a.Designator) (env : Environment) (k : List Task)
     → (Y : Ready G s w before o (a.Assign d (a.Use e)) env k) (to from : Spot) (size n : ℕ)
-    → operation_at G.program o.place ≡ Some (op.CopyWords to from size n)
-    → AssignsBy (site G Y.now.on.running) (known G s w before o (Do (a.Assign d (a.Use e)) env) k Y.now) d (a.Use e) (op.CopyWords to from size n) o.place Y.now.on.left.2.3.0 Y.now.on.left.2.0 Y.now.on.left.2.1
+    → operation_at G.program o.counter ≡ Some (op.CopyWords to from size n)
+    → AssignsBy (site G Y.now.on.running) (known G s w before o (Do (a.Assign d (a.Use e)) env) k Y.now) d (a.Use e) (op.CopyWords to from size n) o.counter Y.now.on.left.2.3.0 Y.now.on.left.2.0 Y.now.on.left.2.1
     → Stepped G s w before o
 copy_steps G s w before o d e env k Y to from size n there h =
     let N = Y.now in
@@ -119,7 +104,7 @@ copy_steps G s w before o d e env k Y to from size n there h =
     (with_result o (place_of (view G s w before o first k N) to) (λ at. with_result o (place_of (view G s w before o first k N) from) (λ b. copy_words o at b size n))).0)
     (sym (value_reads (site G N.on.running) (clock_of G s) s.store (view G s w before o first k N) _ _ (runs_here G s.store w o (first ∷ k) (clock_of G s) N.around.clock N.on N.sees) e from h.0 h.1 N.on.left.2.3.0 h.2 N.on.running.unit.temps h.9 h.11))
     (by _ _ _ _
-    (place_here G s w before o first k N N.sees d to h.0 o.place h.1 N.on.left.2.1 h.2 h.10 (in_context_none (λ y. a.Assign y (a.Use e)) (call_in_designator here (a.Literal 0) d) none.0))
+    (place_here G s w before o first k N N.sees d to h.0 o.counter h.1 N.on.left.2.1 h.2 h.10 (in_context_none (λ y. a.Assign y (a.Use e)) (call_in_designator here (a.Literal 0) d) none.0))
     (place_here G s w before o first k N N.sees e from h.0 h.1 N.on.left.2.3.0 h.2 N.on.running.unit.temps h.11 (in_context_none a.Use (call_in_designator here (a.Literal 0) e) found.0))))
     (quietly G s w before o (a.Assign d (a.Use e)) env k Y (op.CopyWords to from size n) tt tt)
   where

@@ -30,15 +30,15 @@ use Rattle.cp_machine_model.specs.Steps.{act, count_to, first_count}
 use Rattle.cp_machine_model.specs.Values.{root_place}
 use Rattle.cp_machine_model.specs.Addresses.{Ground, activations, in_sight}
 use Rattle.cp_machine_model.specs.Left.{ForLeft, Left, Runs, innermost_gate, site}
-use Rattle.cp_machine_model.specs.PartOf.{ActivationsMean, DataMeans, PartOf, RunsOn}
+use Rattle.cp_machine_model.specs.PartOf.{ActivationsMean, PartOf, RunsOn}
 use Rattle.cp_machine_model.proofs.Assigning.{stores}
 use Rattle.cp_machine_model.proofs.Doing.{Ready, acts_itself, place_here, quietly, statement_steps, value_here, view}
 use Rattle.cp_machine_model.proofs.Evaluates.{ordinal_is}
 use Rattle.cp_machine_model.proofs.Finding.{in_context_none, or_else_none}
 use Rattle.cp_machine_model.proofs.Heres.{Sees}
 use Rattle.cp_machine_model.proofs.LeftKept.{SameBelow, left_kept}
-use Rattle.cp_machine_model.proofs.Pushing.{activations_push, marks_push, mean_push, push_left}
-use Rattle.cp_machine_model.proofs.RunningOn.{left_afresh, runs_moved, runs_written}
+use Rattle.cp_machine_model.proofs.Pushing.{marks_push, push_left}
+use Rattle.cp_machine_model.proofs.RunningOn.{left_afresh, runs_moved, runs_written, words_moved, words_pushed}
 use Rattle.cp_machine_model.proofs.Stepping.{Now, Stepped, both_step, clock_of, does, faulted, went}
 use Rattle.cp_machine_model.proofs.Effects.{quiet_agrees}
 use Rattle.cp_machine_model.proofs.QuietOperations.{either_quiet, for_quiet, operation_quiet}
@@ -51,29 +51,29 @@ pub counted_on : (G : Ground) (store : Store) (o : PrivateState) (i k : List Tas
     → Left G o.temps o.limit nothing_known R.running o.frames next low k
     → RunsOn G store (go_to c.body (set_temp (set_temp o (o.temp + c.temp) n) (o.temp + c.temp + 1) last)) (push st R.running.env (ForNext x down n last st R.running.env ∷ k))
 counted_on G store o i k R x down st c next low test n last same means marks counts there code left = record {
-  running = R.running;
-  runs = subst (λ z. Runs G z o.limit R.running o.frames) (sym len) R.runs;
-  base = R.base;
-  temp = R.temp;
-  component = R.component;
-  gate = R.gate ∙ ap innermost_gate (sym (marks_push st R.running.env (ForNext x down n last st R.running.env ∷ k) ∙ marks));
-  live = 0;
-  left = left_afresh G us o.limit 0 R.running o.frames c.body (low + 2) j counts.room
-      (push_left G us o.limit R.running o.frames st c.body test (low + 2) (ForNext x down n last st R.running.env ∷ k) code (
-        refl,
-        (
-          next,
-          low,
-          omega arith,
-          record { counting = c; test = there; counts = counts; counter = first; last_is = second; again = code },
-          left_kept G o.temps us o.limit (sym len) nothing_known nothing_known R.running o.frames next low k (λ s m z. z) below left,
-        ),
-      ));
-  next_value = λ c n m e. omega arith;
-  count = R.count;
-  activations_mean = subst (λ (T : Type 0). T) (sym (mean_push G store o.words o.base o.frames st R.running.env (ForNext x down n last st R.running.env ∷ k) ∙ means)) R.activations_mean;
-  data_means = subst (λ xs. DataMeans G xs (in_sight G) store o.words) (sym (activations_push o.base o.frames st R.running.env (ForNext x down n last st R.running.env ∷ k) ∙ same)) R.data_means;
-  given = R.given;
+  at = record {
+    running = R.running;
+    runs = subst (λ z. Runs G z o.limit R.running o.frames) (sym len) R.runs;
+    base = R.base;
+    temp = R.temp;
+    component = R.component;
+    gate = R.gate ∙ ap innermost_gate (sym (marks_push st R.running.env (ForNext x down n last st R.running.env ∷ k) ∙ marks));
+    live = 0;
+    left = left_afresh G us o.limit 0 R.running o.frames c.body (low + 2) j counts.room
+        (push_left G us o.limit R.running o.frames st c.body test (low + 2) (ForNext x down n last st R.running.env ∷ k) code (
+          refl,
+          (
+            next,
+            low,
+            omega arith,
+            record { counting = c; test = there; counts = counts; counter = first; last_is = second; again = code },
+            left_kept G o.temps us o.limit (sym len) nothing_known nothing_known R.running o.frames next low k (λ s m z. z) below left,
+          ),
+        ));
+    next_value = λ c n m e. omega arith;
+  };
+  words_mean = words_pushed G store o.words o.base o.component o.frames st R.running.env (ForNext x down n last st R.running.env ∷ k)
+      (words_moved G store o.words o.base o.component o.frames i (ForNext x down n last st R.running.env ∷ k) same means R.words_mean);
 }
   where
     j : List Task
@@ -138,9 +138,9 @@ for_steps G s w before o x down e f st env k Y =
     let here = N.on.running.env in
     let h = N.on.left.2.3 in
     let none = or_else_none (in_context (λ y. a.For x down y f st) (first_call here (a.Literal 0) e)) (in_context (λ y. a.For x down e y st) (first_call here (a.Literal 0) f)) Y.none in
-    statement_steps G s w before o (a.For x down e f st) env k Y (op.For h.1 h.2 h.3) refl refl (ap (operation_at G.program) Y.place ∙ h.8) refl
+    statement_steps G s w before o (a.For x down e f st) env k Y (op.For h.1 h.2 h.3) refl refl (ap (operation_at G.program) Y.counter ∙ h.8) refl
     (by _ _ _ _
-    (value_here G s w before o (Do (a.For x down e f st) env) k N N.sees e h.2 h.4 o.place h.5 N.on.left.2.1 h.6 h.13 (in_context_none (λ y. a.For x down y f st) (first_call here (a.Literal 0) e) none.0))
+    (value_here G s w before o (Do (a.For x down e f st) env) k N N.sees e h.2 h.4 o.counter h.5 N.on.left.2.1 h.6 h.13 (in_context_none (λ y. a.For x down y f st) (first_call here (a.Literal 0) e) none.0))
     (value_here G s w before o (Do (a.For x down e f st) env) k N N.sees f h.3 h.4 h.5 h.0 h.6 N.on.running.unit.temps h.14 (in_context_none (λ y. a.For x down e y st) (first_call here (a.Literal 0) f) none.1)))
     (quietly G s w before o (a.For x down e f st) env k Y (op.For h.1 h.2 h.3) tt tt)
   where
@@ -203,7 +203,7 @@ for_next_steps G s w before o x down n last st env k N =
     (either_quiet (same_integer n last) _ _ tt (for_quiet (context G.setup s G.p) (configuration s G.p) N.on.running.env k x down (next_counter down n) last st))
     (operation_quiet G.program w o (op.ForNext F.counting) tt))
   where
-    F : ForLeft (site G N.on.running) o.temps N.on.running.temp x down n last st o.place N.on.left.1.0 N.on.left.1.1
+    F : ForLeft (site G N.on.running) o.temps N.on.running.temp x down n last st o.counter N.on.left.1.0 N.on.left.1.1
     F = N.on.left.1.3
 
     defined : Bool → StepResult
@@ -223,5 +223,5 @@ for_next_steps G s w before o x down n last st env k N =
         (runs_moved G s.store o (ForNext x down n last st env ∷ k) k N.on.left.1.0 N.on.left.1.1 N.on refl refl refl N.on.left.1.4 (omega (arith, N.on.left.1.2))))
         record { number = refl; input = refl; consumed = refl; output = refl; activity = refl }
     by false =
-        counts_to G s w before o (ForNext x down n last st env) k N N.sees x down st F.counting N.on.left.1.0 N.on.left.1.1 o.place (next_counter down n) last refl (λ store words. refl) refl
+        counts_to G s w before o (ForNext x down n last st env) k N N.sees x down st F.counting N.on.left.1.0 N.on.left.1.1 o.counter (next_counter down n) last refl (λ store words. refl) refl
         F.counts F.test F.again N.on.left.1.4

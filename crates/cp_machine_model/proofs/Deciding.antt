@@ -5,7 +5,7 @@ use Rattle.std.proofs.lemmas.Bool.{eq-eqb}
 use Rattle.cp_model.specs.Abstract as a
 use Rattle.cp_model.specs.Abstract.{Name}
 use Rattle.cp_model.specs.Actions.{Acts, action}
-use Rattle.cp_model.specs.Calls.{call_in_statement, first_call, in_context}
+use Rattle.cp_model.specs.Calls.{call_in_statement, in_context}
 use Rattle.cp_model.specs.Components.{Component, same_sort}
 use Rattle.cp_model.specs.Configurations as stage
 use Rattle.cp_model.specs.Continuations.{Do, EndBody, EndCall, EndProcess, ForNext, RepeatTest, Task, WhileTest, marked_monitors}
@@ -27,7 +27,7 @@ use Rattle.cp_machine_model.specs.PrivateStates as machine
 use Rattle.cp_machine_model.specs.PrivateStates.{Outside, PrivateState}
 use Rattle.cp_machine_model.specs.Steps.{act, is_kernel_operation}
 use Rattle.cp_machine_model.specs.Addresses.{Ground, activations, in_sight, scope}
-use Rattle.cp_machine_model.specs.Left.{Left, Running, Runs, held_below, innermost_gate, kept_below, site}
+use Rattle.cp_machine_model.specs.Left.{Left, Loop, Repeat, Running, Runs, While, held_below, innermost_gate, kept_below, site}
 use Rattle.cp_machine_model.specs.PartOf.{PartOf, RunsOn}
 use Rattle.cp_machine_model.proofs.AssignCalls.{StatementAdvances}
 use Rattle.cp_machine_model.proofs.Assigning.{set_steps}
@@ -47,6 +47,7 @@ use Rattle.cp_machine_model.proofs.Heres.{Sees}
 use Rattle.cp_machine_model.proofs.InitMonitors.{monitor_inits}
 use Rattle.cp_machine_model.proofs.InitSteps.{init_steps}
 use Rattle.cp_machine_model.proofs.LeftKept.{held_within, left_kept}
+use Rattle.cp_machine_model.proofs.Loops.{AtTest, left_at_test, loop_task, made_at_test, sees_at_test, test_left}
 use Rattle.cp_machine_model.proofs.NextCalls.{AllMade, Calling}
 use Rattle.cp_machine_model.proofs.ProcessRights.{no_class_rights}
 use Rattle.cp_machine_model.proofs.ProcessSteps.{process_effect, process_inits}
@@ -55,7 +56,7 @@ use Rattle.cp_machine_model.proofs.Returning.{return_steps, text_is}
 use Rattle.cp_machine_model.proofs.Standards.{By, accept_steps, delay_steps, display_steps, one, wait_steps}
 use Rattle.cp_machine_model.proofs.StatementCalls.{own_place, statement_next}
 use Rattle.cp_machine_model.proofs.Stepping.{Around, AroundAll, IfPlaced, Now, Stepped, kernel_step}
-use Rattle.cp_machine_model.proofs.Testing.{cycle_steps, if_steps, repeat_steps, while_steps}
+use Rattle.cp_machine_model.proofs.Testing.{cycle_steps, if_steps, loop_steps}
 use Rattle.cp_program_model.specs.Terms.{Spot}
 use Rattle.cp_machine_model.proofs.Effects.{EffectAgrees}
 use Rattle.cp_machine_model.proofs.InitProcesses.{InitOfProcess}
@@ -112,18 +113,18 @@ module _ (G : Ground) (s : State) (w : Outside) (before : List ℕ) (o : Private
       by [] e = delay_steps G s w before o x env k (ap marked_monitors Y.now.left ∙ e, Y.now.on.gate ∙ ap innermost_gate e) d Y queue n h
       by (m ∷ ms) e = delay_in_monitor G s w before o x env k m ms (gate_is_held G s.store o (Do (a.Perform (a.Plain x) (one (a.Use d))) env ∷ k) m ms Y.now.on e) e d Y queue n h
           (λ K. queues_shared G F.typed (activations o.base o.frames (Do (a.Perform (a.Plain x) (one (a.Use d))) env ∷ k))
-          (activations_none G units o.temps o.limit o.base _ Y.now.on.running o.frames o.place Y.now.on.running.unit.temps (Do (a.Perform (a.Plain x) (one (a.Use d))) env ∷ k) Y.now.on.runs Y.now.on.left))
+          (activations_none G units o.temps o.limit o.base _ Y.now.on.running o.frames o.counter Y.now.on.running.unit.temps (Do (a.Perform (a.Plain x) (one (a.Use d))) env ∷ k) Y.now.on.runs Y.now.on.left))
 
-  assigns : (d : a.Designator) (e : a.Expression) (env : Environment) (k : List Task) (Y : Ready G s w before o (a.Assign d e) env k) (x : Operation) → operation_at G.program o.place ≡ Some x
-      → AssignsBy (site G Y.now.on.running) (known G s w before o (Do (a.Assign d e) env) k Y.now) d e x o.place Y.now.on.left.2.3.0 Y.now.on.left.2.0 Y.now.on.left.2.1
+  assigns : (d : a.Designator) (e : a.Expression) (env : Environment) (k : List Task) (Y : Ready G s w before o (a.Assign d e) env k) (x : Operation) → operation_at G.program o.counter ≡ Some x
+      → AssignsBy (site G Y.now.on.running) (known G s w before o (Do (a.Assign d e) env) k Y.now) d e x o.counter Y.now.on.left.2.3.0 Y.now.on.left.2.0 Y.now.on.left.2.1
       → Stepped G s w before o
   assigns d e env k Y (op.Set to lower upper c n) there h = set_steps G s w before o d e env k Y to lower upper c n there h
   assigns (a.Plain x) e env k Y (op.SetResult lower upper c n) there h = result_steps G s w before o x e env k F Y lower upper c n there h
   assigns d (a.Use e) env k Y (op.CopyWords to from size n) there h = copy_steps G s w before o d e env k Y to from size n there h
   assigns d e env k Y _ there h = absurd h
 
-  performs : (d : a.Designator) (es : a.Expressions) (env : Environment) (k : List Task) (Y : Ready G s w before o (a.Perform d es) env k) (x : Operation) → operation_at G.program o.place ≡ Some x
-      → PerformsBy (site G Y.now.on.running) (known G s w before o (Do (a.Perform d es) env) k Y.now) d es x o.place Y.now.on.left.2.3.0 Y.now.on.left.2.0 Y.now.on.left.2.1
+  performs : (d : a.Designator) (es : a.Expressions) (env : Environment) (k : List Task) (Y : Ready G s w before o (a.Perform d es) env k) (x : Operation) → operation_at G.program o.counter ≡ Some x
+      → PerformsBy (site G Y.now.on.running) (known G s w before o (Do (a.Perform d es) env) k Y.now) d es x o.counter Y.now.on.left.2.3.0 Y.now.on.left.2.0 Y.now.on.left.2.1
       → Stepped G s w before o
   performs d es env k Y (op.Procedure call n) there h = procedure_steps G s w before o d es env k I.store units Y call n there h (declares_here Y.now.on.running Y.now.on.runs)
   performs (a.Plain x) (a.MoreExpressions e a.NoExpression) env k Y (op.Display c as_byte n) there h = display_steps G s w before o x env k e Y c as_byte n (there, h)
@@ -134,7 +135,7 @@ module _ (G : Ground) (s : State) (w : Outside) (before : List ℕ) (o : Private
   performs d es env k Y _ there h = absurd h
 
   -- The `init` of a monitor or a process is a kernel step.
-  inits_by_kernel : (x : Name) (es : a.Expressions) (env : Environment) (k : List Task) (Y : Ready G s w before o (a.Init x es) env k) (y : Operation) → operation_at G.program o.place ≡ Some y
+  inits_by_kernel : (x : Name) (es : a.Expressions) (env : Environment) (k : List Task) (Y : Ready G s w before o (a.Init x es) env k) (y : Operation) → operation_at G.program o.counter ≡ Some y
       → is_kernel_operation y ≡ true → (Y.now.on.left.2.3.2.system.sort ≡ a.Class → ⊥)
       → (AroundAll G s w → PartOf G (after_step s G.p (executed G s w before o (a.Init x es) env k Y)) before (act G.program w o y).0)
       → (AroundAll G s w → EffectAgrees G w.own (executed G s w before o (a.Init x es) env k Y) (act G.program w o y).1)
@@ -153,8 +154,8 @@ module _ (G : Ground) (s : State) (w : Outside) (before : List ℕ) (o : Private
       by a.Monitor h = refl
       by a.Process h = refl
 
-  inits : (x : Name) (es : a.Expressions) (env : Environment) (k : List Task) (Y : Ready G s w before o (a.Init x es) env k) (y : Operation) → operation_at G.program o.place ≡ Some y
-      → InitsBy (site G Y.now.on.running) (known G s w before o (Do (a.Init x es) env) k Y.now) Y.now.on.left.2.3.2 es y o.place Y.now.on.left.2.3.0 Y.now.on.left.2.0 Y.now.on.left.2.1
+  inits : (x : Name) (es : a.Expressions) (env : Environment) (k : List Task) (Y : Ready G s w before o (a.Init x es) env k) (y : Operation) → operation_at G.program o.counter ≡ Some y
+      → InitsBy (site G Y.now.on.running) (known G s w before o (Do (a.Init x es) env) k Y.now) Y.now.on.left.2.3.2 es y o.counter Y.now.on.left.2.3.0 Y.now.on.left.2.0 Y.now.on.left.2.1
       → Stepped G s w before o
   inits x es env k Y (op.InitClass call m) there h = init_steps G s w before o x es env k I.store units Y call m there h (no_class_rights G F.typed) (declares_here Y.now.on.running Y.now.on.runs)
   inits x es env k Y (op.InitMonitor call m) there h =
@@ -190,15 +191,15 @@ module _ (G : Ground) (s : State) (w : Outside) (before : List ℕ) (o : Private
 
   statement_steps : (st : a.Statement) (env : Environment) (k : List Task) → Ready G s w before o st env k → Stepped G s w before o
   statement_steps (a.Assign d e) env k Y =
-      assigns d e env k Y Y.now.on.left.2.3.1 (ap (operation_at G.program) Y.place ∙ Y.now.on.left.2.3.2) Y.now.on.left.2.3.3
+      assigns d e env k Y Y.now.on.left.2.3.1 (ap (operation_at G.program) Y.counter ∙ Y.now.on.left.2.3.2) Y.now.on.left.2.3.3
   statement_steps (a.Perform d es) env k Y =
-      performs d es env k Y Y.now.on.left.2.3.1 (ap (operation_at G.program) Y.place ∙ Y.now.on.left.2.3.2) Y.now.on.left.2.3.3
+      performs d es env k Y Y.now.on.left.2.3.1 (ap (operation_at G.program) Y.counter ∙ Y.now.on.left.2.3.2) Y.now.on.left.2.3.3
   statement_steps (a.If e t u) env k Y = if_steps G s w before o e t u env k Y
   statement_steps (a.Case e arms) env k Y = case_steps G s w before o e arms env k Y
   statement_steps (a.For x down e f st) env k Y = for_steps G s w before o x down e f st env k Y
   statement_steps (a.Cycle st) env k Y = cycle_steps G s w before o st env k Y
   statement_steps (a.Init x es) env k Y =
-      inits x es env k Y Y.now.on.left.2.3.1 (ap (operation_at G.program) Y.place ∙ Y.now.on.left.2.3.3) Y.now.on.left.2.3.5
+      inits x es env k Y Y.now.on.left.2.3.1 (ap (operation_at G.program) Y.counter ∙ Y.now.on.left.2.3.3) Y.now.on.left.2.3.5
   statement_steps a.Nothing env k Y = absurd Y.now.on.left.1
   statement_steps (a.Seq t u) env k Y = absurd Y.now.on.left.1
   statement_steps (a.While e st) env k Y = absurd Y.now.on.left.1
@@ -206,46 +207,38 @@ module _ (G : Ground) (s : State) (w : Outside) (before : List ℕ) (o : Private
 
   do_steps : (st : a.Statement) (env : Environment) (k : List Task) → Now G s w before o (Do st env) k → Stepped G s w before o
   do_steps st env k N =
-      by (statement_next (site G N.on.running) (known G s w before o (Do st env) k N) st o.place N.on.left.2.0 N.on.left.2.1 N.on.left.1 N.on.left.2.3)
+      by (statement_next (site G N.on.running) (known G s w before o (Do st env) k N) st o.counter N.on.left.2.0 N.on.left.2.1 N.on.left.1 N.on.left.2.3)
     where
-      by : StatementAdvances (site G N.on.running) (known G s w before o (Do st env) k N) st o.place
-          (own_place (site G N.on.running) (known G s w before o (Do st env) k N) st o.place N.on.left.2.0 N.on.left.2.1 N.on.left.2.3) N.on.left.2.0 N.on.left.2.1
+      by : StatementAdvances (site G N.on.running) (known G s w before o (Do st env) k N) st o.counter
+          (own_place (site G N.on.running) (known G s w before o (Do st env) k N) st o.counter N.on.left.2.0 N.on.left.2.1 N.on.left.2.3) N.on.left.2.0 N.on.left.2.1
           → Stepped G s w before o
-      by (AllMade p q r) = statement_steps st env k (record { now = N; place = p; none = q (a.Literal 0) })
+      by (AllMade p q r) = statement_steps st env k (record { now = N; counter = p; none = q (a.Literal 0) })
       by (Calling C) =
           function_steps G s w before o (Do st env) k N N.sees I.store units C.user C.temp C.after C.base C.ready (Do (C.fill (a.Literal 0)) env)
           (ap (λ e. in_context (λ y. Do y env) (call_in_statement e (a.Literal 0) st)) N.on.left.0 ∙ ap (in_context (λ y. Do y env)) (C.found (a.Literal 0)))
           (let h = N.on.left in
-          left_kept G o.temps o.temps o.limit refl (known G s w before o (Do st env) k N) (kept_below C.ready.low N.on.live o.temps N.on.running.temp) N.on.running o.frames o.place C.ready.low (Do st env ∷ k)
+          left_kept G o.temps o.temps o.limit refl (known G s w before o (Do st env) k N) (kept_below C.ready.low N.on.live o.temps N.on.running.temp) N.on.running o.frames o.counter C.ready.low (Do st env ∷ k)
           (held_within o.temps N.on.running.temp C.ready.low N.on.live) (λ n q. refl) (h.0, h.1, (h.2.0, h.2.1, C.keeps, h.2.3, h.2.4))) (declares_here N.on.running N.on.runs)
 
-  while_does : (now e : a.Expression) (st : a.Statement) (env : Environment) (k : List Task) → Now G s w before o (WhileTest now e st env) k → Stepped G s w before o
-  while_does now e st env k N =
-      by (term_next (site G N.on.running) (known G s w before o (WhileTest now e st env) k N) now N.on.left.1.3.term N.on.left.1.3.base o.place N.on.left.1.3.last N.on.left.1.1 N.on.running.unit.temps N.on.left.1.3.rest)
+  loop_does : (loop : Loop) (now e : a.Expression) (st : a.Statement) (env : Environment) (k : List Task) → Now G s w before o (loop_task loop now e st env) k → Stepped G s w before o
+  loop_does loop now e st env k N =
+      by (term_next (site G N.on.running) (known G s w before o task k N) now h.1.3.term h.1.3.base o.counter h.1.3.last h.1.1 N.on.running.unit.temps h.1.3.rest)
     where
-      by : TermAdvances (site G N.on.running) (known G s w before o (WhileTest now e st env) k N) now N.on.left.1.3.term N.on.left.1.3.base o.place N.on.left.1.3.last N.on.left.1.1 N.on.running.unit.temps
-          → Stepped G s w before o
-      by (AllMade p q r) = while_steps G s w before o now e st env k N p (q (a.Literal 0))
-      by (Calling C) =
-          function_steps G s w before o (WhileTest now e st env) k N N.sees I.store units C.user C.temp C.after C.base C.ready (WhileTest (C.fill (a.Literal 0)) e st env)
-          (ap (λ z. in_context (λ y. WhileTest y e st env) (first_call z (a.Literal 0) now)) N.on.left.0 ∙ ap (in_context (λ y. WhileTest y e st env)) (C.found (a.Literal 0)))
-          (let h = N.on.left in
-          left_kept G o.temps o.temps o.limit refl (known G s w before o (WhileTest now e st env) k N) (kept_below C.ready.low N.on.live o.temps N.on.running.temp) N.on.running o.frames o.place C.ready.low (WhileTest now e st env ∷ k)
-          (held_within o.temps N.on.running.temp C.ready.low N.on.live) (λ n q. refl) (h.0, (h.1.0, h.1.1, C.keeps, h.1.3, h.1.4))) (declares_here N.on.running N.on.runs)
+      task : Task
+      task = loop_task loop now e st env
 
-  repeat_does : (now : a.Expression) (st : a.Statement) (e : a.Expression) (env : Environment) (k : List Task) → Now G s w before o (RepeatTest now st e env) k → Stepped G s w before o
-  repeat_does now st e env k N =
-      by (term_next (site G N.on.running) (known G s w before o (RepeatTest now st e env) k N) now N.on.left.1.3.term N.on.left.1.3.base o.place N.on.left.1.3.last N.on.left.1.1 N.on.running.unit.temps N.on.left.1.3.rest)
-    where
-      by : TermAdvances (site G N.on.running) (known G s w before o (RepeatTest now st e env) k N) now N.on.left.1.3.term N.on.left.1.3.base o.place N.on.left.1.3.last N.on.left.1.1 N.on.running.unit.temps
-          → Stepped G s w before o
-      by (AllMade p q r) = repeat_steps G s w before o now st e env k N p (q (a.Literal 0))
+      h : AtTest loop G o.temps o.limit (known G s w before o task k N) N.on.running o.frames o.counter N.on.running.unit.temps now e st env k
+      h = test_left G o.temps o.limit (known G s w before o task k N) N.on.running o.frames o.counter N.on.running.unit.temps now e st env k loop N.on.left
+
+      by : TermAdvances (site G N.on.running) (known G s w before o task k N) now h.1.3.term h.1.3.base o.counter h.1.3.last h.1.1 N.on.running.unit.temps → Stepped G s w before o
+      by (AllMade p q r) = loop_steps G s w before o loop now e st env k N h p (q (a.Literal 0))
       by (Calling C) =
-          function_steps G s w before o (RepeatTest now st e env) k N N.sees I.store units C.user C.temp C.after C.base C.ready (RepeatTest (C.fill (a.Literal 0)) st e env)
-          (ap (λ z. in_context (λ y. RepeatTest y st e env) (first_call z (a.Literal 0) now)) N.on.left.0 ∙ ap (in_context (λ y. RepeatTest y st e env)) (C.found (a.Literal 0)))
-          (let h = N.on.left in
-          left_kept G o.temps o.temps o.limit refl (known G s w before o (RepeatTest now st e env) k N) (kept_below C.ready.low N.on.live o.temps N.on.running.temp) N.on.running o.frames o.place C.ready.low (RepeatTest now st e env ∷ k)
-          (held_within o.temps N.on.running.temp C.ready.low N.on.live) (λ n q. refl) (h.0, (h.1.0, h.1.1, C.keeps, h.1.3, h.1.4))) (declares_here N.on.running N.on.runs)
+          function_steps G s w before o task k N (sees_at_test now e st env loop _ N.sees) I.store units C.user C.temp C.after C.base C.ready (loop_task loop (C.fill (a.Literal 0)) e st env)
+          (made_at_test now e st env loop (a.Literal 0) N.on.running.env h.0 C.user (C.fill (a.Literal 0)) (C.found (a.Literal 0)))
+          (left_kept G o.temps o.temps o.limit refl (known G s w before o task k N) (kept_below C.ready.low N.on.live o.temps N.on.running.temp) N.on.running o.frames o.counter C.ready.low (task ∷ k)
+          (held_within o.temps N.on.running.temp C.ready.low N.on.live) (λ n q. refl)
+          (left_at_test G o.temps o.limit (known G s w before o task k N) N.on.running o.frames o.counter C.ready.low now e st env k loop (h.0, (h.1.0, h.1.1, C.keeps, h.1.3, h.1.4))))
+          (declares_here N.on.running N.on.runs)
 
   -- ---- tasks
 
@@ -254,7 +247,7 @@ module _ (G : Ground) (s : State) (w : Outside) (before : List ℕ) (o : Private
       return_steps G s w before o env gate k N (λ f t is result. names N.on.running N.on.runs f t (ap (λ (y : Environment). y.frame) (sym here) ∙ is) result)
     where
       here : env ≡ N.on.running.env
-      here = end_environment G o.temps o.limit (held_below N.on.live o.temps N.on.running.temp) N.on.running o.frames o.place N.on.running.unit.temps env gate k N.on.left
+      here = end_environment G o.temps o.limit (held_below N.on.live o.temps N.on.running.temp) N.on.running o.frames o.counter N.on.running.unit.temps env gate k N.on.left
 
   -- What the process may see in the environment of its task.
   pub sees_in : (R : Running) (env : Environment) (k : List Task) → env ≡ R.env → s.continuation G.p ≡ k → EnvironmentIn (in_reach G.p (marked_monitors k)) env → Sees G (in_sight G) s.store R.env
@@ -274,13 +267,13 @@ module _ (G : Ground) (s : State) (w : Outside) (before : List ℕ) (o : Private
     where
       by : (i : Task) (R : RunsOn G s.store o (i ∷ k)) → s.continuation G.p ≡ i ∷ k → TaskIn (in_reach G.p (marked_monitors (i ∷ k))) i → Stepped G s w before o
       by (Do st env) R left there = do_steps st env k (now_of (Do st env) k R left ready (sees_in R.running env (Do st env ∷ k) R.left.0 left there))
-      by (WhileTest now e st env) R left there = while_does now e st env k (now_of (WhileTest now e st env) k R left ready (sees_in R.running env (WhileTest now e st env ∷ k) R.left.0 left there))
-      by (RepeatTest now st e env) R left there = repeat_does now st e env k (now_of (RepeatTest now st e env) k R left ready (sees_in R.running env (RepeatTest now st e env ∷ k) R.left.0 left there))
+      by (WhileTest now e st env) R left there = loop_does While now e st env k (now_of (WhileTest now e st env) k R left ready (sees_in R.running env (WhileTest now e st env ∷ k) R.left.0 left there))
+      by (RepeatTest now st e env) R left there = loop_does Repeat now e st env k (now_of (RepeatTest now st e env) k R left ready (sees_in R.running env (RepeatTest now st e env ∷ k) R.left.0 left there))
       by (ForNext x down n last st env) R left there =
           for_next_steps G s w before o x down n last st env k (now_of (ForNext x down n last st env) k R left ready (sees_in R.running env (ForNext x down n last st env ∷ k) R.left.0 left there))
       by (EndCall env gate) R left there =
           return_does env gate k
           (now_of (EndCall env gate) k R left ready
-          (sees_in R.running env (EndCall env gate ∷ k) (end_environment G o.temps o.limit (held_below R.live o.temps R.running.temp) R.running o.frames o.place R.running.unit.temps env gate k R.left) left there))
+          (sees_in R.running env (EndCall env gate ∷ k) (end_environment G o.temps o.limit (held_below R.live o.temps R.running.temp) R.running o.frames o.counter R.running.unit.temps env gate k R.left) left there))
       by (EndBody gate) R left there = body_ends G s w before o gate k (now_of (EndBody gate) k R left ready tt)
       by EndProcess R left there = process_ends G s w before o k (now_of EndProcess k R left ready tt)

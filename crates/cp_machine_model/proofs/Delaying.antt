@@ -132,7 +132,7 @@ module _ (G : Ground) (s : State) (w : Outside) (before : List ℕ) (o : Private
     delays_it q at mine is None = (sym (Y.now.on.gate ∙ ap innermost_gate marks), monitor_below G.setup m is_gate.0 is_gate.1, queue_lies q at mine is)
       where
         is_gate : IsGate G (Some m)
-        is_gate = gates_there G o.temps o.limit _ Y.now.on.running o.frames o.place Y.now.on.running.unit.temps (first ∷ k) m ms Y.now.on.left marks
+        is_gate = gates_there G o.temps o.limit _ Y.now.on.running o.frames o.counter Y.now.on.running.unit.temps (first ∷ k) m ms Y.now.on.left marks
 
     leaves_it : (at : ℕ) → nat_lt at (length o.words) ≡ true → LeavesIt (private.Delays o.gate at) (steps.delay o at n)
     leaves_it at there =
@@ -159,7 +159,7 @@ module _ (G : Ground) (s : State) (w : Outside) (before : List ℕ) (o : Private
       let N = Y.now in
       let is = sym (delays (context G.setup s G.p) (configuration s G.p) N.on.running.env k x (a.Use d) h.1.0.1 h.1.0.2 h.1.0.3) in
       let placed =
-      place_here G s w before o first k N N.sees d queue Queue o.place N.on.left.2.3.0 N.on.left.2.1 N.on.running.unit.temps h.1.3
+      place_here G s w before o first k N N.sees d queue Queue o.counter N.on.left.2.3.0 N.on.left.2.1 N.on.running.unit.temps h.1.3
       (used_none G s w before o x env k N.on.running.env d (argument_none G s w before o x env k N.on.running.env (a.Use d) Y.none)) in
       statement_steps G s w before o (a.Perform (a.Plain x) (one (a.Use d))) env k Y (op.Delay queue n) (not_called N.on.running.env (a.Plain x) (one (a.Use d)) h.1.0.0) refl h.0 refl
       (subst (λ z. PartOf G (after_step s G.p z) before (steps.with_place w o queue (λ at. steps.delay o at n)).0) is (by_place _ _ placed))

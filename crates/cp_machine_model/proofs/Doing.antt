@@ -62,7 +62,7 @@ module _ (G : Ground) (s : State) (w : Outside) (before : List ℕ) (o : Private
 -- A statement that has no more calls to make.
 pub record Ready (G : Ground) (s : State) (w : Outside) (before : List ℕ) (o : PrivateState) (st : a.Statement) (env : Environment) (k : List Task) : Type 0 where
   pub now : Now G s w before o (Do st env) k
-  pub place : o.place ≡ own_place (site G now.on.running) (held_below now.on.live o.temps now.on.running.temp) st o.place now.on.left.2.0 now.on.left.2.1 now.on.left.2.3
+  pub counter : o.counter ≡ own_place (site G now.on.running) (held_below now.on.live o.temps now.on.running.temp) st o.counter now.on.left.2.0 now.on.left.2.1 now.on.left.2.3
   pub none : call_in_statement now.on.running.env (a.Literal 0) st ≡ None
 
 module _ (G : Ground) (s : State) (w : Outside) (before : List ℕ) (o : PrivateState) (st : a.Statement) (env : Environment) (k : List Task) (Y : Ready G s w before o st env k) where
@@ -73,7 +73,7 @@ module _ (G : Ground) (s : State) (w : Outside) (before : List ℕ) (o : Private
   executed = execute (context G.setup s G.p) (configuration s G.p) here k st
 
   pub statement_steps : (y : Operation) → procedure_call (Do st here) ≡ None → is_kernel_action (Acts (Do st here) k) ≡ false
-      → operation_at G.program o.place ≡ Some y → steps.is_kernel_operation y ≡ false
+      → operation_at G.program o.counter ≡ Some y → steps.is_kernel_operation y ≡ false
       → PartOf G (after_step s G.p executed) before (act G.program w o y).0
       → (AroundAll G s w → EffectAgrees G w.own executed (act G.program w o y).1)
       → Stepped G s w before o

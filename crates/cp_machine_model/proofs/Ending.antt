@@ -48,19 +48,18 @@ body_ends G s w before o gate k N = by o.frames N
         (gate_left G s before gate _ _
         (went G s before P N.part s.store (leave P f fs) k
         record {
-          running = c.0;
-          runs = c.2;
-          base = c.3.base;
-          temp = c.3.temp;
-          component = c.3.component;
-          gate = N.on.left.2.1;
-          live = 0;
-          left = left_afresh G o.temps o.limit 0 c.0 fs f.place c.1 k c.3.kept_fit c.4;
-          next_value = λ d n m e. omega arith;
-          count = N.on.count;
-          activations_mean = N.on.activations_mean;
-          data_means = N.on.data_means;
-          given = N.on.given.1;
+          at = record {
+            running = c.0;
+            runs = c.2;
+            base = c.3.base;
+            temp = c.3.temp;
+            component = c.3.component;
+            gate = N.on.left.2.1;
+            live = 0;
+            left = left_afresh G o.temps o.limit 0 c.0 fs f.counter c.1 k c.3.kept_fit c.4;
+            next_value = λ d n m e. omega arith;
+          };
+          words_mean = record { count = N.on.count; activations_mean = N.on.activations_mean; data_means = N.on.data_means; given = N.on.given.1 };
         }
         record { number = refl; input = refl; consumed = refl; output = refl; activity = refl }))
         (λ all. leaves G w.own gate f.gate N.on.left.2.0 N.on.left.2.2)

@@ -26,8 +26,8 @@ use Rattle.cp_machine_model.specs.PartOf.{ActivationMeans, ActivationsMean, Data
 use Rattle.cp_machine_model.proofs.Apart.{IsCell}
 use Rattle.cp_machine_model.proofs.GatesHeld.{monitor_numbered}
 use Rattle.cp_machine_model.proofs.Holding.{SameBelow, SameLive, data_below}
-use Rattle.cp_machine_model.proofs.Pushing.{activations_push, marks_push, mean_push, push_left}
-use Rattle.cp_machine_model.proofs.RunningOn.{left_afresh, runs_over, runs_stacked}
+use Rattle.cp_machine_model.proofs.Pushing.{marks_push, push_left}
+use Rattle.cp_machine_model.proofs.RunningOn.{left_afresh, runs_over, runs_stacked, words_pushed}
 use Rattle.cp_machine_model.proofs.Writing.{is_cell}
 use Rattle.cp_machine_model.proofs.Given.{all_kept}
 use Rattle.cp_machine_model.proofs.Keeping.{keeps_given}
@@ -113,45 +113,47 @@ pub entered_on : (G : Ground) (store after : Store) (o : PrivateState) (ws : Lis
     → RunsOn G after (enter (record o { words = ws }) c E.runs.unit call back)
     (push r.body (environment_of_call G k s r at) (EndCall (environment_of_call G k s r at) gate ∷ k))
 entered_on G store after o ws i k R call back s r at c gate place kept live W E caller has same_live below len opened = record {
-  running = N;
-  runs = new_runs;
-  base = omega (arith, R.base);
-  temp = omega (arith, R.temp);
-  component = refl;
-  gate = ap (λ g. innermost g o.gate) E.same_gate ∙ (entered gate E.is_gate ∙ ap innermost_gate (sym (marks_push r.body env (EndCall env gate ∷ k))));
-  live = 0;
-  left = left_afresh G o.temps o.limit 0 N (f ∷ o.frames) E.runs.unit.start 0 (push r.body env (EndCall env gate ∷ k)) (omega arith)
-      (push_left G o.temps o.limit N (f ∷ o.frames) r.body E.runs.unit.start (E.stands.4 at (owner_of_call G k)).0 0 (EndCall env gate ∷ k) (E.stands.4 at (owner_of_call G k)).2 (
-        refl,
-        record { frame = record { owner = owner_of_call G k; routine = r }; runs = refl; owner = refl; return = (E.stands.4 at (owner_of_call G k)).1 },
-        (E.same_gate, held, E.is_gate),
-        (
-          R.running,
-          place,
-          kept,
-          live,
-          R.runs,
-          record {
-            base = R.base;
-            temp = R.temp;
-            component = R.component;
-            words_apart = omega (arith, E.runs.words);
-            temps_apart = omega (arith, E.runs.temps);
-            kept_fit = W.kept_fit;
-          },
-          caller,
-          W.left,
-        ),
-      ));
-  next_value = λ d n m e. omega arith;
-  count = len ∙ R.count;
-  activations_mean = subst (λ (T : Type 0). T) (sym (mean_push G after ws (o.base + call.words) (f ∷ o.frames) r.body env (EndCall env gate ∷ k)))
-      (opened.frame, subst (λ (T : Type 0). T) (sym (W.means after ws)) over.activations_mean);
-  data_means = subst (λ ys. DataMeans G ys (in_sight G) after ws) (sym (activations_push (o.base + call.words) (f ∷ o.frames) r.body env (EndCall env gate ∷ k)))
-      (data_opened G ys after ws (o.base + call.words) (record { owner = owner_of_call G k; routine = r }) opened (subst (λ ys. DataMeans G ys (in_sight G) after ws) (sym W.same) over.data_means));
-  given = all_kept G store after
-      (keeps_given G store after o.words ws (activations o.base o.frames i) (data_below G (activations o.base o.frames i) (o.base + (site G R.running).words) (runs_stacked G store o i R) store after o.words ws same_live below))
-      (c.component ∷ components o) (has, R.given);
+  at = record {
+    running = N;
+    runs = new_runs;
+    base = omega (arith, R.base);
+    temp = omega (arith, R.temp);
+    component = refl;
+    gate = ap (λ g. innermost g o.gate) E.same_gate ∙ (entered gate E.is_gate ∙ ap innermost_gate (sym (marks_push r.body env (EndCall env gate ∷ k))));
+    live = 0;
+    left = left_afresh G o.temps o.limit 0 N (f ∷ o.frames) E.runs.unit.start 0 (push r.body env (EndCall env gate ∷ k)) (omega arith)
+        (push_left G o.temps o.limit N (f ∷ o.frames) r.body E.runs.unit.start (E.stands.4 at (owner_of_call G k)).0 0 (EndCall env gate ∷ k) (E.stands.4 at (owner_of_call G k)).2 (
+          refl,
+          record { frame = record { owner = owner_of_call G k; routine = r }; runs = refl; owner = refl; return = (E.stands.4 at (owner_of_call G k)).1 },
+          (E.same_gate, held, E.is_gate),
+          (
+            R.running,
+            place,
+            kept,
+            live,
+            R.runs,
+            record {
+              base = R.base;
+              temp = R.temp;
+              component = R.component;
+              words_apart = omega (arith, E.runs.words);
+              temps_apart = omega (arith, E.runs.temps);
+              kept_fit = W.kept_fit;
+            },
+            caller,
+            W.left,
+          ),
+        ));
+    next_value = λ d n m e. omega arith;
+  };
+  words_mean = words_pushed G after ws (o.base + call.words) c.component (f ∷ o.frames) r.body env (EndCall env gate ∷ k) record {
+    count = len ∙ R.count;
+    activations_mean = (opened.frame, subst (λ (T : Type 0). T) (sym (W.means after ws)) over.activations_mean);
+    data_means = data_opened G ys after ws (o.base + call.words) (record { owner = owner_of_call G k; routine = r }) opened (subst (λ ys. DataMeans G ys (in_sight G) after ws) (sym W.same) over.data_means);
+    given = all_kept G store after
+        (keeps_given G store after o.words ws (activations o.base o.frames i) (data_below G (activations o.base o.frames i) (o.base + (site G R.running).words) (runs_stacked G store o i R) store after o.words ws same_live below))
+        (c.component ∷ components o.component o.frames) (has, R.given);
+  };
 }
   where
     N : Running

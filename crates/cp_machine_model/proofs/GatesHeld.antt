@@ -28,7 +28,7 @@ gates_there G temps limit K R (f ∷ fs) place low (EndCall env None ∷ k) m ms
     let c = h.3 in gates_there G temps limit (kept_below c.2 c.3 temps c.0.temp) c.0 fs c.1 c.2 k m ms c.7 e
 gates_there G temps limit K R (f ∷ fs) place low (EndCall env (Some n) ∷ k) m ms h e = subst (λ z. IsGate G (Some z)) (ap innermost_gate e) h.2.2
 gates_there G temps limit K R (f ∷ fs) place low (EndBody None ∷ k) m ms h e =
-    let c = h.3 in gates_there G temps limit nothing_known c.0 fs f.place c.1 k m ms c.4 e
+    let c = h.3 in gates_there G temps limit nothing_known c.0 fs f.counter c.1 k m ms c.4 e
 gates_there G temps limit K R (f ∷ fs) place low (EndBody (Some n) ∷ k) m ms h e = subst (λ z. IsGate G (Some z)) (ap innermost_gate e) h.2.2
 gates_there G temps limit K R fs place low (EndProcess ∷ k) m ms h e = absurd (cons_is_not_nil m ms (sym e ∙ ap marked_monitors h.1))
 gates_there G temps limit K R [] place low (EndCall env gate ∷ k) m ms h e = absurd h
@@ -42,4 +42,4 @@ pub gate_is_held : (G : Ground) (store : Store) (o : PrivateState) (k : List Tas
 gate_is_held G store o k m ms R marks =
     is_held_at_least o.gate
     (subst (λ z. 1 ≤ z) (sym (R.gate ∙ ap innermost_gate marks))
-    (monitor_numbered G m (gates_there G o.temps o.limit _ R.running o.frames o.place R.running.unit.temps k m ms R.left marks)))
+    (monitor_numbered G m (gates_there G o.temps o.limit _ R.running o.frames o.counter R.running.unit.temps k m ms R.left marks)))

@@ -39,7 +39,7 @@ module _ (G : Ground) (temps : List ℤ) (limit : ℕ) where
       ap (λ z. length (activation_of b z (activations f.base fs k))) (ap (λ (y : Environment). y.frame) h.0 ∙ h.1.runs)
       ∙ ap (λ n. suc n) (depth_is f.base (kept_below c.2 c.3 temps c.0.temp) c.0 fs c.1 c.2 k c.7)
   depth_is b K R (f ∷ fs) place low (EndBody gate ∷ k) h =
-      let c = h.3 in depth_is f.base nothing_known c.0 fs f.place c.1 k c.4
+      let c = h.3 in depth_is f.base nothing_known c.0 fs f.counter c.1 k c.4
   depth_is b K R fs place low (EndProcess ∷ k) h = ap (λ z. length (activations b fs z)) h.1 ∙ sym (ap depth h.1)
   depth_is b K R [] place low (EndCall env gate ∷ k) h = absurd h
   depth_is b K R [] place low (EndBody gate ∷ k) h = absurd h

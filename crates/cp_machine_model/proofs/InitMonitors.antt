@@ -43,7 +43,7 @@ use Rattle.cp_machine_model.specs.PartOf.{ActivationsMean, DataMeans, PartOf, Ru
 use Rattle.cp_machine_model.proofs.Apart.{IsCell}
 use Rattle.cp_machine_model.proofs.CallSteps.{UnitsStand}
 use Rattle.cp_machine_model.proofs.Doing.{Ready, executed, known}
-use Rattle.cp_machine_model.proofs.Pushing.{activations_push, marks_push, mean_push, push_left}
+use Rattle.cp_machine_model.proofs.Pushing.{marks_push, push_left}
 use Rattle.cp_machine_model.proofs.Copying.{copied_length}
 use Rattle.cp_machine_model.proofs.Declared.{distinct_first}
 use Rattle.cp_machine_model.proofs.Declares.{Declares}
@@ -55,7 +55,7 @@ use Rattle.cp_machine_model.proofs.InitSettled.{component_below, init_count, ini
 use Rattle.cp_machine_model.proofs.Placing.{Placed, monitor_placed}
 use Rattle.cp_machine_model.proofs.ProcessRights.{NoClassRights}
 use Rattle.cp_machine_model.proofs.Rooms.{room_for}
-use Rattle.cp_machine_model.proofs.RunningOn.{left_afresh, runs_here, runs_over, runs_stacked}
+use Rattle.cp_machine_model.proofs.RunningOn.{left_afresh, runs_here, runs_over, runs_stacked, words_of_body}
 use Rattle.cp_machine_model.proofs.Settling.{Settled, runs_settled}
 use Rattle.cp_machine_model.proofs.Stacks.{Stacked, own_in_whole}
 use Rattle.cp_machine_model.proofs.Stepping.{AroundAll, beyond, clock_of, faulted, stopped, went}
@@ -77,43 +77,40 @@ body_entered : (G : Ground) (store : Store) (o : PrivateState) (i : Task) (k : L
     → c.component ≡ G.own + monitor_start G.program m → c.gate ≡ m → ClassHasRights G store c.component
     → activations o.base o.frames (i ∷ k) ≡ activations o.base o.frames k → ActivationsMean G store o.words o.base o.frames (i ∷ k) ≡ ActivationsMean G store o.words o.base o.frames k
     → marked_monitors (i ∷ k) ≡ marked_monitors k
-    → Left G o.temps o.limit nothing_known R.running o.frames back.place kept k → kept ≤ R.running.unit.temps
+    → Left G o.temps o.limit nothing_known R.running o.frames back.counter kept k → kept ≤ R.running.unit.temps
     → RunsOn G store (enter o c C.unit call back) (push s.body (body_of_monitor G s m) (EndBody (Some m) ∷ k))
 body_entered G store o i k R call back s m c kept C stands sort is from gate has same means marks left fits = record {
-  running = N;
-  runs = new_runs;
-  base = omega (arith, R.base);
-  temp = omega (arith, R.temp);
-  component = refl;
-  gate = ap (λ g. innermost g o.gate) gate ∙ (entered m (monitor_numbered G m (s, is)) ∙ ap innermost_gate (sym (marks_push s.body env (EndBody (Some m) ∷ k))));
-  live = 0;
-  left = left_afresh G o.temps o.limit 0 N (f ∷ o.frames) C.unit.start 0 (push s.body env (EndBody (Some m) ∷ k)) (omega arith)
-      (push_left G o.temps o.limit N (f ∷ o.frames) s.body C.unit.start (stands.2 at).0 0 (EndBody (Some m) ∷ k) (stands.2 at).2 (
-        refl,
-        (stands.2 at).1 ∙ ap (λ z. Some (end_of z)) sort,
-        (gate, held, (s, is)),
-        (
-          R.running,
-          kept,
-          R.runs,
-          record {
-            base = R.base;
-            temp = R.temp;
-            component = R.component;
-            words_apart = omega (arith, C.words);
-            temps_apart = omega (arith, C.temps);
-            kept_fit = fits;
-          },
-          left,
-        ),
-      ));
-  next_value = λ d n q e. omega arith;
-  count = R.count;
-  activations_mean = subst (λ (T : Type 0). T) (sym (mean_push G store o.words (o.base + call.words) (f ∷ o.frames) s.body env (EndBody (Some m) ∷ k)))
-      (subst (λ (T : Type 0). T) means R.activations_mean);
-  data_means = subst (λ ys. DataMeans G ys (in_sight G) store o.words) (sym (activations_push (o.base + call.words) (f ∷ o.frames) s.body env (EndBody (Some m) ∷ k)))
-      (subst (λ ys. DataMeans G ys (in_sight G) store o.words) same R.data_means);
-  given = (has, R.given);
+  at = record {
+    running = N;
+    runs = new_runs;
+    base = omega (arith, R.base);
+    temp = omega (arith, R.temp);
+    component = refl;
+    gate = ap (λ g. innermost g o.gate) gate ∙ (entered m (monitor_numbered G m (s, is)) ∙ ap innermost_gate (sym (marks_push s.body env (EndBody (Some m) ∷ k))));
+    live = 0;
+    left = left_afresh G o.temps o.limit 0 N (f ∷ o.frames) C.unit.start 0 (push s.body env (EndBody (Some m) ∷ k)) (omega arith)
+        (push_left G o.temps o.limit N (f ∷ o.frames) s.body C.unit.start (stands.2 at).0 0 (EndBody (Some m) ∷ k) (stands.2 at).2 (
+          refl,
+          (stands.2 at).1 ∙ ap (λ z. Some (end_of z)) sort,
+          (gate, held, (s, is)),
+          (
+            R.running,
+            kept,
+            R.runs,
+            record {
+              base = R.base;
+              temp = R.temp;
+              component = R.component;
+              words_apart = omega (arith, C.words);
+              temps_apart = omega (arith, C.temps);
+              kept_fit = fits;
+            },
+            left,
+          ),
+        ));
+    next_value = λ d n q e. omega arith;
+  };
+  words_mean = words_of_body G store o.words (o.base + call.words) c.component f o.frames s.body env (Some m) i k same means has R.words_mean;
 }
   where
     at : Location
@@ -172,7 +169,7 @@ opened_part G before after m u P = record {
 
 pub monitor_inits : (G : Ground) (s : State) (w : Outside) (before : List ℕ) (o : PrivateState) (x : Name) (es : a.Expressions) (env : Environment) (k : List Task) → StoreInvariant s.store → UnitsStand G → AroundAll G s w
     → (Y : Ready G s w before o (a.Init x es) env k) (call : Call) (next : ℕ)
-    → InitsBy (site G Y.now.on.running) (known G s w before o (Do (a.Init x es) env) k Y.now) Y.now.on.left.2.3.2 es (op.InitMonitor call next) o.place Y.now.on.left.2.3.0 Y.now.on.left.2.0 Y.now.on.left.2.1
+    → InitsBy (site G Y.now.on.running) (known G s w before o (Do (a.Init x es) env) k Y.now) Y.now.on.left.2.3.2 es (op.InitMonitor call next) o.counter Y.now.on.left.2.3.0 Y.now.on.left.2.0 Y.now.on.left.2.1
     → NoClassRights G → Declares G Y.now.on.running.env
     → PartOf G (after_step s G.p (executed G s w before o (a.Init x es) env k Y)) before (act G.program w o (op.InitMonitor call next)).0
     × EffectAgrees G w.own (executed G s w before o (a.Init x es) env k Y) (act G.program w o (op.InitMonitor call next)).1
@@ -232,7 +229,7 @@ monitor_inits G s w before o x es env k I units K Y call next h none declares =
     lying' = lies_in_sight (in_sight G) G (activations o.base o.frames (first ∷ k))
 
     back : Back
-    back = record { place = next; into = 0 }
+    back = record { counter = next; into = 0 }
 
     begun : PrivateState → Acting
     begun p = (enter (settle p (o.base + call.words) c.component (length call.arguments)) c h.2.runs.unit call back, machine.Opens m)
@@ -270,21 +267,21 @@ monitor_inits G s w before o x es env k I units K Y call next h none declares =
     names : Distinct (declarations (scope G) n.system.parameters)
     names = distinct_first (declarations (scope G) n.system.parameters) (declarations (scope G) n.system.variables) stands.1
 
-    arguments : InitArgumentsFor (site G Y.now.on.running) known_here n.system passed es call.arguments o.place Y.now.on.left.2.3.0 Y.now.on.left.2.1 Y.now.on.running.unit.temps
+    arguments : InitArgumentsFor (site G Y.now.on.running) known_here n.system passed es call.arguments o.counter Y.now.on.left.2.3.0 Y.now.on.left.2.1 Y.now.on.running.unit.temps
     arguments =
-        subst (λ g. InitArgumentsFor (site G Y.now.on.running) known_here n.system (declarations g n.system.parameters) es call.arguments o.place Y.now.on.left.2.3.0 Y.now.on.left.2.1 Y.now.on.running.unit.temps)
+        subst (λ g. InitArgumentsFor (site G Y.now.on.running) known_here n.system (declarations g n.system.parameters) es call.arguments o.counter Y.now.on.left.2.3.0 Y.now.on.left.2.1 Y.now.on.running.unit.temps)
         Y.now.on.runs.globals h.3
 
     count : length call.arguments ≡ length passed
-    count = init_count (site G Y.now.on.running) known_here n.system passed es call.arguments o.place Y.now.on.left.2.3.0 Y.now.on.left.2.1 Y.now.on.running.unit.temps arguments
+    count = init_count (site G Y.now.on.running) known_here n.system passed es call.arguments o.counter Y.now.on.left.2.3.0 Y.now.on.left.2.1 Y.now.on.running.unit.temps arguments
 
     one : (p : Name × Variable) → IsIn p (declarations (scope G) n.system.parameters) → is_component p.1.type ≡ false → (words (scope G) p.1.type ≡ 1) × IsCell p.1.type
     one p i component =
-        init_values (site G Y.now.on.running) known_here n.system passed es call.arguments o.place Y.now.on.left.2.3.0 Y.now.on.left.2.1 Y.now.on.running.unit.temps arguments (scope G) p i component
+        init_values (site G Y.now.on.running) known_here n.system passed es call.arguments o.counter Y.now.on.left.2.3.0 Y.now.on.left.2.1 Y.now.on.running.unit.temps arguments (scope G) p i component
 
     offsets : (p : Name × Variable) → IsIn p (declarations (scope G) n.system.parameters) → (k : ℕ) × Offset (scope G) n.system p k
     offsets p i =
-        init_offsets (scope G) (site G Y.now.on.running) known_here n.system Y.now.on.runs.globals names one passed es call.arguments o.place Y.now.on.left.2.3.0 Y.now.on.left.2.1 Y.now.on.running.unit.temps arguments (λ q j. j) p i
+        init_offsets (scope G) (site G Y.now.on.running) known_here n.system Y.now.on.runs.globals names one passed es call.arguments o.counter Y.now.on.left.2.3.0 Y.now.on.left.2.1 Y.now.on.running.unit.temps arguments (λ q j. j) p i
 
     passed_ok : InitAgrees G n.system at c.component (o.base + call.words) names one passed w.own (record o { words = o.words }) o.words
         (bind (λ l v e. init_argument_writes n.system.sort (clock_of G s) here s.store l v.type e) at passed es) (pass_all w (o.base + call.words) c.component call.arguments o)
@@ -297,7 +294,7 @@ monitor_inits G s w before o x es env k I units K Y call next h none declares =
         (λ d t f y named ws same len j inner l room z u right type.
         given G s w before o first k Y.now Y.now.sees I none declares n.system c.component d (λ e. absurd (none.1 m n.system is j z u d.system inner right type e)) t f y named ws (λ v q. same v (beyond G s w Y.now.around top v q)) len j inner l room)
         (omega (arith, component_below G (activations o.base o.frames (first ∷ k)) top stack at c.component top n.system placed names one, Y.now.on.count))
-        passed es call.arguments o.place Y.now.on.left.2.3.0 Y.now.on.left.2.1 Y.now.on.running.unit.temps o.words arguments
+        passed es call.arguments o.counter Y.now.on.left.2.3.0 Y.now.on.left.2.1 Y.now.on.running.unit.temps o.words arguments
         (in_context_none (a.Init x) (call_in_arguments here (a.Literal 0) es) Y.none) names (λ p i. i)
         (omega (arith, h.2.room, count, Y.now.on.runs.words_fit, Y.now.around.own, Y.now.on.base)) (omega (arith, Y.now.around.own, Y.now.on.count, own_in_whole G)) refl (λ z q. refl))
 

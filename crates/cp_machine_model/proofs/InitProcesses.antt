@@ -74,7 +74,7 @@ pub record InitOfProcess (G : Ground) (s : State) (w : Outside) (before : List �
   pub passes : List Argument
   pub words : ℕ
   pub next : ℕ
-  pub by : InitsBy (site G ready.now.on.running) (known G s w before o (Do (a.Init name given) env) rest ready.now) ready.now.on.left.2.3.2 given (op.InitProcess number passes words next) o.place
+  pub by : InitsBy (site G ready.now.on.running) (known G s w before o (Do (a.Init name given) env) rest ready.now) ready.now.on.left.2.3.2 given (op.InitProcess number passes words next) o.counter
       ready.now.on.left.2.3.0 ready.now.on.left.2.0 ready.now.on.left.2.1
 
 module _ {G : Ground} {s : State} {w : Outside} {before : List ℕ} {o : PrivateState} (Z : InitOfProcess G s w before o) where
@@ -137,21 +137,21 @@ module _ {G : Ground} {s : State} {w : Outside} {before : List ℕ} {o : Private
   abbrev known_here : Knowns
   known_here = known G s w before o first Z.rest Z.ready.now
 
-  arguments : InitArgumentsFor (site G on.running) known_here system passed Z.given Z.passes o.place on.left.2.3.0 on.left.2.1 on.running.unit.temps
+  arguments : InitArgumentsFor (site G on.running) known_here system passed Z.given Z.passes o.counter on.left.2.3.0 on.left.2.1 on.running.unit.temps
   arguments =
-      subst (λ g. InitArgumentsFor (site G on.running) known_here system (declarations g system.parameters) Z.given Z.passes o.place on.left.2.3.0 on.left.2.1 on.running.unit.temps)
+      subst (λ g. InitArgumentsFor (site G on.running) known_here system (declarations g system.parameters) Z.given Z.passes o.counter on.left.2.3.0 on.left.2.1 on.running.unit.temps)
       on.runs.globals Z.by.5
 
   pub counted : length Z.passes ≡ length passed
-  counted = init_count (site G on.running) known_here system passed Z.given Z.passes o.place on.left.2.3.0 on.left.2.1 on.running.unit.temps arguments
+  counted = init_count (site G on.running) known_here system passed Z.given Z.passes o.counter on.left.2.3.0 on.left.2.1 on.running.unit.temps arguments
 
   pub one : (p : Name × Variable) → IsIn p (declarations (scope G) system.parameters) → is_component p.1.type ≡ false → (words (scope G) p.1.type ≡ 1) × IsCell p.1.type
   one p i component' =
-      init_values (site G on.running) known_here system passed Z.given Z.passes o.place on.left.2.3.0 on.left.2.1 on.running.unit.temps arguments (scope G) p i component'
+      init_values (site G on.running) known_here system passed Z.given Z.passes o.counter on.left.2.3.0 on.left.2.1 on.running.unit.temps arguments (scope G) p i component'
 
   pub offsets : (p : Name × Variable) → IsIn p (declarations (scope G) system.parameters) → (k : ℕ) × Offset (scope G) system p k
   offsets p i =
-      init_offsets (scope G) (site G on.running) known_here system on.runs.globals names one passed Z.given Z.passes o.place on.left.2.3.0 on.left.2.1 on.running.unit.temps arguments (λ q j. j) p i
+      init_offsets (scope G) (site G on.running) known_here system on.runs.globals names one passed Z.given Z.passes o.counter on.left.2.3.0 on.left.2.1 on.running.unit.temps arguments (λ q j. j) p i
 
   pub whole_is : length o.words ≡ G.own + G.program.shared
   whole_is = on.count ∙ ap (λ v. words_seen v G.program G.own) Z.around.sight
@@ -176,7 +176,7 @@ module _ {G : Ground} {s : State} {w : Outside} {before : List ℕ} {o : Private
       (λ d t f y named ws same len j inner l room z u right type.
       given G s w before o first Z.rest Z.ready.now Z.ready.now.sees Z.stored none Z.declares system to d (λ e. absurd (process_without G.setup Z.stands.typed Z.number system is j z u d.system inner right type e)) t f y named ws (λ v q. same v (beyond G s w Z.ready.now.around top v q)) len j inner l room)
       (omega (arith, waits, whole_is))
-      passed Z.given Z.passes o.place on.left.2.3.0 on.left.2.1 on.running.unit.temps o.words arguments
+      passed Z.given Z.passes o.counter on.left.2.3.0 on.left.2.1 on.running.unit.temps o.words arguments
       (in_context_none (a.Init Z.name) (call_in_arguments here (a.Literal 0) Z.given) Z.ready.none) names (λ p i. i)
       (omega (arith, room, Z.ready.now.around.own)) (omega (arith, Z.ready.now.around.own, on.count, own_in_whole G)) refl (λ z q. refl)
 

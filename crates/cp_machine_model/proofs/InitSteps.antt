@@ -48,7 +48,7 @@ use Rattle.cp_machine_model.proofs.Doing.{Ready, known, statement_steps}
 use Rattle.cp_machine_model.proofs.Given.{KeepsGiven, class_has_rights, system_same}
 use Rattle.cp_machine_model.proofs.Heres.{lies_any}
 use Rattle.cp_machine_model.proofs.Holding.{written_keeps}
-use Rattle.cp_machine_model.proofs.Pushing.{activations_push, marks_push, mean_push, push_left}
+use Rattle.cp_machine_model.proofs.Pushing.{marks_push, push_left}
 use Rattle.cp_machine_model.proofs.Copying.{copied_length}
 use Rattle.cp_machine_model.proofs.Declared.{distinct_first}
 use Rattle.cp_machine_model.proofs.Declares.{Declares}
@@ -60,7 +60,7 @@ use Rattle.cp_machine_model.proofs.InitSettled.{component_below, init_count, ini
 use Rattle.cp_machine_model.proofs.Placing.{Placed, class_placed}
 use Rattle.cp_machine_model.proofs.ProcessRights.{NoClassRights}
 use Rattle.cp_machine_model.proofs.Rooms.{room_for}
-use Rattle.cp_machine_model.proofs.RunningOn.{left_afresh, runs_here, runs_over, runs_stacked, runs_stored}
+use Rattle.cp_machine_model.proofs.RunningOn.{left_afresh, runs_here, runs_over, runs_stacked, runs_stored, words_of_body}
 use Rattle.cp_machine_model.proofs.Settling.{Settled, has_settled, runs_settled}
 use Rattle.cp_machine_model.proofs.Stacks.{Stacked, own_in_whole}
 use Rattle.cp_machine_model.proofs.Stepping.{Stepped, beyond, clock_of, faulted, stopped, went}
@@ -79,43 +79,41 @@ body_entered : (G : Ground) (store : Store) (o : PrivateState) (i : Task) (k : L
     → (C : sites.Runs (site G R.running) (BodyOf s) kept call) → UnitStands G.program G.texts (scope G) C.unit (BodyOf s) → s.sort ≡ Class → in_sight G at.owner ≡ true → lies G [] at ≡ Some (n, component_type G s) → HasRights G store at s
     → activations o.base o.frames (i ∷ k) ≡ activations o.base o.frames k → ActivationsMean G (put at (Initialised true) store) (set_word o n (pos 1)).words o.base o.frames (i ∷ k) ≡ ActivationsMean G (put at (Initialised true) store) (set_word o n (pos 1)).words o.base o.frames k
     → marked_monitors (i ∷ k) ≡ marked_monitors k
-    → Left G o.temps o.limit nothing_known R.running o.frames back.place kept k → kept ≤ R.running.unit.temps
+    → Left G o.temps o.limit nothing_known R.running o.frames back.counter kept k → kept ≤ R.running.unit.temps
     → RunsOn G (put at (Initialised true) store) (enter (set_word o n (pos 1)) (class_at n) C.unit call back) (push s.body (body_of_class G s at) (EndBody None ∷ k))
 body_entered G store o i k R call back s at n kept C stands sort own there has same means marks left fits = record {
-  running = N;
-  runs = new_runs;
-  base = omega (arith, R.base);
-  temp = omega (arith, R.temp);
-  component = refl;
-  gate = held ∙ ap innermost_gate (sym (marks_push s.body env (EndBody None ∷ k)));
-  live = 0;
-  left = left_afresh G o.temps o.limit 0 N (f ∷ o.frames) C.unit.start 0 (push s.body env (EndBody None ∷ k)) (omega arith)
-      (push_left G o.temps o.limit N (f ∷ o.frames) s.body C.unit.start (stands.2 at).0 0 (EndBody None ∷ k) (stands.2 at).2 (
-        refl,
-        (stands.2 at).1 ∙ ap (λ z. Some (end_of z)) sort,
-        (refl, held, tt),
-        (
-          R.running,
-          kept,
-          R.runs,
-          record {
-            base = R.base;
-            temp = R.temp;
-            component = R.component;
-            words_apart = omega (arith, C.words);
-            temps_apart = omega (arith, C.temps);
-            kept_fit = fits;
-          },
-          left,
-        ),
-      ));
-  next_value = λ d m q e. omega arith;
-  count = S.count;
-  activations_mean = subst (λ (T : Type 0). T) (sym (mean_push G (put at (Initialised true) store) (set_word o n (pos 1)).words (o.base + call.words) (f ∷ o.frames) s.body env (EndBody None ∷ k)))
-      (subst (λ (T : Type 0). T) means S.activations_mean);
-  data_means = subst (λ ys. DataMeans G ys (in_sight G) (put at (Initialised true) store) (set_word o n (pos 1)).words) (sym (activations_push (o.base + call.words) (f ∷ o.frames) s.body env (EndBody None ∷ k)))
-      (subst (λ ys. DataMeans G ys (in_sight G) (put at (Initialised true) store) (set_word o n (pos 1)).words) same S.data_means);
-  given = (class_has_rights G ys top stack at s n own sort there (put at (Initialised true) store) (written at s n sort there has), S.given);
+  at = record {
+    running = N;
+    runs = new_runs;
+    base = omega (arith, R.base);
+    temp = omega (arith, R.temp);
+    component = refl;
+    gate = held ∙ ap innermost_gate (sym (marks_push s.body env (EndBody None ∷ k)));
+    live = 0;
+    left = left_afresh G o.temps o.limit 0 N (f ∷ o.frames) C.unit.start 0 (push s.body env (EndBody None ∷ k)) (omega arith)
+        (push_left G o.temps o.limit N (f ∷ o.frames) s.body C.unit.start (stands.2 at).0 0 (EndBody None ∷ k) (stands.2 at).2 (
+          refl,
+          (stands.2 at).1 ∙ ap (λ z. Some (end_of z)) sort,
+          (refl, held, tt),
+          (
+            R.running,
+            kept,
+            R.runs,
+            record {
+              base = R.base;
+              temp = R.temp;
+              component = R.component;
+              words_apart = omega (arith, C.words);
+              temps_apart = omega (arith, C.temps);
+              kept_fit = fits;
+            },
+            left,
+          ),
+        ));
+    next_value = λ d m q e. omega arith;
+  };
+  words_mean = words_of_body G (put at (Initialised true) store) (set_word o n (pos 1)).words (o.base + call.words) n f o.frames s.body env None i k same means
+      (class_has_rights G ys top stack at s n own sort there (put at (Initialised true) store) (written at s n sort there has)) S.words_mean;
 }
   where
     N : Running
@@ -174,8 +172,8 @@ body_entered G store o i k R call back s at n kept C stands sort own there has s
     }
 
 pub init_steps : (G : Ground) (s : State) (w : Outside) (before : List ℕ) (o : PrivateState) (x : Name) (es : a.Expressions) (env : Environment) (k : List Task) → StoreInvariant s.store → UnitsStand G
-    → (Y : Ready G s w before o (a.Init x es) env k) (call : Call) (next : ℕ) → operation_at G.program o.place ≡ Some (op.InitClass call next)
-    → InitsBy (site G Y.now.on.running) (known G s w before o (Do (a.Init x es) env) k Y.now) Y.now.on.left.2.3.2 es (op.InitClass call next) o.place Y.now.on.left.2.3.0 Y.now.on.left.2.0 Y.now.on.left.2.1
+    → (Y : Ready G s w before o (a.Init x es) env k) (call : Call) (next : ℕ) → operation_at G.program o.counter ≡ Some (op.InitClass call next)
+    → InitsBy (site G Y.now.on.running) (known G s w before o (Do (a.Init x es) env) k Y.now) Y.now.on.left.2.3.2 es (op.InitClass call next) o.counter Y.now.on.left.2.3.0 Y.now.on.left.2.0 Y.now.on.left.2.1
     → NoClassRights G → Declares G Y.now.on.running.env → Stepped G s w before o
 init_steps G s w before o x es env k I units Y call next there h none declares =
     statement_steps G s w before o (a.Init x es) env k Y (op.InitClass call next) refl private there refl
@@ -225,7 +223,7 @@ init_steps G s w before o x es env k I units Y call next there h none declares =
     started at xs u =
         guard (same_integer (word o.words at) (pos 0)) o fault.InitialisedTwice
         (when_passed (pass_all w (o.base + call.words) at xs o) (λ p.
-        private_outcome (enter (set_word (settle p (o.base + call.words) at (length xs)) at (pos 1)) (class_at at) u call (record { place = next; into = 0 }))))
+        private_outcome (enter (set_word (settle p (o.base + call.words) at (length xs)) at (pos 1)) (class_at at) u call (record { counter = next; into = 0 }))))
 
     has_unit : (at : ℕ) → at ≤ whole G → (init_class G.program w o call at next).0 ≡ (started at call.arguments h.2.runs.unit).0
     has_unit at there =
@@ -254,7 +252,7 @@ init_steps G s w before o x es env k I units Y call next there h none declares =
     lying' = lies_in_sight (in_sight G) G (activations o.base o.frames (first ∷ k))
 
     back : Back
-    back = record { place = next; into = 0 }
+    back = record { counter = next; into = 0 }
 
     stands : UnitStands G.program G.texts (scope G) h.2.runs.unit (BodyOf n.system)
     stands = units call.routine h.2.runs.unit (BodyOf n.system) h.2.runs.there h.2.runs.text
@@ -262,21 +260,21 @@ init_steps G s w before o x es env k I units Y call next there h none declares =
     names : Distinct (declarations (scope G) n.system.parameters)
     names = distinct_first (declarations (scope G) n.system.parameters) (declarations (scope G) n.system.variables) stands.1
 
-    arguments : InitArgumentsFor (site G Y.now.on.running) known_here n.system passed es call.arguments o.place Y.now.on.left.2.3.0 Y.now.on.left.2.1 Y.now.on.running.unit.temps
+    arguments : InitArgumentsFor (site G Y.now.on.running) known_here n.system passed es call.arguments o.counter Y.now.on.left.2.3.0 Y.now.on.left.2.1 Y.now.on.running.unit.temps
     arguments =
-        subst (λ g. InitArgumentsFor (site G Y.now.on.running) known_here n.system (declarations g n.system.parameters) es call.arguments o.place Y.now.on.left.2.3.0 Y.now.on.left.2.1 Y.now.on.running.unit.temps)
+        subst (λ g. InitArgumentsFor (site G Y.now.on.running) known_here n.system (declarations g n.system.parameters) es call.arguments o.counter Y.now.on.left.2.3.0 Y.now.on.left.2.1 Y.now.on.running.unit.temps)
         Y.now.on.runs.globals h.3
 
     count : length call.arguments ≡ length passed
-    count = init_count (site G Y.now.on.running) known_here n.system passed es call.arguments o.place Y.now.on.left.2.3.0 Y.now.on.left.2.1 Y.now.on.running.unit.temps arguments
+    count = init_count (site G Y.now.on.running) known_here n.system passed es call.arguments o.counter Y.now.on.left.2.3.0 Y.now.on.left.2.1 Y.now.on.running.unit.temps arguments
 
     one : (p : Name × Variable) → IsIn p (declarations (scope G) n.system.parameters) → is_component p.1.type ≡ false → (words (scope G) p.1.type ≡ 1) × IsCell p.1.type
     one p i component =
-        init_values (site G Y.now.on.running) known_here n.system passed es call.arguments o.place Y.now.on.left.2.3.0 Y.now.on.left.2.1 Y.now.on.running.unit.temps arguments (scope G) p i component
+        init_values (site G Y.now.on.running) known_here n.system passed es call.arguments o.counter Y.now.on.left.2.3.0 Y.now.on.left.2.1 Y.now.on.running.unit.temps arguments (scope G) p i component
 
     offsets : (p : Name × Variable) → IsIn p (declarations (scope G) n.system.parameters) → (k : ℕ) × Offset (scope G) n.system p k
     offsets p i =
-        init_offsets (scope G) (site G Y.now.on.running) known_here n.system Y.now.on.runs.globals names one passed es call.arguments o.place Y.now.on.left.2.3.0 Y.now.on.left.2.1 Y.now.on.running.unit.temps arguments (λ q j. j) p i
+        init_offsets (scope G) (site G Y.now.on.running) known_here n.system Y.now.on.runs.globals names one passed es call.arguments o.counter Y.now.on.left.2.3.0 Y.now.on.left.2.1 Y.now.on.running.unit.temps arguments (λ q j. j) p i
 
     -- The arguments are passed to the words after the running activation.
     passed_ok : (c : ℕ) → c + length passed ≤ length o.words
@@ -290,7 +288,7 @@ init_steps G s w before o x es env k I units Y call next there h none declares =
         Y.now.on.runs.globals
         (λ m t f y named ws same len j inner l room z u right type. given G s w before o first k Y.now Y.now.sees I none declares n.system c m (λ e. h.0) t f y named ws (λ z q. same z (beyond G s w Y.now.around top z q)) len j inner l room)
         there
-        passed es call.arguments o.place Y.now.on.left.2.3.0 Y.now.on.left.2.1 Y.now.on.running.unit.temps o.words arguments
+        passed es call.arguments o.counter Y.now.on.left.2.3.0 Y.now.on.left.2.1 Y.now.on.running.unit.temps o.words arguments
         (in_context_none (a.Init x) (call_in_arguments here (a.Literal 0) es) Y.none) names (λ p i. i)
         (omega (arith, h.2.room, count, Y.now.on.runs.words_fit, Y.now.around.own, Y.now.on.base)) (omega (arith, Y.now.around.own, Y.now.on.count, own_in_whole G)) refl (λ z q. refl))
 

@@ -18,15 +18,15 @@ use Rattle.cp_machine_model.specs.KernelOf.{is_shared, kernel_ground}
 use Rattle.cp_machine_model.specs.Left.{held_below, site}
 use Rattle.cp_machine_model.specs.Means.{CellMeans}
 use Rattle.cp_machine_model.specs.Passing.{monitor_start}
-use Rattle.cp_machine_model.specs.PartOf.{DataMeans, RunsOn, components}
+use Rattle.cp_machine_model.specs.PartOf.{DataMeans, RunsOn, components, control}
 use Rattle.cp_machine_model.proofs.Apart.{InHead, IsCell, cell_head, member_above}
 use Rattle.cp_machine_model.proofs.Finding.{some_is_not_none}
-use Rattle.cp_machine_model.proofs.Keeping.{KeepsActivation, activation_kept, activations_kept, right_place}
+use Rattle.cp_machine_model.proofs.Keeping.{KeepsActivation, activations_kept, each_kept, right_place}
 use Rattle.cp_machine_model.proofs.Layouts.{farther_some}
 use Rattle.cp_machine_model.proofs.Owned.{OwnRight, component_part, found_monitor, reference_inside, result_inside}
 use Rattle.cp_machine_model.proofs.RunningOn.{runs_stacked}
 use Rattle.cp_machine_model.proofs.Separate.{cell_inside, own_right_inside}
-use Rattle.cp_machine_model.proofs.Sights.{component_back, left_there, mean_there, right_means, rights_there, runs_there, same_lies, with_sight}
+use Rattle.cp_machine_model.proofs.Sights.{at_there, component_back, mean_there, right_means, rights_there, same_lies, with_sight}
 use Rattle.cp_machine_model.proofs.Stacks.{Stacked, found_inside}
 use Rattle.cp_machine_model.proofs.Writing.{is_cell}
 use Rattle.cp_program_model.specs.StandsFor.{system_of_process}
@@ -192,21 +192,15 @@ module _ (G : Ground) (sight : G.sight ≡ OwnWords) (lie : MonitorsLie G.progra
 
   pub runs_joined : RunsOn H store (record o { words = o.words ++ us }) k
   runs_joined = record {
-    running = R.running;
-    runs = runs_there G AllWords lie (length o.temps) o.limit R.running o.frames R.runs;
-    base = R.base;
-    temp = R.temp;
-    component = R.component;
-    gate = R.gate;
-    live = R.live;
-    left = left_there G AllWords lie o.temps o.limit (held_below R.live o.temps R.running.temp) R.running o.frames o.place R.running.unit.temps k R.left;
-    next_value = R.next_value;
-    count = omega (arith, length-append o.words us, own_count, room);
-    activations_mean = mean_there G AllWords lie store (o.words ++ us) o.base o.frames k
-        (activations_kept G store store o.words (o.words ++ us) o.temps o.limit o.base (held_below R.live o.temps R.running.temp) R.running o.frames o.place R.running.unit.temps k R.left
-        (λ rest f c owner there. activation_kept G store store o.words (o.words ++ us) rest c (length rest) f owner (kept (length rest) (record { base = c; routine = f.routine }) there)) R.activations_mean);
-    data_means = data_joined;
-    given = rights_there G AllWords lie store (components o) R.given;
+    at = at_there G AllWords lie (control o) k R.at;
+    words_mean = record {
+      count = omega (arith, length-append o.words us, own_count, room);
+      activations_mean = mean_there G AllWords lie store (o.words ++ us) o.base o.frames k
+          (activations_kept G store store o.words (o.words ++ us) o.temps o.limit o.base (held_below R.live o.temps R.running.temp) R.running o.frames o.counter R.running.unit.temps k R.left
+          (each_kept G store store o.words (o.words ++ us) xs kept) R.activations_mean);
+      data_means = data_joined;
+      given = rights_there G AllWords lie store (components o.component o.frames) R.given;
+    };
   }
     where
       kept : (d : ℕ) (z : Activation) → activation_at d xs ≡ Some z → KeepsActivation G store store o.words (o.words ++ us) d z

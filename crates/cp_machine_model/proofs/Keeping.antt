@@ -117,6 +117,9 @@ module _ (G : Ground) (store after : Store) (old new : List ℤ) where
       → activation_at (length rest) xs ≡ Some (record { base = c; routine = f.routine })
       → ActivationMeans G rest store old c f → ActivationMeans G rest after new c f
 
+  pub each_kept : (xs : List Activation) → ((d : ℕ) (z : Activation) → activation_at d xs ≡ Some z → KeepsActivation d z) → EachKept xs
+  each_kept xs keeps rest f c owner there = activation_kept rest c (length rest) f owner (keeps (length rest) (record { base = c; routine = f.routine }) there)
+
   -- The same for all activations.
   pub activations_kept : (temps : List ℤ) (limit b : ℕ) (K : Knowns) (R : Running) (fs : List machine.Frame) (place low : ℕ) (k : List Task)
       → Left G temps limit K R fs place low k → EachKept (activations b fs k)
@@ -149,7 +152,7 @@ module _ (G : Ground) (store after : Store) (old new : List ℤ) where
             ∙ found_behind (length below) top rest (record { base = a; routine = g.routine }) e)) m.1,
       )
   activations_kept temps limit b K R (f ∷ fs) place low (EndBody gate ∷ k) h keeps m =
-      let c = h.3 in activations_kept temps limit f.base nothing_known c.0 fs f.place c.1 k c.4 keeps m
+      let c = h.3 in activations_kept temps limit f.base nothing_known c.0 fs f.counter c.1 k c.4 keeps m
   activations_kept temps limit b K R fs place low (EndProcess ∷ k) h keeps m =
       subst (λ z. ActivationsMean G after new b fs z) (sym h.1) tt
   activations_kept temps limit b K R [] place low (EndCall env gate ∷ k) h keeps m = absurd h

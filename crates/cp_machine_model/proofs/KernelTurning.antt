@@ -281,7 +281,7 @@ module _ (program : Program) (setup : Setup) (F : StandsFor program setup) (p ow
               top : ℕ
               top = o.base + (site H joins.running).words
           by (Finishes is e) =
-              absurd (no_end G o.temps o.limit _ R.running o.frames o.place R.running.unit.temps (s.continuation p) R.left due
+              absurd (no_end G o.temps o.limit _ R.running o.frames o.counter R.running.unit.temps (s.continuation p) R.left due
               (is_end (action (s.continuation p)) (not_finished (does H s (action (s.continuation p))) (after.status ∙ ap status_of is))))
 
   -- ---- all statuses

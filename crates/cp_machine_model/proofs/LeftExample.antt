@@ -142,7 +142,7 @@ abbrev in_run : Running
 in_run = record { number = 4; unit = unit_at program 4; text = RoutineOf d run; env = run_env; base = 9; temp = 0; component = 4 }
 
 abbrev process_frame : machine.Frame
-process_frame = record { place = 18; base = 9; temp = 0; component = 0; into = 0; gate = 0; held = 0 }
+process_frame = record { counter = 18; base = 9; temp = 0; component = 0; into = 0; gate = 0; held = 0 }
 
 abbrev after_run : List Task
 after_run = EndCall run_env None ∷ Do adds env ∷ EndProcess ∷ []
@@ -193,7 +193,7 @@ abbrev in_go : Running
 in_go = record { number = 2; unit = unit_at program 2; text = RoutineOf b go; env = go_env; base = 10; temp = 0; component = 6 }
 
 abbrev frame_of_run : machine.Frame
-frame_of_run = record { place = 9; base = 9; temp = 0; component = 4; into = 0; gate = 0; held = 0 }
+frame_of_run = record { counter = 9; base = 9; temp = 0; component = 4; into = 0; gate = 0; held = 0 }
 
 abbrev go_frames : List machine.Frame
 go_frames = frame_of_run ∷ process_frame ∷ []
@@ -268,7 +268,7 @@ abbrev in_get : Running
 in_get = record { number = 0; unit = unit_at program 0; text = RoutineOf c get; env = get_env; base = 11; temp = 0; component = 2 }
 
 abbrev frame_of_go : machine.Frame
-frame_of_go = record { place = 6; base = 10; temp = 0; component = 6; into = 0; gate = 0; held = 0 }
+frame_of_go = record { counter = 6; base = 10; temp = 0; component = 6; into = 0; gate = 0; held = 0 }
 
 pub get_runs : Runs ground temps_count frames_limit in_get (frame_of_go ∷ go_frames)
 get_runs = record {

@@ -1,12 +1,14 @@
 -- What is left to do stays the same if the temps below its own are the same, or if more is known.
 use Rattle.std.proofs.Common.{◌≡◌, ℕ, ◌+◌, ◌≤◌, ◌<◌, ℤ, List, [], ◌∷◌, length, subst, ◌∙◌, arith}
 use Rattle.cp_model.specs.Continuations.{Do, EndBody, EndCall, EndProcess, ForNext, RepeatTest, Task, WhileTest}
+use Rattle.cp_model.specs.Abstract as a
+use Rattle.cp_program_model.specs.Sites.{Site}
 use Rattle.cp_program_model.specs.Starts.{word}
 use Rattle.cp_program_model.specs.TermsFor.{Knowns, nothing_known}
 use Rattle.cp_machine_model.specs.PrivateStates as machine
 use Rattle.cp_machine_model.specs.Addresses.{Ground}
-use Rattle.cp_machine_model.specs.Left.{Left, Running, Runs, held_below, kept_below, site}
-use Rattle.cp_machine_model.proofs.CallsKept.{term_kept}
+use Rattle.cp_machine_model.specs.Left.{Left, Loop, LoopLeft, Repeat, Running, Runs, While, held_below, kept_below, site}
+use Rattle.cp_machine_model.proofs.CallsKept.{Keeps, term_kept}
 use Rattle.cp_machine_model.proofs.CodeKept.{code_kept}
 
 -- The temps below number `n` are as before.
@@ -28,6 +30,21 @@ held_within ts temp kept live s m h = (h.0, λ q. h.1)
 runs_kept : (G : Ground) (n m limit : ℕ) (R : Running) (fs : List machine.Frame) → n ≡ m → Runs G n limit R fs → Runs G m limit R fs
 runs_kept G n m limit R fs e h = subst (λ z. Runs G z limit R fs) e h
 
+-- The test of a loop stays the same, where more is known.
+loop_kept : (loop : Loop) (s : Site) (K L : Knowns) (now e : a.Expression) (body : a.Statement) (place next low : ℕ) → Keeps K L low s.unit.temps
+    → LoopLeft loop s K now e body place next low → LoopLeft loop s L now e body place next low
+loop_kept loop s K L now e body place next low keeps W = record {
+  start = W.start;
+  last = W.last;
+  way = W.way;
+  term = W.term;
+  base = W.base;
+  test = W.test;
+  rest = term_kept s K L now W.term W.base place W.last low s.unit.temps keeps W.rest;
+  whole = W.whole;
+  again = W.again;
+}
+
 module _ (G : Ground) (ts us : List ℤ) (limit : ℕ) (same_length : length ts ≡ length us) where
   -- What is left to do doesn't depend on the temps of later calls.
   pub left_kept : (K L : Knowns) (R : Running) (fs : List machine.Frame) (place low : ℕ) (k : List Task) → Within K L → SameBelow (R.temp + low) ts us
@@ -44,48 +61,26 @@ module _ (G : Ground) (ts us : List ℤ) (limit : ℕ) (same_length : length ts 
       left_kept nothing_known nothing_known R fs h.2.0 h.2.1 k (λ n m z. z) (λ i q. same i (omega (arith, q, h.2.2))) h.2.4,
     ),
   )
-  left_kept K L R fs place low (WhileTest now e s env ∷ k) more same h =
-      let W = h.1.3 in (
-        h.0,
-        (
-          h.1.0,
-          h.1.1,
-          h.1.2,
-          record {
-            start = W.start;
-            last = W.last;
-            way = W.way;
-            term = W.term;
-            base = W.base;
-            test = W.test;
-            rest = term_kept (site G R) K L now W.term W.base place W.last h.1.1 R.unit.temps (λ n m p q. more n m) W.rest;
-            whole = W.whole;
-            again = W.again;
-          },
-          left_kept nothing_known nothing_known R fs h.1.0 h.1.1 k (λ n m z. z) (λ i q. same i (omega (arith, q, h.1.2))) h.1.4,
-        ),
-      )
-  left_kept K L R fs place low (RepeatTest now s e env ∷ k) more same h =
-      let W = h.1.3 in (
-        h.0,
-        (
-          h.1.0,
-          h.1.1,
-          h.1.2,
-          record {
-            start = W.start;
-            last = W.last;
-            way = W.way;
-            term = W.term;
-            base = W.base;
-            test = W.test;
-            rest = term_kept (site G R) K L now W.term W.base place W.last h.1.1 R.unit.temps (λ n m p q. more n m) W.rest;
-            whole = W.whole;
-            again = W.again;
-          },
-          left_kept nothing_known nothing_known R fs h.1.0 h.1.1 k (λ n m z. z) (λ i q. same i (omega (arith, q, h.1.2))) h.1.4,
-        ),
-      )
+  left_kept K L R fs place low (WhileTest now e s env ∷ k) more same h = (
+    h.0,
+    (
+      h.1.0,
+      h.1.1,
+      h.1.2,
+      loop_kept While (site G R) K L now e s place h.1.0 h.1.1 (λ n m p q. more n m) h.1.3,
+      left_kept nothing_known nothing_known R fs h.1.0 h.1.1 k (λ n m z. z) (λ i q. same i (omega (arith, q, h.1.2))) h.1.4,
+    ),
+  )
+  left_kept K L R fs place low (RepeatTest now s e env ∷ k) more same h = (
+    h.0,
+    (
+      h.1.0,
+      h.1.1,
+      h.1.2,
+      loop_kept Repeat (site G R) K L now e s place h.1.0 h.1.1 (λ n m p q. more n m) h.1.3,
+      left_kept nothing_known nothing_known R fs h.1.0 h.1.1 k (λ n m z. z) (λ i q. same i (omega (arith, q, h.1.2))) h.1.4,
+    ),
+  )
   left_kept K L R fs place low (ForNext x down n last s env ∷ k) more same h =
       let F = h.1.3 in (
         h.0,
@@ -132,7 +127,7 @@ module _ (G : Ground) (ts us : List ℤ) (limit : ℕ) (same_length : length ts 
           c.1,
           runs_kept G (length ts) (length us) limit c.0 fs same_length c.2,
           c.3,
-          left_kept nothing_known nothing_known c.0 fs f.place c.1 k (λ n m z. z) (λ i q. same i (omega (arith, q, c.3.temps_apart))) c.4,
+          left_kept nothing_known nothing_known c.0 fs f.counter c.1 k (λ n m z. z) (λ i q. same i (omega (arith, q, c.3.temps_apart))) c.4,
         ),
       )
   left_kept K L R fs place low (EndProcess ∷ k) more same h = h

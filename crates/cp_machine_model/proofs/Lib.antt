@@ -24,6 +24,7 @@ pub mod PerformCalls
 pub mod InitCalls
 pub mod StatementCalls
 pub mod LeftKept
+pub mod Loops
 pub mod Pushing
 pub mod Answered
 pub mod RunningOn

@@ -46,21 +46,7 @@ output_moved G s before o P = record {
   status = P.status;
   count = P.count;
   data_means = P.data_means;
-  runs_on = λ goes. let R = P.runs_on goes in record {
-    running = R.running;
-    runs = R.runs;
-    base = R.base;
-    temp = R.temp;
-    component = R.component;
-    gate = R.gate;
-    live = R.live;
-    left = R.left;
-    next_value = R.next_value;
-    count = R.count;
-    activations_mean = R.activations_mean;
-    data_means = R.data_means;
-    given = R.given;
-  };
+  runs_on = λ goes. let R = P.runs_on goes in record { at = R.at; words_mean = R.words_mean };
 }
   where
     append_nothing : (xs : List ℕ) → xs ++ [] ≡ xs

@@ -1,6 +1,6 @@
 -- What the words of another process mean, with only its own words in reach, stays the same if what
 -- it owns is stored as before.
-use Rattle.std.proofs.Common.{◌≡◌, ℕ, ◌+◌, ℤ, List, [], ◌∷◌, length, Bool, true, false, Option, Some, None, refl, ap, sym, subst, ◌∙◌, arith}
+use Rattle.std.proofs.Common.{◌≡◌, ℕ, ◌+◌, ℤ, List, [], ◌∷◌, Bool, true, false, Option, Some, None, refl, ap, sym, subst, ◌∙◌, arith}
 use Rattle.std.specs.Prelude.{if◌then◌else◌, nat_eq}
 use Rattle.std.proofs.lemmas.Bool.{eq-eqb}
 use Rattle.cp_model.specs.Abstract.{Class, Monitor, Process, Sort, System}
@@ -13,13 +13,13 @@ use Rattle.cp_model.specs.Stores.{Absent, MonitorRight, Store, Value}
 use Rattle.cp_model.specs.Types.{ArrayOf, ComponentOf, Members, NoType, Queue, RecordOf, ResolvedType, Simple}
 use Rattle.cp_program_model.specs.Layout.{Part, head_words}
 use Rattle.cp_machine_model.specs.Addresses.{Activation, AllHaveRights, Ground, IsGiven, OwnWords, RightMeans, RightOf, activations, component_type, in_sight, lies, part_at, scope}
-use Rattle.cp_machine_model.specs.Left.{held_below}
 use Rattle.cp_machine_model.specs.Means.{CellMeans}
 use Rattle.cp_machine_model.specs.PartOf.{DataMeans, RunsOn, components}
 use Rattle.cp_machine_model.specs.PrivateStates.{PrivateState}
 use Rattle.cp_machine_model.proofs.Apart.{member_above}
 use Rattle.cp_machine_model.proofs.Finding.{some_is_not_none}
-use Rattle.cp_machine_model.proofs.Keeping.{activation_kept, activations_kept, local_named}
+use Rattle.cp_machine_model.proofs.Keeping.{each_kept, local_named}
+use Rattle.cp_machine_model.proofs.RunningOn.{runs_kept}
 use Rattle.cp_program_model.specs.Starts.{word}
 use Rattle.cp_machine_model.proofs.Owned.{component_part, found_monitor}
 
@@ -89,23 +89,12 @@ module _ (G : Ground) (q own : ℕ) (store after : Store) (same : (l : Location)
   }
 
   -- The process runs on, if the components that run have their rights.
-  abbrev pub runs_owned : (o : PrivateState) (k : List Task) (R : RunsOn H store o k) → AllHaveRights H after (components o) → RunsOn H after o k
-  runs_owned o k R given = record {
-    running = R.running;
-    runs = R.runs;
-    base = R.base;
-    temp = R.temp;
-    component = R.component;
-    gate = R.gate;
-    live = R.live;
-    left = R.left;
-    next_value = R.next_value;
-    count = R.count;
-    activations_mean =
-        activations_kept H store after o.words o.words o.temps o.limit o.base (held_below R.live o.temps R.running.temp) R.running o.frames o.place R.running.unit.temps k R.left
-        (λ rest f c owner there. activation_kept H store after o.words o.words rest c (length rest) f owner
-        (λ x at v is by_reference. (same (local_named H (length rest) x) (eq-eqb q q refl), refl), λ t is none. (same (local_named H (length rest) f.routine.name) (eq-eqb q q refl), refl)))
-        R.activations_mean;
-    data_means = data_owned (activations o.base o.frames k) o.words R.data_means;
-    given = given;
-  }
+  abbrev pub runs_owned : (o : PrivateState) (k : List Task) (R : RunsOn H store o k) → AllHaveRights H after (components o.component o.frames) → RunsOn H after o k
+  runs_owned o k R given =
+      let xs = activations o.base o.frames k in
+      runs_kept H store after o o.words k R refl
+      (each_kept H store after o.words o.words xs (λ d z there. (
+        λ x at v is by_reference. (same (local_named H d x) (eq-eqb q q refl), refl),
+        λ t is none. (same (local_named H d z.routine.name) (eq-eqb q q refl), refl),
+      )))
+      (data_owned xs o.words R.data_means) given

@@ -18,14 +18,14 @@ use Rattle.cp_machine_model.specs.Addresses.{Activation, AllWords, ClassLies, Co
 use Rattle.cp_machine_model.specs.KernelOf.{is_shared, kernel_ground}
 use Rattle.cp_machine_model.specs.Left.{held_below, site}
 use Rattle.cp_machine_model.specs.Means.{CellMeans}
-use Rattle.cp_machine_model.specs.PartOf.{DataMeans, RunsOn, components}
+use Rattle.cp_machine_model.specs.PartOf.{DataMeans, RunsOn, components, control}
 use Rattle.cp_machine_model.proofs.Apart.{IsCell, IsClass, cell_head}
 use Rattle.cp_machine_model.proofs.Joining.{not_first, shifted, unshifted}
-use Rattle.cp_machine_model.proofs.Keeping.{KeepsActivation, activation_kept, activations_kept, right_within}
+use Rattle.cp_machine_model.proofs.Keeping.{KeepsActivation, activations_kept, each_kept, right_within}
 use Rattle.cp_machine_model.proofs.Owned.{reference_inside, result_inside}
 use Rattle.cp_machine_model.proofs.RunningOn.{runs_stacked}
 use Rattle.cp_machine_model.proofs.Separate.{bottom_below, own_below}
-use Rattle.cp_machine_model.proofs.Sights.{component_there, left_there, mean_there, right_means, rights_there, runs_there, same_lies, with_sight}
+use Rattle.cp_machine_model.proofs.Sights.{at_there, component_there, mean_there, right_means, rights_there, same_lies, with_sight}
 use Rattle.cp_machine_model.proofs.Stacks.{Stacked, found_inside}
 use Rattle.cp_machine_model.proofs.Writing.{is_cell}
 use Rattle.cp_machine_model.proofs.Heres.{lies_any}
@@ -165,21 +165,15 @@ module _ (G : Ground) (sight : G.sight ≡ OwnWords) (lie : MonitorsLie G.progra
 
   pub runs_parted : RunsOn G store (record o { words = take G.own o.words }) k
   runs_parted = record {
-    running = R.running;
-    runs = runs_there all G.sight G.monitors_lie (length o.temps) o.limit R.running o.frames R.runs;
-    base = R.base;
-    temp = R.temp;
-    component = R.component;
-    gate = R.gate;
-    live = R.live;
-    left = left_there all G.sight G.monitors_lie o.temps o.limit (held_below R.live o.temps R.running.temp) R.running o.frames o.place R.running.unit.temps k R.left;
-    next_value = R.next_value;
-    count = own_count G sight lie store I o.words ys place ran R.count R.data_means;
-    activations_mean = mean_there all G.sight G.monitors_lie store (take G.own o.words) o.base o.frames k
-        (activations_kept all store store o.words (take G.own o.words) o.temps o.limit o.base (held_below R.live o.temps R.running.temp) R.running o.frames o.place R.running.unit.temps k R.left
-        (λ rest f c owner there. activation_kept all store store o.words (take G.own o.words) rest c (length rest) f owner (kept (length rest) (record { base = c; routine = f.routine }) there)) R.activations_mean);
-    data_means = data_own G sight lie store I o.words ys place ran R.count R.data_means;
-    given = rights_there all G.sight G.monitors_lie store (components o) R.given;
+    at = at_there all G.sight G.monitors_lie (control o) k R.at;
+    words_mean = record {
+      count = own_count G sight lie store I o.words ys place ran R.count R.data_means;
+      activations_mean = mean_there all G.sight G.monitors_lie store (take G.own o.words) o.base o.frames k
+          (activations_kept all store store o.words (take G.own o.words) o.temps o.limit o.base (held_below R.live o.temps R.running.temp) R.running o.frames o.counter R.running.unit.temps k R.left
+          (each_kept all store store o.words (take G.own o.words) ys kept) R.activations_mean);
+      data_means = data_own G sight lie store I o.words ys place ran R.count R.data_means;
+      given = rights_there all G.sight G.monitors_lie store (components o.component o.frames) R.given;
+    };
   }
     where
       same : (i : ℕ) → i < G.own → word (take G.own o.words) i ≡ word o.words i

@@ -1,6 +1,6 @@
 -- The private state of a process is still right after steps of others, if the meaning's private
 -- state of the process is the same and classes keep the rights that they were given.
-use Rattle.std.proofs.Common.{Bool, List, [], ap, length, refl, subst, sym, true, ℕ, ℤ, ◌+◌, ◌∙◌, ◌∷◌, ◌≡◌}
+use Rattle.std.proofs.Common.{Bool, List, [], ap, refl, subst, sym, true, ℕ, ℤ, ◌+◌, ◌∙◌, ◌∷◌, ◌≡◌}
 use Rattle.std.proofs.lemmas.Bool.{eq-eqb}
 use Rattle.cp_model.specs.CallSteps.{is_initialised}
 use Rattle.cp_model.specs.Continuations.{Task}
@@ -12,11 +12,11 @@ use Rattle.cp_program_model.specs.Starts.{word}
 use Rattle.cp_machine_model.specs.PrivateStates as machine
 use Rattle.cp_machine_model.specs.PrivateStates.{Activity, PrivateState}
 use Rattle.cp_machine_model.specs.Addresses.{Activation, Ground, OwnWords, RightMeans, activations, in_sight, sees}
-use Rattle.cp_machine_model.specs.Left.{held_below}
 use Rattle.cp_machine_model.specs.Means.{CellMeans}
 use Rattle.cp_machine_model.specs.PartOf.{DataMeans, GoesOn, PartOf, RunsOn, components, status_of}
 use Rattle.cp_machine_model.proofs.Given.{KeepsGiven, all_kept, rights_kept}
-use Rattle.cp_machine_model.proofs.Keeping.{KeepsActivation, activation_kept, activations_kept}
+use Rattle.cp_machine_model.proofs.Keeping.{KeepsActivation, each_kept}
+use Rattle.cp_machine_model.proofs.RunningOn.{runs_kept}
 
 -- ---- what runs on
 
@@ -41,24 +41,10 @@ module _ (G : Ground) (sight : G.sight ≡ OwnWords) (store after : Store) (same
   )
 
   pub runs_beside : KeepsGiven G store after → (o : PrivateState) (k : List Task) → RunsOn G store o k → RunsOn G after o k
-  runs_beside keeps o k R = record {
-    running = R.running;
-    runs = R.runs;
-    base = R.base;
-    temp = R.temp;
-    component = R.component;
-    gate = R.gate;
-    live = R.live;
-    left = R.left;
-    next_value = R.next_value;
-    count = R.count;
-    activations_mean =
-        activations_kept G store after o.words o.words o.temps o.limit o.base (held_below R.live o.temps R.running.temp) R.running o.frames o.place R.running.unit.temps k R.left
-        (λ rest f c owner there. activation_kept G store after o.words o.words rest c (length rest) f owner (activation_same o.words (length rest) (record { base = c; routine = f.routine })))
-        R.activations_mean;
-    data_means = data_beside G (in_sight G) store after in_own (activations o.base o.frames k) o.words R.data_means;
-    given = all_kept G store after keeps (components o) R.given;
-  }
+  runs_beside keeps o k R =
+      let xs = activations o.base o.frames k in
+      runs_kept G store after o o.words k R refl (each_kept G store after o.words o.words xs (λ d z there. activation_same o.words d z))
+      (data_beside G (in_sight G) store after in_own xs o.words R.data_means) (all_kept G store after keeps (components o.component o.frames) R.given)
 
 -- ---- the private state
 

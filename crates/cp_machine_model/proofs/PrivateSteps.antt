@@ -39,11 +39,11 @@ module _ (G : Ground) (s : State) (before : List ℕ) (o : PrivateState) (part :
   -- The machine does nothing if the process doesn't run, or if it holds a gate.
   not_running : (x : Activity) → o.activity ≡ x → machine.is_running x ≡ false → steps.private_step G.program (realtime (clock_of G s)) o ≡ o
   not_running x is none =
-      ap (λ b. if b then (if steps.is_private o (operation_at G.program o.place) then (act_on G.program (alone (realtime (clock_of G s)) o) o (operation_at G.program o.place)).0 else o) else o)
+      ap (λ b. if b then (if steps.is_private o (operation_at G.program o.counter) then (act_on G.program (alone (realtime (clock_of G s)) o) o (operation_at G.program o.counter)).0 else o) else o)
       (ap machine.is_running is ∙ none)
 
   gate_held : steps.is_held o.gate ≡ true → steps.private_step G.program (realtime (clock_of G s)) o ≡ o
-  gate_held held = by (operation_at G.program o.place) (machine.is_running o.activity)
+  gate_held held = by (operation_at G.program o.counter) (machine.is_running o.activity)
     where
       inner : (x : Option Operation) → (if steps.is_private o x then (act_on G.program (alone (realtime (clock_of G s)) o) o x).0 else o) ≡ o
       inner None = refl

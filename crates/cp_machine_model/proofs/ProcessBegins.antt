@@ -130,7 +130,7 @@ module _ (G : Ground) (s : State) (w : Outside) (before : List ℕ) (o : Private
 -- its own are those of the kernel, both before and after the step.
 pub started_begins : (G : Ground) (s : State) (w : Outside) (before : List ℕ) (o : PrivateState) (F : StandsFor G.program G.setup) → F.texts ≡ G.texts → PartOf G s before o → Invariant s
     → Around G s w → Reaches G s → AroundAll G s w → kind s G.p ≡ turns.Kernel → RunsOn G s.store o (s.continuation G.p)
-    → (y : Operation) → operation_at G.program o.place ≡ Some y → (k l : Kernel) → k.shared ≡ drop G.own o.words → l.shared ≡ drop G.own (act G.program w o y).0.words
+    → (y : Operation) → operation_at G.program o.counter ≡ Some y → (k l : Kernel) → k.shared ≡ drop G.own o.words → l.shared ≡ drop G.own (act G.program w o y).0.words
     → (q own : ℕ) (oq : PrivateState) (previous : List ℕ) → 1 ≤ q → q ≤ process_count G.setup → (G.p ≡ q → ⊥)
     → PartOf (other_ground G q own) s previous oq → Begins (other_ground G q own) s k oq → Begins (other_ground G q own) (acted G s) l oq
 started_begins G s w before o F texts part I around reaches K kernel R y there k l shared shared' q own oq previous low high other partq B =
@@ -185,7 +185,7 @@ effect_shared own p (machine.Starts r) k = by (stage_of k.stages r)
 -- The same for a step in the kernel turn of the process.
 pub step_begins : (G : Ground) (s : State) (w : Outside) (before : List ℕ) (x : Turning) → length x.own.words ≡ G.own → (F : StandsFor G.program G.setup) → F.texts ≡ G.texts → PartOf G s before (join_words x) → Invariant s
     → Around G s w → Reaches G s → AroundAll G s w → kind s G.p ≡ turns.Kernel → RunsOn G s.store (join_words x) (s.continuation G.p)
-    → (y : Operation) → operation_at G.program x.own.place ≡ Some y
+    → (y : Operation) → operation_at G.program x.own.counter ≡ Some y
     → (q own : ℕ) (oq : PrivateState) (previous : List ℕ) → 1 ≤ q → q ≤ process_count G.setup → (G.p ≡ q → ⊥)
     → PartOf (other_ground G q own) s previous oq → Begins (other_ground G q own) s x.kernel oq
     → Begins (other_ground G q own) (acted G s) (part_words G.own x (act G.program w (join_words x) y)).kernel oq

@@ -61,7 +61,7 @@ module _ (G : Ground) (units : UnitsStand G) (temps : List ℤ) (limit : ℕ) wh
       subst (λ z. NoneIn (scope G) (activation_of b z (activations f.base fs k))) (sym (ap (λ (y : Environment). y.frame) h.0 ∙ h.1.runs))
       (routine_none R (f ∷ fs) runs h.1.frame h.1.runs, activations_none f.base (kept_below c.2 c.3 temps c.0.temp) c.0 fs c.1 c.2 k c.4 c.7)
   activations_none b K R (f ∷ fs) place low (EndBody gate ∷ k) runs h =
-      let c = h.3 in activations_none f.base nothing_known c.0 fs f.place c.1 k c.2 c.4
+      let c = h.3 in activations_none f.base nothing_known c.0 fs f.counter c.1 k c.2 c.4
   activations_none b K R fs place low (EndProcess ∷ k) runs h = subst (λ z. NoneIn (scope G) (activations b fs z)) (sym h.1) tt
   activations_none b K R [] place low (EndCall env gate ∷ k) runs h = absurd h
   activations_none b K R [] place low (EndBody gate ∷ k) runs h = absurd h

@@ -131,7 +131,7 @@ module _ (program : Program) (w : Outside) (o : PrivateState) where
 
       begun : CodeUnit → PrivateState → Acting
       begun u p =
-          private_outcome (enter (set_word (settle p (o.base + call.words) at (length call.arguments)) at (pos 1)) (class_at at) u call (record { place = n; into = 0 }))
+          private_outcome (enter (set_word (settle p (o.base + call.words) at (length call.arguments)) at (pos 1)) (class_at at) u call (record { counter = n; into = 0 }))
 
   pub operation_quiet : (y : Operation) → IsQuietOperation y → (act program w o y).1 ≡ NoEffect
   operation_quiet (op.Set to low high value n) h = with_result_quiet o (place_of v to) _ (λ at. with_result_quiet o (value_of v value) _ (λ n. provided_quiet (within low high n) o _ _ refl))

@@ -41,15 +41,15 @@ use Rattle.cp_machine_model.proofs.Stepping.{Stepped, clock_of, faulted, went}
 
 pub result_steps : (G : Ground) (s : State) (w : Outside) (before : List ℕ) (o : PrivateState) (x : Name) (e : a.Expression) (env : Environment) (k : List Task)
     → StandsFor G.program G.setup → (Y : Ready G s w before o (a.Assign (a.Plain x) e) env k) (lower upper : ℤ) (c : Term) (n : ℕ)
-    → operation_at G.program o.place ≡ Some (op.SetResult lower upper c n)
-    → AssignsBy (site G Y.now.on.running) (known G s w before o (Do (a.Assign (a.Plain x) e) env) k Y.now) (a.Plain x) e (op.SetResult lower upper c n) o.place Y.now.on.left.2.3.0 Y.now.on.left.2.0 Y.now.on.left.2.1
+    → operation_at G.program o.counter ≡ Some (op.SetResult lower upper c n)
+    → AssignsBy (site G Y.now.on.running) (known G s w before o (Do (a.Assign (a.Plain x) e) env) k Y.now) (a.Plain x) e (op.SetResult lower upper c n) o.counter Y.now.on.left.2.3.0 Y.now.on.left.2.0 Y.now.on.left.2.1
     → Stepped G s w before o
 result_steps G s w before o x e env k F Y lower upper c n there h =
     let N = Y.now in
     statement_steps G s w before o (a.Assign (a.Plain x) e) env k Y (op.SetResult lower upper c n) refl refl there refl
     (subst (λ p. PartOf G (after_step s G.p (and_then (Gives p) (λ at. and_then (value (clock_of G s) here s.store e) (λ v. and_then (writes_of at.at at.type v) goes)))) before
     (act G.program w o (op.SetResult lower upper c n)).0) (sym place_is)
-    (by _ _ (value_here G s w before o (Do (a.Assign (a.Plain x) e) env) k N N.sees e c h.0 o.place N.on.left.2.3.0 N.on.left.2.1 N.on.running.unit.temps h.3
+    (by _ _ (value_here G s w before o (Do (a.Assign (a.Plain x) e) env) k N N.sees e c h.0 o.counter N.on.left.2.3.0 N.on.left.2.1 N.on.running.unit.temps h.3
     (in_context_none (a.Assign (a.Plain x)) (first_call N.on.running.env (a.Literal 0) e) Y.none))))
     (quietly G s w before o (a.Assign (a.Plain x) e) env k Y (op.SetResult lower upper c n) tt tt)
   where

@@ -18,19 +18,18 @@ use Rattle.cp_machine_model.specs.PrivateStates.{PrivateState, set_word}
 use Rattle.cp_machine_model.specs.Means.{CellMeans}
 use Rattle.cp_machine_model.specs.Addresses.{Activation, ClassLies, ComponentLies, Ground, MonitorLies, ProcessLies, activation_at, activations, in_sight, lies, scope}
 use Rattle.cp_machine_model.specs.Left.{held_below, site}
-use Rattle.cp_machine_model.specs.PartOf.{ActivationMeans, ResultMeans, RunsOn, components}
+use Rattle.cp_machine_model.specs.PartOf.{ActivationMeans, ResultMeans, RunsOn}
 use Rattle.cp_machine_model.proofs.Apart.{InHead, cell_head}
 use Rattle.cp_machine_model.proofs.Finding.{some_is_not_none}
 use Rattle.cp_machine_model.proofs.Heres.{Top, found_here, top_is}
 use Rattle.cp_machine_model.proofs.Holding.{live_owner, put_apart, result_no_variable}
-use Rattle.cp_machine_model.proofs.Keeping.{KeepsData, activation_kept, activations_kept, data_kept, depth_of, keeps_given, local_named, right_place}
+use Rattle.cp_machine_model.proofs.Keeping.{KeepsData, activation_kept, depth_of, local_named, right_place}
 use Rattle.cp_machine_model.proofs.Layouts.{same_some}
-use Rattle.cp_machine_model.proofs.RunningOn.{runs_room, runs_stacked}
+use Rattle.cp_machine_model.proofs.RunningOn.{runs_room, runs_stacked, runs_with_data}
 use Rattle.cp_machine_model.proofs.Owned.{OwnRight, reference_inside, result_inside}
 use Rattle.cp_machine_model.proofs.Separate.{cell_no_result, local_no_own_right, locals_apart}
 use Rattle.cp_machine_model.proofs.Stacks.{Stacked, found_inside}
 use Rattle.cp_machine_model.proofs.Writing.{changed_other, location_itself}
-use Rattle.cp_machine_model.proofs.Given.{all_kept}
 
 abbrev pub name_of_path : Name → Path → Name
 name_of_path d (ByName x ∷ p) = x
@@ -39,22 +38,8 @@ name_of_path d _ = d
 abbrev pub runs_resulted : (G : Ground) (store : Store) (o : PrivateState) (k : List Task) (R : RunsOn G store o k) (f : Frame) (t : Name) (v : ℤ)
     → R.running.env.frame ≡ Some f → f.routine.result ≡ Some t → local (scope G) f.routine f.routine.name ≡ None → (v ≡ unset → ⊥)
     → RunsOn G (put (result_location f) (Ordinal v) store) (set_word o o.base v) k
-runs_resulted G store o k R f t v runs is none differs = record {
-  running = R.running;
-  runs = R.runs;
-  base = R.base;
-  temp = R.temp;
-  component = R.component;
-  gate = R.gate;
-  live = R.live;
-  left = R.left;
-  next_value = R.next_value;
-  count = length-set o.words o.base v ∙ R.count;
-  activations_mean = activations_kept G store after o.words new o.temps o.limit o.base (held_below R.live o.temps R.running.temp) R.running o.frames o.place R.running.unit.temps k R.left
-      (λ rest g c owner there m. by rest g c owner there m (nat_eq (length rest) (length T.rest)) refl) R.activations_mean;
-  data_means = data_kept G store after o.words new xs keeps R.data_means;
-  given = all_kept G store after (keeps_given G store after o.words new xs keeps) (components o) R.given;
-}
+runs_resulted G store o k R f t v runs is none differs =
+    runs_with_data G store after o new k R (length-set o.words o.base v) (λ rest g c owner there m. by rest g c owner there m (nat_eq (length rest) (length T.rest)) refl) keeps
   where
     xs : List Activation
     xs = activations o.base o.frames k
@@ -66,7 +51,7 @@ runs_resulted G store o k R f t v runs is none differs = record {
     stack = runs_stacked G store o k R
 
     T : Top G o.temps o.limit o.base store o.words o.frames k f
-    T = top_is G o.temps o.limit store o.words o.base (held_below R.live o.temps R.running.temp) R.running o.frames o.place R.running.unit.temps k f R.left R.activations_mean runs
+    T = top_is G o.temps o.limit store o.words o.base (held_below R.live o.temps R.running.temp) R.running o.frames o.counter R.running.unit.temps k f R.left R.activations_mean runs
 
     z0 : Activation
     z0 = record { base = o.base; routine = f.routine }

@@ -1,7 +1,7 @@
 -- Whole private steps at the end of a routine: the caller continues, with a function's value in the
 -- place of the call.
 use Rattle.std.proofs.Common.{◌≡◌, ℕ, ◌+◌, ◌≤◌, ℤ, List, [], ◌∷◌, length, Bool, true, false, Option, Some, None, refl, ap, sym, subst, ◌∙◌, arith}
-use Rattle.std.specs.Prelude.{if◌then◌else◌, map, slice_get, slice_set}
+use Rattle.std.specs.Prelude.{if◌then◌else◌, slice_get, slice_set}
 use Rattle.std.proofs.lemmas.List.{length-set}
 use Rattle.cp_model.specs.Abstract as a
 use Rattle.cp_model.specs.Abstract.{Name, System}
@@ -29,13 +29,13 @@ use Rattle.cp_machine_model.specs.PrivateStates.{NoEffect, Outside, PrivateState
 use Rattle.cp_machine_model.specs.Calling.{gate_effect, leave, return_with}
 use Rattle.cp_machine_model.specs.Addresses.{Activation, Ground, activation_of, activations, in_sight, scope}
 use Rattle.cp_machine_model.specs.Left.{CallerAt, FrameFor, Left, Runs, held_below, innermost_gate, kept_below, result_of, site}
-use Rattle.cp_machine_model.specs.PartOf.{ActivationMeans, ActivationsMean, CallsBehind, DataMeans, IfFrame, PartOf, ResultMeans, RunsOn}
+use Rattle.cp_machine_model.specs.PartOf.{ActivationMeans, ActivationsMean, CallsBehind, DataMeans, IfFrame, PartOf, ResultMeans, RunsOn, components}
 use Rattle.cp_machine_model.proofs.Answered.{LeftAnswered, task_answered}
 use Rattle.cp_machine_model.proofs.Doing.{acts_itself}
 use Rattle.cp_machine_model.proofs.Finding.{some_is_not_none}
 use Rattle.cp_machine_model.proofs.Heres.{depth_is, lies_behind}
 use Rattle.cp_machine_model.proofs.Holding.{SameLive, activation_below, data_below}
-use Rattle.cp_machine_model.proofs.Keeping.{activation_kept, activations_kept, data_kept, keeps_given}
+use Rattle.cp_machine_model.proofs.Keeping.{activations_kept, data_kept, each_kept, keeps_given}
 use Rattle.cp_machine_model.proofs.Layouts.{same_some}
 use Rattle.cp_machine_model.proofs.LeftKept.{left_kept, left_raised}
 use Rattle.cp_machine_model.proofs.Stacks.{Stack, Stacked, stacked}
@@ -122,7 +122,7 @@ module _ (G : Ground) (s : State) (w : Outside) (before : List ℕ) (o : Private
       → Left G us o.limit (held_below live us N.on.left.3.0.temp) N.on.left.3.0 fs place N.on.left.3.0.unit.temps j → CallsBehind G live place
       → ((F : List Activation → List ℕ → Type 0) → F (activations f.base fs k) (marked_monitors k) → F (activations f.base fs j) (marked_monitors j))
       → ((store : Store) (ws : List ℤ) → ActivationsMean G store ws f.base fs k → ActivationsMean G store ws f.base fs j)
-      → RunsOn G (forget N.on.left.1.frame.owner s.store) (record (leave o f fs) { temps = us; place = place }) j
+      → RunsOn G (forget N.on.left.1.frame.owner s.store) (record (leave o f fs) { temps = us; counter = place }) j
   caller_on us place live j len left behind marks means =
       let c = N.on.left.3 in
       let caller = c.0 in
@@ -136,25 +136,29 @@ module _ (G : Ground) (s : State) (w : Outside) (before : List ℕ) (o : Private
       } in
       let live_same : SameLive G xs s.store after
       = forgotten G xs N.on.left.1.frame.owner s.store (N.on.left.1.owner ∙ ap (OfActivation G.p) (sym (depth_is G o.temps o.limit f.base inner caller fs c.1 c.2 k c.7))) in
+      let keeps = data_below G xs top stack s.store after o.words o.words live_same (λ i q. refl) in
       record {
-        running = caller;
-        runs = subst (λ z. Runs G z o.limit caller fs) (sym len) c.4;
-        base = c.5.base;
-        temp = c.5.temp;
-        component = c.5.component;
-        gate = marks (λ ys gs. f.held ≡ innermost_gate gs) N.on.left.2.1;
-        live = live;
-        left = left;
-        next_value = behind;
-        count = N.on.count;
-        activations_mean = means after o.words
-            (activations_kept G s.store after o.words o.words o.temps o.limit f.base inner caller fs c.1 c.2 k c.7
-            (λ rest g b owner there. activation_kept G s.store after o.words o.words rest b (length rest) g owner
-            (activation_below G xs top stack s.store after o.words o.words live_same (λ i q. refl) (length rest) (record { base = b; routine = g.routine }) there)) N.on.activations_mean.1);
-        data_means = marks (λ ys gs. DataMeans G ys (in_sight G) after o.words)
-            (data_kept G s.store after o.words o.words xs (data_below G xs top stack s.store after o.words o.words live_same (λ i q. refl))
-            (data_behind G (record { base = o.base; routine = N.on.left.1.frame.routine }) xs s.store o.words (subst (λ e. DataMeans G (activation_of o.base e xs) (in_sight G) s.store o.words) here N.on.data_means)));
-        given = all_kept G s.store after (keeps_given G s.store after o.words o.words xs (data_below G xs top stack s.store after o.words o.words live_same (λ i q. refl))) (f.component ∷ map (λ g. g.component) fs) N.on.given.1;
+        at = record {
+          running = caller;
+          runs = subst (λ z. Runs G z o.limit caller fs) (sym len) c.4;
+          base = c.5.base;
+          temp = c.5.temp;
+          component = c.5.component;
+          gate = marks (λ ys gs. f.held ≡ innermost_gate gs) N.on.left.2.1;
+          live = live;
+          left = left;
+          next_value = behind;
+        };
+        words_mean = record {
+          count = N.on.count;
+          activations_mean = means after o.words
+              (activations_kept G s.store after o.words o.words o.temps o.limit f.base inner caller fs c.1 c.2 k c.7
+              (each_kept G s.store after o.words o.words xs (activation_below G xs top stack s.store after o.words o.words live_same (λ i q. refl))) N.on.activations_mean.1);
+          data_means = marks (λ ys gs. DataMeans G ys (in_sight G) after o.words)
+              (data_kept G s.store after o.words o.words xs keeps
+              (data_behind G (record { base = o.base; routine = N.on.left.1.frame.routine }) xs s.store o.words (subst (λ e. DataMeans G (activation_of o.base e xs) (in_sight G) s.store o.words) here N.on.data_means)));
+          given = all_kept G s.store after (keeps_given G s.store after o.words o.words xs keeps) (components f.component fs) N.on.given.1;
+        };
       }
 
   abbrev pub gone : Outcome Configuration → State
@@ -172,7 +176,7 @@ module _ (G : Ground) (s : State) (w : Outside) (before : List ℕ) (o : Private
       let c = N.on.left.3 in
       let there = caller_there None none in
       went G s before (record o { frames = f ∷ fs }) N.part (forget N.on.left.1.frame.owner s.store) (leave o f fs) k
-      (caller_on o.temps f.place 0 k refl
+      (caller_on o.temps f.counter 0 k refl
       (subst (λ z. Left G o.temps o.limit (held_below 0 o.temps c.0.temp) c.0 fs z c.0.unit.temps k) there.0
       (left_raised G o.temps o.limit (held_below 0 o.temps c.0.temp) c.0 fs c.1 c.2 c.0.unit.temps k c.5.kept_fit
       (left_kept G o.temps o.temps o.limit refl (kept_below c.2 c.3 o.temps c.0.temp) (held_below 0 o.temps c.0.temp) c.0 fs c.1 c.2 k
@@ -203,18 +207,18 @@ module _ (G : Ground) (s : State) (w : Outside) (before : List ℕ) (o : Private
       into_is : N.on.left.3.0.temp + caller.1 ≡ f.temp + f.into
       into_is = omega (arith, caller.6, N.on.left.3.5.temp)
 
-      A : LeftAnswered G o.temps o.limit N.on.left.3.0 fs N.on.left.3.3 N.on.left.3.1 caller.0 caller.1 f.place caller.5 room caller.4 k
+      A : LeftAnswered G o.temps o.limit N.on.left.3.0 fs N.on.left.3.3 N.on.left.3.1 caller.0 caller.1 f.counter caller.5 room caller.4 k
       A =
-          task_answered G o.temps o.limit N.on.left.3.0 fs N.on.left.3.3 N.on.left.3.1 caller.0 caller.1 f.place caller.5 room caller.4 k
+          task_answered G o.temps o.limit N.on.left.3.0 fs N.on.left.3.3 N.on.left.3.1 caller.0 caller.1 f.counter caller.5 room caller.4 k
           (left_raised G o.temps o.limit (kept_below caller.0.temps N.on.left.3.3 o.temps N.on.left.3.0.temp) N.on.left.3.0 fs N.on.left.3.1 N.on.left.3.2 N.on.left.3.0.unit.temps k N.on.left.3.5.kept_fit
           (subst (λ z. Left G o.temps o.limit (kept_below z N.on.left.3.3 o.temps N.on.left.3.0.temp) N.on.left.3.0 fs N.on.left.3.1 N.on.left.3.2 k) (sym caller.3) N.on.left.3.7))
 
-      answer : (n : ℤ) → Left G (slice_set o.temps (f.temp + f.into) n) o.limit (held_below (caller.1 + 1) (slice_set o.temps (f.temp + f.into) n) N.on.left.3.0.temp) N.on.left.3.0 fs f.place N.on.left.3.0.unit.temps
+      answer : (n : ℤ) → Left G (slice_set o.temps (f.temp + f.into) n) o.limit (held_below (caller.1 + 1) (slice_set o.temps (f.temp + f.into) n) N.on.left.3.0.temp) N.on.left.3.0 fs f.counter N.on.left.3.0.unit.temps
           (with_answer (a.Known (base_of_type (named_type env.globals t)) n) k)
       answer n =
           let base_is = A.1 _ N.on.left.1.frame.routine t text is ∙ ap (λ g. base_of_type (named_type g t)) globals in
-          subst (λ b. Left G (slice_set o.temps (f.temp + f.into) n) o.limit (held_below (caller.1 + 1) (slice_set o.temps (f.temp + f.into) n) N.on.left.3.0.temp) N.on.left.3.0 fs f.place N.on.left.3.0.unit.temps (with_answer (a.Known b n) k)) base_is
-          (subst (λ i. Left G (slice_set o.temps i n) o.limit (held_below (caller.1 + 1) (slice_set o.temps i n) N.on.left.3.0.temp) N.on.left.3.0 fs f.place N.on.left.3.0.unit.temps (with_answer (a.Known A.0 n) k)) into_is
+          subst (λ b. Left G (slice_set o.temps (f.temp + f.into) n) o.limit (held_below (caller.1 + 1) (slice_set o.temps (f.temp + f.into) n) N.on.left.3.0.temp) N.on.left.3.0 fs f.counter N.on.left.3.0.unit.temps (with_answer (a.Known b n) k)) base_is
+          (subst (λ i. Left G (slice_set o.temps i n) o.limit (held_below (caller.1 + 1) (slice_set o.temps i n) N.on.left.3.0.temp) N.on.left.3.0 fs f.counter N.on.left.3.0.unit.temps (with_answer (a.Known A.0 n) k)) into_is
           (A.3 n))
 
       marks : (v : a.Expression) (F : List Activation → List ℕ → Type 0) → F (activations f.base fs k) (marked_monitors k) → F (activations f.base fs (with_answer v k)) (marked_monitors (with_answer v k))
@@ -236,7 +240,7 @@ module _ (G : Ground) (s : State) (w : Outside) (before : List ℕ) (o : Private
       value_returns n false e d =
           let v = a.Known (base_of_type (named_type env.globals t)) n in
           went G s before (record o { frames = f ∷ fs }) N.part (forget N.on.left.1.frame.owner s.store) (leave (set_temp (record o { frames = f ∷ fs }) (f.temp + f.into) n) f fs) (with_answer v k)
-          (caller_on (slice_set o.temps (f.temp + f.into) n) f.place (caller.1 + 1) (with_answer v k) (length-set o.temps (f.temp + f.into) n) (answer n) A.2 (marks v) (others v))
+          (caller_on (slice_set o.temps (f.temp + f.into) n) f.counter (caller.1 + 1) (with_answer v k) (length-set o.temps (f.temp + f.into) n) (answer n) A.2 (marks v) (others v))
           record { number = refl; input = refl; consumed = refl; output = refl; activity = refl }
 
       by : (v : Value) (n : ℤ) → s.store (result_location N.on.left.1.frame) ≡ v → ResultMeans v n

@@ -59,21 +59,7 @@ awake_goes (machine.Faulted f) h = h
 
 -- What it means to run on doesn't depend on the activity.
 runs_whatever : (G : Ground) (store : Store) (o : PrivateState) (k : List Task) (x : Activity) → RunsOn G store o k → RunsOn G store (record o { activity = x }) k
-runs_whatever G store o k x R = record {
-  running = R.running;
-  runs = R.runs;
-  base = R.base;
-  temp = R.temp;
-  component = R.component;
-  gate = R.gate;
-  live = R.live;
-  left = R.left;
-  next_value = R.next_value;
-  count = R.count;
-  activations_mean = R.activations_mean;
-  data_means = R.data_means;
-  given = R.given;
-}
+runs_whatever G store o k x R = record { at = R.at; words_mean = R.words_mean }
 
 -- All processes that wait wake.
 pub part_wakes : (G : Ground) (s : State) (before : List ℕ) (o : PrivateState) → PartOf G s before o → PartOf G (record s { status = λ p. wake_status (s.status p) }) before (wake_one o)

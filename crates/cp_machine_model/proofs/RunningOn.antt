@@ -1,13 +1,14 @@
 -- Processes that run or will run again: what their words mean, and the same with other places,
 -- tasks, words and stores.
-use Rattle.std.proofs.Common.{◌≡◌, ℕ, ◌+◌, ◌≤◌, ℤ, List, Some, length, refl, ap, sym, subst, ◌∙◌, arith}
+use Rattle.std.proofs.Common.{◌≡◌, ℕ, ◌+◌, ◌≤◌, ℤ, List, ◌∷◌, Option, Some, length, refl, ap, sym, subst, ◌∙◌, arith}
 use Rattle.std.specs.Prelude.{slice_set, true}
 use Rattle.std.proofs.lemmas.Bool.{true≢false}
 use Rattle.std.proofs.lemmas.List.{length-set}
 use Rattle.cp_model.specs.Abstract as a
 use Rattle.cp_model.specs.Abstract.{BaseType, Class, System}
 use Rattle.cp_model.specs.CallSteps.{is_initialised}
-use Rattle.cp_model.specs.Continuations.{Task, marked_monitors, push}
+use Rattle.cp_model.specs.Environments.{Environment}
+use Rattle.cp_model.specs.Continuations.{EndBody, Task, marked_monitors, push}
 use Rattle.cp_model.specs.Locations.{Location}
 use Rattle.cp_model.specs.Operators.{Clock, realtime}
 use Rattle.cp_model.specs.Stores.{Ordinal, Store, Value, put}
@@ -18,14 +19,14 @@ use Rattle.cp_machine_model.specs.PrivateStates.{Outside, PrivateState, go_to, s
 use Rattle.cp_machine_model.specs.PrivateStates as machine
 use Rattle.cp_machine_model.specs.Values.{View}
 use Rattle.cp_machine_model.specs.Means.{CellMeans, Here}
-use Rattle.cp_machine_model.specs.Addresses.{Ground, HasRights, activations, component_type, in_sight, lies, scope, lies_in_sight}
+use Rattle.cp_machine_model.specs.Addresses.{AllHaveRights, ClassHasRights, Ground, HasRights, activations, component_type, in_sight, lies, scope, lies_in_sight}
 use Rattle.cp_machine_model.specs.Left.{Left, Running, held_below, innermost_gate, site}
-use Rattle.cp_machine_model.specs.PartOf.{ActivationsMean, DataMeans, RunsOn, components}
+use Rattle.cp_machine_model.specs.PartOf.{ActivationsMean, DataMeans, RunsOn, WordsMean, components}
 use Rattle.cp_machine_model.proofs.Apart.{IsCell, cell_head}
 use Rattle.cp_machine_model.proofs.Given.{all_kept}
 use Rattle.cp_machine_model.proofs.Heres.{Sees, here}
 use Rattle.cp_machine_model.proofs.Holding.{SameBelow, SameLive, activation_below, activation_written, data_below, data_written, written_keeps}
-use Rattle.cp_machine_model.proofs.Keeping.{activation_kept, activations_kept, data_kept, keeps_given}
+use Rattle.cp_machine_model.proofs.Keeping.{EachKept, KeepsData, activations_kept, data_kept, each_kept, keeps_given}
 use Rattle.cp_machine_model.proofs.LeftKept.{left_kept, left_raised}
 use Rattle.cp_machine_model.proofs.Pushing.{activations_push, marks_push, mean_push, push_left}
 use Rattle.cp_machine_model.proofs.Separate.{cell_inside}
@@ -37,7 +38,7 @@ pub runs_here : (G : Ground) (store : Store) (w : Outside) (o : PrivateState) (k
 runs_here G store w o k clock clock_is R sees =
     subst (λ b. Here R.running.env clock store (view_of w o) (held_below R.live o.temps R.running.temp) (lies_in_sight (in_sight G) G (activations b o.frames k))) (sym R.base)
     (subst (λ z. Here R.running.env clock store z (held_below R.live o.temps R.running.temp) (lies_in_sight (in_sight G) G (activations R.running.base o.frames k))) view_is
-    (here G store o.words o.temps o.limit R.live (held_below R.live o.temps R.running.temp) R.running o.frames o.place R.running.unit.temps k (in_sight G) clock R.left
+    (here G store o.words o.temps o.limit R.live (held_below R.live o.temps R.running.temp) R.running o.frames o.counter R.running.unit.temps k (in_sight G) clock R.left
     (subst (λ b. ActivationsMean G store o.words b o.frames k) R.base R.activations_mean)
     R.runs.component
     (subst (λ b. DataMeans G (activations b o.frames k) (in_sight G) store o.words) R.base R.data_means)
@@ -54,7 +55,7 @@ pub runs_stacked : (G : Ground) (store : Store) (o : PrivateState) (k : List Tas
     → Stacked G (o.base + (site G R.running).words) (activations o.base o.frames k)
 runs_stacked G store o k R = record {
   stack = subst (λ b. Stack G (b + (site G R.running).words) (activations b o.frames k)) (sym R.base)
-      (stacked G o.temps o.limit (held_below R.live o.temps R.running.temp) R.running o.frames o.place R.running.unit.temps k R.runs.globals R.runs.frame R.left);
+      (stacked G o.temps o.limit (held_below R.live o.temps R.running.temp) R.running o.frames o.counter R.running.unit.temps k R.runs.globals R.runs.frame R.left);
   fits = omega (arith, R.base, R.runs.words_fit, R.runs.activation_fits);
 }
 
@@ -68,6 +69,35 @@ left_afresh G ts limit live R fs place low k up h =
     left_raised G ts limit (held_below live ts R.temp) R fs place low R.unit.temps k up
     (left_kept G ts ts limit refl nothing_known (held_below live ts R.temp) R fs place low k (λ s m z. absurd z) (λ i q. refl) h)
 
+-- ---- other tasks
+
+-- The words mean the same for other tasks, if the activations are the same.
+pub words_moved : (G : Ground) (store : Store) (words : List ℤ) (base component : ℕ) (fs : List machine.Frame) (i j : List Task)
+    → activations base fs j ≡ activations base fs i → ActivationsMean G store words base fs j ≡ ActivationsMean G store words base fs i
+    → WordsMean G store words base component fs i → WordsMean G store words base component fs j
+words_moved G store words base component fs i j same mean W = record {
+  count = W.count;
+  activations_mean = subst (λ (T : Type 0). T) (sym mean) W.activations_mean;
+  data_means = subst (λ xs. DataMeans G xs (in_sight G) store words) (sym same) W.data_means;
+  given = W.given;
+}
+
+-- The same with a statement before what is left to do.
+pub words_pushed : (G : Ground) (store : Store) (words : List ℤ) (base component : ℕ) (fs : List machine.Frame) (s : a.Statement) (env : Environment) (k : List Task)
+    → WordsMean G store words base component fs k → WordsMean G store words base component fs (push s env k)
+words_pushed G store words base component fs s env k =
+    words_moved G store words base component fs k (push s env k) (activations_push base fs s env k) (mean_push G store words base fs s env k)
+
+-- A body runs in a component that has its rights, and all activations are those of its caller.
+pub words_of_body : (G : Ground) (store : Store) (words : List ℤ) (base component : ℕ) (f : machine.Frame) (fs : List machine.Frame) (s : a.Statement) (env : Environment) (gate : Option ℕ) (i : Task) (k : List Task)
+    → activations f.base fs (i ∷ k) ≡ activations f.base fs k → ActivationsMean G store words f.base fs (i ∷ k) ≡ ActivationsMean G store words f.base fs k
+    → ClassHasRights G store component → WordsMean G store words f.base f.component fs (i ∷ k)
+    → WordsMean G store words base component (f ∷ fs) (push s env (EndBody gate ∷ k))
+words_of_body G store words base component f fs s env gate i k same means has W =
+    let moved = words_moved G store words f.base f.component fs (i ∷ k) k (sym same) (sym means) W in
+    words_pushed G store words base component (f ∷ fs) s env (EndBody gate ∷ k)
+    record { count = moved.count; activations_mean = moved.activations_mean; data_means = moved.data_means; given = (has, moved.given) }
+
 -- The process runs on with other tasks first, if the activations are the same.
 abbrev pub runs_moved : (G : Ground) (store : Store) (o : PrivateState) (i j : List Task) (place low : ℕ) (R : RunsOn G store o i)
     → activations o.base o.frames j ≡ activations o.base o.frames i → ActivationsMean G store o.words o.base o.frames j ≡ ActivationsMean G store o.words o.base o.frames i
@@ -75,19 +105,18 @@ abbrev pub runs_moved : (G : Ground) (store : Store) (o : PrivateState) (i j : L
     → Left G o.temps o.limit nothing_known R.running o.frames place low j → low ≤ R.running.unit.temps
     → RunsOn G store (go_to place o) j
 runs_moved G store o i j place low R same mean marks left fits = record {
-  running = R.running;
-  runs = R.runs;
-  base = R.base;
-  temp = R.temp;
-  component = R.component;
-  gate = R.gate ∙ ap innermost_gate (sym marks);
-  live = 0;
-  left = left_afresh G o.temps o.limit 0 R.running o.frames place low j fits left;
-  next_value = λ c n m e. omega arith;
-  count = R.count;
-  activations_mean = subst (λ (T : Type 0). T) (sym mean) R.activations_mean;
-  data_means = subst (λ xs. DataMeans G xs (in_sight G) store o.words) (sym same) R.data_means;
-  given = R.given;
+  at = record {
+    running = R.running;
+    runs = R.runs;
+    base = R.base;
+    temp = R.temp;
+    component = R.component;
+    gate = R.gate ∙ ap innermost_gate (sym marks);
+    live = 0;
+    left = left_afresh G o.temps o.limit 0 R.running o.frames place low j fits left;
+    next_value = λ c n m e. omega arith;
+  };
+  words_mean = words_moved G store o.words o.base o.component o.frames i j same mean R.words_mean;
 }
 
 -- The process runs on with a statement before what is left to do.
@@ -101,6 +130,36 @@ runs_pushed G store o i k s place next low R same mean marks code left fits =
     (activations_push o.base o.frames s R.running.env k ∙ same) (mean_push G store o.words o.base o.frames s R.running.env k ∙ mean) (marks_push s R.running.env k ∙ marks)
     (push_left G o.temps o.limit R.running o.frames s place next low k code left) fits
 
+-- ---- other words
+
+-- The process runs on with another store and other words, if its activations, its variables and its
+-- rights mean what they did.
+abbrev pub runs_kept : (G : Ground) (store after : Store) (o : PrivateState) (new : List ℤ) (k : List Task) (R : RunsOn G store o k) → length new ≡ length o.words
+    → EachKept G store after o.words new (activations o.base o.frames k)
+    → DataMeans G (activations o.base o.frames k) (in_sight G) after new → AllHaveRights G after (components o.component o.frames)
+    → RunsOn G after (record o { words = new }) k
+runs_kept G store after o new k R same keeps means given = record {
+  at = R.at;
+  words_mean = record {
+    count = same ∙ R.count;
+    activations_mean =
+        activations_kept G store after o.words new o.temps o.limit o.base (held_below R.live o.temps R.running.temp) R.running o.frames o.counter R.running.unit.temps k R.left keeps
+        R.activations_mean;
+    data_means = means;
+    given = given;
+  };
+}
+
+-- The same, where the variables and rights are kept as they are.
+abbrev pub runs_with_data : (G : Ground) (store after : Store) (o : PrivateState) (new : List ℤ) (k : List Task) (R : RunsOn G store o k) → length new ≡ length o.words
+    → EachKept G store after o.words new (activations o.base o.frames k)
+    → KeepsData G store after o.words new (activations o.base o.frames k)
+    → RunsOn G after (record o { words = new }) k
+runs_with_data G store after o new k R same keeps all =
+    let xs = activations o.base o.frames k in
+    runs_kept G store after o new k R same keeps (data_kept G store after o.words new xs all R.data_means)
+    (all_kept G store after (keeps_given G store after o.words new xs all) (components o.component o.frames) R.given)
+
 -- A value of one word is stored. Where it is a mark that is set, the class has its rights.
 abbrev pub runs_stored : (G : Ground) (store : Store) (o : PrivateState) (k : List Task) (R : RunsOn G store o k) (l : Location) (n : ℕ) (u : ResolvedType) (w : Value) (v : ℤ)
     → IsCell u → CellMeans u w v → in_sight G l.owner ≡ true → lies G (activations o.base o.frames k) l ≡ Some (n, u)
@@ -111,24 +170,10 @@ runs_stored G store o k R l n u w v cell means own is fresh =
     let top = o.base + (site G R.running).words in
     let stack = runs_stacked G store o k R in
     let below = cell_inside G xs top stack l n u 0 own (cell_head (scope G) u cell) is in
-    record {
-      running = R.running;
-      runs = R.runs;
-      base = R.base;
-      temp = R.temp;
-      component = R.component;
-      gate = R.gate;
-      live = R.live;
-      left = R.left;
-      next_value = R.next_value;
-      count = length-set o.words n v ∙ R.count;
-      activations_mean =
-          activations_kept G store (put l w store) o.words (slice_set o.words n v) o.temps o.limit o.base (held_below R.live o.temps R.running.temp) R.running o.frames o.place R.running.unit.temps k R.left
-          (λ rest f c owner there. activation_kept G store (put l w store) o.words (slice_set o.words n v) rest c (length rest) f owner
-          (activation_written G xs top stack store o.words l n u w v cell means own is (length rest) (record { base = c; routine = f.routine }) there)) R.activations_mean;
-      data_means = data_written G xs top stack store o.words l n u w v cell means own is (omega (arith, below, R.count)) fresh R.data_means;
-      given = all_kept G store (put l w store) (written_keeps G xs top stack store o.words l n u w v cell means own is) (components o) R.given;
-    }
+    runs_kept G store (put l w store) o (slice_set o.words n v) k R (length-set o.words n v)
+    (each_kept G store (put l w store) o.words (slice_set o.words n v) xs (activation_written G xs top stack store o.words l n u w v cell means own is))
+    (data_written G xs top stack store o.words l n u w v cell means own is (omega (arith, below, R.count)) fresh R.data_means)
+    (all_kept G store (put l w store) (written_keeps G xs top stack store o.words l n u w v cell means own is) (components o.component o.frames) R.given)
 
 -- A simple value is stored.
 abbrev pub runs_written : (G : Ground) (store : Store) (o : PrivateState) (k : List Task) (R : RunsOn G store o k) (l : Location) (n : ℕ) (b : BaseType) (low high start v : ℤ)
@@ -144,21 +189,5 @@ runs_over G store after o new k R live same count =
     let xs = activations o.base o.frames k in
     let top = o.base + (site G R.running).words in
     let stack = runs_stacked G store o k R in
-    record {
-      running = R.running;
-      runs = R.runs;
-      base = R.base;
-      temp = R.temp;
-      component = R.component;
-      gate = R.gate;
-      live = R.live;
-      left = R.left;
-      next_value = R.next_value;
-      count = count ∙ R.count;
-      activations_mean =
-          activations_kept G store after o.words new o.temps o.limit o.base (held_below R.live o.temps R.running.temp) R.running o.frames o.place R.running.unit.temps k R.left
-          (λ rest f c owner there. activation_kept G store after o.words new rest c (length rest) f owner
-          (activation_below G xs top stack store after o.words new live same (length rest) (record { base = c; routine = f.routine }) there)) R.activations_mean;
-      data_means = data_kept G store after o.words new xs (data_below G xs top stack store after o.words new live same) R.data_means;
-      given = all_kept G store after (keeps_given G store after o.words new xs (data_below G xs top stack store after o.words new live same)) (components o) R.given;
-    }
+    runs_with_data G store after o new k R count (each_kept G store after o.words new xs (activation_below G xs top stack store after o.words new live same))
+    (data_below G xs top stack store after o.words new live same)

@@ -17,7 +17,7 @@ use Rattle.cp_program_model.specs.Starts.{word}
 use Rattle.cp_machine_model.specs.PrivateStates.{PrivateState}
 use Rattle.cp_machine_model.specs.Means.{CellMeans}
 use Rattle.cp_machine_model.specs.Addresses.{Activation, ClassLies, ComponentLies, Ground, HasRights, IsGiven, RightMeans, activation_at, activations, component_type, in_sight, lies, scope}
-use Rattle.cp_machine_model.specs.Left.{held_below, site}
+use Rattle.cp_machine_model.specs.Left.{site}
 use Rattle.cp_machine_model.specs.PartOf.{DataMeans, RunsOn, components}
 use Rattle.cp_machine_model.proofs.Apart.{InHead, IsCell, cell_head}
 use Rattle.cp_machine_model.proofs.Copying.{Inside, inside_or_not}
@@ -26,10 +26,10 @@ use Rattle.cp_machine_model.proofs.Finding.{some_is_not_none}
 use Rattle.cp_machine_model.proofs.Heres.{lies_any, member_lies}
 use Rattle.cp_machine_model.proofs.Holding.{without_zero}
 use Rattle.cp_machine_model.proofs.InitOffsets.{Offset, of_filter, offset_at, offset_within, right_is, right_is_no_member, right_same}
-use Rattle.cp_machine_model.proofs.Keeping.{KeepsActivation, activation_kept, activations_kept, local_named, right_kept, right_no_variable, right_place, right_within}
+use Rattle.cp_machine_model.proofs.Keeping.{KeepsActivation, each_kept, local_named, right_kept, right_no_variable, right_place, right_within}
 use Rattle.cp_machine_model.proofs.Layouts.{same_some}
 use Rattle.cp_machine_model.proofs.Placing.{IsRightWord, Placed, component_same}
-use Rattle.cp_machine_model.proofs.RunningOn.{runs_stacked}
+use Rattle.cp_machine_model.proofs.RunningOn.{runs_kept, runs_stacked}
 use Rattle.cp_machine_model.proofs.Owned.{OwnRight, reference_inside, result_inside}
 use Rattle.cp_machine_model.proofs.Separate.{cell_below, cell_no_own_right, cell_no_reference, cell_no_result, own_right_below, separate}
 use Rattle.cp_machine_model.proofs.Stacks.{Stacked, found_inside}
@@ -264,21 +264,10 @@ abbrev pub runs_settled : (G : Ground) (store after : Store) (o : PrivateState) 
     → ((p : Name × Variable) → IsIn p (declarations (scope G) s.parameters) → (k : ℕ) × Offset (scope G) s p k)
     → Settled G (o.base + (site G R.running).words) store after o.words new at c s → length new ≡ length o.words
     → RunsOn G after (record o { words = new }) k
-runs_settled G store after o new k R at c s L distinct one offsets S count = record {
-  running = R.running;
-  runs = R.runs;
-  base = R.base;
-  temp = R.temp;
-  component = R.component;
-  gate = R.gate;
-  live = R.live;
-  left = R.left;
-  next_value = R.next_value;
-  count = count ∙ R.count;
-  activations_mean =
-      activations_kept G store after o.words new o.temps o.limit o.base (held_below R.live o.temps R.running.temp) R.running o.frames o.place R.running.unit.temps k R.left
-      (λ rest f b owner there. activation_kept G store after o.words new rest b (length rest) f owner
-      (activation_settled G (activations o.base o.frames k) _ (runs_stacked G store o k R) store after o.words new at c s L distinct one offsets S (length rest) (record { base = b; routine = f.routine }) there)) R.activations_mean;
-  data_means = data_settled G (activations o.base o.frames k) _ (runs_stacked G store o k R) store after o.words new at c s L distinct one offsets S R.data_means;
-  given = all_kept G store after (settled_keeps G (activations o.base o.frames k) _ (runs_stacked G store o k R) store after o.words new at c s L distinct one offsets S) (components o) R.given;
-}
+runs_settled G store after o new k R at c s L distinct one offsets S count =
+    let xs = activations o.base o.frames k in
+    let stack = runs_stacked G store o k R in
+    runs_kept G store after o new k R count
+    (each_kept G store after o.words new xs (activation_settled G xs _ stack store after o.words new at c s L distinct one offsets S))
+    (data_settled G xs _ stack store after o.words new at c s L distinct one offsets S R.data_means)
+    (all_kept G store after (settled_keeps G xs _ stack store after o.words new at c s L distinct one offsets S) (components o.component o.frames) R.given)

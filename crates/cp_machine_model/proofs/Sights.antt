@@ -9,8 +9,8 @@ use Rattle.cp_model.specs.Types.{ArrayOf, ComponentOf, NoType, Queue, RecordOf, 
 use Rattle.cp_program_model.specs.TermsFor.{Knowns, nothing_known}
 use Rattle.cp_machine_model.specs.PrivateStates as machine
 use Rattle.cp_machine_model.specs.Addresses.{Activation, AllHaveRights, ClassLies, ComponentLies, Ground, MonitorLies, ProcessLies, RightMeans, RightOf, Sight, WhereMonitorsLie, activations, lies, part_at}
-use Rattle.cp_machine_model.specs.Left.{CallerAt, Keeps, Left, Running, Runs, kept_below}
-use Rattle.cp_machine_model.specs.PartOf.{ActivationMeans, ActivationsMean, DataMeans, IfFrame}
+use Rattle.cp_machine_model.specs.Left.{CallerAt, Keeps, Left, Running, Runs, held_below, kept_below}
+use Rattle.cp_machine_model.specs.PartOf.{ActivationMeans, ActivationsMean, Control, DataMeans, IfFrame, RunsAt}
 
 module _ (G : Ground) (v : Sight) (lie : WhereMonitorsLie v G.program G.setup) where
   -- The same with other words in reach.
@@ -81,14 +81,11 @@ module _ (G : Ground) (v : Sight) (lie : WhereMonitorsLie v G.program G.setup) w
   left_there temps limit K R fs place low (Do s e ∷ k) h =
       (h.0, h.1, (h.2.0, h.2.1, h.2.2, h.2.3, left_there temps limit nothing_known R fs h.2.0 h.2.1 k h.2.4))
   left_there temps limit K R fs place low (WhileTest now e s env ∷ k) h =
-      let W = h.1.3 in
-      (h.0, (h.1.0, h.1.1, h.1.2, record { start = W.start; last = W.last; way = W.way; term = W.term; base = W.base; test = W.test; rest = W.rest; whole = W.whole; again = W.again }, left_there temps limit nothing_known R fs h.1.0 h.1.1 k h.1.4))
+      (h.0, (h.1.0, h.1.1, h.1.2, h.1.3, left_there temps limit nothing_known R fs h.1.0 h.1.1 k h.1.4))
   left_there temps limit K R fs place low (RepeatTest now s e env ∷ k) h =
-      let W = h.1.3 in
-      (h.0, (h.1.0, h.1.1, h.1.2, record { start = W.start; last = W.last; way = W.way; term = W.term; base = W.base; test = W.test; rest = W.rest; whole = W.whole; again = W.again }, left_there temps limit nothing_known R fs h.1.0 h.1.1 k h.1.4))
+      (h.0, (h.1.0, h.1.1, h.1.2, h.1.3, left_there temps limit nothing_known R fs h.1.0 h.1.1 k h.1.4))
   left_there temps limit K R fs place low (ForNext x down n last s env ∷ k) h =
-      let F = h.1.3 in
-      (h.0, (h.1.0, h.1.1, h.1.2, record { counting = F.counting; test = F.test; counts = F.counts; counter = F.counter; last_is = F.last_is; again = F.again }, left_there temps limit nothing_known R fs h.1.0 h.1.1 k h.1.4))
+      (h.0, (h.1.0, h.1.1, h.1.2, h.1.3, left_there temps limit nothing_known R fs h.1.0 h.1.1 k h.1.4))
   left_there temps limit K R (f ∷ fs) place low (EndCall env gate ∷ k) h =
       let c = h.3 in (
         h.0,
@@ -107,10 +104,24 @@ module _ (G : Ground) (v : Sight) (lie : WhereMonitorsLie v G.program G.setup) w
       )
   left_there temps limit K R (f ∷ fs) place low (EndBody gate ∷ k) h =
       let c = h.3 in
-      (h.0, h.1, h.2, (c.0, c.1, runs_there (length temps) limit c.0 fs c.2, keeps_there f c.0 R c.1 c.3, left_there temps limit nothing_known c.0 fs f.place c.1 k c.4))
+      (h.0, h.1, h.2, (c.0, c.1, runs_there (length temps) limit c.0 fs c.2, keeps_there f c.0 R c.1 c.3, left_there temps limit nothing_known c.0 fs f.counter c.1 k c.4))
   left_there temps limit K R fs place low (EndProcess ∷ k) h = h
   left_there temps limit K R [] place low (EndCall env gate ∷ k) h = absurd h
   left_there temps limit K R [] place low (EndBody gate ∷ k) h = absurd h
+
+  -- The process runs there too.
+  abbrev pub at_there : (c : Control) (k : List Task) → RunsAt G c k → RunsAt with_sight c k
+  at_there c k R = record {
+    running = R.running;
+    runs = runs_there (length c.temps) c.limit R.running c.frames R.runs;
+    base = R.base;
+    temp = R.temp;
+    component = R.component;
+    gate = R.gate;
+    live = R.live;
+    left = left_there c.temps c.limit (held_below R.live c.temps R.running.temp) R.running c.frames c.counter R.running.unit.temps k R.left;
+    next_value = R.next_value;
+  }
 
   -- ---- what words mean
 

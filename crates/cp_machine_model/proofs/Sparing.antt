@@ -13,7 +13,7 @@ use Rattle.cp_program_model.specs.Tables.{place_in}
 use Rattle.cp_model.specs.Abstract as a
 use Rattle.cp_model.specs.Abstract.{Name}
 use Rattle.cp_model.specs.Actions.{Acts, action}
-use Rattle.cp_model.specs.Calls.{Callee, UserCall, call_in_statement, call_in_task, first_call, in_context}
+use Rattle.cp_model.specs.Calls.{Callee, UserCall, call_in_statement, call_in_task, in_context}
 use Rattle.cp_model.specs.Components.{Component, same_sort}
 use Rattle.cp_model.specs.Configurations as stage
 use Rattle.cp_model.specs.Continuations.{Do, EndBody, EndCall, EndProcess, ForNext, RepeatTest, Task, WhileTest, marked_monitors}
@@ -37,7 +37,7 @@ use Rattle.cp_machine_model.specs.Values.{value_of}
 use Rattle.cp_machine_model.specs.Calling.{Back, call_step, gate_effect, leave, return_with, with_frame}
 use Rattle.cp_machine_model.specs.Steps.{act, count_to, go_to_arm}
 use Rattle.cp_machine_model.specs.Addresses.{Ground, in_sight, scope}
-use Rattle.cp_machine_model.specs.Left.{Left, Running, held_below, site}
+use Rattle.cp_machine_model.specs.Left.{Left, Loop, Repeat, Running, While, at_true, held_below, site}
 use Rattle.cp_machine_model.proofs.Heres.{Sees}
 use Rattle.cp_machine_model.specs.PartOf.{PartOf, RunsOn}
 use Rattle.cp_machine_model.proofs.AssignCalls.{StatementAdvances}
@@ -45,6 +45,7 @@ use Rattle.cp_machine_model.proofs.Deciding.{Reaches, declares_here, end_environ
 use Rattle.cp_machine_model.proofs.Doing.{Ready, acts_itself, known}
 use Rattle.cp_machine_model.proofs.InitProcesses.{InitOfProcess, here}
 use Rattle.cp_machine_model.proofs.FirstCalls.{TermAdvances, term_next}
+use Rattle.cp_machine_model.proofs.Loops.{AtTest, loop_task, made_at_test, test_left}
 use Rattle.cp_machine_model.proofs.NextCalls.{AllMade, CallReady, Calling}
 use Rattle.cp_machine_model.proofs.Invoking.{locals_two}
 use Rattle.cp_machine_model.proofs.PassedWords.{arguments_below}
@@ -61,8 +62,8 @@ use Rattle.cp_machine_model.proofs.Stepping.{Around, AroundAll, IfPlaced, Now}
 -- What a step does to words that belong neither to the process nor to a monitor: nothing, or it
 -- gives another process its parameters.
 pub data Sparing (G : Ground) (s : State) (w : Outside) (before : List ℕ) (o : PrivateState) : Type 0 where
-  SparesAll : (y : Operation) → operation_at G.program o.place ≡ Some y → starts (action (s.continuation G.p)) ≡ false → Spares G o.words (act G.program w o y).0.words → Sparing G s w before o
-  StartsOne : (Z : InitOfProcess G s w before o) → operation_at G.program o.place ≡ Some (op.InitProcess Z.number Z.passes Z.words Z.next)
+  SparesAll : (y : Operation) → operation_at G.program o.counter ≡ Some y → starts (action (s.continuation G.p)) ≡ false → Spares G o.words (act G.program w o y).0.words → Sparing G s w before o
+  StartsOne : (Z : InitOfProcess G s w before o) → operation_at G.program o.counter ≡ Some (op.InitProcess Z.number Z.passes Z.words Z.next)
       → action (s.continuation G.p) ≡ Acts (Do (a.Init Z.name Z.given) (here Z)) Z.rest → Sparing G s w before o
 
 module _ (G : Ground) (s : State) (w : Outside) (before : List ℕ) (o : PrivateState) (F : StandsFor G.program G.setup) (texts : F.texts ≡ G.texts) (part : PartOf G s before o) (I : Invariant s)
@@ -88,10 +89,10 @@ module _ (G : Ground) (s : State) (w : Outside) (before : List ℕ) (o : Private
 
   -- A function that is called in a task.
   function_spared : (i : Task) (k : List Task) (N : Now G s w before o i k) (v : UserCall) (temp after : ℕ) (base : a.BaseType)
-      → CallReady (site G N.on.running) (known G s w before o i k N) v o.place temp after base → (j : Task) → call_in_task (a.Literal 0) i ≡ Some (v, j) → Sparing G s w before o
+      → CallReady (site G N.on.running) (known G s w before o i k N) v o.counter temp after base → (j : Task) → call_in_task (a.Literal 0) i ≡ Some (v, j) → Sparing G s w before o
   function_spared i k N v temp after base C j found =
       SparesAll (op.Function C.call temp after) C.op (ap (λ l. starts (action l)) N.left ∙ call_starts i k (v, j) found)
-      (call_spared i k N C.call (record { place = after; into = temp }) C.low v.callee _ v.arguments _ C.from o.place C.low C.high C.calls.runs C.arguments refl)
+      (call_spared i k N C.call (record { counter = after; into = temp }) C.low v.callee _ v.arguments _ C.from o.counter C.low C.high C.calls.runs C.arguments refl)
 
   -- ---- statements
 
@@ -102,12 +103,12 @@ module _ (G : Ground) (s : State) (w : Outside) (before : List ℕ) (o : Private
       ∙ (ap (λ (c : Option Component). elim c as (λ y. Bool) [ None ↦ false | Some n ↦ same_sort a.Process n.system.sort ]) Y.now.on.left.2.3.4
       ∙ (ap (same_sort a.Process) sort ∙ other))
 
-  done : (i : Task) (k : List Task) → Now G s w before o i k → (y : Operation) → operation_at G.program o.place ≡ Some y → starts (Acts i k) ≡ false → Spares G o.words (act G.program w o y).0.words
+  done : (i : Task) (k : List Task) → Now G s w before o i k → (y : Operation) → operation_at G.program o.counter ≡ Some y → starts (Acts i k) ≡ false → Spares G o.words (act G.program w o y).0.words
       → Sparing G s w before o
   done i k N y there none spares = SparesAll y there (ap (λ l. starts (action l)) N.left ∙ task_starts i k none) spares
 
-  assigned : (d : a.Designator) (e : a.Expression) (env : Environment) (k : List Task) (Y : Ready G s w before o (a.Assign d e) env k) (x : Operation) → operation_at G.program o.place ≡ Some x
-      → AssignsBy (site G Y.now.on.running) (known G s w before o (Do (a.Assign d e) env) k Y.now) d e x o.place Y.now.on.left.2.3.0 Y.now.on.left.2.0 Y.now.on.left.2.1
+  assigned : (d : a.Designator) (e : a.Expression) (env : Environment) (k : List Task) (Y : Ready G s w before o (a.Assign d e) env k) (x : Operation) → operation_at G.program o.counter ≡ Some x
+      → AssignsBy (site G Y.now.on.running) (known G s w before o (Do (a.Assign d e) env) k Y.now) d e x o.counter Y.now.on.left.2.3.0 Y.now.on.left.2.0 Y.now.on.left.2.1
       → Sparing G s w before o
   assigned d e env k Y (op.Set to lower upper c n) there h = done (Do (a.Assign d e) env) k Y.now (op.Set to lower upper c n) there refl (set_spares G s w before o env k d e Y to lower upper c n h)
   assigned (a.Plain x) e env k Y (op.SetResult lower upper c n) there h =
@@ -116,12 +117,12 @@ module _ (G : Ground) (s : State) (w : Outside) (before : List ℕ) (o : Private
       done (Do (a.Assign d (a.Use e)) env) k Y.now (op.CopyWords to from size n) there refl (copy_is_spared G s w before o env k d e Y to from size n h)
   assigned d e env k Y _ there h = absurd h
 
-  performed : (d : a.Designator) (es : a.Expressions) (env : Environment) (k : List Task) (Y : Ready G s w before o (a.Perform d es) env k) (x : Operation) → operation_at G.program o.place ≡ Some x
-      → PerformsBy (site G Y.now.on.running) (known G s w before o (Do (a.Perform d es) env) k Y.now) d es x o.place Y.now.on.left.2.3.0 Y.now.on.left.2.0 Y.now.on.left.2.1
+  performed : (d : a.Designator) (es : a.Expressions) (env : Environment) (k : List Task) (Y : Ready G s w before o (a.Perform d es) env k) (x : Operation) → operation_at G.program o.counter ≡ Some x
+      → PerformsBy (site G Y.now.on.running) (known G s w before o (Do (a.Perform d es) env) k Y.now) d es x o.counter Y.now.on.left.2.3.0 Y.now.on.left.2.0 Y.now.on.left.2.1
       → Sparing G s w before o
   performed d es env k Y (op.Procedure call n) there h =
       done (Do (a.Perform d es) env) k Y.now (op.Procedure call n) there refl
-      (call_spared (Do (a.Perform d es) env) k Y.now call (record { place = n; into = 0 }) Y.now.on.left.2.1 h.0 _ es _ o.place Y.now.on.left.2.3.0 Y.now.on.left.2.1 h.1 h.2.runs h.6 refl)
+      (call_spared (Do (a.Perform d es) env) k Y.now call (record { counter = n; into = 0 }) Y.now.on.left.2.1 h.0 _ es _ o.counter Y.now.on.left.2.3.0 Y.now.on.left.2.1 h.1 h.2.runs h.6 refl)
   performed (a.Plain x) (a.MoreExpressions e a.NoExpression) env k Y (op.Display c as_byte n) there h =
       done (Do (a.Perform (a.Plain x) (one e)) env) k Y.now (op.Display c as_byte n) there refl (result_spares G o (value_of (view_of w o) c) _ (λ v is i spared. refl))
   performed (a.Plain x) (a.MoreExpressions (a.Use d) a.NoExpression) env k Y (op.Accept to lower upper n) there h =
@@ -133,8 +134,8 @@ module _ (G : Ground) (s : State) (w : Outside) (before : List ℕ) (o : Private
   performed (a.Plain x) a.NoExpression env k Y (op.Wait n) there h = done (Do (a.Perform (a.Plain x) a.NoExpression) env) k Y.now (op.Wait n) there refl (λ i spared. refl)
   performed d es env k Y _ there h = absurd h
 
-  initialised : (x : Name) (es : a.Expressions) (env : Environment) (k : List Task) (Y : Ready G s w before o (a.Init x es) env k) (y : Operation) → operation_at G.program o.place ≡ Some y
-      → InitsBy (site G Y.now.on.running) (known G s w before o (Do (a.Init x es) env) k Y.now) Y.now.on.left.2.3.2 es y o.place Y.now.on.left.2.3.0 Y.now.on.left.2.0 Y.now.on.left.2.1
+  initialised : (x : Name) (es : a.Expressions) (env : Environment) (k : List Task) (Y : Ready G s w before o (a.Init x es) env k) (y : Operation) → operation_at G.program o.counter ≡ Some y
+      → InitsBy (site G Y.now.on.running) (known G s w before o (Do (a.Init x es) env) k Y.now) Y.now.on.left.2.3.2 es y o.counter Y.now.on.left.2.3.0 Y.now.on.left.2.0 Y.now.on.left.2.1
       → Sparing G s w before o
   initialised x es env k Y (op.InitClass call m) there h =
       done (Do (a.Init x es) env) k Y.now (op.InitClass call m) there (starts_none x es env k Y a.Class refl h.0)
@@ -164,24 +165,24 @@ module _ (G : Ground) (s : State) (w : Outside) (before : List ℕ) (o : Private
   initialised x es env k Y _ there h = absurd h
 
   statement_spared : (st : a.Statement) (env : Environment) (k : List Task) → Ready G s w before o st env k → Sparing G s w before o
-  statement_spared (a.Assign d e) env k Y = assigned d e env k Y Y.now.on.left.2.3.1 (ap (operation_at G.program) Y.place ∙ Y.now.on.left.2.3.2) Y.now.on.left.2.3.3
-  statement_spared (a.Perform d es) env k Y = performed d es env k Y Y.now.on.left.2.3.1 (ap (operation_at G.program) Y.place ∙ Y.now.on.left.2.3.2) Y.now.on.left.2.3.3
+  statement_spared (a.Assign d e) env k Y = assigned d e env k Y Y.now.on.left.2.3.1 (ap (operation_at G.program) Y.counter ∙ Y.now.on.left.2.3.2) Y.now.on.left.2.3.3
+  statement_spared (a.Perform d es) env k Y = performed d es env k Y Y.now.on.left.2.3.1 (ap (operation_at G.program) Y.counter ∙ Y.now.on.left.2.3.2) Y.now.on.left.2.3.3
   statement_spared (a.If e t u) env k Y =
       let h = Y.now.on.left.2.3 in
-      done (Do (a.If e t u) env) k Y.now (op.Test h.1 h.3 h.4) (ap (operation_at G.program) Y.place ∙ h.5) refl (result_spares G o (value_of (view_of w o) h.1) _ (λ v is i spared. refl))
+      done (Do (a.If e t u) env) k Y.now (op.Test h.1 h.3 h.4) (ap (operation_at G.program) Y.counter ∙ h.5) refl (result_spares G o (value_of (view_of w o) h.1) _ (λ v is i spared. refl))
   statement_spared (a.Case e arms) env k Y =
       let h = Y.now.on.left.2.3 in
-      done (Do (a.Case e arms) env) k Y.now (op.Case h.1 h.3) (ap (operation_at G.program) Y.place ∙ h.4) refl (result_spares G o (value_of (view_of w o) h.1) _ (λ v is. to_arm (place_in h.3 v)))
+      done (Do (a.Case e arms) env) k Y.now (op.Case h.1 h.3) (ap (operation_at G.program) Y.counter ∙ h.4) refl (result_spares G o (value_of (view_of w o) h.1) _ (λ v is. to_arm (place_in h.3 v)))
     where
       to_arm : (z : Option ℕ) → Spares G o.words (go_to_arm o z).0.words
       to_arm None = λ i spared. refl
       to_arm (Some place) = λ i spared. refl
   statement_spared (a.For x down e f st) env k Y =
       let h = Y.now.on.left.2.3 in
-      done (Do (a.For x down e f st) env) k Y.now (op.For h.1 h.2 h.3) (ap (operation_at G.program) Y.place ∙ h.8) refl (for_spares G s w before o env k x down e f st Y)
+      done (Do (a.For x down e f st) env) k Y.now (op.For h.1 h.2 h.3) (ap (operation_at G.program) Y.counter ∙ h.8) refl (for_spares G s w before o env k x down e f st Y)
   statement_spared (a.Cycle st) env k Y =
-      let h = Y.now.on.left.2.3 in done (Do (a.Cycle st) env) k Y.now (op.Cycle h.0) (ap (operation_at G.program) Y.place ∙ h.1) refl (λ i spared. refl)
-  statement_spared (a.Init x es) env k Y = initialised x es env k Y Y.now.on.left.2.3.1 (ap (operation_at G.program) Y.place ∙ Y.now.on.left.2.3.3) Y.now.on.left.2.3.5
+      let h = Y.now.on.left.2.3 in done (Do (a.Cycle st) env) k Y.now (op.Cycle h.0) (ap (operation_at G.program) Y.counter ∙ h.1) refl (λ i spared. refl)
+  statement_spared (a.Init x es) env k Y = initialised x es env k Y Y.now.on.left.2.3.1 (ap (operation_at G.program) Y.counter ∙ Y.now.on.left.2.3.3) Y.now.on.left.2.3.5
   statement_spared a.Nothing env k Y = absurd Y.now.on.left.1
   statement_spared (a.Seq t u) env k Y = absurd Y.now.on.left.1
   statement_spared (a.While e st) env k Y = absurd Y.now.on.left.1
@@ -189,43 +190,40 @@ module _ (G : Ground) (s : State) (w : Outside) (before : List ℕ) (o : Private
 
   do_spared : (st : a.Statement) (env : Environment) (k : List Task) → Now G s w before o (Do st env) k → Sparing G s w before o
   do_spared st env k N =
-      by (statement_next (site G N.on.running) (known G s w before o (Do st env) k N) st o.place N.on.left.2.0 N.on.left.2.1 N.on.left.1 N.on.left.2.3)
+      by (statement_next (site G N.on.running) (known G s w before o (Do st env) k N) st o.counter N.on.left.2.0 N.on.left.2.1 N.on.left.1 N.on.left.2.3)
     where
-      by : StatementAdvances (site G N.on.running) (known G s w before o (Do st env) k N) st o.place
-          (own_place (site G N.on.running) (known G s w before o (Do st env) k N) st o.place N.on.left.2.0 N.on.left.2.1 N.on.left.2.3) N.on.left.2.0 N.on.left.2.1
+      by : StatementAdvances (site G N.on.running) (known G s w before o (Do st env) k N) st o.counter
+          (own_place (site G N.on.running) (known G s w before o (Do st env) k N) st o.counter N.on.left.2.0 N.on.left.2.1 N.on.left.2.3) N.on.left.2.0 N.on.left.2.1
           → Sparing G s w before o
-      by (AllMade p q r) = statement_spared st env k (record { now = N; place = p; none = q (a.Literal 0) })
+      by (AllMade p q r) = statement_spared st env k (record { now = N; counter = p; none = q (a.Literal 0) })
       by (Calling C) =
           function_spared (Do st env) k N C.user C.temp C.after C.base C.ready (Do (C.fill (a.Literal 0)) env)
           (ap (λ e. in_context (λ y. Do y env) (call_in_statement e (a.Literal 0) st)) N.on.left.0 ∙ ap (in_context (λ y. Do y env)) (C.found (a.Literal 0)))
 
   -- ---- tasks
 
-  while_spared : (now e : a.Expression) (st : a.Statement) (env : Environment) (k : List Task) → Now G s w before o (WhileTest now e st env) k → Sparing G s w before o
-  while_spared now e st env k N =
-      by (term_next (site G N.on.running) (known G s w before o (WhileTest now e st env) k N) now N.on.left.1.3.term N.on.left.1.3.base o.place N.on.left.1.3.last N.on.left.1.1 N.on.running.unit.temps N.on.left.1.3.rest)
-    where
-      by : TermAdvances (site G N.on.running) (known G s w before o (WhileTest now e st env) k N) now N.on.left.1.3.term N.on.left.1.3.base o.place N.on.left.1.3.last N.on.left.1.1 N.on.running.unit.temps
-          → Sparing G s w before o
-      by (AllMade p q r) =
-          let W = N.on.left.1.3 in
-          done (WhileTest now e st env) k N (op.Test W.term W.way N.on.left.1.0) (ap (operation_at G.program) p ∙ W.test) refl (result_spares G o (value_of (view_of w o) W.term) _ (λ v is i spared. refl))
-      by (Calling C) =
-          function_spared (WhileTest now e st env) k N C.user C.temp C.after C.base C.ready (WhileTest (C.fill (a.Literal 0)) e st env)
-          (ap (λ z. in_context (λ y. WhileTest y e st env) (first_call z (a.Literal 0) now)) N.on.left.0 ∙ ap (in_context (λ y. WhileTest y e st env)) (C.found (a.Literal 0)))
+  loop_starts_none : (loop : Loop) (now e : a.Expression) (st : a.Statement) (env : Environment) (k : List Task) → starts (Acts (loop_task loop now e st env) k) ≡ false
+  loop_starts_none While now e st env k = refl
+  loop_starts_none Repeat now e st env k = refl
 
-  repeat_spared : (now : a.Expression) (st : a.Statement) (e : a.Expression) (env : Environment) (k : List Task) → Now G s w before o (RepeatTest now st e env) k → Sparing G s w before o
-  repeat_spared now st e env k N =
-      by (term_next (site G N.on.running) (known G s w before o (RepeatTest now st e env) k N) now N.on.left.1.3.term N.on.left.1.3.base o.place N.on.left.1.3.last N.on.left.1.1 N.on.running.unit.temps N.on.left.1.3.rest)
+  loop_spared : (loop : Loop) (now e : a.Expression) (st : a.Statement) (env : Environment) (k : List Task) → Now G s w before o (loop_task loop now e st env) k → Sparing G s w before o
+  loop_spared loop now e st env k N =
+      by (term_next (site G N.on.running) (known G s w before o task k N) now h.1.3.term h.1.3.base o.counter h.1.3.last h.1.1 N.on.running.unit.temps h.1.3.rest)
     where
-      by : TermAdvances (site G N.on.running) (known G s w before o (RepeatTest now st e env) k N) now N.on.left.1.3.term N.on.left.1.3.base o.place N.on.left.1.3.last N.on.left.1.1 N.on.running.unit.temps
-          → Sparing G s w before o
+      task : Task
+      task = loop_task loop now e st env
+
+      h : AtTest loop G o.temps o.limit (known G s w before o task k N) N.on.running o.frames o.counter N.on.running.unit.temps now e st env k
+      h = test_left G o.temps o.limit (known G s w before o task k N) N.on.running o.frames o.counter N.on.running.unit.temps now e st env k loop N.on.left
+
+      by : TermAdvances (site G N.on.running) (known G s w before o task k N) now h.1.3.term h.1.3.base o.counter h.1.3.last h.1.1 N.on.running.unit.temps → Sparing G s w before o
       by (AllMade p q r) =
-          let W = N.on.left.1.3 in
-          done (RepeatTest now st e env) k N (op.Test W.term N.on.left.1.0 W.way) (ap (operation_at G.program) p ∙ W.test) refl (result_spares G o (value_of (view_of w o) W.term) _ (λ v is i spared. refl))
+          let W = h.1.3 in
+          done task k N (op.Test W.term (at_true loop W.way h.1.0) (at_true loop h.1.0 W.way)) (ap (operation_at G.program) p ∙ W.test) (loop_starts_none loop now e st env k)
+          (result_spares G o (value_of (view_of w o) W.term) _ (λ v is i spared. refl))
       by (Calling C) =
-          function_spared (RepeatTest now st e env) k N C.user C.temp C.after C.base C.ready (RepeatTest (C.fill (a.Literal 0)) st e env)
-          (ap (λ z. in_context (λ y. RepeatTest y st e env) (first_call z (a.Literal 0) now)) N.on.left.0 ∙ ap (in_context (λ y. RepeatTest y st e env)) (C.found (a.Literal 0)))
+          function_spared task k N C.user C.temp C.after C.base C.ready (loop_task loop (C.fill (a.Literal 0)) e st env)
+          (made_at_test now e st env loop (a.Literal 0) N.on.running.env h.0 C.user (C.fill (a.Literal 0)) (C.found (a.Literal 0)))
 
   for_next_spared : (x : Name) (down : Bool) (n last : ℤ) (st : a.Statement) (env : Environment) (k : List Task) → Now G s w before o (ForNext x down n last st env) k → Sparing G s w before o
   for_next_spared x down counter last st env k N =
@@ -288,16 +286,16 @@ module _ (G : Ground) (s : State) (w : Outside) (before : List ℕ) (o : Private
 
       by : (i : Task) (R : RunsOn G s.store o (i ∷ k)) → s.continuation G.p ≡ i ∷ k → TaskIn (in_reach G.p (marked_monitors (i ∷ k))) i → Sparing G s w before o
       by (Do st env) R left there = do_spared st env k (now (Do st env) R left (sees (Do st env) R env R.left.0 left there))
-      by (WhileTest t e st env) R left there = while_spared t e st env k (now (WhileTest t e st env) R left (sees (WhileTest t e st env) R env R.left.0 left there))
-      by (RepeatTest t st e env) R left there = repeat_spared t st e env k (now (RepeatTest t st e env) R left (sees (RepeatTest t st e env) R env R.left.0 left there))
+      by (WhileTest t e st env) R left there = loop_spared While t e st env k (now (WhileTest t e st env) R left (sees (WhileTest t e st env) R env R.left.0 left there))
+      by (RepeatTest t st e env) R left there = loop_spared Repeat t e st env k (now (RepeatTest t st e env) R left (sees (RepeatTest t st e env) R env R.left.0 left there))
       by (ForNext x down n last st env) R left there = for_next_spared x down n last st env k (now (ForNext x down n last st env) R left (sees (ForNext x down n last st env) R env R.left.0 left there))
       by (EndCall env gate) R left there =
           let K = held_below R.live o.temps R.running.temp in
-          let r = return_there o.temps o.limit K R.running o.frames o.place R.running.unit.temps env gate k R.left in
+          let r = return_there o.temps o.limit K R.running o.frames o.counter R.running.unit.temps env gate k R.left in
           done (EndCall env gate) k
-          (now (EndCall env gate) R left (sees (EndCall env gate) R env (end_environment G o.temps o.limit K R.running o.frames o.place R.running.unit.temps env gate k R.left) left there))
+          (now (EndCall env gate) R left (sees (EndCall env gate) R env (end_environment G o.temps o.limit K R.running o.frames o.counter R.running.unit.temps env gate k R.left) left there))
           (op.Return r.0) r.1 refl (returned r.0)
       by (EndBody gate) R left there =
           done (EndBody gate) k (now (EndBody gate) R left tt) op.EndBody
-          (end_there o.temps o.limit (held_below R.live o.temps R.running.temp) R.running o.frames o.place R.running.unit.temps gate k R.left) refl ended
+          (end_there o.temps o.limit (held_below R.live o.temps R.running.temp) R.running o.frames o.counter R.running.unit.temps gate k R.left) refl ended
       by EndProcess R left there = done EndProcess k (now EndProcess R left tt) op.End R.left.3 refl (λ i spared. refl)

@@ -120,7 +120,7 @@ module _ (G : Ground) (xs : List Activation) (top : ℕ) (stack : Stacked G top 
     from = o.base + call.words
 
     abbrev back : Back
-    back = record { place = next; into = 0 }
+    back = record { counter = next; into = 0 }
 
     settle_spares : (p : PrivateState) → Spares G p.words (settle p from c (length call.arguments)).words
     settle_spares p i spared =

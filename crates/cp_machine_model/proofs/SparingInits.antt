@@ -56,18 +56,18 @@ module _ (G : Ground) (s : State) (w : Outside) (before : List ℕ) (o : Private
   known_here = known G s w before o first k Y.now
 
   module _ (C : InitCalls (site G Y.now.on.running) n Y.now.on.left.2.1 call)
-      (given : InitArgumentsFor (site G Y.now.on.running) known_here n.system (declarations here.globals n.system.parameters) es call.arguments o.place Y.now.on.left.2.3.0 Y.now.on.left.2.1 Y.now.on.running.unit.temps) where
-    arguments : InitArgumentsFor (site G Y.now.on.running) known_here n.system passed es call.arguments o.place Y.now.on.left.2.3.0 Y.now.on.left.2.1 Y.now.on.running.unit.temps
+      (given : InitArgumentsFor (site G Y.now.on.running) known_here n.system (declarations here.globals n.system.parameters) es call.arguments o.counter Y.now.on.left.2.3.0 Y.now.on.left.2.1 Y.now.on.running.unit.temps) where
+    arguments : InitArgumentsFor (site G Y.now.on.running) known_here n.system passed es call.arguments o.counter Y.now.on.left.2.3.0 Y.now.on.left.2.1 Y.now.on.running.unit.temps
     arguments =
-        subst (λ g. InitArgumentsFor (site G Y.now.on.running) known_here n.system (declarations g n.system.parameters) es call.arguments o.place Y.now.on.left.2.3.0 Y.now.on.left.2.1 Y.now.on.running.unit.temps)
+        subst (λ g. InitArgumentsFor (site G Y.now.on.running) known_here n.system (declarations g n.system.parameters) es call.arguments o.counter Y.now.on.left.2.3.0 Y.now.on.left.2.1 Y.now.on.running.unit.temps)
         Y.now.on.runs.globals given
 
     counted : length call.arguments ≡ length passed
-    counted = init_count (site G Y.now.on.running) known_here n.system passed es call.arguments o.place Y.now.on.left.2.3.0 Y.now.on.left.2.1 Y.now.on.running.unit.temps arguments
+    counted = init_count (site G Y.now.on.running) known_here n.system passed es call.arguments o.counter Y.now.on.left.2.3.0 Y.now.on.left.2.1 Y.now.on.running.unit.temps arguments
 
     one : (p : Name × Variable) → IsIn p (declarations (scope G) n.system.parameters) → is_component p.1.type ≡ false → (words (scope G) p.1.type ≡ 1) × IsCell p.1.type
     one p i component =
-        init_values (site G Y.now.on.running) known_here n.system passed es call.arguments o.place Y.now.on.left.2.3.0 Y.now.on.left.2.1 Y.now.on.running.unit.temps arguments (scope G) p i component
+        init_values (site G Y.now.on.running) known_here n.system passed es call.arguments o.counter Y.now.on.left.2.3.0 Y.now.on.left.2.1 Y.now.on.running.unit.temps arguments (scope G) p i component
 
     stands : UnitStands G.program G.texts (scope G) C.runs.unit (BodyOf n.system)
     stands = units call.routine C.runs.unit (BodyOf n.system) C.runs.there C.runs.text
@@ -77,7 +77,7 @@ module _ (G : Ground) (s : State) (w : Outside) (before : List ℕ) (o : Private
 
     below : LieBelow (1 + length passed) call.arguments
     below =
-        init_below (scope G) (site G Y.now.on.running) known_here n.system Y.now.on.runs.globals names one passed es call.arguments o.place Y.now.on.left.2.3.0 Y.now.on.left.2.1 Y.now.on.running.unit.temps arguments (λ p i. i)
+        init_below (scope G) (site G Y.now.on.running) known_here n.system Y.now.on.runs.globals names one passed es call.arguments o.counter Y.now.on.left.2.3.0 Y.now.on.left.2.1 Y.now.on.running.unit.temps arguments (λ p i. i)
 
     room : o.base + call.words + (1 + length passed) ≤ G.own
     room = omega (arith, C.room, C.runs.words, counted, Y.now.on.runs.words_fit, Y.now.on.base)
@@ -106,7 +106,7 @@ module _ (G : Ground) (s : State) (w : Outside) (before : List ℕ) (o : Private
         by _ t = absurd t
 
   abbrev By : op.Operation → Type 0
-  By y = InitsBy (site G Y.now.on.running) known_here n es y o.place Y.now.on.left.2.3.0 Y.now.on.left.2.0 Y.now.on.left.2.1
+  By y = InitsBy (site G Y.now.on.running) known_here n es y o.counter Y.now.on.left.2.3.0 Y.now.on.left.2.0 Y.now.on.left.2.1
 
   pub class_is_spared : By (op.InitClass call next) → Spares G o.words (act G.program w o (op.InitClass call next)).0.words
   class_is_spared h = class_place h.2 h.3 h.0

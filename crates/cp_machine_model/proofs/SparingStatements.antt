@@ -78,7 +78,7 @@ module _ (G : Ground) (s : State) (w : Outside) (before : List ℕ) (o : Private
   Assigns d e = Ready G s w before o (a.Assign d e) env k
 
   abbrev By' : (d : a.Designator) (e : a.Expression) → Assigns d e → Operation → Type 0
-  By' d e Y x = AssignsBy (site G Y.now.on.running) (known G s w before o (Do (a.Assign d e) env) k Y.now) d e x o.place Y.now.on.left.2.3.0 Y.now.on.left.2.0 Y.now.on.left.2.1
+  By' d e Y x = AssignsBy (site G Y.now.on.running) (known G s w before o (Do (a.Assign d e) env) k Y.now) d e x o.counter Y.now.on.left.2.3.0 Y.now.on.left.2.0 Y.now.on.left.2.1
 
   pub set_spares : (d : a.Designator) (e : a.Expression) (Y : Assigns d e) (to : Spot) (lower upper : ℤ) (c : Term) (n : ℕ) → By' d e Y (op.Set to lower upper c n)
       → Spares G o.words (act G.program w o (op.Set to lower upper c n)).0.words
@@ -87,7 +87,7 @@ module _ (G : Ground) (s : State) (w : Outside) (before : List ℕ) (o : Private
       let here = N.on.running.env in
       let none = or_else_none (in_context (λ y. a.Assign y e) (call_in_designator here (a.Literal 0) d)) (in_context (a.Assign d) (first_call here (a.Literal 0) e)) Y.none in
       at_place G s w before o (Do (a.Assign d e) env) k N (Simple h.0 lower upper h.2) _ to
-      (place_here G s w before o (Do (a.Assign d e) env) k N N.sees d to (Simple h.0 lower upper h.2) o.place h.3 N.on.left.2.1 h.4 h.8 (in_context_none (λ y. a.Assign y e) (call_in_designator here (a.Literal 0) d) none.0))
+      (place_here G s w before o (Do (a.Assign d e) env) k N N.sees d to (Simple h.0 lower upper h.2) o.counter h.3 N.on.left.2.1 h.4 h.8 (in_context_none (λ y. a.Assign y e) (call_in_designator here (a.Literal 0) d) none.0))
       (λ at. steps.with_value w o c (λ m. steps.set_within o lower upper at m n))
       (λ at stores copies. result_spares G o (value_of (view_of w o) c) _ (λ v is. provided_spares G o (within lower upper v) fault.Range _ (stores v tt)))
 
@@ -120,7 +120,7 @@ module _ (G : Ground) (s : State) (w : Outside) (before : List ℕ) (o : Private
       let here = N.on.running.env in
       let none = or_else_none (in_context (λ y. a.Assign y (a.Use e)) (call_in_designator here (a.Literal 0) d)) (in_context (a.Assign d) (first_call here (a.Literal 0) (a.Use e))) Y.none in
       at_place G s w before o (Do (a.Assign d (a.Use e)) env) k N h.0 _ to
-      (place_here G s w before o (Do (a.Assign d (a.Use e)) env) k N N.sees d to h.0 o.place h.1 N.on.left.2.1 h.2 h.10 (in_context_none (λ y. a.Assign y (a.Use e)) (call_in_designator here (a.Literal 0) d) none.0))
+      (place_here G s w before o (Do (a.Assign d (a.Use e)) env) k N N.sees d to h.0 o.counter h.1 N.on.left.2.1 h.2 h.10 (in_context_none (λ y. a.Assign y (a.Use e)) (call_in_designator here (a.Literal 0) d) none.0))
       (λ at. with_place w o from (λ b. steps.copy_words o at b size n))
       (λ at stores copies. result_spares G o (place_of (view_of w o) from) _
       (λ b is. subst (λ z. Spares G o.words (paste at (block o.words b z) o.words)) (ap (λ g. words g h.0) (sym N.on.runs.globals) ∙ sym h.7) (copies b)))
@@ -154,7 +154,7 @@ module _ (G : Ground) (s : State) (w : Outside) (before : List ℕ) (o : Private
   accept_spares to lower upper n h =
       let N = Y.now in
       at_place G s w before o first k N (Simple Char lower upper h.1.0) _ to
-      (place_here G s w before o first k N N.sees d to (Simple Char lower upper h.1.0) o.place N.on.left.2.3.0 N.on.left.2.1 N.on.running.unit.temps h.1.4 none)
+      (place_here G s w before o first k N N.sees d to (Simple Char lower upper h.1.0) o.counter N.on.left.2.3.0 N.on.left.2.1 N.on.running.unit.temps h.1.4 none)
       (λ at. steps.accept o at lower upper n)
       (λ at stores copies. provided_spares G o (within lower upper (next_input o.input o.consumed)) fault.Range _ (stores (next_input o.input o.consumed) tt))
 
@@ -162,7 +162,7 @@ module _ (G : Ground) (s : State) (w : Outside) (before : List ℕ) (o : Private
   delay_spares queue n h =
       let N = Y.now in
       at_place G s w before o first k N Queue _ queue
-      (place_here G s w before o first k N N.sees d queue Queue o.place N.on.left.2.3.0 N.on.left.2.1 N.on.running.unit.temps h.1.3 none)
+      (place_here G s w before o first k N N.sees d queue Queue o.counter N.on.left.2.3.0 N.on.left.2.1 N.on.running.unit.temps h.1.3 none)
       (λ at. steps.delay o at n)
       (λ at stores copies. in_monitor (steps.is_held o.gate) (nat_lt at (length o.words)) at (stores (pos o.number) tt))
     where
@@ -176,7 +176,7 @@ module _ (G : Ground) (s : State) (w : Outside) (before : List ℕ) (o : Private
   continue_spares queue function h =
       let N = Y.now in
       at_place G s w before o first k N Queue _ queue
-      (place_here G s w before o first k N N.sees d queue Queue o.place N.on.left.2.3.0 N.on.left.2.1 N.on.running.unit.temps h.1.2 none)
+      (place_here G s w before o first k N N.sees d queue Queue o.counter N.on.left.2.3.0 N.on.left.2.1 N.on.running.unit.temps h.1.2 none)
       (λ at. steps.continue o at function) (λ at stores copies. in_frame o.frames at (stores (pos 0) tt))
     where
       returns : (b : Bool) (at : ℕ) (f : machine.Frame) (fs : List machine.Frame) (e : machine.Effect) → Spares G o.words (set_word o at (pos 0)).words → Spares G o.words (return_with o (set_word o at (pos 0)) f fs b e).0.words

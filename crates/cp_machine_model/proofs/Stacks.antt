@@ -70,7 +70,7 @@ stacked G temps limit K R (f ∷ fs) place low (EndCall env gate ∷ k) gl w h =
 stacked G temps limit K R (f ∷ fs) place low (EndBody gate ∷ k) gl w h =
     let c = h.3 in
     let keeps = c.3 in
-    let below = stacked G temps limit nothing_known c.0 fs f.place c.1 k c.2.globals c.2.frame c.4 in
+    let below = stacked G temps limit nothing_known c.0 fs f.counter c.1 k c.2.globals c.2.frame c.4 in
     let rest = subst (λ b. Stack G (c.0.base + (site G c.0).words) (activations b fs k)) (sym keeps.base) below in
     stacked_higher G (c.0.base + (site G c.0).words) (R.base + (site G R).words) (activations f.base fs k)
     (omega (arith, keeps.words_apart)) rest

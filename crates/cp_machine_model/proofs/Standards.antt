@@ -54,21 +54,7 @@ use Rattle.cp_program_model.specs.Starts.{word}
 -- The process runs on, whatever it displayed, took from the input or waited for.
 abbrev runs_beside : (G : Ground) (store : Store) (o : PrivateState) (k : List Task) (x : Activity) (output : List ℕ) (consumed : ℕ)
     → RunsOn G store o k → RunsOn G store (record o { activity = x; output = output; consumed = consumed }) k
-runs_beside G store o k x output consumed R = record {
-  running = R.running;
-  runs = R.runs;
-  base = R.base;
-  temp = R.temp;
-  component = R.component;
-  gate = R.gate;
-  live = R.live;
-  left = R.left;
-  next_value = R.next_value;
-  count = R.count;
-  activations_mean = R.activations_mean;
-  data_means = R.data_means;
-  given = R.given;
-}
+runs_beside G store o k x output consumed R = record { at = R.at; words_mean = R.words_mean }
 
 -- The private state is right after the step, if the process runs on in the state that is reached.
 pub arrived : (G : Ground) (before : List ℕ) (u : State) (after : PrivateState) → after.number ≡ G.p → after.input ≡ G.setup.inputs G.p → after.consumed ≡ u.consumed G.p
@@ -148,8 +134,8 @@ module _ (G : Ground) (s : State) (w : Outside) (before : List ℕ) (o : Private
 
   abbrev pub By : (es : a.Expressions) → Ready G s w before o (a.Perform (a.Plain x) es) env k → op.Operation → Type 0
   By es Y y =
-      (operation_at G.program o.place ≡ Some y)
-      × PerformsBy (site G Y.now.on.running) (known G s w before o (Do (a.Perform (a.Plain x) es) env) k Y.now) (a.Plain x) es y o.place Y.now.on.left.2.3.0 Y.now.on.left.2.0 Y.now.on.left.2.1
+      (operation_at G.program o.counter ≡ Some y)
+      × PerformsBy (site G Y.now.on.running) (known G s w before o (Do (a.Perform (a.Plain x) es) env) k Y.now) (a.Plain x) es y o.counter Y.now.on.left.2.3.0 Y.now.on.left.2.0 Y.now.on.left.2.1
 
   pub display_steps : (e : a.Expression) (Y : Ready G s w before o (a.Perform (a.Plain x) (one e)) env k) (c : Term) (as_byte : Bool) (n : ℕ)
       → By (one e) Y (op.Display c as_byte n) → Stepped G s w before o
@@ -157,7 +143,7 @@ module _ (G : Ground) (s : State) (w : Outside) (before : List ℕ) (o : Private
       let N = Y.now in
       statement_steps G s w before o (a.Perform (a.Plain x) (one e)) env k Y (op.Display c as_byte n) (not_called N.on.running.env (a.Plain x) (one e) h.1.1.0) refl h.0 refl
       (subst (λ z. PartOf G (after_step s G.p z) before (steps.with_value w o c (λ m. steps.display o m as_byte n)).0) (sym (displays (context G.setup s G.p) (configuration s G.p) N.on.running.env k x e h.1.1.1))
-      (by _ _ (value_here G s w before o (Do (a.Perform (a.Plain x) (one e)) env) k N N.sees e c h.1.0 o.place N.on.left.2.3.0 N.on.left.2.1 N.on.running.unit.temps h.1.4
+      (by _ _ (value_here G s w before o (Do (a.Perform (a.Plain x) (one e)) env) k N N.sees e c h.1.0 o.counter N.on.left.2.3.0 N.on.left.2.1 N.on.running.unit.temps h.1.4
       (argument_none N.on.running.env e Y.none))))
       (λ all. quiet_agrees G w.own _ (steps.with_value w o c (λ m. steps.display o m as_byte n)).1
       (subst Quietly (sym (displays (context G.setup s G.p) (configuration s G.p) N.on.running.env k x e h.1.1.1)) (then_quiet (value (clock_of G s) N.on.running.env s.store e) shown (λ v. tt)))
@@ -197,7 +183,7 @@ module _ (G : Ground) (s : State) (w : Outside) (before : List ℕ) (o : Private
       (subst (λ z. PartOf G (after_step s G.p z) before (steps.with_place w o to (λ at. steps.accept o at lower upper n)).0) (sym (accepts (context G.setup s G.p) (configuration s G.p) N.on.running.env k x (a.Use d) h.1.1.1 h.1.1.2))
       (subst (λ z. PartOf G (after_step s G.p (and_then (place (clock_of G s) N.on.running.env s.store d) (taking z (s.consumed G.p)))) before (steps.with_place w o to (λ at. steps.accept o at lower upper n)).0) N.part.input
       (subst (λ z. PartOf G (after_step s G.p (and_then (place (clock_of G s) N.on.running.env s.store d) (taking o.input z))) before (steps.with_place w o to (λ at. steps.accept o at lower upper n)).0) N.part.consumed
-      (by _ _ (place_here G s w before o (Do (a.Perform (a.Plain x) (one (a.Use d))) env) k N N.sees d to (Simple Char lower upper h.1.0) o.place N.on.left.2.3.0 N.on.left.2.1 N.on.running.unit.temps h.1.4
+      (by _ _ (place_here G s w before o (Do (a.Perform (a.Plain x) (one (a.Use d))) env) k N N.sees d to (Simple Char lower upper h.1.0) o.counter N.on.left.2.3.0 N.on.left.2.1 N.on.running.unit.temps h.1.4
       (used_none N.on.running.env d (argument_none N.on.running.env (a.Use d) Y.none)))))))
       (λ all. quiet_agrees G w.own _ (steps.with_place w o to (λ at. steps.accept o at lower upper n)).1
       (subst Quietly (sym (accepts (context G.setup s G.p) (configuration s G.p) N.on.running.env k x (a.Use d) h.1.1.1 h.1.1.2))
@@ -261,7 +247,7 @@ module _ (G : Ground) (s : State) (w : Outside) (before : List ℕ) (o : Private
       (subst (λ z. PartOf G (after_step s G.p z) before (steps.with_place w o queue (λ at. steps.delay o at n)).0)
       (sym (delays (context G.setup s G.p) (configuration s G.p) N.on.running.env k x (a.Use d) h.1.0.1 h.1.0.2 h.1.0.3))
       (queue_rests free d Y (λ at. delay G.p (configuration s G.p) k at.at (marked_monitors k)) _ (λ at. ap (delay G.p (configuration s G.p) k at.at) (ap marked_monitors (sym N.left) ∙ free.0)) _ _
-      (place_here G s w before o (Do (a.Perform (a.Plain x) (one (a.Use d))) env) k N N.sees d queue Queue o.place N.on.left.2.3.0 N.on.left.2.1 N.on.running.unit.temps h.1.3
+      (place_here G s w before o (Do (a.Perform (a.Plain x) (one (a.Use d))) env) k N N.sees d queue Queue o.counter N.on.left.2.3.0 N.on.left.2.1 N.on.running.unit.temps h.1.3
       (used_none N.on.running.env d (argument_none N.on.running.env (a.Use d) Y.none)))))
       (λ all. quiet_agrees G w.own _ (steps.with_place w o queue (λ at. steps.delay o at n)).1
       (subst Quietly (sym (delays (context G.setup s G.p) (configuration s G.p) N.on.running.env k x (a.Use d) h.1.0.1 h.1.0.2 h.1.0.3))

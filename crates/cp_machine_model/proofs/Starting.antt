@@ -195,7 +195,7 @@ module _ (program : Program) (setup : Setup) (F : StandsFor program setup) (p : 
     there = P.there;
     unit = P.unit;
     unit_there = P.unit_there;
-    place = refl;
+    counter = refl;
     base = refl;
     temp = refl;
     component = refl;

@@ -86,15 +86,14 @@ acted G s = after_step s G.p (does G s (action (s.continuation G.p)))
 -- process after the meaning's. With all words in reach, both leave the same to the kernel.
 pub record Stepped (G : Ground) (s : State) (w : Outside) (before : List ℕ) (o : PrivateState) : Type 0 where
   pub operation : Operation
-  pub there : operation_at G.program o.place ≡ Some operation
+  pub there : operation_at G.program o.counter ≡ Some operation
   pub same_kind : is_kernel_action (action (s.continuation G.p)) ≡ steps.is_kernel_operation operation
   pub part : (steps.is_kernel_operation operation ≡ false) ⊎ AroundAll G s w → PartOf G (acted G s) before (act G.program w o operation).0
   pub effect : AroundAll G s w → EffectAgrees G w.own (does G s (action (s.continuation G.p))) (act G.program w o operation).1
 
 -- ---- what comes of them
 
--- In the private state, only the place, the registers, the words, the temps and the frames have
--- changed.
+-- In the private state, only the registers, the words, the temps and the frames have changed.
 pub record Quiet (o after : PrivateState) : Type 0 where
   pub number : after.number ≡ o.number
   pub input : after.input ≡ o.input
@@ -198,7 +197,7 @@ module _ (G : Ground) (s : State) (w : Outside) (before : List ℕ) (o : Private
 
   -- A step of each.
   pub both_step : (x : Action) (y : Operation) → action (i ∷ k) ≡ x → is_kernel_action x ≡ false
-      → operation_at G.program o.place ≡ Some y → steps.is_kernel_operation y ≡ false
+      → operation_at G.program o.counter ≡ Some y → steps.is_kernel_operation y ≡ false
       → PartOf G (after_step s G.p (does G s x)) before (act G.program w o y).0
       → (AroundAll G s w → EffectAgrees G w.own (does G s x) (act G.program w o y).1)
       → Stepped G s w before o
@@ -215,7 +214,7 @@ module _ (G : Ground) (s : State) (w : Outside) (before : List ℕ) (o : Private
 
   -- A step of the kernel, with all words in reach.
   pub kernel_step : (x : Action) (y : Operation) → action (i ∷ k) ≡ x → is_kernel_action x ≡ true
-      → operation_at G.program o.place ≡ Some y → steps.is_kernel_operation y ≡ true
+      → operation_at G.program o.counter ≡ Some y → steps.is_kernel_operation y ≡ true
       → (AroundAll G s w → PartOf G (after_step s G.p (does G s x)) before (act G.program w o y).0)
       → (AroundAll G s w → EffectAgrees G w.own (does G s x) (act G.program w o y).1)
       → Stepped G s w before o

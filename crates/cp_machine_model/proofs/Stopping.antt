@@ -106,7 +106,7 @@ module _ (program : Program) (w : Outside) (o : PrivateState) (y : Operation) (r
       from = o.base + call.words
 
       begun : CodeUnit → PrivateState → Acting
-      begun u p = private_outcome (enter (set_word (settle p from at (length call.arguments)) at (pos 1)) (class_at at) u call (record { place = next; into = 0 }))
+      begun u p = private_outcome (enter (set_word (settle p from at (length call.arguments)) at (pos 1)) (class_at at) u call (record { counter = next; into = 0 }))
 
   monitor_stops : (call : Call) (m next : ℕ) → Ok' (init_monitor program w o call m next)
   monitor_stops call m next =
@@ -121,7 +121,7 @@ module _ (program : Program) (w : Outside) (o : PrivateState) (y : Operation) (r
       from = o.base + call.words
 
       begun : CodeUnit → PrivateState → Acting
-      begun u p = (enter (settle p from c.component (length call.arguments)) c u call (record { place = next; into = 0 }), machine.Opens m)
+      begun u p = (enter (settle p from c.component (length call.arguments)) c u call (record { counter = next; into = 0 }), machine.Opens m)
 
   process_stops : (r : ℕ) (xs : List Argument) (words next : ℕ) → Ok' (init_process program w o r xs words next)
   process_stops r xs words next =
@@ -180,8 +180,8 @@ act_stops program w o (op.ForNext c) r =
     either_stops program w o y r (same_integer n last) (private_outcome (go_to c.next o)) (count_to w o c (next_counter c.down n) last) (On (subst GoesOn (sym r) tt))
     (count_stops program w o y r c (next_counter c.down n) last)
 act_stops program w o (op.Cycle body) r = On (subst GoesOn (sym r) tt)
-act_stops program w o (op.Procedure call n) r = call_stops program w o (op.Procedure call n) r call (record { place = n; into = 0 })
-act_stops program w o (op.Function call into n) r = call_stops program w o (op.Function call into n) r call (record { place = n; into = into })
+act_stops program w o (op.Procedure call n) r = call_stops program w o (op.Procedure call n) r call (record { counter = n; into = 0 })
+act_stops program w o (op.Function call into n) r = call_stops program w o (op.Function call into n) r call (record { counter = n; into = into })
 act_stops program w o (op.Return function) r =
     frame_stops program w o (op.Return function) r o.frames _ (λ f fs. return_stops program w o (op.Return function) r o f fs function (gate_effect f.gate machine.Leaves) r)
 act_stops program w o (op.InitClass call n) r = class_stops program w o (op.InitClass call n) r call (component_called program w o call.target).component n

@@ -21,7 +21,7 @@ pub record AtStart (G : Ground) (o : PrivateState) : Type 0 where
   pub there : slice_get G.program.processes (G.p - 1) ≡ Some row
   pub unit : CodeUnit
   pub unit_there : slice_get G.program.units row.body ≡ Some unit
-  pub place : o.place ≡ unit.start
+  pub counter : o.counter ≡ unit.start
   pub base : o.base ≡ row.words
   pub temp : o.temp ≡ 0
   pub component : o.component ≡ 0

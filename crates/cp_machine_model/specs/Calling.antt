@@ -14,14 +14,14 @@ abbrev pub innermost : ℕ → ℕ → ℕ
 innermost zero held = held
 innermost (suc g) held = suc g
 
--- Where a call returns to: the place, and the temp of the caller that takes a value.
+-- Where a call returns to: the caller's next operation, and its temp that takes a value.
 pub record Back : Type 0 where
-  pub place : ℕ
+  pub counter : ℕ
   pub into : ℕ
 
 abbrev pub frame_of : PrivateState → Called → Back → Frame
 frame_of o c back = record {
-  place = back.place;
+  counter = back.counter;
   base = o.base;
   temp = o.temp;
   component = o.component;
@@ -34,7 +34,7 @@ frame_of o c back = record {
 abbrev pub enter : PrivateState → Called → CodeUnit → Call → Back → PrivateState
 enter o c u call back =
     record o {
-      place = u.start;
+      counter = u.start;
       base = o.base + call.words;
       temp = o.temp + call.temps;
       component = c.component;
@@ -79,7 +79,7 @@ call_step program w o call back =
 abbrev pub leave : PrivateState → Frame → List Frame → PrivateState
 leave o f fs =
     record o {
-      place = f.place;
+      counter = f.counter;
       base = f.base;
       temp = f.temp;
       component = f.component;
@@ -116,7 +116,7 @@ init_class program w o call at next =
     guard (same_integer (word o.words at) (pos 0)) o fault.InitialisedTwice
     (when_passed (pass_all w from at call.arguments o) (λ p.
     let q = set_word (settle p from at (length call.arguments)) at (pos 1) in
-    private_outcome (enter q (class_at at) u call (record { place = next; into = 0 })))))
+    private_outcome (enter q (class_at at) u call (record { counter = next; into = 0 })))))
 
 abbrev pub init_monitor : Program → Outside → PrivateState → Call → ℕ → ℕ → Acting
 init_monitor program w o call m next =
@@ -126,7 +126,7 @@ init_monitor program w o call m next =
     guard (not c.is_set) o fault.InitialisedTwice
     (when_passed (pass_all w from c.component call.arguments o) (λ p.
     let q = settle p from c.component (length call.arguments) in
-    (enter q c u call (record { place = next; into = 0 }), Opens m))))
+    (enter q c u call (record { counter = next; into = 0 }), Opens m))))
 
 abbrev pub parameters_start : Program → ℕ → ℕ
 parameters_start program r = elim (slice_get program.processes (r - 1)) [ None ↦ 0 | Some x ↦ x.parameters ]

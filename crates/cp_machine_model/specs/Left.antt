@@ -1,4 +1,4 @@
--- When a place in the program, together with frames, is what a process has left to do.
+-- When the number of an operation, together with frames, is what a process has left to do.
 --
 -- The first task of the process or of a waiting caller can contain the values of calls that have
 -- been made, and temps hold these values. A call keeps only the temps below its own first temp. So
@@ -81,26 +81,24 @@ IsTask (a.While e s) = ⊥
 IsTask (a.Repeat s e) = ⊥
 IsTask _ = Unit {0}
 
--- The rest of the test of a `while`, for which some calls may have been made, and the whole loop.
-pub record WhileLeft (s : Site) (K : Knowns) (now e : a.Expression) (body : a.Statement) (place next low : ℕ) : Type 0 where
-  pub start : ℕ
-  pub last : ℕ
-  pub way : ℕ
-  pub term : Term
-  pub base : BaseType
-  pub test : stands_at s last (op.Test term way next)
-  pub rest : TermFor s K now term base place last low s.unit.temps
-  pub whole : TermFor s nothing_known e term base start last low s.unit.temps
-  pub again : CodeFor s nothing_known body way start low
+-- The loops with a test. A `while` goes on where the test is true, and a `repeat` where it is false.
+pub data Loop : Type 0 where
+  While Repeat : Loop
 
--- The same for a `repeat`, whose body comes before its test.
-pub record RepeatLeft (s : Site) (K : Knowns) (now e : a.Expression) (body : a.Statement) (place next low : ℕ) : Type 0 where
+-- What comes at a true test, where `on` goes on with the loop and `off` ends it. At a false test it
+-- is the other one.
+abbrev pub at_true : {A : Type 0} → Loop → (on off : A) → A
+at_true While on off = on
+at_true Repeat on off = off
+
+-- The rest of the test of a loop, for which some calls may have been made, and the whole loop.
+pub record LoopLeft (loop : Loop) (s : Site) (K : Knowns) (now e : a.Expression) (body : a.Statement) (place next low : ℕ) : Type 0 where
   pub start : ℕ
   pub last : ℕ
   pub way : ℕ
   pub term : Term
   pub base : BaseType
-  pub test : stands_at s last (op.Test term next way)
+  pub test : stands_at s last (op.Test term (at_true loop way next) (at_true loop next way))
   pub rest : TermFor s K now term base place last low s.unit.temps
   pub whole : TermFor s nothing_known e term base start last low s.unit.temps
   pub again : CodeFor s nothing_known body way start low
@@ -146,16 +144,16 @@ pub record Keeps (G : Ground) (f : machine.Frame) (C R : Running) (kept : ℕ) :
 -- The caller waits for a value, which its call puts into a temp after those in use, or it continues
 -- after the call, with no temps in use.
 abbrev pub CallerAt : Ground → ℕ → ℕ → ℕ → Option Name → machine.Frame → ℕ → Type 0
-CallerAt G n kept live None f place = (place ≡ f.place) × (live ≡ 0)
+CallerAt G n kept live None f place = (place ≡ f.counter) × (live ≡ 0)
 CallerAt G n kept live (Some t) f place =
     (call : Call) × (into : ℕ) × (call.routine ≡ n) × (call.temps ≡ kept) × (live ≤ into)
-    × (operation_at G.program place ≡ Some (op.Function call into f.place)) × (f.into ≡ into)
+    × (operation_at G.program place ≡ Some (op.Function call into f.counter)) × (f.into ≡ into)
 
 abbrev pub result_of : Option Frame → Option Name
 result_of None = None
 result_of (Some f) = f.routine.result
 
--- The running routine has the activation of this depth, and it returns at `place`.
+-- The running routine has the activation of this depth, and it returns at the operation `place`.
 pub record ReturnsAt (G : Ground) (R : Running) (place depth_is : ℕ) : Type 0 where
   pub frame : Frame
   pub runs : R.env.frame ≡ Some frame
@@ -164,8 +162,8 @@ pub record ReturnsAt (G : Ground) (R : Running) (place depth_is : ℕ) : Type 0 
 
 -- ---- All tasks
 
--- What is left to do at `place` in the running unit, whose temps in use lie below `low`. `K` is
--- what they are known to hold for the first task.
+-- What is left to do from the operation `place` on, in the running unit, whose temps in use lie
+-- below `low`. `K` is what they are known to hold for the first task.
 abbrev pub Left : Ground → List ℤ → ℕ → Knowns → Running → List machine.Frame → ℕ → ℕ → List Task → Type 0
 Left G temps limit K R fs place low [] = ⊥
 Left G temps limit K R fs place low (Do s e ∷ k) =
@@ -173,10 +171,10 @@ Left G temps limit K R fs place low (Do s e ∷ k) =
     × CodeFor (site G R) K s place next from × Left G temps limit nothing_known R fs next from k)
 Left G temps limit K R fs place low (WhileTest now e s env ∷ k) =
     (env ≡ R.env) × ((next : ℕ) × (from : ℕ) × (from ≤ low)
-    × WhileLeft (site G R) K now e s place next from × Left G temps limit nothing_known R fs next from k)
+    × LoopLeft While (site G R) K now e s place next from × Left G temps limit nothing_known R fs next from k)
 Left G temps limit K R fs place low (RepeatTest now s e env ∷ k) =
     (env ≡ R.env) × ((next : ℕ) × (from : ℕ) × (from ≤ low)
-    × RepeatLeft (site G R) K now e s place next from × Left G temps limit nothing_known R fs next from k)
+    × LoopLeft Repeat (site G R) K now e s place next from × Left G temps limit nothing_known R fs next from k)
 Left G temps limit K R fs place low (ForNext x down n last s env ∷ k) =
     (env ≡ R.env) × ((next : ℕ) × (from : ℕ) × (from + 2 ≤ low)
     × ForLeft (site G R) temps R.temp x down n last s place next from × Left G temps limit nothing_known R fs next from k)
@@ -188,7 +186,7 @@ Left G temps limit K R (f ∷ fs) place low (EndCall env gate ∷ k) =
 Left G temps limit K R (f ∷ fs) place low (EndBody gate ∷ k) =
     (R.env.frame ≡ None) × (operation_at G.program place ≡ Some op.EndBody) × GatesKept G f gate k
     × ((C : Running) × (kept : ℕ) × Runs G (length temps) limit C fs × Keeps G f C R kept
-    × Left G temps limit nothing_known C fs f.place kept k)
+    × Left G temps limit nothing_known C fs f.counter kept k)
 Left G temps limit K R fs place low (EndProcess ∷ k) =
     (R.env.frame ≡ None) × (k ≡ []) × (fs ≡ []) × (operation_at G.program place ≡ Some op.End)
     × ((s : System) × (system_of_process G.setup G.p ≡ Some s) × (component_words (scope G) s ≤ R.base))

@@ -36,7 +36,7 @@ abbrev pub part_at_start : (ℕ → List ℕ) → ℕ → code.Process → CodeU
 part_at_start inputs p x u = record {
   number = p;
   activity = first_activity p;
-  place = u.start;
+  counter = u.start;
   base = x.words;
   temp = 0;
   component = 0;

@@ -70,31 +70,65 @@ pub record DataMeans (G : Ground) (xs : List Activation) (mine : Owner → Bool)
 
 -- ---- The private state
 
--- A function call at the place puts its value into a temp after the `live` temps in use.
+-- A function call at the operation `place` puts its value into a temp after the `live` temps in use.
 abbrev pub CallsBehind : Ground → ℕ → ℕ → Type 0
 CallsBehind G live place =
     (call : Call) (into next : ℕ) → operation_at G.program place ≡ Some (Function call into next) → live ≤ into
 
+-- The registers, the temps and the frames of a process.
+pub record Control : Type 0 where
+  pub counter : ℕ
+  pub base : ℕ
+  pub temp : ℕ
+  pub component : ℕ
+  pub gate : ℕ
+  pub temps : List ℤ
+  pub frames : List machine.Frame
+  pub limit : ℕ
+
+abbrev pub control : PrivateState → Control
+control o = record {
+  counter = o.counter;
+  base = o.base;
+  temp = o.temp;
+  component = o.component;
+  gate = o.gate;
+  temps = o.temps;
+  frames = o.frames;
+  limit = o.limit;
+}
+
+-- Where a process runs: its registers are those of the running unit, and what its counter, temps and
+-- frames stand for is what is left to do.
+pub record RunsAt (G : Ground) (c : Control) (k : List Task) : Type 0 where
+  pub running : left.Running
+  pub runs : Runs G (length c.temps) c.limit running c.frames
+  pub base : c.base ≡ running.base
+  pub temp : c.temp ≡ running.temp
+  pub component : c.component ≡ running.component
+  pub gate : c.gate ≡ innermost_gate (marked_monitors k)
+  pub live : ℕ
+  pub left : Left G c.temps c.limit (held_below live c.temps running.temp) running c.frames c.counter running.unit.temps k
+  pub next_value : CallsBehind G live c.counter
+
 -- Where the components of the running routine and of its callers begin.
-abbrev pub components : PrivateState → List ℕ
-components o = o.component ∷ map (λ f. f.component) o.frames
+abbrev pub components : ℕ → List machine.Frame → List ℕ
+components component fs = component ∷ map (λ f. f.component) fs
+
+-- What the words of a process mean: its activations, its variables and its rights.
+pub record WordsMean (G : Ground) (store : Store) (words : List ℤ) (base component : ℕ) (fs : List machine.Frame) (k : List Task) : Type 0 where
+  pub count : length words ≡ whole G
+  pub activations_mean : ActivationsMean G store words base fs k
+  pub data_means : DataMeans G (activations base fs k) (in_sight G) store words
+  pub given : AllHaveRights G store (components component fs)
 
 -- The private state of a process that runs or will run again: it has what is left to do, its
 -- variables and its rights.
 pub record RunsOn (G : Ground) (store : Store) (o : PrivateState) (k : List Task) : Type 0 where
-  pub running : left.Running
-  pub runs : Runs G (length o.temps) o.limit running o.frames
-  pub base : o.base ≡ running.base
-  pub temp : o.temp ≡ running.temp
-  pub component : o.component ≡ running.component
-  pub gate : o.gate ≡ innermost_gate (marked_monitors k)
-  pub live : ℕ
-  pub left : Left G o.temps o.limit (held_below live o.temps running.temp) running o.frames o.place running.unit.temps k
-  pub next_value : CallsBehind G live o.place
-  pub count : length o.words ≡ whole G
-  pub activations_mean : ActivationsMean G store o.words o.base o.frames k
-  pub data_means : DataMeans G (activations o.base o.frames k) (in_sight G) store o.words
-  pub given : AllHaveRights G store (components o)
+  pub at : RunsAt G (control o) k
+  pub open at use *
+  pub words_mean : WordsMean G store o.words o.base o.component o.frames k
+  pub open words_mean use *
 
 -- The process runs or will run again.
 abbrev pub GoesOn : Activity → Type 0

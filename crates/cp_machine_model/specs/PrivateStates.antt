@@ -8,11 +8,11 @@ pub data Activity : Type 0 where
   NotBegun Running Waiting Ended : Activity
   Faulted : (f : Fault) → Activity
 
--- What a call keeps of its caller: the place where it continues, its registers, the temp that takes
--- the value, the monitor that the call enters, or 0, and the innermost gate that the caller holds,
--- or 0.
+-- What a call keeps of its caller: its program counter, which is the number of the operation at
+-- which it continues, its other registers, the temp that takes the value, the monitor that the call
+-- enters, or 0, and the innermost gate that the caller holds, or 0.
 pub record Frame : Type 0 where
-  pub place : ℕ
+  pub counter : ℕ
   pub base : ℕ
   pub temp : ℕ
   pub component : ℕ
@@ -20,13 +20,13 @@ pub record Frame : Type 0 where
   pub gate : ℕ
   pub held : ℕ
 
--- The registers are the place, the beginnings of the running activation, its temps and its
--- component, and the innermost gate that is held, or 0. The innermost frame comes first, and there
--- are never more than `limit` frames.
+-- The registers are the program counter (the number of the next operation), the beginnings of the
+-- running activation, its temps and its component, and the innermost gate that is held, or 0. The
+-- innermost frame comes first, and there are never more than `limit` frames.
 pub record PrivateState : Type 0 where
   pub number : ℕ
   pub activity : Activity
-  pub place : ℕ
+  pub counter : ℕ
   pub base : ℕ
   pub temp : ℕ
   pub component : ℕ
@@ -93,7 +93,7 @@ abbrev pub set_temp : PrivateState → ℕ → ℤ → PrivateState
 set_temp o at n = record o { temps = slice_set o.temps at n }
 
 abbrev pub go_to : ℕ → PrivateState → PrivateState
-go_to next o = record o { place = next }
+go_to next o = record o { counter = next }
 
 abbrev pub is_running : Activity → Bool
 is_running Running = true

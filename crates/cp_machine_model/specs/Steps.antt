@@ -111,8 +111,8 @@ act program w o (op.For c first last) =
 act program w o (op.ForNext c) =
     next_count w o c (word o.temps (o.temp + c.temp)) (word o.temps (o.temp + c.temp + 1))
 act program w o (op.Cycle body) = private_outcome (go_to body o)
-act program w o (op.Procedure call next) = call_step program w o call (record { place = next; into = 0 })
-act program w o (op.Function call into next) = call_step program w o call (record { place = next; into = into })
+act program w o (op.Procedure call next) = call_step program w o call (record { counter = next; into = 0 })
+act program w o (op.Function call into next) = call_step program w o call (record { counter = next; into = into })
 act program w o (op.Return function) =
     with_frame o o.frames (λ f fs. return_with o o f fs function (gate_effect f.gate Leaves))
 act program w o (op.InitClass call next) =
@@ -143,7 +143,7 @@ is_kernel_operation (op.InitProcess r arguments words next) = true
 is_kernel_operation _ = false
 
 abbrev pub operation_of : Program → PrivateState → Option Operation
-operation_of program o = slice_get program.operations o.place
+operation_of program o = slice_get program.operations o.counter
 
 abbrev pub is_private : PrivateState → Option Operation → Bool
 is_private o None = false

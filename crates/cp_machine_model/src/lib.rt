@@ -1,5 +1,5 @@
-//! The steps of a machine for the whole language on plain data, and when a private state is that of
-//! its process in a state of the meaning.
+//! The machine that runs compiled programs, as plain data, and the laws that its steps, its rounds and
+//! its report are those of the meaning.
 //!
 //! `specs/` has the definitions, from the bottom up:
 //!
@@ -8,7 +8,7 @@
 //!   adds gates and stages, and `Machines` whole rounds.
 //! - **The relation.** `PartOf` says when a private state is that of its process in a state of the
 //!   system. `Addresses` says where variables lie and which words are in reach, `Means` what words
-//!   mean, and `Left` when a place and frames are what is left to do. `Beginning` is about
+//!   mean, and `Left` when a counter and frames are what is left to do. `Beginning` is about
 //!   processes that haven't begun, `EffectOf` about effects on the kernel, `KernelOf` about the
 //!   kernel, and `InState` about a whole machine.
 //! - **The laws.** The functions of `law` state `Laws` and `RoundLaws`: the first private states

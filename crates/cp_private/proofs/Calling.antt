@@ -25,7 +25,7 @@ module _ (program : Program) (w : Outside) (o : PrivateState) (call : Call) wher
   abbrev pub init_done : ℕ → ℕ → CodeUnit → PrivateState → Acting
   init_done next at u p =
       let q = set_word (settle p (o.base + call.words) at (length call.arguments)) at (pos 1) in
-      private_outcome (enter q (class_at at) u call (record { place = next; into = 0 }))
+      private_outcome (enter q (class_at at) u call (record { counter = next; into = 0 }))
 
   abbrev pub init_rest : ℕ → ℕ → CodeUnit → Acting
   init_rest next at u = when_passed (pass_all w (o.base + call.words) at call.arguments o) (init_done next at u)
@@ -39,7 +39,7 @@ module _ (program : Program) (w : Outside) (o : PrivateState) (call : Call) wher
   abbrev pub open_done : ℕ → ℕ → Called → CodeUnit → PrivateState → Acting
   open_done next m c u p =
       let q = settle p (o.base + call.words) c.component (length call.arguments) in
-      (enter q c u call (record { place = next; into = 0 }), Opens m)
+      (enter q c u call (record { counter = next; into = 0 }), Opens m)
 
   abbrev pub open_rest : ℕ → ℕ → Called → CodeUnit → Acting
   open_rest next m c u = when_passed (pass_all w (o.base + call.words) c.component call.arguments o) (open_done next m c u)

@@ -30,7 +30,7 @@ activity (activity_case.Faulted f) = plain.Faulted f
 
 abbrev pub frame : Frame → plain.Frame
 frame f = record {
-  place = f.place;
+  counter = f.place;
   base = f.base;
   temp = f.temp;
   component = f.component;
@@ -40,7 +40,7 @@ frame f = record {
 }
 
 abbrev pub no_frame : plain.Frame
-no_frame = record { place = 0; base = 0; temp = 0; component = 0; into = 0; gate = 0; held = 0 }
+no_frame = record { counter = 0; base = 0; temp = 0; component = 0; into = 0; gate = 0; held = 0 }
 
 abbrev pub frame_or_none : Option Frame → plain.Frame
 frame_or_none None = no_frame
@@ -56,7 +56,7 @@ abbrev pub join : Private → List ℕ → List ℤ → PrivateState
 join x input shared = record {
   number = x.number;
   activity = activity x.activity;
-  place = x.place;
+  counter = x.place;
   base = x.memory.base;
   temp = x.memory.temp;
   component = x.memory.component;
