@@ -1,54 +1,101 @@
--- Calls and `init`, once the component is known and its unit is known to exist.
-use Rattle.std.proofs.Common.{◌≡◌, ℕ, ◌+◌, None, Some, true, false, length, ap, ◌∙◌}
-use Rattle.std.specs.Prelude.{if◌then◌else◌, not, pos, slice_get}
+-- Calls and `init`, once the component is known. They have one form, an attempt: if there is room for
+-- the unit, a test decides between a fault and the passing of arguments, after which the unit is
+-- entered. So each way in which the code ends is one lemma on attempts.
+use Rattle.std.proofs.Common.{◌≡◌, ℕ, ◌+◌, None, Some, true, false, length, ap, sym, ◌∙◌}
+use Rattle.std.specs.Prelude.{Bool, if◌then◌else◌, not, pos, slice_get}
 use Rattle.cp_model.specs.Integers.{same_integer}
+use Rattle.cp_model.specs.declared.state.Fault.{Fault}
 use Rattle.cp_model.specs.declared.state.Fault.TheVariants as fault
 use Rattle.cp_program_model.specs.Programs.{Call, CodeUnit, Program}
 use Rattle.cp_program_model.specs.Starts.{word}
-use Rattle.cp_machine_model.specs.PrivateStates.{Acting, Enters, Opens, Outside, PrivateState, private_outcome, guard, set_word}
+use Rattle.cp_machine_model.specs.PrivateStates.{Acting, Enters, Opens, Outside, PrivateState, fault_in, private_outcome, guard, set_word}
 use Rattle.cp_machine_model.specs.Calling.{Back, class_at, enter, gate_effect, has_room, settle, start_words, with_unit}
-use Rattle.cp_machine_model.specs.Passing.{Called, pass_all, when_passed}
+use Rattle.cp_machine_model.specs.Passing.{Called, Passing, pass_all, when_passed}
+
+-- The component is at the address `at`, and the arguments belong to the words at `home`. If the test
+-- fails, the process faults, and otherwise `done` follows the passing of arguments.
+pub record Attempt : Type 0 where
+  pub program : Program
+  pub outside : Outside
+  pub own : PrivateState
+  pub call : Call
+  pub at : ℕ
+  pub home : ℕ
+  pub test : Bool
+  pub refusal : Fault
+  pub done : CodeUnit → PrivateState → Acting
+
+abbrev pub IsFor : Attempt → CodeUnit → Type 0
+IsFor a u = (go : CodeUnit → Acting) → with_unit a.program a.outside a.own a.call a.at go ≡ go u
+
+abbrev pub IsForNone : Attempt → Type 0
+IsForNone a = (go : CodeUnit → Acting) → with_unit a.program a.outside a.own a.call a.at go ≡ private_outcome a.own
+
+abbrev pub all_passed : Attempt → Passing
+all_passed a = pass_all a.outside (a.own.base + a.call.words) a.home a.call.arguments a.own
+
+abbrev tested : Attempt → CodeUnit → Acting
+tested a u = guard a.test a.own a.refusal (when_passed (all_passed a) (a.done u))
+
+abbrev pub end_of : Attempt → Acting
+end_of a = with_unit a.program a.outside a.own a.call a.at (tested a)
+
+-- ---- How it ends
+
+pub unfound : (a : Attempt) → IsForNone a → private_outcome a.own ≡ end_of a
+unfound a none = sym (none (tested a))
+
+pub refused : (a : Attempt) (u : CodeUnit) → IsFor a u → a.test ≡ false → fault_in a.own a.refusal ≡ end_of a
+refused a u there fails =
+    sym (there (tested a) ∙ ap (λ b. guard b a.own a.refusal (when_passed (all_passed a) (a.done u))) fails)
+
+pub passed : (a : Attempt) (u : CodeUnit) (p : Passing) → IsFor a u → a.test ≡ true → p ≡ all_passed a → when_passed p (a.done u) ≡ end_of a
+passed a u p there holds is =
+    ap (λ q. when_passed q (a.done u)) is
+    ∙ sym (there (tested a) ∙ ap (λ b. guard b a.own a.refusal (when_passed (all_passed a) (a.done u))) holds)
 
 module _ (program : Program) (w : Outside) (o : PrivateState) (call : Call) where
-  abbrev pub call_done : Back → Called → CodeUnit → PrivateState → Acting
-  call_done back c u p = (enter (start_words (o.base + call.words) u p) c u call back, gate_effect c.gate Enters)
+  -- ---- The three that there are
 
-  abbrev pub call_rest : Back → Called → CodeUnit → Acting
-  call_rest back c u = when_passed (pass_all w (o.base + call.words) (o.base + call.words) call.arguments o) (call_done back c u)
+  abbrev pub call_of : Back → Called → Attempt
+  call_of back c = record {
+    program = program;
+    outside = w;
+    own = o;
+    call = call;
+    at = c.component;
+    home = o.base + call.words;
+    test = c.is_set;
+    refusal = fault.NotInitialised;
+    done = λ u p. (enter (start_words (o.base + call.words) u p) c u call back, gate_effect c.gate Enters);
+  }
 
-  abbrev pub call_unit : Back → Called → CodeUnit → Acting
-  call_unit back c u = guard c.is_set o fault.NotInitialised (call_rest back c u)
+  abbrev pub init_of_class : ℕ → ℕ → Attempt
+  init_of_class next at = record {
+    program = program;
+    outside = w;
+    own = o;
+    call = call;
+    at = at;
+    home = at;
+    test = same_integer (word o.words at) (pos 0);
+    refusal = fault.InitialisedTwice;
+    done = λ u p. private_outcome
+        (enter (set_word (settle p (o.base + call.words) at (length call.arguments)) at (pos 1)) (class_at at) u call (record { counter = next; into = 0 }));
+  }
 
-  abbrev pub call_by : Back → Called → Acting
-  call_by back c = with_unit program w o call c.component (call_unit back c)
-
-  abbrev pub init_done : ℕ → ℕ → CodeUnit → PrivateState → Acting
-  init_done next at u p =
-      let q = set_word (settle p (o.base + call.words) at (length call.arguments)) at (pos 1) in
-      private_outcome (enter q (class_at at) u call (record { counter = next; into = 0 }))
-
-  abbrev pub init_rest : ℕ → ℕ → CodeUnit → Acting
-  init_rest next at u = when_passed (pass_all w (o.base + call.words) at call.arguments o) (init_done next at u)
-
-  abbrev pub init_unit : ℕ → ℕ → CodeUnit → Acting
-  init_unit next at u = guard (same_integer (word o.words at) (pos 0)) o fault.InitialisedTwice (init_rest next at u)
-
-  abbrev pub init_by : ℕ → ℕ → Acting
-  init_by next at = with_unit program w o call at (init_unit next at)
-
-  abbrev pub open_done : ℕ → ℕ → Called → CodeUnit → PrivateState → Acting
-  open_done next m c u p =
-      let q = settle p (o.base + call.words) c.component (length call.arguments) in
-      (enter q c u call (record { counter = next; into = 0 }), Opens m)
-
-  abbrev pub open_rest : ℕ → ℕ → Called → CodeUnit → Acting
-  open_rest next m c u = when_passed (pass_all w (o.base + call.words) c.component call.arguments o) (open_done next m c u)
-
-  abbrev pub open_unit : ℕ → ℕ → Called → CodeUnit → Acting
-  open_unit next m c u = guard (not c.is_set) o fault.InitialisedTwice (open_rest next m c u)
-
-  abbrev pub open_by : ℕ → ℕ → Called → Acting
-  open_by next m c = with_unit program w o call c.component (open_unit next m c)
+  abbrev pub init_of_monitor : ℕ → ℕ → Called → Attempt
+  init_of_monitor next m c = record {
+    program = program;
+    outside = w;
+    own = o;
+    call = call;
+    at = c.component;
+    home = c.component;
+    test = not c.is_set;
+    refusal = fault.InitialisedTwice;
+    done = λ u p. (enter (settle p (o.base + call.words) c.component (length call.arguments)) c u call (record { counter = next; into = 0 }), Opens m);
+  }
 
   -- ---- The unit
 

@@ -8,7 +8,7 @@ use Rattle.cp_private.specs.declared.private.Frame.{Frame}
 
 -- The frame in an unused place.
 abbrev pub blank : Frame
-blank = record { place = 0; base = 0; temp = 0; component = 0; into = 0; gate = 0; held = 0 }
+blank = record { counter = 0; base = 0; temp = 0; component = 0; into = 0; gate = 0; held = 0 }
 
 get_is : (fs : List Frame) (n : ℕ) (d : Frame) → n < length fs → slice_get fs n ≡ Some (slice_index_or fs n d)
 get_is [] n d h = absurd (omega arith)

@@ -3,7 +3,6 @@ pub mod Blocks
 pub mod Calling
 pub mod Digits
 pub mod InUse
-pub mod Kept
 pub mod Lasting
 pub mod Results
 pub mod Returning

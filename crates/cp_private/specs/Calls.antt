@@ -18,7 +18,7 @@ abbrev pub called_of : Called → passing.Called
 called_of c = record { component = c.component; is_set = c.is_set; gate = c.gate }
 
 abbrev pub back : Back → calling.Back
-back b = record { counter = b.place; into = b.into }
+back b = record { counter = b.counter; into = b.into }
 
 -- The state, with the result of the passing step that led to it.
 abbrev pub passing_of : PrivateState → Result (Unit {0}) Fault → passing.Passing

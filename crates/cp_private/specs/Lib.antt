@@ -1,5 +1,6 @@
 pub mod States
 pub mod Rooms
+pub mod Keeping
 pub mod Calls
 pub mod Kinds
 pub mod Promises

@@ -30,7 +30,7 @@ activity (activity_case.Faulted f) = plain.Faulted f
 
 abbrev pub frame : Frame → plain.Frame
 frame f = record {
-  counter = f.place;
+  counter = f.counter;
   base = f.base;
   temp = f.temp;
   component = f.component;
@@ -56,7 +56,7 @@ abbrev pub join : Private → List ℕ → List ℤ → PrivateState
 join x input shared = record {
   number = x.number;
   activity = activity x.activity;
-  counter = x.place;
+  counter = x.counter;
   base = x.memory.base;
   temp = x.memory.temp;
   component = x.memory.component;

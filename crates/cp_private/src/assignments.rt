@@ -1,11 +1,12 @@
 //! Assignments, and the operations that choose which operation comes next.
 
-ghost use Rattle.std.specs.Prelude.{◌≡◌, ◌<◌, ◌^◌, ℕ, pos, List, if◌then◌else◌, length};
+ghost use Rattle.std.specs.Prelude.{◌≡◌, ℕ, pos, List, if◌then◌else◌};
 ghost use Rattle.cp_program_model.specs.Tables.{place_in};
 ghost use Rattle.cp_model.specs.Integers.{same_integer};
 ghost use Rattle.cp_model.specs.Places.{within};
 ghost use Rattle.cp_machine_model.specs.Steps as plain;
 ghost use Rattle.cp_machine_model.specs.PrivateStates.{go_to, private_outcome};
+ghost use Rattle.cp_private.specs.Keeping.{IsAddressable, KeepsOwn, KeepsRest};
 ghost use Rattle.cp_private.specs.States.{IsReady, IsStep, join, outcome};
 ghost use Rattle.cp_program.specs.Reaches.{cap_place};
 ghost use Rattle.cp_program.specs.View as view;
@@ -52,26 +53,23 @@ impl Private {
         bounds: Bounds,
         next: u32,
     ) -> Result<Effect, Fault>
-        requires { length shared.old < 2 ^ 30 }
+        requires { IsAddressable shared.old }
         ensures step { (input : List ℕ) (place : ℕ) → cap_place place ≡ at
             → outcome (join self.new input shared.new) result ≡ plain.set_within
             (join self.old input shared.old) bounds.low bounds.high place n next }
-        ensures output { self.new.output ≡ self.old.output }
-        ensures own { length self.new.memory.words.items ≡ length self.old.memory.words.items }
-        ensures number { self.new.number ≡ self.old.number }
+        ensures kept { KeepsRest self.old shared.old self.new shared.new }
         ensures ready { IsReady self.old → IsReady self.new }
-        ensures shared { length shared.new ≡ length shared.old }
     {
         if !bounds.contain(n) {
             return Err(Fault::Range);
         }
         self.set_word(shared, at, n);
-        self.place = next;
+        self.counter = next;
         Ok(Effect::None)
     }
 
-    // The bounds and the next place are read once the value is known, so that they needn't be kept
-    // while it is evaluated.
+    // The bounds and the next counter are read once the value is known, so that they needn't be
+    // kept while it is evaluated.
     #[inline(always)]
     pub(crate) fn set(
         &mut self,
@@ -83,16 +81,13 @@ impl Private {
         high: &i32,
         next: &u32,
     ) -> Result<Effect, Fault>
-        requires { length shared.old < 2 ^ 30 }
+        requires { IsAddressable shared.old }
         ensures step { IsStep self.old shared.old outside.now self.new shared.new result
             (λ w o. plain.with_place w o (view.spot to.now) (λ at. plain.with_value w o
             (view.term value.now) (λ n. plain.set_within o low.now high.now at n
             next.now))) }
-        ensures output { self.new.output ≡ self.old.output }
-        ensures own { length self.new.memory.words.items ≡ length self.old.memory.words.items }
-        ensures number { self.new.number ≡ self.old.number }
+        ensures kept { KeepsRest self.old shared.old self.new shared.new }
         ensures ready { IsReady self.old → IsReady self.new }
-        ensures shared { length shared.new ≡ length shared.old }
     {
         let reach = self.reach(shared, outside);
         let at = to.place(&reach)?;
@@ -110,14 +105,11 @@ impl Private {
         high: &i32,
         next: &u32,
     ) -> Result<Effect, Fault>
-        requires { length shared.old < 2 ^ 30 }
+        requires { IsAddressable shared.old }
         ensures step { IsStep self.old shared.old outside.now self.new shared.new result
             (λ w o. plain.with_value w o (view.term value.now) (λ n. plain.set_within o
             low.now high.now o.base n next.now)) }
-        ensures output { self.new.output ≡ self.old.output }
-        ensures own { length self.new.memory.words.items ≡ length self.old.memory.words.items }
-        ensures number { self.new.number ≡ self.old.number }
-        ensures shared { length shared.new ≡ length shared.old }
+        ensures kept { KeepsRest self.old shared.old self.new shared.new }
     {
         let n = self.evaluate_here(shared, outside, value)?;
         let at = self.memory.base as usize;
@@ -133,19 +125,16 @@ impl Private {
         size: u32,
         next: u32,
     ) -> Result<Effect, Fault>
-        requires { length shared.old < 2 ^ 30 }
+        requires { IsAddressable shared.old }
         ensures step { IsStep self.old shared.old outside.now self.new shared.new result
             (λ w o. plain.with_place w o (view.spot to.now) (λ at. plain.with_place w o
             (view.spot from.now) (λ b. plain.copy_words o at b size next))) }
-        ensures output { self.new.output ≡ self.old.output }
-        ensures own { length self.new.memory.words.items ≡ length self.old.memory.words.items }
-        ensures number { self.new.number ≡ self.old.number }
-        ensures shared { length shared.new ≡ length shared.old }
+        ensures kept { KeepsRest self.old shared.old self.new shared.new }
     {
         let at = self.place(shared, outside, to)?;
         let from = self.place(shared, outside, from)?;
         self.move_words(shared, at, from, size as usize);
-        self.place = next;
+        self.counter = next;
         Ok(Effect::None)
     }
 
@@ -158,16 +147,14 @@ impl Private {
         yes: u32,
         no: u32,
     ) -> Result<Effect, Fault>
-        requires { length shared.now < 2 ^ 30 }
+        requires { IsAddressable shared.now }
         ensures step { IsStep self.old shared.now outside.now self.new shared.now result
             (λ w o. plain.with_value w o (view.term value.now) (λ n. private_outcome (go_to (if
             same_integer n (pos 1) then yes else no) o))) }
-        ensures output { self.new.output ≡ self.old.output }
-        ensures own { length self.new.memory.words.items ≡ length self.old.memory.words.items }
-        ensures number { self.new.number ≡ self.old.number }
+        ensures kept { KeepsOwn self.old self.new }
     {
         let n = self.evaluate(shared, outside, value)?;
-        self.place = if n == 1 { yes } else { no };
+        self.counter = if n == 1 { yes } else { no };
         Ok(Effect::None)
     }
 
@@ -178,39 +165,35 @@ impl Private {
         value: &Term,
         table: &Table,
     ) -> Result<Effect, Fault>
-        requires { length shared.now < 2 ^ 30 }
+        requires { IsAddressable shared.now }
         ensures step { IsStep self.old shared.now outside.now self.new shared.now result
             (λ w o. plain.with_value w o (view.term value.now) (λ n. plain.go_to_arm o (place_in
             (view.table table.now) n))) }
-        ensures output { self.new.output ≡ self.old.output }
-        ensures own { length self.new.memory.words.items ≡ length self.old.memory.words.items }
-        ensures number { self.new.number ≡ self.old.number }
+        ensures kept { KeepsOwn self.old self.new }
     {
         let n = self.evaluate(shared, outside, value)?;
         match table.place(n) {
-            Some(place) => {
-                self.place = place;
+            Some(next) => {
+                self.counter = next;
                 Ok(Effect::None)
             }
             None => Err(Fault::NoLabel),
         }
     }
 
-    /// Goes on with the operation at `place`.
+    /// Goes on with the operation `next`.
     #[inline(always)]
     pub(crate) fn go_to(
         &mut self,
         shared: &[i32],
         outside: &Outside,
-        place: u32,
+        next: u32,
     ) -> Result<Effect, Fault>
         ensures step { IsStep self.old shared.now outside.now self.new shared.now result
-            (λ w o. private_outcome (go_to place o)) }
-        ensures output { self.new.output ≡ self.old.output }
-        ensures own { length self.new.memory.words.items ≡ length self.old.memory.words.items }
-        ensures number { self.new.number ≡ self.old.number }
+            (λ w o. private_outcome (go_to next o)) }
+        ensures kept { KeepsOwn self.old self.new }
     {
-        self.place = place;
+        self.counter = next;
         Ok(Effect::None)
     }
 }

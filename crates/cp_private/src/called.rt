@@ -16,16 +16,17 @@ pub(crate) struct Called {
 /// Where a call returns to.
 #[derive(Clone, Copy)]
 pub(crate) struct Back {
-    pub(crate) place: u32,
+    /// The number of the operation at which the caller continues.
+    pub(crate) counter: u32,
     /// The temp of the caller that receives the value.
     pub(crate) into: u32,
 }
 
 impl Back {
-    pub(crate) fn new(place: u32, into: u32) -> Back
-        ensures place { result.place ≡ place }
+    pub(crate) fn new(counter: u32, into: u32) -> Back
+        ensures counter { result.counter ≡ counter }
         ensures into { result.into ≡ into }
     {
-        Back { place, into }
+        Back { counter, into }
     }
 }

@@ -1,7 +1,8 @@
 //! Calls of routines.
 
-ghost use Rattle.std.specs.Prelude.{◌≡◌, ◌+◌, ◌<◌, ◌≤◌, ◌^◌, true, ℕ, List, IfSome, MatchOption, length, nat_le};
+ghost use Rattle.std.specs.Prelude.{◌≡◌, ◌+◌, true, ℕ, List, IfSome, MatchOption, length, nat_le};
 ghost use Rattle.cp_program_model.specs.Programs.{CodeUnit as PlainUnit};
+ghost use Rattle.cp_private.specs.Keeping.{IsAddressable, KeepsRest};
 ghost use Rattle.cp_private.specs.Calls.{HasRoom, back};
 ghost use Rattle.cp_private.specs.States.{IsStep, join};
 ghost use Rattle.cp_machine_model.specs.Calling as plain;
@@ -28,7 +29,7 @@ fn fits(first: u32, before: u32, count: u32, all: usize) -> bool
 impl Private {
     // Whether own words, temps and a frame are left for the unit, and its component exists.
     fn has_room(&self, shared: &[i32], call: &Call, unit: &CodeUnit, component: usize) -> bool
-        requires { length shared.now < 2 ^ 30 }
+        requires { IsAddressable shared.now }
         ensures value { (w : states.Outside) (input : List ℕ)
             → w.own ≡ length self.now.memory.words.items
             → result ≡ plain.has_room w (join self.now input shared.now) (view.call call.now)
@@ -65,7 +66,7 @@ impl Private {
         call: &Call,
         component: usize,
     ) -> Option<&'a CodeUnit>
-        requires { length shared.now < 2 ^ 30 }
+        requires { IsAddressable shared.now }
         ensures unit { (w : states.Outside) (input : List ℕ)
             → w.own ≡ length self.now.memory.words.items
             → let o = join self.now input shared.now in MatchOption result
@@ -92,14 +93,11 @@ impl Private {
         call: &Call,
         link: Back,
     ) -> Result<Effect, Fault>
-        requires { length shared.old < 2 ^ 30 }
+        requires { IsAddressable shared.old }
         ensures step { IsStep self.old shared.old outside.now self.new shared.new result
             (λ w o. plain.call_step (view.program program.now) w o (view.call call.now) (back
             link)) }
-        ensures output { self.new.output ≡ self.old.output }
-        ensures own { length self.new.memory.words.items ≡ length self.old.memory.words.items }
-        ensures number { self.new.number ≡ self.old.number }
-        ensures shared { length shared.new ≡ length shared.old }
+        ensures kept { KeepsRest self.old shared.old self.new shared.new }
     {
         let callee = self.callee(program, shared, outside, call.target);
         let Some(unit) = self.unit_with_room(program, shared, call, callee.component) else {

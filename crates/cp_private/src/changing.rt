@@ -1,7 +1,8 @@
 //! Changes of the words and temps of a private state.
 
-ghost use Rattle.std.specs.Prelude.{◌≡◌, ◌<◌, ◌^◌, ℕ, ℤ, List, length, map};
+ghost use Rattle.std.specs.Prelude.{◌≡◌, ◌<◌, ◌^◌, ℕ, ℤ, List, map};
 ghost use Rattle.cp_program_model.specs.Starts.{block, paste, carry_out};
+ghost use Rattle.cp_private.specs.Keeping.{ChangesOnlyWords, IsAddressable, KeepsOwn};
 ghost use Rattle.cp_private.specs.States.{IsReady, join};
 ghost use Rattle.cp_machine_model.specs.PrivateStates as plain;
 ghost use Rattle.cp_program.specs.Reaches.{cap_place};
@@ -9,21 +10,18 @@ ghost use Rattle.cp_program.specs.View as view;
 
 use crate::private::Private;
 use crate::words;
-use cp_program::program::Start;
+use cp_program::program::StartPiece;
 
 impl Private {
     /// Writes the word at an address, which may be capped to the largest `usize`.
     #[inline(always)]
     pub(crate) fn set_word(&mut self, shared: &mut [i32], at: usize, n: i32)
-        requires { length shared.old < 2 ^ 30 }
+        requires { IsAddressable shared.old }
         ensures step { (input : List ℕ) (place : ℕ) → cap_place place ≡ at
             → join self.new input shared.new ≡ plain.set_word (join self.old input shared.old)
             place n }
-        ensures output { self.new.output ≡ self.old.output }
-        ensures own { length self.new.memory.words.items ≡ length self.old.memory.words.items }
-        ensures number { self.new.number ≡ self.old.number }
+        ensures kept { ChangesOnlyWords self.old shared.old self.new shared.new }
         ensures ready { IsReady self.old → IsReady self.new }
-        ensures shared { length shared.new ≡ length shared.old }
     {
         words::write(&mut self.memory.words, shared, at, n);
     }
@@ -33,9 +31,7 @@ impl Private {
         ensures step { (input : List ℕ) (shared : List ℤ)
             → join self.new input shared ≡ plain.set_temp
             (join self.old input shared) at n }
-        ensures output { self.new.output ≡ self.old.output }
-        ensures own { length self.new.memory.words.items ≡ length self.old.memory.words.items }
-        ensures number { self.new.number ≡ self.old.number }
+        ensures kept { KeepsOwn self.old self.new }
     {
         if at < self.memory.temps.len() {
             self.memory.temps[at] = n;
@@ -44,14 +40,11 @@ impl Private {
 
     /// Copies `count` words. The addresses may be capped to the largest `usize`.
     pub(crate) fn move_words(&mut self, shared: &mut [i32], to: usize, from: usize, count: usize)
-        requires { length shared.old < 2 ^ 30 }
+        requires { IsAddressable shared.old }
         ensures step { (input : List ℕ) (i j : ℕ) → cap_place i ≡ to → cap_place j ≡ from
             → let o = join self.old input shared.old in join self.new input shared.new
             ≡ record o { words = paste i (block o.words j count) o.words } }
-        ensures output { self.new.output ≡ self.old.output }
-        ensures own { length self.new.memory.words.items ≡ length self.old.memory.words.items }
-        ensures number { self.new.number ≡ self.old.number }
-        ensures shared { length shared.new ≡ length shared.old }
+        ensures kept { ChangesOnlyWords self.old shared.old self.new shared.new }
     {
         words::copy(&mut self.memory.words, shared, to, from, count);
     }
@@ -59,20 +52,17 @@ impl Private {
     /// Makes words start as a plan says. The plan counts from address `base`. The plan of a
     /// function without variables marks only its result.
     #[inline(always)]
-    pub(crate) fn start_words(&mut self, shared: &mut [i32], base: usize, plan: &[Start])
-        requires shared { length shared.old < 2 ^ 30 }
+    pub(crate) fn start_words(&mut self, shared: &mut [i32], base: usize, plan: &[StartPiece])
+        requires shared { IsAddressable shared.old }
         requires base { base < 2 ^ 33 }
         ensures step { (input : List ℕ)
             → let o = join self.old input shared.old in join self.new input shared.new
             ≡ record o { words = carry_out base (map view.start plan.now) o.words } }
-        ensures output { self.new.output ≡ self.old.output }
-        ensures own { length self.new.memory.words.items ≡ length self.old.memory.words.items }
-        ensures number { self.new.number ≡ self.old.number }
-        ensures shared { length shared.new ≡ length shared.old }
+        ensures kept { ChangesOnlyWords self.old shared.old self.new shared.new }
     {
         match plan {
             [
-                Start::Fill {
+                StartPiece::Fill {
                     at,
                     count: 1,
                     value,

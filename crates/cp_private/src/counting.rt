@@ -1,9 +1,10 @@
 //! The steps of a `for`, whose counter and last value are in two temps.
 
-ghost use Rattle.std.specs.Prelude.{◌≡◌, ◌+◌, ◌<◌, ◌^◌, MatchOption, length, FitsSigned};
+ghost use Rattle.std.specs.Prelude.{◌≡◌, ◌+◌, MatchOption, FitsSigned};
 ghost use Rattle.std.specs.Int.{w32};
 ghost use Rattle.cp_model.specs.StatementSteps as statements;
 ghost use Rattle.cp_program_model.specs.Starts.{word};
+ghost use Rattle.cp_private.specs.Keeping.{IsAddressable, KeepsRest};
 ghost use Rattle.cp_private.specs.States.{IsStep};
 ghost use Rattle.cp_machine_model.specs.Steps as plain;
 ghost use Rattle.cp_program.specs.View as view;
@@ -36,13 +37,10 @@ impl Private {
         n: i32,
         last: i32,
     ) -> Result<Effect, Fault>
-        requires { length shared.old < 2 ^ 30 }
+        requires { IsAddressable shared.old }
         ensures step { IsStep self.old shared.old outside.now self.new shared.new result
             (λ w o. plain.count_to w o (view.counting counting.now) n last) }
-        ensures output { self.new.output ≡ self.old.output }
-        ensures own { length self.new.memory.words.items ≡ length self.old.memory.words.items }
-        ensures number { self.new.number ≡ self.old.number }
-        ensures shared { length shared.new ≡ length shared.old }
+        ensures kept { KeepsRest self.old shared.old self.new shared.new }
     {
         let bounds = Bounds {
             low: counting.low,
@@ -56,7 +54,7 @@ impl Private {
         self.set_word(shared, at, n);
         self.set_temp(temp, n);
         self.set_temp(temp + 1, last);
-        self.place = counting.body;
+        self.counter = counting.body;
         Ok(Effect::None)
     }
 
@@ -69,20 +67,17 @@ impl Private {
         first: &Term,
         last: &Term,
     ) -> Result<Effect, Fault>
-        requires { length shared.old < 2 ^ 30 }
+        requires { IsAddressable shared.old }
         ensures step { IsStep self.old shared.old outside.now self.new shared.new result
             (λ w o. plain.with_value w o (view.term first.now) (λ n. plain.with_value w o
             (view.term last.now) (λ m. plain.first_count w o (view.counting
             counting.now) n m))) }
-        ensures output { self.new.output ≡ self.old.output }
-        ensures own { length self.new.memory.words.items ≡ length self.old.memory.words.items }
-        ensures number { self.new.number ≡ self.old.number }
-        ensures shared { length shared.new ≡ length shared.old }
+        ensures kept { KeepsRest self.old shared.old self.new shared.new }
     {
         let n = self.evaluate(shared, outside, first)?;
         let last = self.evaluate(shared, outside, last)?;
         if is_past(counting.down, n, last) {
-            self.place = counting.next;
+            self.counter = counting.next;
             return Ok(Effect::None);
         }
         self.count_to(shared, outside, counting, n, last)
@@ -95,20 +90,17 @@ impl Private {
         outside: &Outside,
         counting: &Counting,
     ) -> Result<Effect, Fault>
-        requires { length shared.old < 2 ^ 30 }
+        requires { IsAddressable shared.old }
         ensures step { IsStep self.old shared.old outside.now self.new shared.new result
             (λ w o. plain.next_count w o (view.counting counting.now) (word o.temps (o.temp +
             counting.now.temp)) (word o.temps (o.temp + counting.now.temp + 1))) }
-        ensures output { self.new.output ≡ self.old.output }
-        ensures own { length self.new.memory.words.items ≡ length self.old.memory.words.items }
-        ensures number { self.new.number ≡ self.old.number }
-        ensures shared { length shared.new ≡ length shared.old }
+        ensures kept { KeepsRest self.old shared.old self.new shared.new }
     {
         let temp = self.memory.temp as usize + counting.temp as usize;
         let n = self.temp_at(temp);
         let last = self.temp_at(temp + 1);
         if n == last {
-            self.place = counting.next;
+            self.counter = counting.next;
             return Ok(Effect::None);
         }
         match next_counter(counting.down, n) {

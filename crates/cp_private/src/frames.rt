@@ -1,8 +1,9 @@
 //! Frames: what is kept for callers, and the registers of the running activation.
 
-ghost use Rattle.std.specs.Prelude.{◌≡◌, ◌+◌, ◌-◌, ◌<◌, ◌^◌, ℕ, ℤ, suc, [], ◌∷◌, List, MatchOption, length};
+ghost use Rattle.std.specs.Prelude.{◌≡◌, ◌+◌, ◌-◌, ◌<◌, ◌^◌, ℕ, ℤ, suc, ◌∷◌, List, MatchOption, length};
 ghost use Rattle.cp_program_model.specs.Starts as starts;
 ghost use Rattle.cp_model.specs.declared.state.Fault.TheVariants as fault;
+ghost use Rattle.cp_private.specs.Keeping.{IsAddressable, KeepsOwn};
 ghost use Rattle.cp_private.specs.States.{effect, frame as view_frame, frames_in, join};
 ghost use Rattle.cp_private.specs.Calls.{back, called_of, returning, value_to_return};
 ghost use Rattle.cp_machine_model.specs.Calling as plain;
@@ -61,13 +62,11 @@ impl Private {
         Some(self.frames.as_slice()[depth - 1])
     }
 
-    fn keep(&mut self, frame: Frame)
+    fn push_frame(&mut self, frame: Frame)
         requires { self.old.depth < length self.old.frames.items }
         ensures step { (input : List ℕ) (shared : List ℤ) → let o = join self.old input shared in
             join self.new input shared ≡ record o { frames = view_frame frame ∷ o.frames } }
-        ensures output { self.new.output ≡ self.old.output }
-        ensures own { length self.new.memory.words.items ≡ length self.old.memory.words.items }
-        ensures number { self.new.number ≡ self.old.number }
+        ensures kept { KeepsOwn self.old self.new }
     {
         let depth = self.depth;
         self.frames.as_mut_slice()[depth] = frame;
@@ -85,12 +84,10 @@ impl Private {
             → join self.new input shared ≡ plain.enter
             (join self.old input shared) (called_of callee) (view.code_unit unit.now)
             (view.call call.now) (back link) }
-        ensures output { self.new.output ≡ self.old.output }
-        ensures own { length self.new.memory.words.items ≡ length self.old.memory.words.items }
-        ensures number { self.new.number ≡ self.old.number }
+        ensures kept { KeepsOwn self.old self.new }
     {
         let frame = Frame {
-            place: link.place,
+            counter: link.counter,
             base: self.memory.base,
             temp: self.memory.temp,
             component: self.memory.component,
@@ -98,12 +95,12 @@ impl Private {
             gate: callee.gate,
             held: self.gate,
         };
-        self.place = unit.start;
+        self.counter = unit.start;
         self.memory.base += call.words;
         self.memory.temp += call.temps;
         self.memory.component = callee.component as u32;
         self.gate = innermost_gate(callee.gate, self.gate);
-        self.keep(frame);
+        self.push_frame(frame);
     }
 
     /// Returns the value that the running routine returns, if it is a function.
@@ -112,7 +109,7 @@ impl Private {
         shared: &[i32],
         function: bool,
     ) -> Result<Option<i32>, Fault>
-        requires { length shared.now < 2 ^ 30 }
+        requires { IsAddressable shared.now }
         ensures { (input : List ℕ) → result ≡ value_to_return (join self.now input shared.now)
             function }
     {
@@ -133,12 +130,10 @@ impl Private {
             → join self.new input shared ≡ plain.leave
             (returning (join self.old input shared) (view_frame caller) value) (view_frame caller)
             (frames_in (self.old.depth - 1) self.old.frames.items) }
-        ensures output { self.new.output ≡ self.old.output }
-        ensures own { length self.new.memory.words.items ≡ length self.old.memory.words.items }
-        ensures number { self.new.number ≡ self.old.number }
+        ensures kept { KeepsOwn self.old self.new }
     {
         self.depth -= 1;
-        self.place = caller.place;
+        self.counter = caller.counter;
         self.memory.base = caller.base;
         self.memory.temp = caller.temp;
         self.memory.component = caller.component;

@@ -1,6 +1,7 @@
 //! The steps of `init`.
 
-ghost use Rattle.std.specs.Prelude.{◌≡◌, ◌<◌, ◌^◌, ℕ, List, length, map};
+ghost use Rattle.std.specs.Prelude.{◌≡◌, ◌<◌, ◌^◌, ℕ, List, map};
+ghost use Rattle.cp_private.specs.Keeping.{ChangesOnlyWords, IsAddressable, KeepsRest};
 ghost use Rattle.cp_private.specs.States.{IsStep, join};
 ghost use Rattle.cp_machine_model.specs.Calling as plain;
 ghost use Rattle.cp_machine_model.specs.Passing.{component_called};
@@ -28,15 +29,12 @@ fn parameters_start(program: &Program, process: u32) -> u32
 impl Private {
     // Copies the arguments to where they belong, after the mark of the component.
     fn settle(&mut self, shared: &mut [i32], from: usize, to: usize, count: usize)
-        requires shared { length shared.old < 2 ^ 30 }
+        requires shared { IsAddressable shared.old }
         requires from { from < 2 ^ 35 }
         requires to { to < 2 ^ 35 }
         ensures step { (input : List ℕ) → join self.new input shared.new ≡ plain.settle
             (join self.old input shared.old) from to count }
-        ensures output { self.new.output ≡ self.old.output }
-        ensures own { length self.new.memory.words.items ≡ length self.old.memory.words.items }
-        ensures number { self.new.number ≡ self.old.number }
-        ensures shared { length shared.new ≡ length shared.old }
+        ensures kept { ChangesOnlyWords self.old shared.old self.new shared.new }
     {
         self.move_words(shared, to + 1, from + 1, count);
     }
@@ -50,15 +48,12 @@ impl Private {
         call: &Call,
         next: u32,
     ) -> Result<Effect, Fault>
-        requires { length shared.old < 2 ^ 30 }
+        requires { IsAddressable shared.old }
         ensures step { IsStep self.old shared.old outside.now self.new shared.new result
             (λ w o. let program = view.program program.now in
             plain.init_class program w o (view.call call.now) (component_called program
             w o (view.target call.now.target)).component next) }
-        ensures output { self.new.output ≡ self.old.output }
-        ensures own { length self.new.memory.words.items ≡ length self.old.memory.words.items }
-        ensures number { self.new.number ≡ self.old.number }
-        ensures shared { length shared.new ≡ length shared.old }
+        ensures kept { KeepsRest self.old shared.old self.new shared.new }
     {
         let at = self.callee(program, shared, outside, call.target).component;
         let Some(unit) = self.unit_with_room(program, shared, call, at) else {
@@ -78,7 +73,7 @@ impl Private {
             gate: 0,
         };
         let link = Back {
-            place: next,
+            counter: next,
             into: 0,
         };
         self.enter(class, unit, call, link);
@@ -94,15 +89,12 @@ impl Private {
         call: &Call,
         next: u32,
     ) -> Result<Effect, Fault>
-        requires { length shared.old < 2 ^ 30 }
+        requires { IsAddressable shared.old }
         ensures step { IsStep self.old shared.old outside.now self.new shared.new result
             (λ w o. let program = view.program program.now in
             plain.init_monitor program w o (view.call call.now) (component_called
             program w o (view.target call.now.target)).gate next) }
-        ensures output { self.new.output ≡ self.old.output }
-        ensures own { length self.new.memory.words.items ≡ length self.old.memory.words.items }
-        ensures number { self.new.number ≡ self.old.number }
-        ensures shared { length shared.new ≡ length shared.old }
+        ensures kept { KeepsRest self.old shared.old self.new shared.new }
     {
         let number = self.callee(program, shared, outside, call.target).gate;
         let monitor = self.monitor_callee(program, outside, number);
@@ -118,7 +110,7 @@ impl Private {
         self.pass_all(shared, outside, destination, &call.arguments)?;
         self.settle(shared, from, at, call.arguments.len());
         let link = Back {
-            place: next,
+            counter: next,
             into: 0,
         };
         self.enter(monitor, unit, call, link);
@@ -136,14 +128,11 @@ impl Private {
         words: u32,
         next: u32,
     ) -> Result<Effect, Fault>
-        requires { length shared.old < 2 ^ 30 }
+        requires { IsAddressable shared.old }
         ensures step { IsStep self.old shared.old outside.now self.new shared.new result
             (λ w o. plain.init_process (view.program program.now) w o process (map view.argument
             arguments.now) words next) }
-        ensures output { self.new.output ≡ self.old.output }
-        ensures own { length self.new.memory.words.items ≡ length self.old.memory.words.items }
-        ensures number { self.new.number ≡ self.old.number }
-        ensures shared { length shared.new ≡ length shared.old }
+        ensures kept { KeepsRest self.old shared.old self.new shared.new }
     {
         if outside.is_started(process) {
             return Err(Fault::InitialisedTwice);
@@ -153,7 +142,7 @@ impl Private {
         let destination = Destination { to: from, home: to };
         self.pass_all(shared, outside, destination, arguments)?;
         self.settle(shared, from, to, arguments.len());
-        self.place = next;
+        self.counter = next;
         Ok(Effect::Starts(process))
     }
 }

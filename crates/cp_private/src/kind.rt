@@ -19,7 +19,7 @@ pub enum Kind {
     None,
 }
 
-fn kind_at_place(program: &Program, private: &Private) -> Kind
+fn kind_at_counter(program: &Program, private: &Private) -> Kind
     ensures { (input : List ℕ) → result ≡ kind_of (view.program program.now)
         (private_of private.now input) }
 {
@@ -29,7 +29,7 @@ fn kind_at_place(program: &Program, private: &Private) -> Kind
     if private.gate != 0 {
         return Kind::Kernel;
     }
-    match program.operation(private.place) {
+    match program.operation(private.counter) {
         Some(operation) if needs_kernel(operation) => Kind::Kernel,
         Some(_) => Kind::Private,
         None => Kind::None,
@@ -43,5 +43,5 @@ pub fn next_kind(program: &Program, private: &Private) -> Kind
         (private_of private.now input) }
     ensures meaning { (input : List ℕ) → TellsKind program.now private.now input result }
 {
-    kind_at_place(program, private)
+    kind_at_counter(program, private)
 }

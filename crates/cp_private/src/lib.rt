@@ -1,17 +1,20 @@
-//! The private state of a process of the whole language, and its steps.
+//! The private state of a process, and its steps: private steps, which no other process can tell,
+//! and what the process itself does in a step of the kernel.
 //!
 //! For any program and any private state, a step is the function on plain data that cp_machine_model
-//! defines (`specs/States.antt` defines the plain data). It works on the process's own words and
-//! the shared words after them, so that private and kernel steps are one function. By the law of
-//! cp_machine_model, private steps and turns are those of the meaning (`specs/Promises.antt`).
+//! defines; `specs/States.antt` says for which plain data a private state stands. It works on the
+//! process's own words and the shared words after them, so that private and kernel steps are one
+//! function. What a step leaves as it was, besides what its clause says, stands in
+//! `specs/Keeping.antt`. By the law of cp_machine_model, private steps and turns are those of the
+//! meaning (`specs/Promises.antt`).
 //!
 //! - `private`, `making`: the private state, and how it is made, copied and read.
-//! - `outside`, `effect`: what else a step reads, and what it leaves to the kernel.
+//! - `outside`, `alone`, `effect`: what else a step reads, and what it leaves to the kernel.
 //! - `words`, `changing`, `reading`, `frames`, `starting`: words, temps and frames.
-//! - `assignments`, `counting`, `standards`, `targets`, `passing`, `calls`, `returns`,
+//! - `assignments`, `counting`, `standards`, `targets`, `passing`, `called`, `calls`, `returns`,
 //!   `initialisation`: the steps of operations.
-//! - `step`, `turns`, `kind`: a step of any operation, turns, and whether the next step is private
-//!   or the kernel's.
+//! - `step`, `turn`, `turns`, `kind`: a step of any operation, turns, and whether the next step is
+//!   private or the kernel's.
 #![tactic(auto)]
 
 mod alone;

@@ -104,7 +104,7 @@ impl Private {
             } else {
                 Activity::NotBegun
             },
-            place: needs.start,
+            counter: needs.start,
             gate: 0,
             memory: Memory {
                 words: first_words(alloc, program, process, count)?,
@@ -132,7 +132,7 @@ impl Private {
         Ok(Private {
             number: self.number,
             activity: self.activity,
-            place: self.place,
+            counter: self.counter,
             gate: self.gate,
             memory: Memory {
                 words: Vec::from_slice(alloc, &self.memory.words)?,

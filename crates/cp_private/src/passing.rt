@@ -1,6 +1,7 @@
 //! The arguments of calls and of `init`.
 
-ghost use Rattle.std.specs.Prelude.{◌≡◌, ◌+◌, ◌<◌, ◌^◌, ℕ, List, None, length, map};
+ghost use Rattle.std.specs.Prelude.{◌≡◌, ◌+◌, ◌<◌, ◌^◌, ℕ, List, None, map};
+ghost use Rattle.cp_private.specs.Keeping.{ChangesOnlyWords, IsAddressable};
 ghost use Rattle.cp_private.specs.Calls.{passing_of};
 ghost use Rattle.cp_private.specs.States.{join, outside_of};
 ghost use Rattle.cp_machine_model.specs.Passing as plain;
@@ -37,16 +38,13 @@ impl Private {
         high: &i32,
         term: &Term,
     ) -> Result<(), Fault>
-        requires shared { length shared.old < 2 ^ 30 }
+        requires shared { IsAddressable shared.old }
         requires at { at < 2 ^ 36 }
         ensures step { (own : ℕ) → let o = join self.old outside.now.input.now shared.old in
             passing_of (join self.new outside.now.input.now shared.new) result ≡ plain.pass_result o
             (value_of (view_of (outside_of outside.now own) o) (view.term term.now))
             (λ n. plain.pass_value o at low.now high.now n) }
-        ensures output { self.new.output ≡ self.old.output }
-        ensures own { length self.new.memory.words.items ≡ length self.old.memory.words.items }
-        ensures number { self.new.number ≡ self.old.number }
-        ensures shared { length shared.new ≡ length shared.old }
+        ensures kept { ChangesOnlyWords self.old shared.old self.new shared.new }
     {
         let n = self.evaluate_here(shared, outside, term)?;
         if !Bounds::new(*low, *high).contain(n) {
@@ -64,16 +62,13 @@ impl Private {
         size: u32,
         from: &Spot,
     ) -> Result<(), Fault>
-        requires shared { length shared.old < 2 ^ 30 }
+        requires shared { IsAddressable shared.old }
         requires at { at < 2 ^ 36 }
         ensures step { (own : ℕ) → let o = join self.old outside.now.input.now shared.old in
             passing_of (join self.new outside.now.input.now shared.new) result ≡ plain.pass_result o
             (place_of (view_of (outside_of outside.now own) o) (view.spot from.now))
             (λ a. plain.pass_copy o at size a) }
-        ensures output { self.new.output ≡ self.old.output }
-        ensures own { length self.new.memory.words.items ≡ length self.old.memory.words.items }
-        ensures number { self.new.number ≡ self.old.number }
-        ensures shared { length shared.new ≡ length shared.old }
+        ensures kept { ChangesOnlyWords self.old shared.old self.new shared.new }
     {
         let from = self.place(shared, outside, from)?;
         self.move_words(shared, at, from, size as usize);
@@ -82,7 +77,7 @@ impl Private {
 
     // Returns an address as a word, or 0 if it lies beyond all words.
     fn reference_word(&self, shared: &[i32], at: usize) -> i32
-        requires { length shared.now < 2 ^ 30 }
+        requires { IsAddressable shared.now }
         ensures { (input : List ℕ) (place : ℕ) → cap_place place ≡ at
             → result ≡ plain.reference_word (join self.now input shared.now) place }
     {
@@ -100,16 +95,13 @@ impl Private {
         at: usize,
         to: &Spot,
     ) -> Result<(), Fault>
-        requires shared { length shared.old < 2 ^ 30 }
+        requires shared { IsAddressable shared.old }
         requires at { at < 2 ^ 36 }
         ensures step { (own : ℕ) → let o = join self.old outside.now.input.now shared.old in
             passing_of (join self.new outside.now.input.now shared.new) result ≡ plain.pass_result o
             (place_of (view_of (outside_of outside.now own) o) (view.spot to.now))
             (λ a. plain.pass_word o at (plain.reference_word o a)) }
-        ensures output { self.new.output ≡ self.old.output }
-        ensures own { length self.new.memory.words.items ≡ length self.old.memory.words.items }
-        ensures number { self.new.number ≡ self.old.number }
-        ensures shared { length shared.new ≡ length shared.old }
+        ensures kept { ChangesOnlyWords self.old shared.old self.new shared.new }
     {
         let place = self.place(shared, outside, to)?;
         let word = self.reference_word(shared, place);
@@ -118,15 +110,12 @@ impl Private {
     }
 
     fn pass_right(&mut self, shared: &mut [i32], at: usize, home: usize, of: Target)
-        requires shared { length shared.old < 2 ^ 30 }
+        requires shared { IsAddressable shared.old }
         requires at { at < 2 ^ 36 }
         ensures step { (input : List ℕ) → let o = join self.old input shared.old in
             plain.pass_word o at (plain.right_word o home (view.target of))
             ≡ record { own = join self.new input shared.new; fault = None } }
-        ensures output { self.new.output ≡ self.old.output }
-        ensures own { length self.new.memory.words.items ≡ length self.old.memory.words.items }
-        ensures number { self.new.number ≡ self.old.number }
-        ensures shared { length shared.new ≡ length shared.old }
+        ensures kept { ChangesOnlyWords self.old shared.old self.new shared.new }
     {
         let word = self.right_word(shared, home, of);
         self.set_word(shared, at, word);
@@ -139,15 +128,12 @@ impl Private {
         destination: Destination,
         argument: &Argument,
     ) -> Result<(), Fault>
-        requires { length shared.old < 2 ^ 30 }
+        requires { IsAddressable shared.old }
         ensures step { (own : ℕ)
             → passing_of (join self.new outside.now.input.now shared.new) result
             ≡ plain.pass_one (outside_of outside.now own) destination.to destination.home
             (join self.old outside.now.input.now shared.old) (view.argument argument.now) }
-        ensures output { self.new.output ≡ self.old.output }
-        ensures own { length self.new.memory.words.items ≡ length self.old.memory.words.items }
-        ensures number { self.new.number ≡ self.old.number }
-        ensures shared { length shared.new ≡ length shared.old }
+        ensures kept { ChangesOnlyWords self.old shared.old self.new shared.new }
     {
         let Destination { to, home } = destination;
         match argument {
@@ -180,16 +166,13 @@ impl Private {
         destination: Destination,
         arguments: &[Argument],
     ) -> Result<(), Fault>
-        requires { length shared.old < 2 ^ 30 }
+        requires { IsAddressable shared.old }
         ensures step { (own : ℕ)
             → passing_of (join self.new outside.now.input.now shared.new) result
             ≡ plain.pass_all (outside_of outside.now own) destination.to destination.home
             (map view.argument arguments.now)
             (join self.old outside.now.input.now shared.old) }
-        ensures output { self.new.output ≡ self.old.output }
-        ensures own { length self.new.memory.words.items ≡ length self.old.memory.words.items }
-        ensures number { self.new.number ≡ self.old.number }
-        ensures shared { length shared.new ≡ length shared.old }
+        ensures kept { ChangesOnlyWords self.old shared.old self.new shared.new }
     {
         for argument in arguments {
             self.pass_one(shared, outside, destination, argument)?;

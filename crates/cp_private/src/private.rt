@@ -21,8 +21,8 @@ pub enum Activity {
 /// What a call keeps for its caller.
 #[derive(Clone, Copy, Debug, Default)]
 pub(crate) struct Frame {
-    /// The place where the caller continues.
-    pub(crate) place: u32,
+    /// The number of the operation at which the caller continues.
+    pub(crate) counter: u32,
     pub(crate) base: u32,
     pub(crate) temp: u32,
     pub(crate) component: u32,
@@ -40,8 +40,8 @@ pub struct Private {
     /// The number of the process, from 1.
     pub(crate) number: usize,
     pub(crate) activity: Activity,
-    /// The place of its next operation.
-    pub(crate) place: u32,
+    /// The number of its next operation.
+    pub(crate) counter: u32,
     /// The innermost gate that the process holds, or 0.
     pub(crate) gate: u32,
     /// The words of its component followed by those of the running activations, and the temps,

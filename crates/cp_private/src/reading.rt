@@ -1,7 +1,8 @@
 //! What evaluation reads of a private state, and the values and addresses that it finds.
 
-ghost use Rattle.std.specs.Prelude.{◌≡◌, ◌<◌, ◌^◌, ℕ, List, length};
+ghost use Rattle.std.specs.Prelude.{◌≡◌, ℕ, List};
 ghost use Rattle.cp_program_model.specs.Starts.{word};
+ghost use Rattle.cp_private.specs.Keeping.{IsAddressable};
 ghost use Rattle.cp_private.specs.States.{join, outside_of};
 ghost use Rattle.cp_machine_model.specs.PrivateStates as plain;
 ghost use Rattle.cp_machine_model.specs.Values.{place_of, value_of};
@@ -19,7 +20,7 @@ impl Private {
     /// Returns what evaluation reads.
     #[inline(always)]
     pub(crate) fn reach<'a>(&'a self, shared: &'a [i32], outside: &Outside) -> Reach<'a>
-        requires { length shared.now < 2 ^ 30 }
+        requires { IsAddressable shared.now }
         ensures { (input : List ℕ) (own : ℕ) → view_of result ≡ plain.view_of
             (outside_of outside.now own) (join self.now input shared.now) }
     {
@@ -33,7 +34,7 @@ impl Private {
     /// Returns the word at an address, which may be capped to the largest `usize`.
     #[inline(always)]
     pub(crate) fn word(&self, shared: &[i32], at: usize) -> i32
-        requires { length shared.now < 2 ^ 30 }
+        requires { IsAddressable shared.now }
         ensures { (input : List ℕ) (place : ℕ) → cap_place place ≡ at → result ≡ word
             (join self.now input shared.now).words place }
     {
@@ -48,7 +49,7 @@ impl Private {
         outside: &Outside,
         term: &Term,
     ) -> Result<i32, Fault>
-        requires { length shared.now < 2 ^ 30 }
+        requires { IsAddressable shared.now }
         ensures { (input : List ℕ) (own : ℕ) → result ≡ value_of
             (plain.view_of (outside_of outside.now own) (join self.now input shared.now))
             (view.term term.now) }
@@ -64,7 +65,7 @@ impl Private {
         outside: &Outside,
         term: &Term,
     ) -> Result<i32, Fault>
-        requires { length shared.now < 2 ^ 30 }
+        requires { IsAddressable shared.now }
         ensures { (input : List ℕ) (own : ℕ) → result ≡ value_of
             (plain.view_of (outside_of outside.now own) (join self.now input shared.now))
             (view.term term.now) }
@@ -81,7 +82,7 @@ impl Private {
         outside: &Outside,
         spot: &Spot,
     ) -> Result<usize, Fault>
-        requires { length shared.now < 2 ^ 30 }
+        requires { IsAddressable shared.now }
         ensures { (input : List ℕ) (own : ℕ) → result ≡ capped_result (place_of
             (plain.view_of (outside_of outside.now own) (join self.now input shared.now))
             (view.spot spot.now)) }

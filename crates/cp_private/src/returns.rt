@@ -1,6 +1,6 @@
 //! Returns from routines and bodies, and `continue`, which returns.
 
-ghost use Rattle.std.specs.Prelude.{◌≡◌, ◌<◌, ◌^◌, ℕ, length};
+ghost use Rattle.cp_private.specs.Keeping.{IsAddressable, KeepsOwn, KeepsRest};
 ghost use Rattle.cp_private.specs.States.{IsStep};
 ghost use Rattle.cp_machine_model.specs.Calling as calling;
 ghost use Rattle.cp_machine_model.specs.PrivateStates.{Leaves};
@@ -16,19 +16,17 @@ use cp_program::term::Spot;
 
 impl Private {
     /// Returns from the running routine. It is a fault if a function has set no result.
-    pub(crate) fn give_back(
+    pub(crate) fn leave_routine(
         &mut self,
         shared: &[i32],
         outside: &Outside,
         function: bool,
     ) -> Result<Effect, Fault>
-        requires { length shared.now < 2 ^ 30 }
+        requires { IsAddressable shared.now }
         ensures step { IsStep self.old shared.now outside.now self.new shared.now result
             (λ w o. calling.with_frame o o.frames (λ f fs. calling.return_with o o f fs function
             (calling.gate_effect f.gate Leaves))) }
-        ensures output { self.new.output ≡ self.old.output }
-        ensures own { length self.new.memory.words.items ≡ length self.old.memory.words.items }
-        ensures number { self.new.number ≡ self.old.number }
+        ensures kept { KeepsOwn self.old self.new }
     {
         let Some(frame) = self.innermost() else {
             return Ok(Effect::None);
@@ -40,15 +38,13 @@ impl Private {
 
     /// Ends the body of a component.
     pub(crate) fn end_body(&mut self, shared: &[i32], outside: &Outside) -> Result<Effect, Fault>
-        requires { length shared.now < 2 ^ 30 }
+        requires { IsAddressable shared.now }
         ensures step { IsStep self.old shared.now outside.now self.new shared.now result
             (λ w o. calling.with_frame o o.frames (λ f fs. (
               calling.leave o f fs,
               calling.gate_effect f.gate Leaves,
             ))) }
-        ensures output { self.new.output ≡ self.old.output }
-        ensures own { length self.new.memory.words.items ≡ length self.old.memory.words.items }
-        ensures number { self.new.number ≡ self.old.number }
+        ensures kept { KeepsOwn self.old self.new }
     {
         let Some(frame) = self.innermost() else {
             return Ok(Effect::None);
@@ -59,21 +55,18 @@ impl Private {
 
     /// Resumes the process that waits in a queue, if there is one, and returns from the running
     /// routine. Does nothing if that routine has entered no monitor.
-    pub(crate) fn let_go(
+    pub(crate) fn leave_by_continue(
         &mut self,
         shared: &mut [i32],
         outside: &Outside,
         queue: &Spot,
         function: bool,
     ) -> Result<Effect, Fault>
-        requires { length shared.old < 2 ^ 30 }
+        requires { IsAddressable shared.old }
         ensures step { IsStep self.old shared.old outside.now self.new shared.new result
             (λ w o. plain.with_place w o (view.spot queue.now) (λ at. plain.continue o at
             function)) }
-        ensures output { self.new.output ≡ self.old.output }
-        ensures own { length self.new.memory.words.items ≡ length self.old.memory.words.items }
-        ensures number { self.new.number ≡ self.old.number }
-        ensures shared { length shared.new ≡ length shared.old }
+        ensures kept { KeepsRest self.old shared.old self.new shared.new }
     {
         let at = self.place(shared, outside, queue)?;
         let Some(frame) = self.innermost() else {

@@ -1,13 +1,13 @@
 //! The steps of standard procedures.
 
-ghost use Rattle.std.specs.Prelude.{◌≡◌, ◌+◌, ◌*◌, ◌≤◌, ◌<◌, ◌^◌, ◌++◌, ℕ, ℤ, List, length, vec_capacity, vec_len};
-ghost use Rattle.cp_private.specs.Rooms.{HasRoomFor, KeepsRoom};
+ghost use Rattle.std.specs.Prelude.{◌≡◌, ◌≤◌, ◌++◌, ℕ, ℤ, List, length};
+ghost use Rattle.cp_private.specs.Keeping.{IsAddressable, KeepsOwn, KeepsOwnButOutput, KeepsRest};
+ghost use Rattle.cp_private.specs.Rooms.{HasRoomFor};
 ghost use Rattle.cp_private.specs.States.{IsStep, join};
 ghost use Rattle.cp_model.specs.StandardCalls as standard;
 ghost use Rattle.cp_machine_model.specs.PrivateStates as states;
 ghost use Rattle.cp_machine_model.specs.PrivateStates.{go_to, private_outcome};
 ghost use Rattle.cp_machine_model.specs.Steps as plain;
-ghost use Rattle.cp_program.specs.Reaches.{cap_place};
 ghost use Rattle.cp_program.specs.View as view;
 
 use crate::assignments::Bounds;
@@ -53,13 +53,11 @@ impl Private {
             → let o = join self.old input shared in
             join self.new input shared
             ≡ go_to next (record o { output = o.output ++ bytes.now }) }
-        ensures room { KeepsRoom self.old self.new }
-        ensures own { length self.new.memory.words.items ≡ length self.old.memory.words.items }
-        ensures number { self.new.number ≡ self.old.number }
+        ensures kept { KeepsOwnButOutput self.old self.new }
     {
         let appended = self.output.extend_from_slice(bytes);
         prove!(appended.is_ok());
-        self.place = next;
+        self.counter = next;
     }
 
     pub(crate) fn display(
@@ -70,14 +68,12 @@ impl Private {
         as_byte: bool,
         next: u32,
     ) -> Result<Effect, Fault>
-        requires shared { length shared.now < 2 ^ 30 }
+        requires shared { IsAddressable shared.now }
         requires room { HasRoomFor self.old 1 }
         ensures step { IsStep self.old shared.now outside.now self.new shared.now result
             (λ w o. plain.with_value w o (view.term value.now) (λ n. plain.display o n as_byte
             next)) }
-        ensures room { KeepsRoom self.old self.new }
-        ensures own { length self.new.memory.words.items ≡ length self.old.memory.words.items }
-        ensures number { self.new.number ≡ self.old.number }
+        ensures kept { KeepsOwnButOutput self.old self.new }
     {
         let n = self.evaluate(shared, outside, value)?;
         if as_byte {
@@ -97,14 +93,11 @@ impl Private {
         bounds: Bounds,
         next: u32,
     ) -> Result<Effect, Fault>
-        requires { length shared.old < 2 ^ 30 }
+        requires { IsAddressable shared.old }
         ensures step { IsStep self.old shared.old outside.now self.new shared.new result
             (λ w o. plain.with_place w o (view.spot to.now) (λ at. plain.accept o at bounds.low
             bounds.high next)) }
-        ensures output { self.new.output ≡ self.old.output }
-        ensures own { length self.new.memory.words.items ≡ length self.old.memory.words.items }
-        ensures number { self.new.number ≡ self.old.number }
-        ensures shared { length shared.new ≡ length shared.old }
+        ensures kept { KeepsRest self.old shared.old self.new shared.new }
     {
         let at = self.place(shared, outside, to)?;
         let n = next_input(outside.input, self.consumed);
@@ -114,7 +107,7 @@ impl Private {
         let consumed = next_place(outside.input, self.consumed);
         self.set_word(shared, at, n);
         self.consumed = consumed;
-        self.place = next;
+        self.counter = next;
         Ok(Effect::None)
     }
 
@@ -125,13 +118,10 @@ impl Private {
         queue: &Spot,
         next: u32,
     ) -> Result<Effect, Fault>
-        requires { length shared.old < 2 ^ 30 }
+        requires { IsAddressable shared.old }
         ensures step { IsStep self.old shared.old outside.now self.new shared.new result
             (λ w o. plain.with_place w o (view.spot queue.now) (λ at. plain.delay o at next)) }
-        ensures output { self.new.output ≡ self.old.output }
-        ensures own { length self.new.memory.words.items ≡ length self.old.memory.words.items }
-        ensures number { self.new.number ≡ self.old.number }
-        ensures shared { length shared.new ≡ length shared.old }
+        ensures kept { KeepsRest self.old shared.old self.new shared.new }
     {
         let at = self.place(shared, outside, queue)?;
         let monitor = self.gate;
@@ -146,7 +136,7 @@ impl Private {
         }
         let number = self.number as i32;
         self.set_word(shared, at, number);
-        self.place = next;
+        self.counter = next;
         Ok(Effect::Delays {
             monitor,
             queue: at as u32,
@@ -162,12 +152,10 @@ impl Private {
     ) -> Result<Effect, Fault>
         ensures step { IsStep self.old shared.now outside.now self.new shared.now result
             (λ w o. private_outcome (go_to next (record o { activity = states.Waiting }))) }
-        ensures output { self.new.output ≡ self.old.output }
-        ensures own { length self.new.memory.words.items ≡ length self.old.memory.words.items }
-        ensures number { self.new.number ≡ self.old.number }
+        ensures kept { KeepsOwn self.old self.new }
     {
         self.activity = Activity::Waiting;
-        self.place = next;
+        self.counter = next;
         Ok(Effect::None)
     }
 
@@ -175,9 +163,7 @@ impl Private {
     pub(crate) fn end(&mut self, shared: &[i32], outside: &Outside) -> Result<Effect, Fault>
         ensures step { IsStep self.old shared.now outside.now self.new shared.now result
             (λ w o. private_outcome (record o { activity = states.Ended })) }
-        ensures output { self.new.output ≡ self.old.output }
-        ensures own { length self.new.memory.words.items ≡ length self.old.memory.words.items }
-        ensures number { self.new.number ≡ self.old.number }
+        ensures kept { KeepsOwn self.old self.new }
     {
         self.activity = Activity::Ended;
         Ok(Effect::None)

@@ -1,7 +1,8 @@
 //! One step of a process.
 
-ghost use Rattle.std.specs.Prelude.{◌≡◌, ◌<◌, ◌^◌, false, true, ℕ, List, [], length};
-ghost use Rattle.cp_private.specs.Rooms.{HasRoomFor, KeepsRoom};
+ghost use Rattle.std.specs.Prelude.{◌≡◌, false, true, ℕ, List, [], length};
+ghost use Rattle.cp_private.specs.Keeping.{IsAddressable, KeepsOwn, KeepsOwnButOutput, KeepsRestButOutput};
+ghost use Rattle.cp_private.specs.Rooms.{HasRoomFor};
 ghost use Rattle.cp_private.specs.States.{IsAlone, IsReady, IsStep, activity, effect, join, outside_of, private_of};
 ghost use Rattle.cp_program_model.specs.Programs as code;
 ghost use Rattle.cp_machine_model.specs.PrivateStates.{is_running};
@@ -29,14 +30,11 @@ impl Private {
         shared: &mut [i32],
         outside: &Outside,
     ) -> Result<Effect, Fault>
-        requires shared { length shared.old < 2 ^ 30 }
+        requires shared { IsAddressable shared.old }
         requires room { HasRoomFor self.old 1 }
         ensures step { IsStep self.old shared.old outside.now self.new shared.new result
             (λ w o. plain.act (view.program program.now) w o (view.operation operation.now)) }
-        ensures room { KeepsRoom self.old self.new }
-        ensures own { length self.new.memory.words.items ≡ length self.old.memory.words.items }
-        ensures number { self.new.number ≡ self.old.number }
-        ensures shared { length shared.new ≡ length shared.old }
+        ensures kept { KeepsRestButOutput self.old shared.old self.new shared.new }
     {
         match operation {
             Operation::Set {
@@ -73,7 +71,7 @@ impl Private {
             Operation::Function { call, into, next } => {
                 self.call(program, shared, outside, call, Back::new(*next, *into))
             }
-            Operation::Return { function } => self.give_back(shared, outside, *function),
+            Operation::Return { function } => self.leave_routine(shared, outside, *function),
             Operation::InitClass { call, next } => {
                 self.init_class(program, shared, outside, call, *next)
             }
@@ -101,7 +99,7 @@ impl Private {
             } => self.accept(shared, outside, to, Bounds::new(*low, *high), *next),
             Operation::Delay { queue, next } => self.delay(shared, outside, queue, *next),
             Operation::Continue { queue, function } => {
-                self.let_go(shared, outside, queue, *function)
+                self.leave_by_continue(shared, outside, queue, *function)
             }
             Operation::Wait { next } => self.wait(shared, outside, *next),
         }
@@ -116,16 +114,13 @@ impl Private {
         shared: &mut [i32],
         outside: &Outside,
     ) -> Effect
-        requires shared { length shared.old < 2 ^ 30 }
+        requires shared { IsAddressable shared.old }
         requires room { HasRoomFor self.old 1 }
         ensures step { let w = outside_of outside.now (length self.old.memory.words.items) in
             (join self.new outside.now.input.now shared.new, effect result) ≡ plain.act
             (view.program program.now) w (join self.old outside.now.input.now shared.old)
             (view.operation operation.now) }
-        ensures room { KeepsRoom self.old self.new }
-        ensures own { length self.new.memory.words.items ≡ length self.old.memory.words.items }
-        ensures number { self.new.number ≡ self.old.number }
-        ensures shared { length shared.new ≡ length shared.old }
+        ensures kept { KeepsRestButOutput self.old shared.old self.new shared.new }
     {
         match self.act(operation, program, shared, outside) {
             Ok(effect) => effect,
@@ -154,8 +149,7 @@ impl Private {
             join self.new input []
             ≡ (plain.with_place w o (view.spot to.now) (λ at. plain.with_value w o
             (view.term value.now) (λ n. plain.set_within o low.now high.now at n next.now))).0 }
-        ensures output { self.new.output ≡ self.old.output }
-        ensures number { self.new.number ≡ self.old.number }
+        ensures kept { KeepsOwn self.old self.new }
         ensures ready { IsReady self.old → result ≡ true → IsReady self.new }
         ensures faulted { result ≡ false → is_running (activity self.new.activity) ≡ false }
     {
@@ -191,10 +185,9 @@ impl Private {
         ensures rest { result ≡ false → plain.private_step (view.program program.now)
             outside.now.clock (private_of self.new outside.now.input.now)
             ≡ private_of self.new outside.now.input.now }
-        ensures number { self.new.number ≡ self.old.number }
-        ensures room { KeepsRoom self.old self.new }
+        ensures kept { KeepsOwnButOutput self.old self.new }
     {
-        let Some(operation) = program.operation(self.place) else {
+        let Some(operation) = program.operation(self.counter) else {
             return false;
         };
         if let Operation::Set {

@@ -2,7 +2,7 @@
 
 ghost use Rattle.std.specs.Prelude.{◌≡◌, ◌+◌, ◌<◌, ◌^◌, ◌+ℤ◌, ℕ, pos, List, length};
 ghost use Rattle.cp_program_model.specs.Layout as layout;
-ghost use Rattle.cp_model.specs.Places.{within};
+ghost use Rattle.cp_private.specs.Keeping.{IsAddressable};
 ghost use Rattle.cp_private.specs.Calls.{called_of};
 ghost use Rattle.cp_private.specs.States.{holder_of, join, outside_of, stage_of};
 ghost use Rattle.cp_machine_model.specs.KernelSteps as kernel;
@@ -83,7 +83,7 @@ impl Private {
 
     // Returns the address of the class to which a word of the component holds a right.
     fn class_right(&self, shared: &[i32], at: u32) -> usize
-        requires { length shared.now < 2 ^ 30 }
+        requires { IsAddressable shared.now }
         ensures place { (input : List ℕ) → result ≡ plain.class_right
             (join self.now input shared.now) at }
         ensures small { result < 2 ^ 35 }
@@ -93,7 +93,7 @@ impl Private {
     }
 
     fn class_callee(&self, shared: &[i32], at: usize) -> Called
-        requires { length shared.now < 2 ^ 30 }
+        requires { IsAddressable shared.now }
         ensures { (input : List ℕ) → called_of result ≡ plain.class_called
             (join self.now input shared.now) at }
     {
@@ -129,7 +129,7 @@ impl Private {
         outside: &Outside,
         target: Target,
     ) -> Called
-        requires { length shared.now < 2 ^ 30 }
+        requires { IsAddressable shared.now }
         ensures { (input : List ℕ) → called_of result ≡ plain.component_called
             (view.program program.now) (outside_of outside.now (length self.now.memory.words.items))
             (join self.now input shared.now) (view.target target) }
@@ -153,7 +153,7 @@ impl Private {
     // Returns the distance from the word at `from` to the class at `at`, or 0 if either address is
     // missing.
     fn distance_word(&self, shared: &[i32], at: usize, from: usize) -> i32
-        requires { length shared.now < 2 ^ 30 }
+        requires { IsAddressable shared.now }
         ensures { (input : List ℕ) → result ≡ plain.distance_word
             (join self.now input shared.now) at from }
     {
@@ -167,7 +167,7 @@ impl Private {
 
     /// Returns a right as it is passed on, to be stored in the word at `to`.
     pub(crate) fn right_word(&self, shared: &[i32], to: usize, target: Target) -> i32
-        requires { length shared.now < 2 ^ 30 }
+        requires { IsAddressable shared.now }
         ensures { (input : List ℕ) → result ≡ plain.right_word (join self.now input shared.now) to
             (view.target target) }
     {

@@ -1,6 +1,7 @@
 //! Private turns.
 
-ghost use Rattle.std.specs.Prelude.{◌≡◌, ◌≤◌, ◌+◌, ◌*◌, ◌<◌, ◌^◌, length, vec_capacity, vec_len};
+ghost use Rattle.std.specs.Prelude.{◌≡◌, ◌≤◌, ◌+◌, ◌*◌, length, vec_capacity, vec_len};
+ghost use Rattle.cp_private.specs.Keeping.{IsAddressable, KeepsRestButOutput};
 ghost use Rattle.cp_private.specs.Promises.{MakesStep, MakesTurn};
 ghost use Rattle.cp_private.specs.Rooms.{HasRoomFor, KeepsRoom};
 ghost use Rattle.cp_private.specs.States.{IsAlone, effect, join, outside_of, private_of};
@@ -76,17 +77,14 @@ pub fn step(
     shared: &mut [i32],
     outside: &Outside,
 ) -> Effect
-    requires shared { length shared.old < 2 ^ 30 }
+    requires shared { IsAddressable shared.old }
     requires room { HasRoomFor private.old 1 }
     ensures step { let w = outside_of outside.now (length private.old.memory.words.items) in
         (join private.new outside.now.input.now shared.new, effect result) ≡ plain.step_with
         (view.program program.now) w (join private.old outside.now.input.now shared.old) }
-    ensures room { KeepsRoom private.old private.new }
-    ensures own { length private.new.memory.words.items ≡ length private.old.memory.words.items }
-    ensures number { private.new.number ≡ private.old.number }
-    ensures shared { length shared.new ≡ length shared.old }
+    ensures kept { KeepsRestButOutput private.old shared.old private.new shared.new }
 {
-    match program.operation(private.place) {
+    match program.operation(private.counter) {
         Some(operation) => private.make(operation, program, shared, outside),
         None => Effect::None,
     }

@@ -8,7 +8,7 @@ ghost use Rattle.cp_program_model.specs.Starts as plain;
 ghost use Rattle.cp_program.specs.Reaches.{cap_place};
 ghost use Rattle.cp_program.specs.View as view;
 
-use cp_program::program::Start;
+use cp_program::program::StartPiece;
 
 #[inline(always)]
 fn word(words: &[i32], at: usize) -> i32
@@ -146,7 +146,7 @@ fn repeat(own: &mut [i32], shared: &mut [i32], at: usize, size: usize, count: us
     }
 }
 
-fn start_by(own: &mut [i32], shared: &mut [i32], base: usize, start: Start)
+fn start_by(own: &mut [i32], shared: &mut [i32], base: usize, start: StartPiece)
     requires words { length own.old + length shared.old < 2 ^ 32 }
     requires base { base < 2 ^ 33 }
     ensures words { own.new ++ shared.new ≡ plain.carry_out_start base (view.start start)
@@ -155,10 +155,10 @@ fn start_by(own: &mut [i32], shared: &mut [i32], base: usize, start: Start)
     ensures shared { length shared.new ≡ length shared.old }
 {
     match start {
-        Start::Fill { at, count, value } => {
+        StartPiece::Fill { at, count, value } => {
             fill(own, shared, base + at as usize, count as usize, value);
         }
-        Start::Repeat { at, size, count } => {
+        StartPiece::Repeat { at, size, count } => {
             let more = count.saturating_sub(1) as usize;
             repeat(own, shared, base + at as usize, size as usize, more);
         }
@@ -166,7 +166,7 @@ fn start_by(own: &mut [i32], shared: &mut [i32], base: usize, start: Start)
 }
 
 /// Makes words start as a plan says. The plan counts from address `base`.
-pub(crate) fn start(own: &mut [i32], shared: &mut [i32], base: usize, plan: &[Start])
+pub(crate) fn start(own: &mut [i32], shared: &mut [i32], base: usize, plan: &[StartPiece])
     requires words { length own.old + length shared.old < 2 ^ 32 }
     requires base { base < 2 ^ 33 }
     ensures words { own.new ++ shared.new ≡ plain.carry_out base (map view.start plan.now)

@@ -7,4 +7,4 @@ use Rattle.cp_private.proofs.kind.next_kind.Goals as goal
 
 pub returns-clause-meaning : goal.returns-clause-meaning
 returns-clause-meaning c = λ input setup F p own s before I part free.
-    kind_is_meant (view.program c.args.program.now) setup F p own s before (private_of c.args.private.now input) I part free ∙ ap meaning_kind (sym (c.kind_at_place.ensures input))
+    kind_is_meant (view.program c.args.program.now) setup F p own s before (private_of c.args.private.now input) I part free ∙ ap meaning_kind (sym (c.kind_at_counter.ensures input))

@@ -49,10 +49,10 @@ loop-i-preserved c =
     let o = private_of c.loop-i.private c.args.outside.now.input.now in
     let left = c.args.count - (c.loop-i._i + 1) in
     let more : c.args.count - c.loop-i._i ≡ suc left = omega arith in
-    let room = c.take_step.ensures.room in
+    let room = c.take_step.ensures.kept.room in
     record {
       room = omega (arith, room.length, room.capacity, c.loop-i.invariant.room);
-      number = c.take_step.ensures.number ∙ c.loop-i.invariant.number;
+      number = c.take_step.ensures.kept.number ∙ c.loop-i.invariant.number;
       length = omega (arith, room.length, c.loop-i.invariant.length);
       capacity = omega (arith, room.capacity, c.loop-i.invariant.capacity);
       ready = c.take_step.ensures.ready c.if-not-take_step.false;

@@ -11,4 +11,4 @@ returns-clause-step c =
     let call = view.call c.args.call.now in
     λ input shared.
     let entered = enter (join c.args.self.now input shared) (called_of c.args.callee) unit call (back c.args.link) in
-    c.keep.ensures.step input shared ∙ λ i. record entered { gate = c.innermost_gate-self.ensures i }
+    c.push_frame.ensures.step input shared ∙ λ i. record entered { gate = c.innermost_gate-self.ensures i }

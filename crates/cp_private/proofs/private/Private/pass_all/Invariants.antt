@@ -1,18 +1,16 @@
-use Rattle.std.proofs.Common.{◌≡◌, ℕ, map, drop, length}
+use Rattle.std.proofs.Common.{◌≡◌, ℕ, map, drop}
 use Rattle.cp_machine_model.specs.Passing.{pass_all}
 use Rattle.cp_program.specs.View as view
+use Rattle.cp_private.specs.Keeping.{ChangesOnlyWords}
 use Rattle.cp_private.specs.States.{join, outside_of}
 use Rattle.cp_private.proofs.private.Private.pass_all.Given as goal
 
 -- The iterations that are left lead to the same words as all of them.
 abbrev pub invariant-loop-argument : goal.invariant-loop-argument
 invariant-loop-argument l = record {
-  output : l.self.output ≡ l.fn.self.output;
   step : (own : ℕ) → pass_all (outside_of l.outside own) l.destination.to l.destination.home (map view.argument (drop l.argument-index l.arguments))
       (join l.self l.outside.input.now l.shared)
       ≡ pass_all (outside_of l.fn.outside own) l.fn.destination.to l.fn.destination.home (map view.argument l.fn.arguments)
       (join l.fn.self l.fn.outside.input.now l.fn.shared);
-  own : length l.self.memory.words.items ≡ length l.fn.self.memory.words.items;
-  number : l.self.number ≡ l.fn.self.number;
-  shared : length l.shared ≡ length l.fn.shared;
+  kept : ChangesOnlyWords l.fn.self l.fn.shared l.self l.shared;
 }

@@ -26,9 +26,6 @@ returns-clause-step c =
     λ i. (act program (outside_alone c.args.outside.now old input c.requires.alone i) (sym (private_joined old input) i) x).0 in
     private_joined new input ∙ (ap (join new input) (sym none) ∙ (made ∙ (here ∙ sym (stepped program clock o x there running private))))
 
-pub returns-in-Set-clause-number : goal.returns-in-Set-clause-number
-returns-in-Set-clause-number c = c.assign.ensures.number
-
 pub returns-clause-rest : goal.returns-clause-rest
 returns-clause-rest c =
     λ over. c.is_ready.ensures.rest over (view.program c.args.program.now) c.args.outside.now.clock c.args.outside.now.input.now

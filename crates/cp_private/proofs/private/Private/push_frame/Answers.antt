@@ -3,7 +3,7 @@ use Rattle.std.specs.List.{refill}
 use Rattle.std.proofs.lemmas.List.{length-set}
 use Rattle.cp_private.specs.States.{frames_in, join}
 use Rattle.cp_private.proofs.InUse.{frames_more, refilled}
-use Rattle.cp_private.proofs.private.Private.keep.Goals as goal
+use Rattle.cp_private.proofs.private.Private.push_frame.Goals as goal
 
 pub returns-clause-step : goal.returns-clause-step
 returns-clause-step c =

@@ -4,7 +4,7 @@ use Rattle.cp_machine_model.specs.Calling.{gate_effect, leave, return_with, with
 use Rattle.cp_private.specs.Calls.{returning}
 use Rattle.cp_private.specs.States.{frame, frames_in, join}
 use Rattle.cp_private.proofs.Returning.{returned, unreturned}
-use Rattle.cp_private.proofs.private.Private.give_back.Goals as goal
+use Rattle.cp_private.proofs.private.Private.leave_routine.Goals as goal
 
 pub returns-in_err-value-clause-step : goal.returns-in_err-value-clause-step
 returns-in_err-value-clause-step c =

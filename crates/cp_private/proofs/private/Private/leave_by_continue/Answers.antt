@@ -9,7 +9,7 @@ use Rattle.cp_private.specs.Calls.{returning}
 use Rattle.cp_private.specs.States.{frame, frames_in, join}
 use Rattle.cp_private.proofs.Results.{held_none, held_some, placed, unplaced}
 use Rattle.cp_private.proofs.Returning.{returned, unreturned, written_after}
-use Rattle.cp_private.proofs.private.Private.let_go.Goals as goal
+use Rattle.cp_private.proofs.private.Private.leave_by_continue.Goals as goal
 
 pub returns-in_err-at-clause-step : goal.returns-in_err-at-clause-step
 returns-in_err-at-clause-step c =
