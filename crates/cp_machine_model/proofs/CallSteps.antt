@@ -1,4 +1,8 @@
 -- Whole private steps of calls: of functions, which any task can make, and of procedures.
+--
+-- The callee's unit stands for its routine, so what is passed and then started opens an
+-- activation (`Opening`), and `Invoking` has the rest. A function's caller keeps its task, a
+-- procedure's goes on.
 use Rattle.std.proofs.Common.{◌≡◌, inl, inr, ℕ, ◌+◌, List, [], ◌∷◌, length, Bool, true, false, Option, Some, None, refl, ap, sym, subst, ◌∙◌, arith}
 use Rattle.std.specs.Prelude.{◌++◌, if◌then◌else◌, slice_get}
 use Rattle.std.proofs.lemmas.Bool.{true≢false}

@@ -1,4 +1,8 @@
 -- Whole private steps of `for`: its first test and the next ones.
+--
+-- The counter and the last value lie in two temps after those in use, so what else is left to do
+-- stays as it is. The variable is stored as by an assignment, and the same body is left on both
+-- sides.
 use Rattle.std.proofs.Common.{◌≡◌, ◌≢◌, ℕ, ◌+◌, ℤ, pos, List, ◌∷◌, length, Bool, true, false, Some, Result, Ok, Err, refl, ap, sym, subst, ◌∙◌, arith}
 use Rattle.std.specs.Prelude.{if◌then◌else◌, slice_set}
 use Rattle.std.proofs.lemmas.List.{get_or-set_other, get_or-set_same, length-set}

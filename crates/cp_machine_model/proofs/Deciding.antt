@@ -1,4 +1,7 @@
 -- The next private step is that of the meaning, for each kind of task and of operation.
+--
+-- Either the code has a call next, and the step is that of the call, or all calls are made: then
+-- the next operation is the task's own, and the lemma on its kind of operation applies.
 use Rattle.std.proofs.Common.{Bool, List, None, Option, Some, [], ap, refl, subst, sym, true, ℕ, ℤ, ◌∙◌, ◌∷◌, ◌≡◌}
 use Rattle.std.specs.Prelude.{length, not, slice_get}
 use Rattle.std.proofs.lemmas.Bool.{eq-eqb}

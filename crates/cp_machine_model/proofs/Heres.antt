@@ -1,4 +1,8 @@
 -- If a process runs, its words mean what its names mean.
+--
+-- The tasks before the end mark of a routine don't change the innermost activation, so its locals
+-- are found in it at their offsets; members are found in the component, which no activation
+-- hides.
 use Rattle.std.proofs.Common.{◌≡◌, ℕ, suc, ◌+◌, ◌<◌, ℤ, List, [], ◌∷◌, length, Bool, true, false, Option, Some, None, refl, ap, sym, subst, ◌∙◌, arith}
 use Rattle.std.specs.Prelude.{if◌then◌else◌, nat_eq}
 use Rattle.std.proofs.lemmas.Bool.{eq-eqb, eqb-true}

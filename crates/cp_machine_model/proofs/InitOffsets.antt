@@ -1,4 +1,7 @@
 -- Where the parameters of a class lie in it: each has one of the words after its mark.
+--
+-- The parameters that are rights and those that are variables each lie one after another, a word
+-- each, and together they are as many as the words. So each word is taken exactly once.
 use Rattle.std.proofs.Common.{◌≡◌, ◌⊎◌, inl, inr, ℕ, zero, suc, ◌+◌, ◌-◌, ◌≤◌, ◌<◌, Bool, true, false, List, [], ◌∷◌, ◌++◌, length, Option, Some, None, refl, ap, sym, ◌∙◌, arith}
 use Rattle.std.specs.Prelude.{filter, if◌then◌else◌, nat_lt, not}
 use Rattle.std.proofs.lemmas.Bool.{true≢false}

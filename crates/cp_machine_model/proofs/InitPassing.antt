@@ -1,4 +1,7 @@
 -- The arguments of an `init` are what the meaning binds to the parameters.
+--
+-- By induction on the parameters: one argument more adds one write at a new name and one word of
+-- its own (`InitOffsets`), so the earlier parameters stay as they are bound.
 use Rattle.std.proofs.Common.{◌≡◌, ◌⊎◌, inl, inr, ℕ, ◌+◌, ◌≤◌, ◌<◌, ℤ, pos, List, [], ◌∷◌, ◌++◌, length, Bool, true, false, Option, Some, None, Result, Ok, Err, refl, ap, sym, subst, ◌∙◌, arith}
 use Rattle.std.specs.Prelude.{if◌then◌else◌, slice_set}
 use Rattle.std.proofs.lemmas.Bool.{true≢false}

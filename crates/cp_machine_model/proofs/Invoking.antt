@@ -1,4 +1,8 @@
 -- A call in the meaning and in the machine, given what the new activation opens with.
+--
+-- Both sides test the same target, bind only what belongs to the new activation, and enter the
+-- same gate. So all that differs from call to call is that the activation opens, which is a
+-- premise here.
 use Rattle.std.proofs.Common.{Bool, List, None, Some, [], ap, arith, false, inl, inr, length, refl, subst, sym, true, ℕ, ℤ, ◌++◌, ◌+◌, ◌∙◌, ◌∷◌, ◌≡◌, ◌≤◌}
 use Rattle.std.specs.Prelude.{if◌then◌else◌}
 use Rattle.std.proofs.lemmas.Bool.{true≢false}

@@ -1,4 +1,8 @@
 -- The first kernel is the kernel's part of the start.
+--
+-- Each location of a monitor lies in the block of that monitor, which starts by its plan, and the
+-- store of the start has the same value there. Gates are unset and stages unstarted on both
+-- sides.
 use Rattle.std.proofs.Common.{◌≡◌, inl, inr, ℕ, zero, suc, ◌+◌, ◌≤◌, ◌<◌, ℤ, pos, true, false, List, [], ◌∷◌, ◌++◌, length, map, Some, None, refl, ap, sym, subst, ◌∙◌, arith}
 use Rattle.std.specs.Prelude.{not, replicate}
 use Rattle.std.proofs.lemmas.Bool.{true≢false}

@@ -1,4 +1,7 @@
 -- The words of a plain variable are those of its leaves.
+--
+-- By induction on the type: a word of an array lies in one of its rows, by division, a word of a
+-- record in one of its members, and a simple variable is one word and its own leaf.
 use Rattle.std.proofs.Common.{◌≡◌, ◌⊎◌, inl, inr, ℕ, zero, suc, ◌+◌, ◌-◌, ◌*◌, ◌≤◌, ◌<◌, ℤ, pos, negsuc, Bool, true, false, [], ◌∷◌, Some, None, map, refl, ap, sym, subst, ◌∙◌, arith}
 use Rattle.std.specs.Prelude.{if◌then◌else◌, int_le, nat_lt, ◌||◌}
 use Rattle.std.proofs.lemmas.Bool.{true≢false}

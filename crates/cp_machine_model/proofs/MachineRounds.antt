@@ -1,4 +1,8 @@
 -- Whole rounds keep a machine in the state of the meaning.
+--
+-- A round is waking, private turns, kernel turns and its end. Each keeps every part of the
+-- machine that of the state, and the turns are gone through by the number of processes that are
+-- left.
 use Rattle.std.proofs.Common.{◌≡◌, ℕ, zero, suc, ◌+◌, ◌-◌, ◌≤◌, ◌<◌, List, [], ◌∷◌, ◌++◌, length, map, Bool, true, false, Some, None, refl, ap, sym, subst, ◌∙◌, arith}
 use Rattle.std.specs.Prelude.{◌≢◌, if◌then◌else◌, nat_eq, slice_get, slice_set, ◌%◌}
 use Rattle.std.proofs.lemmas.Bool.{eq-eqb, true≢false}

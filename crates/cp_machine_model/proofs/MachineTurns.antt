@@ -1,4 +1,8 @@
 -- A kernel turn of the machine keeps it in the state of the meaning.
+--
+-- The kernel and the process's own private state are those of the meaning's turn, and the parts
+-- of the others stay theirs. The output moves to the transcript, so both together are what they
+-- were.
 use Rattle.std.proofs.Common.{◌≡◌, ℕ, zero, suc, ◌-◌, ◌≤◌, ◌<◌, List, [], ◌∷◌, ◌++◌, length, Bool, true, false, Option, Some, None, refl, ap, sym, subst, ◌∙◌, arith}
 use Rattle.std.specs.Prelude.{◌≢◌, if◌then◌else◌, nat_eq, slice_get, slice_set}
 use Rattle.std.proofs.lemmas.Bool.{eq-eqb, eqb-true, true≢false}

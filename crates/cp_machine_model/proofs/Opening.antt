@@ -1,4 +1,8 @@
 -- A new activation holds its parameters, the start values of its variables and no result.
+--
+-- All names of a routine differ, so what is found is either a parameter, which holds what was
+-- bound, or a variable, whose simple parts are leaves that are written once, after the result is
+-- made unset.
 use Rattle.std.proofs.Common.{◌≡◌, ◌⊎◌, inl, inr, ℕ, suc, ◌+◌, ◌≤◌, ◌<◌, ℤ, Bool, true, false, List, [], ◌∷◌, ◌++◌, length, Option, Some, None, refl, ap, sym, subst, ◌∙◌, arith}
 use Rattle.std.specs.Prelude.{◌*◌, if◌then◌else◌, slice_get}
 use Rattle.std.proofs.lemmas.Bool.{eq-eqb, true≢false}

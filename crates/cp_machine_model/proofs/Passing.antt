@@ -1,4 +1,8 @@
 -- Arguments that are passed to a new activation are what the definition binds to its parameters.
+--
+-- By induction on the parameters: an argument is written at a new name and beyond all that is in
+-- use. So the earlier ones stay bound (`Bound`), and the later ones are evaluated as before
+-- (`Stays`).
 use Rattle.std.proofs.Common.{◌≡◌, ◌⊎◌, inl, inr, ℕ, ◌+◌, ◌≤◌, ◌<◌, ℤ, pos, List, [], ◌∷◌, ◌++◌, length, Bool, true, false, Option, Some, None, Result, Ok, Err, refl, ap, sym, subst, ◌∙◌, arith}
 use Rattle.std.specs.Prelude.{◌&&◌, if◌then◌else◌, slice_set}
 use Rattle.std.proofs.lemmas.Bool.{true≢false}

@@ -1,4 +1,7 @@
 -- Types that contain no queue: a routine, a class or a process declares only such types.
+--
+-- A variable's data has no queue, by the rules, and a class is declared before what contains it.
+-- So this holds of all system types other than monitors, by induction on their number.
 use Rattle.std.proofs.Common.{◌≡◌, ◌⊎◌, inl, inr, ◌<◌, ◌+◌, ◌*◌, ℕ, zero, suc, Bool, true, false, List, [], ◌∷◌, Option, Some, None, refl, ap, sym, subst, arith}
 use Rattle.std.specs.Prelude.{filter, if◌then◌else◌, not, slice_get, take}
 use Rattle.std.proofs.lemmas.Bool.{true≢false}

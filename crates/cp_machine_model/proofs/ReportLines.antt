@@ -1,4 +1,7 @@
 -- The lines that are read from the words of a variable are those of its leaves.
+--
+-- By induction on the type, along both walks at once: elements and members come in the same
+-- order, and at a simple part the word is the value in the store.
 use Rattle.std.proofs.Common.{◌≡◌, inl, inr, ℕ, zero, suc, ◌+◌, ◌*◌, ℤ, pos, negsuc, Bool, true, false, List, [], ◌∷◌, ◌++◌, map, Option, Some, None, refl, ap, sym, subst, ◌∙◌, arith}
 use Rattle.std.specs.Prelude.{flat_map, if◌then◌else◌, ◌-ℤ◌, ◌||◌}
 use Rattle.std.proofs.lemmas.Bool.{true≢false}

@@ -1,4 +1,7 @@
 -- No two cells of a process share a word: its component and its activations lie one after another.
+--
+-- Activations lie one after another after the component, and monitors after them, so one address
+-- has one owner; parts of one owner that share a word are the same part (`Apart`).
 use Rattle.std.proofs.Common.{◌≡◌, ◌⊎◌, inl, inr, ℕ, ◌+◌, ◌≤◌, ◌<◌, List, [], ◌∷◌, Bool, true, false, Some, refl, ap, sym, subst, ◌∙◌, arith}
 use Rattle.std.specs.Prelude.{if◌then◌else◌, nat_eq}
 use Rattle.std.proofs.lemmas.Bool.{eq-eqb, eqb-true, true≢false}

@@ -1,4 +1,7 @@
 -- The parameters of a class or a monitor are stored in it, in the words after its mark.
+--
+-- An address among the words after the mark is that of one parameter, which holds what was stored
+-- at its name; any other address, and any other location, is left as it was.
 use Rattle.std.proofs.Common.{Bool, List, None, Some, [], ap, arith, false, inl, inr, length, refl, subst, suc, sym, true, ℕ, ℤ, ◌++◌, ◌+◌, ◌<◌, ◌∙◌, ◌∷◌, ◌≡◌, ◌≤◌, ◌⊎◌}
 use Rattle.cp_model.specs.Abstract.{Class, Name, System}
 use Rattle.cp_model.specs.Continuations.{Task}

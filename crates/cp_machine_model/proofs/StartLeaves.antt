@@ -1,4 +1,7 @@
 -- The start values of variables: each simple part is a leaf, and is written once.
+--
+-- By induction on the type along the path: an index within the bounds is among those that are
+-- counted. Names differ, so no later write stores at a leaf that was written.
 use Rattle.std.proofs.Common.{◌≡◌, inl, inr, ℕ, zero, suc, ◌+◌, ◌<◌, ◌≤◌, ℤ, pos, negsuc, Bool, true, false, List, [], ◌∷◌, ◌++◌, map, Option, Some, None, refl, ap, sym, subst, ◌∙◌, arith}
 use Rattle.std.specs.Prelude.{◌-◌, ◌*◌, if◌then◌else◌, int_le, nat_eq, nat_le}
 use Rattle.std.proofs.lemmas.Bool.{and_parts, eqb-true, eq-eqb, leb-true, true≢false}

@@ -1,4 +1,7 @@
 -- The first private state of a process is that of the process in the start.
+--
+-- Before there is an activation, only members lie anywhere. Their words start by the plan, which
+-- has the start value of each leaf, as the store has; no right is set on either side.
 use Rattle.std.proofs.Common.{◌≡◌, ◌⊎◌, inl, inr, ℕ, zero, suc, ◌+◌, ◌≤◌, ◌<◌, ℤ, pos, Bool, true, false, List, [], ◌∷◌, ◌++◌, length, Option, Some, None, refl, ap, sym, subst, ◌∙◌, arith}
 use Rattle.std.specs.Prelude.{if◌then◌else◌, nat_eq, not, replicate}
 use Rattle.std.proofs.lemmas.Bool.{eq-eqb, true≢false}
