@@ -7,8 +7,8 @@ use Rattle.cp_model.specs.Rules.{Accepted, first_violation}
 use Rattle.cp_program_model.specs.StandsFor.{StandsFor}
 use Rattle.cp_program.specs.declared.program.Program.{Program}
 use Rattle.cp_program.specs.View as view
-use Rattle.cp_check.specs.declared.checking.CheckError.{CheckError}
-use Rattle.cp_check.specs.declared.checking.CheckError.TheVariants as refused
+use Rattle.cp_rules.specs.declared.text.RuleError.{RuleError}
+use Rattle.cp_rules.specs.declared.text.RuleError.TheVariants as refused
 
 -- The program stands for the text.
 abbrev pub IsProgramOf : s.Tree → Program → Type 0
@@ -16,7 +16,7 @@ IsProgramOf t program = (setup : Setup) → setup.tree ≡ erase.abstract t → 
 
 -- If there is a program, the text is accepted and the program stands for it. If a rule is broken,
 -- the violation is the earliest one of the text.
-abbrev pub Checks : s.Tree → Result Program CheckError → Type 0
+abbrev pub Checks : s.Tree → Result Program RuleError → Type 0
 Checks t (Ok program) = Accepted t × IsProgramOf t program
 Checks t (Err (refused.Broken v)) = first_violation t ≡ Some v
 Checks t (Err refused.Memory) = Unit {0}

@@ -6,21 +6,11 @@ ghost use Rattle.cp_model.specs.View as view;
 ghost use Rattle.cp_check.specs.Checked.{Checks, IsProgramOf};
 
 use cp_compile::compile;
-use cp_model::rules::Violation;
 use cp_model::tree::Tree;
 use cp_program::program::Program;
 use cp_program_model::law::accepted_tree_has_program;
-use cp_rules::text::{Refusal, judge};
+use cp_rules::text::{RuleError, judge};
 use std::alloc::{AllocError, Global};
-
-/// Why a text has no program.
-#[derive(Clone, Copy, Debug, PartialEq, Eq)]
-pub enum CheckError {
-    /// A rule is broken: the earliest violation, and of several at the same place the lowest rule.
-    Broken(Violation),
-    /// Memory ran out.
-    Memory,
-}
 
 /// Compiles an accepted text into its program.
 ///
@@ -44,15 +34,14 @@ pub fn program(alloc: Global, tree: &Tree) -> Result<Program, AllocError>
 /// # Errors
 ///
 /// `Broken` if the text breaks a rule, `Memory` if memory runs out.
-pub fn check(alloc: Global, tree: &Tree) -> Result<Program, CheckError>
+pub fn check(alloc: Global, tree: &Tree) -> Result<Program, RuleError>
     ensures { Checks (view.tree tree.now) result }
 {
     match judge(alloc, tree) {
-        Err(Refusal::Broken(violation)) => Err(CheckError::Broken(violation)),
-        Err(Refusal::Memory) => Err(CheckError::Memory),
+        Err(error) => Err(error),
         Ok(_) => match program(alloc, tree) {
             Ok(program) => Ok(program),
-            Err(_) => Err(CheckError::Memory),
+            Err(_) => Err(RuleError::Memory),
         },
     }
 }

@@ -6,8 +6,8 @@ use Rattle.cp_scan.specs.declared.refusal.ScanError.{ScanError}
 use Rattle.cp_scan.specs.declared.refusal.ScanError.TheVariants as scan
 use Rattle.cp_syntax.specs.declared.refusal.SyntaxError.{SyntaxError}
 use Rattle.cp_syntax.specs.declared.refusal.SyntaxError.TheVariants as syntax
-use Rattle.cp_rules.specs.declared.text.Refusal.TheVariants as rules
-use Rattle.cp_rules.specs.declared.text.Refusal.{Refusal as RulesRefusal}
+use Rattle.cp_rules.specs.declared.text.RuleError.TheVariants as rules
+use Rattle.cp_rules.specs.declared.text.RuleError.{RuleError}
 use Rattle.cp_execute.specs.declared.reading.ReadError.{ReadError}
 use Rattle.cp_execute.specs.declared.reading.ReadError.TheVariants as read
 use Rattle.cp_execute.specs.declared.refusal.Refusal.{Refusal}
@@ -38,7 +38,7 @@ of_syntax (syntax.Unfinished at) = refusal.Unfinished at
 of_syntax (syntax.TooDeep at) = refusal.TooDeep at
 of_syntax syntax.Memory = refusal.Memory
 
-abbrev pub of_rules : RulesRefusal → Refusal
+abbrev pub of_rules : RuleError → Refusal
 of_rules (rules.Broken v) = refusal.Check v.rule v.at
 of_rules rules.Memory = refusal.Memory
 

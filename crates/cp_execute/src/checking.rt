@@ -7,7 +7,7 @@ ghost use Rattle.cp_execute.specs.Texts.{IsAccepted, IsTextOf, Refuses};
 
 use crate::refusal::Refusal;
 use cp_model::tree::Tree;
-use cp_rules::text::{self, judge};
+use cp_rules::text::{RuleError, judge};
 use cp_scan::scan;
 use cp_syntax::{SyntaxError, parse};
 use std::alloc::Global;
@@ -23,12 +23,12 @@ fn syntax_refusal(error: SyntaxError) -> Refusal
     }
 }
 
-fn rules_refusal(error: text::Refusal) -> Refusal
+fn rules_refusal(error: RuleError) -> Refusal
     ensures { result ≡ of_rules error }
 {
     match error {
-        text::Refusal::Broken(violation) => Refusal::from(violation),
-        text::Refusal::Memory => Refusal::Memory,
+        RuleError::Broken(violation) => Refusal::from(violation),
+        RuleError::Memory => Refusal::Memory,
     }
 }
 

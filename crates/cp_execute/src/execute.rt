@@ -84,13 +84,8 @@ fn finish<W: Write>(out: &mut W, bytes: &[u8]) -> Result<(), Refusal>
     }
 }
 
-/// Checks the text of a reader, and writes `accepted` and a line feed.
-///
-/// # Errors
-///
-/// I1, S, Y, C or M for the text, and I2 if a write fails. After I2 a prefix of the line has been
-/// written, and after any other refusal nothing. An accepted text is refused only with M, I1 or I2.
-pub fn check_text<R: Read, W: Write>(
+// Checks the text of a reader, and writes `accepted` and a line feed.
+fn check_text<R: Read, W: Write>(
     alloc: Global,
     text: &mut R,
     out: &mut W,
@@ -110,15 +105,8 @@ pub fn check_text<R: Read, W: Write>(
     finish(out, b"accepted\n")
 }
 
-/// Runs the text of one reader on the input of another, and writes the report.
-///
-/// # Errors
-///
-/// For the text I1, S, Y or C, then for the input I1, I4 or I3. Also M, and I2 if a write fails.
-/// After I2 a prefix of the report has been written, and after any other refusal nothing. If the
-/// text is accepted and the input isn't refused with I4 or I3, the run is refused only with M, I1
-/// or I2.
-pub fn run_text<H: Threads + Wait + Sync, R: Read, S: Read, W: Write, G: TurnGate>(
+// Runs the text of one reader on the input of another, and writes the report.
+fn run_text<H: Threads + Wait + Sync, R: Read, S: Read, W: Write, G: TurnGate>(
     rt: &H,
     alloc: Global,
     text: &mut R,
@@ -152,7 +140,9 @@ pub fn run_text<H: Threads + Wait + Sync, R: Read, S: Read, W: Write, G: TurnGat
 ///
 /// # Errors
 ///
-/// Those of [`check_text`] and [`run_text`].
+/// For the text I1, S, Y or C, then for the input of a run I1, I4 or I3. Also M, and I2 if a write
+/// fails. After I2 a prefix of what was due has been written, and after any other refusal nothing.
+/// If the text is accepted and the input isn't refused with I4 or I3, only M, I1 or I2 is possible.
 pub fn execute<H: Threads + Wait + Sync, R: Read, S: Read, W: Write, G: TurnGate>(
     rt: &H,
     alloc: Global,

@@ -18,7 +18,7 @@ use cp_execute::reading::{ReadError, read_text};
 use cp_execute::refusal::{Refusal, scan_number};
 use cp_execute::writing::write_all;
 use cp_model::tree::Tree;
-use cp_rules::text::{self, judge};
+use cp_rules::text::{RuleError, judge};
 use std::alloc::{AllocError, Global};
 use std::io::{Read, Write};
 
@@ -117,11 +117,11 @@ fn of_tree(
             page: graph(alloc, tree, form)?,
             refusal: None,
         }),
-        Err(text::Refusal::Broken(violation)) => {
+        Err(RuleError::Broken(violation)) => {
             let told = of_violation(alloc, text, tree, violation)?;
             explain_refusal(alloc, file, text, Refusal::from(violation), &told)
         }
-        Err(text::Refusal::Memory) => Err(AllocError),
+        Err(RuleError::Memory) => Err(AllocError),
     }
 }
 

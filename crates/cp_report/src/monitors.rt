@@ -5,9 +5,10 @@ ghost use Rattle.cp_report.specs.Subjects.{TellsMonitor, TellsMonitors};
 
 use crate::gates::push_gate_line;
 use crate::status::monitor_start;
-use crate::subject::{Subject, small_number};
+use crate::subject::Subject;
 use crate::telling::{Telling, Words};
 use crate::walk::Walk;
+use cp_scope::small_number;
 use std::alloc::AllocError;
 
 impl<'r, 't> Subject<'r, 't> {

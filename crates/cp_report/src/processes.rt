@@ -8,11 +8,11 @@ ghost use Rattle.cp_report.specs.Subjects.{TellsProcess, TellsProcesses};
 
 use crate::lines::{push_title, push_transcript_line};
 use crate::status::push_stage;
-use crate::subject::{Subject, small_number};
+use crate::subject::Subject;
 use crate::telling::{Telling, Words};
 use crate::walk::Walk;
 use cp_private::private::{Activity, Private};
-use cp_scope::Field;
+use cp_scope::{Field, small_number};
 use std::alloc::AllocError;
 
 impl<'r, 't> Subject<'r, 't> {

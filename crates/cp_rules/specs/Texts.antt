@@ -12,8 +12,8 @@ use Rattle.cp_model.specs.Rules.{Accepted, c13_initial, first_violation}
 use Rattle.cp_judge.specs.declared.environment.Environment as code
 use Rattle.cp_rules.specs.Checking.{State}
 use Rattle.cp_rules.specs.Definitions.{define_sections}
-use Rattle.cp_rules.specs.declared.text.Refusal.{Refusal}
-use Rattle.cp_rules.specs.declared.text.Refusal.TheVariants as refused
+use Rattle.cp_rules.specs.declared.text.RuleError.{RuleError}
+use Rattle.cp_rules.specs.declared.text.RuleError.TheVariants as refused
 
 -- The violations in the body of the initial process, whose variables take `words` words.
 abbrev pub body_violations : Environment → ℕ → s.Body → Violations
@@ -33,7 +33,7 @@ judged_text t = record { env = environment_of t; told = first_violation t }
 
 -- The text is accepted, and this is the environment at its end. Or else this is the violation that
 -- is reported for it.
-abbrev pub Judges : s.Tree → Result code.Environment Refusal → Type 0
+abbrev pub Judges : s.Tree → Result code.Environment RuleError → Type 0
 Judges t (Ok env) = Accepted t × (env ≡ environment_of t)
 Judges t (Err (refused.Broken v)) = first_violation t ≡ Some v
 Judges t (Err refused.Memory) = Unit {0}

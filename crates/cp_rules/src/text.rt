@@ -20,7 +20,7 @@ use std::alloc::{AllocError, Global};
 
 /// Why a text isn't accepted.
 #[derive(Clone, Copy, Debug, PartialEq, Eq)]
-pub enum Refusal {
+pub enum RuleError {
     /// A rule is broken: the earliest violation, and of several at the same place the lowest rule.
     Broken(Violation),
     /// Memory ran out.
@@ -75,13 +75,13 @@ impl<'t> Checker<'t> {
 /// # Errors
 ///
 /// `Broken` if the text breaks a rule, `Memory` if memory runs out.
-pub fn judge<'t>(alloc: Global, tree: &'t Tree) -> Result<Environment<'t>, Refusal>
+pub fn judge<'t>(alloc: Global, tree: &'t Tree) -> Result<Environment<'t>, RuleError>
     ensures { Judges (view.tree tree.now) result }
 {
     match Checker::text(alloc, tree) {
-        Err(_) => Err(Refusal::Memory),
+        Err(_) => Err(RuleError::Memory),
         Ok(checker) => match checker.earliest {
-            Some(violation) => Err(Refusal::Broken(violation)),
+            Some(violation) => Err(RuleError::Broken(violation)),
             None => Ok(checker.environment),
         },
     }

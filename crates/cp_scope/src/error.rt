@@ -31,3 +31,10 @@ impl<T: Drop> From<AllocFailed<T>> for CompileError {
         CompileError::Memory
     }
 }
+
+// For a caller of an accepted text, which can only run out of memory.
+impl From<CompileError> for AllocError {
+    fn from(_error: CompileError) -> AllocError {
+        AllocError
+    }
+}

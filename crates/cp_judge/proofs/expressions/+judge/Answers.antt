@@ -1,3 +1,6 @@
+-- The code judges operands, indices and arguments one after another and keeps one violation; the definition joins lists
+-- of violations. Each answer splits the definition's list where the code calls, and the earliest of a list is the
+-- earliest of its parts. A loop's invariant says so of what was read so far, grouped to the left as the definition does.
 use Rattle.std.proofs.Common.{◌≡◌, ◌+◌, ◌-◌, ◌≤◌, ◌∷◌, map, take, drop, length, slice_get, ap, sym, ◌∙◌, refl, arith}
 use Rattle.std.proofs.lemmas.Bool.Decides.{nat_tests}
 use Rattle.std.proofs.lemmas.List.{at_drop_more}

@@ -1,3 +1,6 @@
+-- The code makes the rows of a written type from its parts and reports to one place; the definition returns rows and
+-- violations. Each answer rewrites the tree's node to the definition's, and joins what the calls made in the same order.
+-- Loops over fields and indices go from the left, where the definition goes by recursion: FieldsMade says it's the same.
 use Rattle.std.proofs.Common.{◌≡◌, ◌+◌, ◌∷◌, ◌++◌, ℕ, List, drop, map, ap, sym, ◌∙◌}
 use Rattle.std.proofs.lemmas.List.{at_drop_more, drop_all}
 use Rattle.cp_model.specs.Syntax as s

@@ -1,3 +1,6 @@
+-- Statements are emitted from the last one back, so each knows where the next one is entered: the loops' invariant is
+-- that the operations so far are the definition's for the rest of the list. A loop statement reserves its closing
+-- operation first and completes it after its body, which is what the definition writes there at once.
 use Rattle.std.proofs.Common.{rules, ◌≡◌, ◌∷◌, ◌++◌, ◌+◌, ◌-◌, ◌<◌, ◌∙◌, ℕ, List, ap, arith, drop, length, map, reverse, subst, suc, sym}
 use Rattle.std.proofs.lemmas.List.{at_drop_more}
 use Rattle.cp_model.specs.Abstract as a

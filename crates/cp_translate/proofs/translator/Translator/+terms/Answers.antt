@@ -1,3 +1,6 @@
+-- Expressions, designators and arguments contain one another, so each answer joins what the calls in it promise of
+-- the parts. A loop over operands or selectors keeps the expression read so far, which the definition groups to the
+-- left: its invariant is that what was made is the definition's for that expression, and that what is left completes it.
 use Rattle.std.proofs.Common.{◌≡◌, ◌∷◌, ◌++◌, ◌+◌, ◌∙◌, [], Some, pos, ℕ, List, add-one, ap, arith, codes, drop, length, length-append, map, refl, slice_get, subst, sym}
 use Rattle.std.specs.Str.{bytes_eq}
 use Rattle.std.specs.Int.{w32}
