@@ -12,7 +12,7 @@ use Rattle.cp_model.specs.Turns.{Kernel, Private, after_step, if_private, kind, 
 use Rattle.cp_program_model.specs.Programs.{Operation}
 use Rattle.cp_program_model.specs.Sites.{operation_at}
 use Rattle.cp_machine_model.specs.PrivateStates as machine
-use Rattle.cp_machine_model.specs.PrivateStates.{Outside, PrivateState}
+use Rattle.cp_machine_model.specs.PrivateStates.{PrivateState}
 use Rattle.cp_machine_model.specs.Steps as steps
 use Rattle.cp_machine_model.specs.Steps.{act, act_on, alone}
 use Rattle.cp_machine_model.specs.Addresses.{Ground}

@@ -21,8 +21,8 @@ use Rattle.cp_machine_model.proofs.Heres.{lies_any}
 use Rattle.cp_machine_model.proofs.Keeping.{KeepsActivation, KeepsData, each_kept, local_named, right_place}
 use Rattle.cp_machine_model.proofs.Owned.{OwnRight, component_part, found_monitor, reference_inside, result_inside}
 use Rattle.cp_machine_model.proofs.RunningOn.{runs_stacked, runs_with_data}
-use Rattle.cp_machine_model.proofs.Separate.{bottom_below, own_below}
-use Rattle.cp_machine_model.proofs.Stacks.{Stacked, found_inside}
+use Rattle.cp_machine_model.proofs.Separate.{own_below}
+use Rattle.cp_machine_model.proofs.Stacks.{Stacked, bottom_below, found_inside}
 
 abbrev IsProcess : Owner → Type 0
 IsProcess (OfProcess p) = Unit {0}
@@ -84,7 +84,7 @@ module _ (G : Ground) (xs : List Activation) (top : ℕ) (stack : Stacked G top 
           monitor_same m (M.far + a) (n + a) M.system M.is (omega (arith, M.fits, head_inside (scope G) u a head)) (omega (arith, M.place))
 
   right_same : (i : ℕ) → OwnRight G i → word new i ≡ word old i
-  right_same i (inl h) = own_same i (omega (arith, h.2, bottom_below G xs top stack top xs stack.stack h.0 h.1))
+  right_same i (inl h) = own_same i (omega (arith, h.2, bottom_below G top xs stack.stack h.0 h.1))
   right_same i (inr h) = monitor_same h.0 h.2 i h.1 h.4 (omega (arith, h.5)) h.6
 
   pub data_beside : KeepsData G store after old new xs

@@ -10,7 +10,7 @@ use Rattle.std.specs.Str.{bytes_eq}
 use Rattle.cp_model.specs.Abstract as a
 use Rattle.cp_model.specs.Abstract.{BaseType, Name, Sort}
 use Rattle.cp_model.specs.Actions as actions
-use Rattle.cp_model.specs.Actions.{Action, Acts, action, is_kernel_action}
+use Rattle.cp_model.specs.Actions.{Action, Acts, action}
 use Rattle.cp_model.specs.Assignments.{starting_writes}
 use Rattle.cp_model.specs.Calls.{Callee, UserCall, call_in_arguments, call_in_task, in_context, is_monitor_call, procedure_call}
 use Rattle.cp_model.specs.CallSteps as calls

@@ -3,9 +3,9 @@ use Rattle.std.proofs.Common.{Err, List, None, Ok, Option, Result, Some, [], ap,
 use Rattle.std.specs.Prelude.{if◌then◌else◌, int_le, nat_lt}
 use Rattle.std.proofs.lemmas.Bool.{lt-leb, lt-ltb, true≢false}
 use Rattle.cp_model.specs.Abstract as a
-use Rattle.cp_model.specs.Abstract.{Name, System}
+use Rattle.cp_model.specs.Abstract.{Name}
 use Rattle.cp_model.specs.Configurations as stage
-use Rattle.cp_model.specs.Configurations.{StepResult, with_writes}
+use Rattle.cp_model.specs.Configurations.{with_writes}
 use Rattle.cp_model.specs.Continuations.{Do, Task, marked_monitors}
 use Rattle.cp_model.specs.Environments.{Environment}
 use Rattle.cp_model.specs.Locations.{Location}

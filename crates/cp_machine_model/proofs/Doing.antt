@@ -18,7 +18,7 @@ use Rattle.cp_program_model.specs.Sites.{operation_at}
 use Rattle.cp_program_model.specs.TermsFor.{Agrees, Knowns, SpotFor, TermFor}
 use Rattle.cp_machine_model.specs.PrivateStates.{Outside, PrivateState, go_to, view_of}
 use Rattle.cp_machine_model.specs.Steps as steps
-use Rattle.cp_machine_model.specs.Steps.{act, alone}
+use Rattle.cp_machine_model.specs.Steps.{act}
 use Rattle.cp_machine_model.specs.Values.{View, place_of, value_of}
 use Rattle.cp_machine_model.specs.Means.{PlaceAgrees}
 use Rattle.cp_machine_model.specs.Addresses.{Ground, activations, in_sight, lies_in_sight}

@@ -3,7 +3,6 @@
 use Rattle.std.proofs.Common.{List, Option, [], ap, arith, refl, subst, sym, ℕ, ◌∙◌, ◌∷◌}
 use Rattle.cp_model.specs.Actions.{Acts}
 use Rattle.cp_model.specs.Configurations as stage
-use Rattle.cp_model.specs.Configurations.{Ends, with_continuation}
 use Rattle.cp_model.specs.Continuations.{EndBody, EndProcess, Task}
 use Rattle.cp_model.specs.Parts.{private_status}
 use Rattle.cp_model.specs.States.{State}

@@ -6,7 +6,7 @@
 use Rattle.std.proofs.Common.{◌≡◌, ℕ, zero, suc, ◌+◌, ◌*◌, ℤ, pos, negsuc, [], ◌∷◌, map, Bool, true, false, Option, Some, None, Result, Ok, Err, refl, ap, sym, subst, ◌∙◌, arith}
 use Rattle.std.specs.Prelude.{◌+ℤ◌, ◌-ℤ◌, ◌*ℤ◌, if◌then◌else◌, int_div, int_le, int_rem, neg_ℤ}
 use Rattle.cp_model.specs.Abstract as a
-use Rattle.cp_model.specs.Abstract.{BaseType, Boolean, Char, Integer, Name}
+use Rattle.cp_model.specs.Abstract.{BaseType, Integer, Name}
 use Rattle.cp_model.specs.Calls.{call_in_arguments, call_in_designator, first_call, in_context, user_call}
 use Rattle.cp_model.specs.Environments.{Environment, meaning}
 use Rattle.cp_model.specs.Expressions.{place, value}

@@ -6,6 +6,7 @@ use Rattle.std.proofs.lemmas.List.{get_or-set_other, get_or-set_same}
 use Rattle.cp_model.specs.States.{Gate, Unset, with_at}
 use Rattle.cp_model.proofs.StateMaps.{differ}
 use Rattle.cp_machine_model.specs.KernelSteps.{gate_of}
+use Rattle.cp_machine_model.proofs.Tables.{one_less}
 
 abbrev pub GatesAre : List Gate → (ℕ → Gate) → Type 0
 GatesAre gs f = (m : ℕ) → gate_of gs m ≡ f m
@@ -25,9 +26,6 @@ gate_set gs f (suc i) g low high same zero = same zero ∙ ap (λ b. if b then g
 gate_set gs f (suc i) g low high same (suc n) =
     gate_is (slice_set gs (suc i - 1) g) n ∙ (ap (λ k. get_or (slice_set gs k g) n no_gate) (one_less i) ∙ by (nat_eq (suc i) (suc n)) refl)
   where
-    one_less : (i : ℕ) → suc i - 1 ≡ i
-    one_less i = omega arith
-
     by : (b : Bool) → nat_eq (suc i) (suc n) ≡ b → get_or (slice_set gs i g) n no_gate ≡ (if b then g else f (suc n))
     by true e =
         let here : n ≡ i = omega (arith, eqb-true (suc i) (suc n) e) in

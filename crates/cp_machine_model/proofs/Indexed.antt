@@ -1,7 +1,6 @@
 -- Designators with an index are neither calls nor the clock.
 use Rattle.std.proofs.Common.{◌≡◌, Some, None, refl, sym}
 use Rattle.cp_model.specs.Abstract as a
-use Rattle.cp_model.specs.Abstract.{BaseType, Name}
 use Rattle.cp_model.specs.Calls.{Callee, callee, call_in_designator}
 use Rattle.cp_model.specs.Environments.{Environment}
 use Rattle.cp_program_model.specs.Sites.{IsNoClock}

@@ -3,7 +3,7 @@
 use Rattle.std.proofs.Common.{suc, zero, Bool, List, None, Option, Some, [], ap, arith, false, inl, inr, length, refl, subst, sym, true, ℕ, ℤ, ◌+◌, ◌<◌, ◌∙◌, ◌∷◌, ◌≡◌, ◌≤◌, ◌⊎◌}
 use Rattle.std.specs.Prelude.{if◌then◌else◌, not}
 use Rattle.cp_model.specs.Abstract as a
-use Rattle.cp_model.specs.Abstract.{Class, Monitor, Name, Sort, System}
+use Rattle.cp_model.specs.Abstract.{Class, Monitor, Name, System}
 use Rattle.cp_model.specs.Arguments.{bind, init_argument_writes}
 use Rattle.cp_model.specs.Components.{Component, declared_monitor, monitor_location, monitor_right, name_location}
 use Rattle.cp_model.specs.Configurations.{Opens, StepResult, own_step, with_continuation}
@@ -22,22 +22,22 @@ use Rattle.cp_model.specs.declared.state.Fault.TheVariants as fault
 use Rattle.cp_program_model.specs.Terms as target
 use Rattle.cp_program_model.specs.Terms.{Argument}
 use Rattle.cp_program_model.specs.Programs as op
-use Rattle.cp_program_model.specs.Programs.{Call, CodeUnit}
+use Rattle.cp_program_model.specs.Programs.{Call}
 use Rattle.cp_typing.specs.Declared.{Distinct}
 use Rattle.cp_typing.specs.StartValues.{IsIn}
 use Rattle.cp_typing.specs.Words.{words}
 use Rattle.cp_program_model.specs.Layout.{Part}
 use Rattle.cp_program_model.specs.Sites as sites
-use Rattle.cp_program_model.specs.Sites.{BodyOf, Site, TargetOf, operation_at}
+use Rattle.cp_program_model.specs.Sites.{BodyOf, TargetOf}
 use Rattle.cp_program_model.specs.StandsFor.{UnitStands, end_of, system_of_monitor}
 use Rattle.cp_program_model.specs.Starts.{block, paste}
 use Rattle.cp_program_model.specs.StatementsFor.{InitArgumentsFor, InitsBy}
 use Rattle.cp_program_model.specs.TermsFor.{Knowns, nothing_known}
 use Rattle.cp_machine_model.specs.PrivateStates as machine
-use Rattle.cp_machine_model.specs.PrivateStates.{Acting, Outside, PrivateState, fault_in, private_outcome, guard, set_word}
+use Rattle.cp_machine_model.specs.PrivateStates.{Acting, Outside, PrivateState, fault_in, private_outcome, guard}
 use Rattle.cp_machine_model.specs.Passing.{Called, Passing, component_called, monitor_called, monitor_start, pass_all, when_passed}
 use Rattle.cp_machine_model.specs.Calling.{Back, enter, frame_of, has_room, init_monitor, innermost, settle}
-use Rattle.cp_machine_model.specs.Addresses.{Activation, ClassHasRights, ClassLies, Ground, HasRights, MonitorLies, activations, component_type, in_sight, lies, scope, lies_in_sight, whole, words_seen}
+use Rattle.cp_machine_model.specs.Addresses.{Activation, ClassHasRights, Ground, HasRights, MonitorLies, activations, in_sight, lies, scope, lies_in_sight, whole, words_seen}
 use Rattle.cp_machine_model.specs.Left.{Left, Running, Runs, innermost_gate, site}
 use Rattle.cp_machine_model.specs.PartOf.{ActivationsMean, DataMeans, PartOf, RunsOn}
 use Rattle.cp_machine_model.proofs.Apart.{IsCell}

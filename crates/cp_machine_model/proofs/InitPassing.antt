@@ -7,7 +7,7 @@ use Rattle.std.specs.Prelude.{if◌then◌else◌, slice_set}
 use Rattle.std.proofs.lemmas.Bool.{true≢false}
 use Rattle.std.proofs.lemmas.List.{get_or-set_same, length-set}
 use Rattle.cp_model.specs.Abstract as a
-use Rattle.cp_model.specs.Abstract.{BaseType, Name, Sort, System}
+use Rattle.cp_model.specs.Abstract.{BaseType, Name, System}
 use Rattle.cp_model.specs.Arguments.{bind, init_argument_writes, named_right_writes, right_writes}
 use Rattle.cp_model.specs.Assignments.{writes_of}
 use Rattle.cp_model.specs.Calls.{call_in_arguments, first_call, in_context}

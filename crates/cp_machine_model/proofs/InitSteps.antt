@@ -6,7 +6,7 @@
 use Rattle.std.proofs.Common.{Bool, List, None, Option, Some, [], ap, arith, false, inl, inr, length, pos, refl, subst, sym, true, ℕ, ℤ, ◌+◌, ◌<◌, ◌∙◌, ◌∷◌, ◌≡◌, ◌≤◌, ◌⊎◌}
 use Rattle.std.specs.Prelude.{if◌then◌else◌, not}
 use Rattle.cp_model.specs.Abstract as a
-use Rattle.cp_model.specs.Abstract.{Class, Name, Sort, System}
+use Rattle.cp_model.specs.Abstract.{Class, Name, System}
 use Rattle.cp_model.specs.Arguments.{bind, init_argument_writes}
 use Rattle.cp_model.specs.CallSteps.{is_initialised}
 use Rattle.cp_model.specs.Components.{Component, class_location, class_or_here, component_named, name_location, same_sort}
@@ -34,7 +34,7 @@ use Rattle.cp_typing.specs.StartValues.{IsIn}
 use Rattle.cp_typing.specs.Words.{words}
 use Rattle.cp_program_model.specs.Layout.{Part, member}
 use Rattle.cp_program_model.specs.Sites as sites
-use Rattle.cp_program_model.specs.Sites.{BodyOf, Site, TargetOf, operation_at}
+use Rattle.cp_program_model.specs.Sites.{BodyOf, TargetOf, operation_at}
 use Rattle.cp_program_model.specs.StandsFor.{UnitStands, end_of}
 use Rattle.cp_program_model.specs.Starts.{block, paste, word}
 use Rattle.cp_program_model.specs.StatementsFor.{InitArgumentsFor, InitsBy}

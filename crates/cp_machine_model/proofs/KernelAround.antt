@@ -17,6 +17,7 @@ use Rattle.cp_machine_model.proofs.Layouts.{same_some}
 pub use Rattle.cp_machine_model.proofs.MonitorsThere.{monitor_below, process_below}
 use Rattle.cp_machine_model.proofs.Stepping.{AroundAll}
 use Rattle.std.proofs.lemmas.Option.{slice_get_within}
+use Rattle.cp_machine_model.proofs.Tables.{one_less}
 
 same_set : (h : Holder) → is_set h ≡ states.is_set h
 same_set Unset = refl
@@ -46,9 +47,6 @@ module _ (G : Ground) (F : StandsFor G.program G.setup) where
           let M = F.monitors (suc (m - 1)) (omega arith) (omega (arith, less, F.monitor_rows)) in
           let same : M.row ≡ r = same_some M.row r (sym M.there ∙ (ap (slice_get G.program.monitors) (one_less (m - 1)) ∙ e)) in
           omega (arith, M.lies, ap (λ (z : code.Monitor). z.start) same)
-        where
-          one_less : (n : ℕ) → suc n - 1 ≡ n
-          one_less n = omega arith
 
   pub around_all : G.sight ≡ AllWords → (s : State) (k : Kernel) → KernelOf G.program G.texts G.setup s k → (w : Outside) → ((m : ℕ) → w.is_set m ≡ is_set (gate_of k.gates m).holder)
       → ((r : ℕ) → w.is_started r ≡ is_started (stage_of k.stages r)) → AroundAll G s w

@@ -36,7 +36,7 @@ use Rattle.cp_machine_model.proofs.KernelBeside.{kernel_beside, kernel_ends_roun
 use Rattle.cp_machine_model.proofs.MachineTurns.{kernel_turn_stands}
 use Rattle.cp_machine_model.proofs.RoundEnds.{part_ends_round, part_wakes}
 use Rattle.cp_machine_model.proofs.RoundParts.{kernel_turned, part_turned}
-use Rattle.cp_machine_model.proofs.Tables.{mapped_found}
+use Rattle.cp_machine_model.proofs.Tables.{mapped_found, one_less}
 
 -- ---- processes that haven't begun
 
@@ -95,9 +95,6 @@ append_one (z ∷ xs) x ys = ap (λ zs. z ∷ zs) (append_one xs x ys)
 length_one : {A : Type 0} (xs : List A) (x : A) → length (xs ++ x ∷ []) ≡ suc (length xs)
 length_one [] x = refl
 length_one (z ∷ xs) x = ap (λ n. suc n) (length_one xs x)
-
-one_less : (n : ℕ) → suc n - 1 ≡ n
-one_less n = omega arith
 
 is_in_numbers : (n p q : ℕ) → p ≤ q → q < p + n → is_in q (numbers_from p n) ≡ true
 is_in_numbers zero p q a b = absurd (omega (arith, a, b))

@@ -12,7 +12,7 @@ use Rattle.cp_model.specs.Configurations.{Effect, Status, StepResult}
 use Rattle.cp_model.specs.Operators.{realtime}
 use Rattle.cp_model.specs.Outcomes.{Fault, Gives}
 use Rattle.cp_model.specs.Parts as parts
-use Rattle.cp_model.specs.Parts.{HasBegun, HasNotBegun, PrivateStatus, private_status}
+use Rattle.cp_model.specs.Parts.{HasNotBegun, PrivateStatus, private_status}
 use Rattle.cp_model.specs.States.{Setup, State, configuration, context, process_count, running_clock}
 use Rattle.cp_model.specs.Step.{step_of}
 use Rattle.cp_model.specs.Turns as meaning

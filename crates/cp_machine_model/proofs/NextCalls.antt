@@ -3,7 +3,7 @@
 -- After it, all calls have been made, or the next call puts its value into a later temp.
 use Rattle.std.proofs.Common.{◌≡◌, ℕ, ◌≤◌, ◌<◌, ℤ, ◌⊎◌, inl, inr, Some, None, ap, ◌∙◌, arith}
 use Rattle.cp_model.specs.Abstract as a
-use Rattle.cp_model.specs.Abstract.{BaseType, Name}
+use Rattle.cp_model.specs.Abstract.{BaseType}
 use Rattle.cp_model.specs.Calls.{Found, UserCall, call_in_arguments, in_context, or_else}
 use Rattle.cp_program_model.specs.Programs as op
 use Rattle.cp_program_model.specs.Programs.{Call}

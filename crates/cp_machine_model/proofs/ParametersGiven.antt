@@ -26,9 +26,9 @@ use Rattle.cp_machine_model.proofs.Owned.{OwnRight}
 use Rattle.cp_machine_model.proofs.Heres.{lies_any}
 use Rattle.cp_machine_model.proofs.Placing.{Placed}
 use Rattle.cp_machine_model.proofs.ProcessRights.{HasNoClassRight}
-use Rattle.cp_machine_model.proofs.Separate.{bottom_below, cell_no_own_right, own_right_inside}
+use Rattle.cp_machine_model.proofs.Separate.{cell_no_own_right, own_right_inside}
 use Rattle.cp_machine_model.proofs.Settling.{Settled, data_settled, stored_at}
-use Rattle.cp_machine_model.proofs.Stacks.{Stacked}
+use Rattle.cp_machine_model.proofs.Stacks.{Stacked, bottom_below}
 
 -- ---- the component of a process
 
@@ -49,7 +49,7 @@ module _ (G : Ground) (xs : List Activation) (top : ℕ) (stack : Stacked G top 
       own_right k below = inl (s, is, below)
 
       bottom : component_words (scope G) s ≤ top
-      bottom = bottom_below G xs top stack top xs stack.stack s is
+      bottom = bottom_below G top xs stack.stack s is
 
       by : (j : Location) (r : System) (n i k : ℕ) → in_sight G j.owner ≡ true → k < head_words (scope G) s → i < 1 + length (rights (scope G) r) → n + i ≡ 0 + k → ComponentLies G j r n
           → OwnRight G (n + i) ⊎ ((lies G xs j ≡ Some (n, component_type G r)) × InHead (scope G) (component_type G r) i × (1 ≤ i)) → j ≡ root (OfProcess G.p)

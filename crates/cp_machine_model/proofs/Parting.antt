@@ -24,9 +24,9 @@ use Rattle.cp_machine_model.proofs.Joining.{not_first, shifted, unshifted}
 use Rattle.cp_machine_model.proofs.Keeping.{KeepsActivation, activations_kept, each_kept, right_within}
 use Rattle.cp_machine_model.proofs.Owned.{reference_inside, result_inside}
 use Rattle.cp_machine_model.proofs.RunningOn.{runs_stacked}
-use Rattle.cp_machine_model.proofs.Separate.{bottom_below, own_below}
+use Rattle.cp_machine_model.proofs.Separate.{own_below}
 use Rattle.cp_machine_model.proofs.Sights.{at_there, component_there, mean_there, right_means, rights_there, same_lies, with_sight}
-use Rattle.cp_machine_model.proofs.Stacks.{Stacked, found_inside}
+use Rattle.cp_machine_model.proofs.Stacks.{Stacked, bottom_below, found_inside}
 use Rattle.cp_machine_model.proofs.Writing.{is_cell}
 use Rattle.cp_machine_model.proofs.Heres.{lies_any}
 use Rattle.std.proofs.lemmas.List.{get_or_append_left, get_or-append-add, length-take-le, take-append-drop, length-drop}
@@ -81,7 +81,7 @@ module _ (G : Ground) (sight : G.sight ≡ OwnWords) (lie : MonitorsLie G.progra
 
   right_here : (at : Location) (s : System) (n m : ℕ) (x : Name) (v : Variable) → is_shared at.owner ≡ false → ComponentLies G at s n → right (scope G) s x ≡ Some (m, v) → n + m < top
   right_here at s n m x v own (ProcessLies where' is zero') r =
-      omega (arith, zero', (right_within 1 (rights (scope G) s) x m v r).1, bottom_below H xs top stack top xs stack.stack s is)
+      omega (arith, zero', (right_within 1 (rights (scope G) s) x m v r).1, bottom_below H top xs stack.stack s is)
   right_here at s n m x v own (MonitorLies j where' is from) r = absurd (true≢false (ap (λ (l : Location). is_shared l.owner) (sym where') ∙ own))
   right_here at s n m x v own (ClassLies sort is) r =
       own_below H xs top stack at n (component_type G s) m own (subst IsClass (sym sort) tt, omega (arith, (right_within 1 (rights (scope G) s) x m v r).1)) (lies_any H xs at _ (same_lies G AllWords lie [] at ∙ is))

@@ -18,8 +18,8 @@ use Rattle.cp_machine_model.proofs.Holding.{live_owner}
 use Rattle.cp_machine_model.proofs.Keeping.{depth_of, right_place, right_within}
 use Rattle.cp_machine_model.proofs.Layouts.{same_some}
 use Rattle.cp_machine_model.proofs.Owned.{OwnRight}
-use Rattle.cp_machine_model.proofs.Separate.{bottom_below, cell_inside, cell_no_own_right, own_right_inside, separate}
-use Rattle.cp_machine_model.proofs.Stacks.{Stacked, monitor_seen}
+use Rattle.cp_machine_model.proofs.Separate.{cell_inside, cell_no_own_right, own_right_inside, separate}
+use Rattle.cp_machine_model.proofs.Stacks.{Stacked, bottom_below, monitor_seen}
 
 -- ---- where a component lies
 
@@ -109,7 +109,7 @@ module _ (G : Ground) (xs : List Activation) (top : ℕ) (stack : Stacked G top 
       by : (j : Location) (r : System) (n i k : ℕ) → in_sight G j.owner ≡ true → i < 1 + length (rights (scope G) r) → k < head_words (scope G) s → n + i ≡ c + k → ComponentLies G j r n
           → OwnRight G (n + i) ⊎ ((lies G xs j ≡ Some (n, component_type G r)) × InHead (scope G) (component_type G r) i × (1 ≤ i)) → j ≡ root (OfMonitor m)
       by j r n i k mine inside below e cl (inr o) = absurd (cell_no_own_right G xs top stack j n (c + k) (component_type G r) i mine o.1 o.0 (own_right k below) e)
-      by j r n i k mine inside below e (ProcessLies where' is' zero') (inl o) = absurd (omega (arith, inside, zero', bottom_below G xs top stack top xs stack.stack r is', stack.fits, e, from))
+      by j r n i k mine inside below e (ProcessLies where' is' zero') (inl o) = absurd (omega (arith, inside, zero', bottom_below G top xs stack.stack r is', stack.fits, e, from))
       by j r n i k mine inside below e (ClassLies class' lying) (inl o) =
           absurd (cell_no_own_right G xs top stack j n (c + k) (component_type G r) i mine (subst IsClass (sym class') tt, omega (arith, inside)) (lies_any G xs j _ lying) (own_right k below) e)
       by j r n i k mine inside below e (MonitorLies z where' is' from') (inl o) = inner (nat_eq z m) refl

@@ -3,7 +3,6 @@ use Rattle.std.proofs.Common.{List, ap, arith, false, inl, inr, length, refl, su
 use Rattle.std.specs.Prelude.{if◌then◌else◌, nat_eq}
 use Rattle.std.proofs.lemmas.Bool.{true≢false}
 use Rattle.cp_model.specs.Abstract as a
-use Rattle.cp_model.specs.Abstract.{Name}
 use Rattle.cp_model.specs.Configurations as stage
 use Rattle.cp_model.specs.Configurations.{Status, StepResult}
 use Rattle.cp_model.specs.Continuations.{Do, Task}

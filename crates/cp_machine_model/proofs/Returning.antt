@@ -25,7 +25,7 @@ use Rattle.cp_program_model.specs.Sites.{BodyOf, RoutineOf, UnitText}
 use Rattle.cp_program_model.specs.Starts.{unset, word}
 use Rattle.cp_program_model.specs.StatementsFor.{is_function}
 use Rattle.cp_machine_model.specs.PrivateStates as machine
-use Rattle.cp_machine_model.specs.PrivateStates.{NoEffect, Outside, PrivateState, fault_in, set_temp}
+use Rattle.cp_machine_model.specs.PrivateStates.{Outside, PrivateState, fault_in, set_temp}
 use Rattle.cp_machine_model.specs.Calling.{gate_effect, leave, return_with}
 use Rattle.cp_machine_model.specs.Addresses.{Activation, Ground, activation_of, activations, in_sight, scope}
 use Rattle.cp_machine_model.specs.Left.{CallerAt, FrameFor, Left, Runs, held_below, innermost_gate, kept_below, result_of, site}

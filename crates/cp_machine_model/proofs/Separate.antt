@@ -5,7 +5,7 @@
 use Rattle.std.proofs.Common.{◌≡◌, ◌⊎◌, inl, inr, ℕ, ◌+◌, ◌≤◌, ◌<◌, List, [], ◌∷◌, Bool, true, false, Some, refl, ap, sym, subst, ◌∙◌, arith}
 use Rattle.std.specs.Prelude.{if◌then◌else◌, nat_eq}
 use Rattle.std.proofs.lemmas.Bool.{eq-eqb, eqb-true, true≢false}
-use Rattle.cp_model.specs.Abstract.{Name, System}
+use Rattle.cp_model.specs.Abstract.{Name}
 use Rattle.cp_model.specs.Declarations as declared
 use Rattle.cp_model.specs.Locations.{ByIndex, ByName, Location, OfActivation, OfMonitor, OfProcess, Owner, Path}
 use Rattle.cp_model.specs.Types.{ResolvedType}
@@ -18,21 +18,17 @@ use Rattle.cp_machine_model.proofs.Apart.{InHead, head_inside, member_above, mem
 use Rattle.cp_machine_model.proofs.Bounds.{member_fits, part_fits}
 use Rattle.cp_machine_model.proofs.Finding.{some_is_not_none}
 use Rattle.cp_machine_model.proofs.Layouts.{same_some}
-use Rattle.cp_machine_model.proofs.Stacks.{Stack, Stacked, found_apart, found_inside, monitor_seen, own_in_whole}
+use Rattle.cp_machine_model.proofs.Stacks.{Stacked, bottom_below, found_apart, found_inside, monitor_seen, own_in_whole}
 use Rattle.cp_machine_model.specs.Passing.{monitor_start}
 use Rattle.cp_machine_model.proofs.Owned.{FoundActivation, FoundLocal, FoundMonitor, OwnRight, activation_cell, component_cell, component_part, found_monitor, local_apart, local_cell_inside, local_cells_apart, local_inside}
 use Rattle.cp_machine_model.specs.KernelOf.{is_shared}
 
 module _ (G : Ground) (xs : List Activation) (top : ℕ) (stack : Stacked G top xs) where
-  pub bottom_below : (n : ℕ) (zs : List Activation) → Stack G n zs → (s : System) → system_of_process G.setup G.p ≡ Some s → component_words (scope G) s ≤ n
-  bottom_below n [] h s i = omega (arith, h.2, ap (component_words (scope G)) (same_some s h.0 (sym i ∙ h.1)))
-  bottom_below n (z ∷ zs) h s i = omega (arith, h.0, bottom_below z.base zs h.1 s i)
-
   -- A word of the process lies below the top.
   own_cell : (o : Owner) (x : Name) (p : Path) (n : ℕ) (u : ResolvedType) (a : ℕ) → is_shared o ≡ false → InHead (scope G) u a → part_of_owner G xs o x p ≡ Some (n, u) → n + a < top
   own_cell (OfProcess q) x p n u a m c h =
       let C = component_cell G xs top q x p n u a c h in
-      omega (arith, C.1.4, bottom_below top xs stack.stack C.1.0 (ap (system_of_process G.setup) C.0 ∙ C.1.1))
+      omega (arith, C.1.4, bottom_below G top xs stack.stack C.1.0 (ap (system_of_process G.setup) C.0 ∙ C.1.1))
   own_cell (OfActivation q d) x p n u a m c h =
       let A = activation_cell G xs q d x p n u h in
       omega (arith, (local_cell_inside (scope G) A.activation x p n u a c A.found).1, (found_inside G top d xs A.activation stack.stack A.is).0)
@@ -163,7 +159,7 @@ module _ (G : Ground) (xs : List Activation) (top : ℕ) (stack : Stacked G top 
       by (OfProcess q) (ByName x ∷ p) m h =
           let C = component_part G xs q x p n u h in
           let fits = member_fits (scope G) (head_words (scope G) C.1.0) (declared.reported_members (scope G) C.1.0) x p n u C.1.2 in
-          omega (arith, fits, bottom_below top xs stack.stack C.1.0 (ap (system_of_process G.setup) C.0 ∙ C.1.1), stack.fits, own_in_whole G)
+          omega (arith, fits, bottom_below G top xs stack.stack C.1.0 (ap (system_of_process G.setup) C.0 ∙ C.1.1), stack.fits, own_in_whole G)
       by (OfActivation q d) (ByName x ∷ p) m h =
           let A = activation_cell G xs q d x p n u h in
           let i = local_inside (scope G) (result_words A.activation.routine.result) (locals (scope G) A.activation.routine) x A.found.at A.found.variable A.found.is in
@@ -189,7 +185,7 @@ module _ (G : Ground) (xs : List Activation) (top : ℕ) (stack : Stacked G top 
       by (OfActivation q d) (ByName x ∷ p) m h (inl r) =
           let A = activation_cell G xs q d x p n u h in
           absurd (omega (arith, (local_cell_inside (scope G) A.activation x p n u a c A.found).0, (found_inside G top d xs A.activation stack.stack A.is).1 r.0 r.1, r.2, e))
-      by (OfMonitor z) (ByName x ∷ p) m h (inl r) = absurd (omega (arith, (found_monitor G xs z x p n u h).place, bottom_below top xs stack.stack r.0 r.1, stack.fits, r.2, e))
+      by (OfMonitor z) (ByName x ∷ p) m h (inl r) = absurd (omega (arith, (found_monitor G xs z x p n u h).place, bottom_below G top xs stack.stack r.0 r.1, stack.fits, r.2, e))
       by (OfProcess q) (ByName x ∷ p) m h (inr r) = absurd (omega (arith, own_cell (OfProcess q) x p n u a refl c h, stack.fits, r.6, e))
       by (OfActivation q d) (ByName x ∷ p) m h (inr r) = absurd (omega (arith, own_cell (OfActivation q d) x p n u a refl c h, stack.fits, r.6, e))
       by (OfMonitor z) (ByName x ∷ p) m h (inr r) = inner (nat_eq z r.0) refl (found_monitor G xs z x p n u h) (head_inside (scope G) u a c)
@@ -208,11 +204,11 @@ module _ (G : Ground) (xs : List Activation) (top : ℕ) (stack : Stacked G top 
 
   -- The places of rights.
   pub own_right_below : (n : ℕ) → OwnRight G n → (n < top) ⊎ (G.own ≤ n)
-  own_right_below n (inl r) = inl (omega (arith, r.2, bottom_below top xs stack.stack r.0 r.1))
+  own_right_below n (inl r) = inl (omega (arith, r.2, bottom_below G top xs stack.stack r.0 r.1))
   own_right_below n (inr r) = inr (omega (arith, r.6))
 
   pub own_right_inside : (n : ℕ) → OwnRight G n → n < whole G
-  own_right_inside n (inl r) = omega (arith, r.2, bottom_below top xs stack.stack r.0 r.1, stack.fits, own_in_whole G)
+  own_right_inside n (inl r) = omega (arith, r.2, bottom_below G top xs stack.stack r.0 r.1, stack.fits, own_in_whole G)
   own_right_inside n (inr r) = let S = monitor_seen G r.0 r.3 in omega (arith, r.6, r.5, S.0.inside r.0 r.1 r.4, S.1)
 
   -- A word of an activation is no right of a component.

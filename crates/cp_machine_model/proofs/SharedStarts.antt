@@ -18,6 +18,7 @@ use Rattle.cp_machine_model.proofs.Bounds.{member_fits}
 use Rattle.cp_machine_model.proofs.Layouts.{same_some}
 use Rattle.std.proofs.lemmas.Bool.{eq-eqb, eqb-true, true≢false}
 use Rattle.std.proofs.lemmas.Option.{slice_get_within}
+use Rattle.cp_machine_model.proofs.Tables.{one_less}
 
 -- ---- one block
 
@@ -127,9 +128,6 @@ module _ (program : Program) (setup : Setup) (F : StandsFor program setup) where
 
       row : N.row ≡ r
       row = same_some N.row r (sym N.there ∙ (ap (slice_get program.monitors) (one_less k) ∙ here))
-        where
-          one_less : (n : ℕ) → suc n - 1 ≡ n
-          one_less n = omega arith
 
   abbrev zeroed : List ℤ
   zeroed = replicate program.shared (pos 0)

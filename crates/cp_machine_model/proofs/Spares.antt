@@ -23,8 +23,7 @@ use Rattle.cp_machine_model.proofs.Copying.{copied_outside}
 use Rattle.cp_machine_model.proofs.Finding.{some_is_not_none}
 use Rattle.cp_machine_model.proofs.Heres.{seen_mine}
 use Rattle.cp_machine_model.proofs.Owned.{activation_cell, component_part, found_monitor, local_inside}
-use Rattle.cp_machine_model.proofs.Separate.{bottom_below}
-use Rattle.cp_machine_model.proofs.Stacks.{Stacked, found_inside}
+use Rattle.cp_machine_model.proofs.Stacks.{Stacked, bottom_below, found_inside}
 use Rattle.cp_machine_model.proofs.Writing.{changed_other}
 
 -- A shared word that is no monitor's.
@@ -70,7 +69,7 @@ module _ (G : Ground) (xs : List Activation) (top : ℕ) (stack : Stacked G top 
       by (OfProcess p) (ByName x ∷ q) h =
           let C = component_part G xs p x q n u h in
           let fits = member_fits (scope G) (head_words (scope G) C.1.0) (reported_members (scope G) C.1.0) x q n u C.1.2 in
-          inr (omega (arith, fits, bottom_below G xs top stack top xs stack.stack C.1.0 (ap (system_of_process G.setup) C.0 ∙ C.1.1), stack.fits, spared.0))
+          inr (omega (arith, fits, bottom_below G top xs stack.stack C.1.0 (ap (system_of_process G.setup) C.0 ∙ C.1.1), stack.fits, spared.0))
       by (OfActivation p d) (ByName x ∷ q) h =
           let A = activation_cell G xs p d x q n u h in
           let inside = local_inside (scope G) (result_words A.activation.routine.result) (locals (scope G) A.activation.routine) x A.found.at A.found.variable A.found.is in

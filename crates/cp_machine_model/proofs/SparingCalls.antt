@@ -29,8 +29,7 @@ use Rattle.cp_machine_model.proofs.Owned.{result_inside}
 use Rattle.cp_machine_model.proofs.PassedWords.{LieBelow, passes_below}
 use Rattle.cp_machine_model.proofs.Settling.{stored_at}
 use Rattle.cp_machine_model.proofs.Spares.{IsSpared, Spares, part_spared, passed_spares, provided_spares, spares_trans, word_spares}
-use Rattle.cp_machine_model.proofs.Separate.{bottom_below}
-use Rattle.cp_machine_model.proofs.Stacks.{Stacked}
+use Rattle.cp_machine_model.proofs.Stacks.{Stacked, bottom_below}
 
 -- ---- what is passed
 
@@ -92,7 +91,7 @@ module _ (G : Ground) (xs : List Activation) (top : ℕ) (stack : Stacked G top 
       member_apart k p cell e (inr q) = omega (arith, q, e, cell_has_word (scope G) p.1.type cell)
 
       right_apart : (k : ℕ) → k < head_words (scope G) s → i ≡ c + k → ComponentLies G at s c → ⊥
-      right_apart k inside e (ProcessLies where' is zero') = omega (arith, inside, e, zero', bottom_below G xs top stack top xs stack.stack s is, stack.fits, spared.0)
+      right_apart k inside e (ProcessLies where' is zero') = omega (arith, inside, e, zero', bottom_below G top xs stack.stack s is, stack.fits, spared.0)
       right_apart k inside e (MonitorLies m where' is from) = blocks (spared.1 m s is)
         where
           blocks : (i < G.own + monitor_start G.program m) ⊎ (G.own + monitor_start G.program m + component_words (scope G) s ≤ i) → ⊥

@@ -2,7 +2,7 @@
 -- own and those of monitors.
 use Rattle.std.proofs.Common.{◌≡◌, ℕ, ◌+◌, ◌≤◌, List, ◌∷◌, false, Some, refl, ap, sym, subst, ◌∙◌, arith, length}
 use Rattle.cp_model.specs.Abstract as a
-use Rattle.cp_model.specs.Abstract.{Class, Monitor, Name, Sort, System}
+use Rattle.cp_model.specs.Abstract.{Class, Monitor, Name}
 use Rattle.cp_model.specs.Components.{Component, declared_monitor, name_location}
 use Rattle.cp_model.specs.Continuations.{Do, Task}
 use Rattle.cp_model.specs.Declarations.{Variable, declarations, is_component}

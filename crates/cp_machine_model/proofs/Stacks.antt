@@ -81,23 +81,24 @@ stacked G temps limit K R [] place low (EndBody gate ∷ k) gl w h = absurd h
 
 -- ---- look-ups of activations
 
+-- The activations lie after the component of the process.
+pub bottom_below : (G : Ground) (n : ℕ) (zs : List Activation) → Stack G n zs → (s : System) → system_of_process G.setup G.p ≡ Some s → component_words (scope G) s ≤ n
+bottom_below G n [] h s i = omega (arith, h.2, ap (component_words (scope G)) (same_some s h.0 (sym i ∙ h.1)))
+bottom_below G n (z ∷ zs) h s i = omega (arith, h.0, bottom_below G z.base zs h.1 s i)
+
 -- An activation that is found lies below the top and after the component.
 pub found_inside : (G : Ground) (top d : ℕ) (xs : List Activation) (x : Activation) → Stack G top xs → activation_at d xs ≡ Some x
     → (x.base + activation_words (scope G) x.routine ≤ top) × ((s : System) → system_of_process G.setup G.p ≡ Some s → component_words (scope G) s ≤ x.base)
 found_inside G top d [] x h e = absurd (some_is_not_none x (sym e))
 found_inside G top d (y ∷ xs) x h e = by (nat_eq d (length xs)) e (found_inside G y.base d xs x h.1)
   where
-    bottom : (n : ℕ) (zs : List Activation) → Stack G n zs → (s : System) → system_of_process G.setup G.p ≡ Some s → component_words (scope G) s ≤ n
-    bottom n [] g s i = omega (arith, g.2, ap (component_words (scope G)) (same_some s g.0 (sym i ∙ g.1)))
-    bottom n (z ∷ zs) g s i = omega (arith, g.0, bottom z.base zs g.1 s i)
-
     by : (b : Bool) → (if b then Some y else activation_at d xs) ≡ Some x
         → (activation_at d xs ≡ Some x → (x.base + activation_words (scope G) x.routine ≤ y.base) × ((s : System) → system_of_process G.setup G.p ≡ Some s → component_words (scope G) s ≤ x.base))
         → (x.base + activation_words (scope G) x.routine ≤ top) × ((s : System) → system_of_process G.setup G.p ≡ Some s → component_words (scope G) s ≤ x.base)
     by true e go =
         let same : y ≡ x = same_some y x e in
         subst (λ z. (z.base + activation_words (scope G) z.routine ≤ top) × ((s : System) → system_of_process G.setup G.p ≡ Some s → component_words (scope G) s ≤ z.base)) same
-        (h.0, bottom y.base xs h.1)
+        (h.0, bottom_below G y.base xs h.1)
     by false e go = (omega (arith, (go e).0, h.0), (go e).1)
 
 -- Two activations are the same, or one lies after the other.

@@ -11,6 +11,7 @@ use Rattle.cp_model.specs.States.{with_at}
 use Rattle.cp_machine_model.specs.Addresses.{Ground}
 use Rattle.cp_machine_model.specs.KernelOf.{StageMeans}
 use Rattle.cp_machine_model.specs.KernelSteps.{Asking, Begun, Delayed, Fresh, Stage, Unstarted, resume_stage, stage_of}
+use Rattle.cp_machine_model.proofs.Tables.{one_less}
 
 abbrev pub StagesMean : Ground → List Stage → (ℕ → Status) → Type 0
 StagesMean G gs f = (p : ℕ) → 1 ≤ p → p ≤ length gs → StageMeans G (f p) (stage_of gs p)
@@ -28,9 +29,6 @@ stage_set G gs f (suc i) x g low means all zero one high = absurd (omega (arith,
 stage_set G gs f (suc i) x g low means all (suc n) one high =
     subst (StageMeans G (with_at (suc i) x f (suc n))) (sym (stage_is (slice_set gs (suc i - 1) g) n ∙ ap (λ k. get_or (slice_set gs k g) n Begun) (one_less i))) (by (nat_eq (suc i) (suc n)) refl)
   where
-    one_less : (i : ℕ) → suc i - 1 ≡ i
-    one_less i = omega arith
-
     by : (b : Bool) → nat_eq (suc i) (suc n) ≡ b → StageMeans G (if b then x else f (suc n)) (get_or (slice_set gs i g) n Begun)
     by true e =
         let here : n ≡ i = omega (arith, eqb-true (suc i) (suc n) e) in

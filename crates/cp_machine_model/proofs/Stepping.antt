@@ -25,7 +25,7 @@ use Rattle.cp_model.specs.Abstract.{System}
 use Rattle.cp_machine_model.specs.PrivateStates as machine
 use Rattle.cp_machine_model.specs.PrivateStates.{Outside, PrivateState}
 use Rattle.cp_machine_model.specs.Steps as steps
-use Rattle.cp_machine_model.specs.Steps.{act, act_on, alone}
+use Rattle.cp_machine_model.specs.Steps.{act}
 use Rattle.cp_machine_model.specs.Addresses.{AllWords, Ground, activations, in_sight, whole}
 use Rattle.cp_machine_model.specs.PartOf.{DataMeans, PartOf, RunsOn, status_of}
 use Rattle.cp_machine_model.proofs.Effects.{EffectAgrees, ready_same}

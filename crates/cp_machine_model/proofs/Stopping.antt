@@ -16,7 +16,7 @@ use Rattle.cp_program_model.specs.Terms.{Argument}
 use Rattle.cp_machine_model.specs.Calling.{Back, call_step, class_at, enter, gate_effect, has_room, init_class, init_monitor, init_process, leave, parameters_start, return_with, settle, start_words, with_frame, with_unit}
 use Rattle.cp_machine_model.specs.Passing.{Called, Passing, component_called, monitor_called, pass_all, when_passed}
 use Rattle.cp_machine_model.specs.PrivateStates as machine
-use Rattle.cp_machine_model.specs.PrivateStates.{Acting, Activity, Effect, Frame, Outside, PrivateState, fault_in, go_to, private_outcome, guard, set_temp, set_word, view_of, with_result}
+use Rattle.cp_machine_model.specs.PrivateStates.{Acting, Effect, Frame, Outside, PrivateState, fault_in, go_to, private_outcome, guard, set_temp, set_word, view_of, with_result}
 use Rattle.cp_machine_model.specs.Steps as steps
 use Rattle.cp_machine_model.specs.Steps.{act, count_to, go_to_arm}
 use Rattle.cp_machine_model.specs.Values.{View, place_of, value_of}
