@@ -1,8 +1,6 @@
--- Whole private steps of the `init` of a class.
---
--- The arguments are passed beyond all activations and moved to the words after the mark
--- (`Settling`), the mark is a value that is stored, and the body has the activations of its
--- caller.
+-- Whole private steps of the `init` of a class: the arguments are passed beyond all activations and
+-- moved to the words after the mark (`Settling`), the mark is a value that is stored, and the body
+-- has the activations of its caller.
 use Rattle.std.proofs.Common.{Bool, List, None, Option, Some, [], ap, arith, false, inl, inr, length, pos, refl, subst, sym, true, ℕ, ℤ, ◌+◌, ◌<◌, ◌∙◌, ◌∷◌, ◌≡◌, ◌≤◌, ◌⊎◌}
 use Rattle.std.specs.Prelude.{if◌then◌else◌, not}
 use Rattle.cp_model.specs.Abstract as a

@@ -2,93 +2,6 @@
 use Rattle.std.specs.Prelude.{◌≡◌, true, false, [], ◌∷◌, ◌++◌, codes}
 use Rattle.cp_rows.specs.Answers.{check_answer, run_answer, replay_answer, consumed_answer}
 
-abbrev pub a_routine_without_entry_1 : Type 0
-a_routine_without_entry_1 = check_answer (codes "type c = class; procedure h; begin end; begin end; var x: c; begin x.h(1) end.") ≡ (codes "refused C2 at 69")
-
-abbrev pub a_routine_without_entry_2 : Type 0
-a_routine_without_entry_2 = check_answer (codes "type c = class; procedure h; begin end; begin end; var x: c; begin x.h end.") ≡ (codes "refused C5 at 69")
-
-abbrev pub a_routine_without_entry_3 : Type 0
-a_routine_without_entry_3 = check_answer (codes "type c = class; procedure h; begin end; begin end; var x: c; begin display(x.h) end.") ≡ (codes "refused C2 at 77")
-
-abbrev pub a_routine_without_entry_4 : Type 0
-a_routine_without_entry_4 = check_answer (codes "type c = class; procedure h; begin end; begin end; var x: c; begin if x.h then end.") ≡ (codes "refused C2 at 72")
-
-abbrev pub a_routine_without_entry_5 : Type 0
-a_routine_without_entry_5 = check_answer (codes "type c = class; procedure h; begin end; begin end; var x: c; begin x := x.h end.") ≡ (codes "refused C2 at 74")
-
-abbrev pub a_routine_without_entry_6 : Type 0
-a_routine_without_entry_6 = check_answer (codes "type c = class; procedure h; begin end; begin end; var x: c; begin display(x.h(1)) end.") ≡ (codes "refused C2 at 77")
-
-abbrev pub a_routine_without_entry_7 : Type 0
-a_routine_without_entry_7 = check_answer (codes "type c = class; procedure h; begin end; begin end; var x: c; begin x.h[1] end.") ≡ (codes "refused C5 at 69")
-
-abbrev pub a_routine_without_entry_8 : Type 0
-a_routine_without_entry_8 = check_answer (codes "type c = class; procedure h; begin end; begin end; var x: c; begin x.h[1](2) end.") ≡ (codes "refused C5 at 69")
-
-abbrev pub a_routine_without_entry_9 : Type 0
-a_routine_without_entry_9 = check_answer (codes "type c = class; function h: integer; begin h := 1 end; begin end; var x: c; begin x.h end.") ≡ (codes "refused C2 at 84")
-
-abbrev pub a_routine_without_entry_10 : Type 0
-a_routine_without_entry_10 = check_answer (codes "type c = class; function h: integer; begin h := 1 end; begin end; var x: c; begin display(x.h) end.") ≡ (codes "refused C5 at 92")
-
-abbrev pub a_routine_without_entry_11 : Type 0
-a_routine_without_entry_11 = check_answer (codes "type c = class; function h: integer; begin h := 1 end; begin end; var x: c; begin display(x.h(1)) end.") ≡ (codes "refused C2 at 92")
-
-abbrev pub a_routine_without_entry_12 : Type 0
-a_routine_without_entry_12 = check_answer (codes "type c = class; function h: integer; begin h := 1 end; begin end; var x: c; begin display(true + x.h) end.") ≡ (codes "refused C5 at 99")
-
-abbrev pub a_routine_without_entry_13 : Type 0
-a_routine_without_entry_13 = check_answer (codes "type c = class; function h: integer; begin h := 1 end; begin end; var x: c; begin x := x.h end.") ≡ (codes "refused C5 at 89")
-
-abbrev pub a_routine_without_entry_14 : Type 0
-a_routine_without_entry_14 = check_answer (codes "type c = class; function h: integer; begin h := 1 end; begin end; var x: c; begin display(x.h[1]) end.") ≡ (codes "refused C5 at 92")
-
-abbrev pub a_routine_without_entry_15 : Type 0
-a_routine_without_entry_15 = check_answer (codes "type c = class; function h: integer; begin h := 1 end; begin end; var x: c; begin accept(x.h) end.") ≡ (codes "refused C10 at 89")
-
-abbrev pub a_routine_without_entry_16 : Type 0
-a_routine_without_entry_16 = check_answer (codes "type c = class; function h: integer; begin h := 1 end; begin end; var x: c; begin accept(x.h + 1) end.") ≡ (codes "refused C10 at 89")
-
-abbrev pub a_routine_without_entry_17 : Type 0
-a_routine_without_entry_17 = check_answer (codes "type c = class; function h: integer; begin h := 1 end; begin end; var x: c; begin accept(x.h(1)) end.") ≡ (codes "refused C10 at 89")
-
-abbrev pub a_routine_without_entry_18 : Type 0
-a_routine_without_entry_18 = check_answer (codes "type c = class; function h(k: integer): integer; begin h := k end; begin end; var x: c; begin display(x.h(1)) end.") ≡ (codes "refused C5 at 104")
-
-abbrev pub a_routine_without_entry_19 : Type 0
-a_routine_without_entry_19 = check_answer (codes "type c = class; function h(k: integer): integer; begin h := k end; begin end; var x: c; begin display(x.h(y)) end.") ≡ (codes "refused C5 at 104")
-
-abbrev pub a_routine_without_entry_20 : Type 0
-a_routine_without_entry_20 = check_answer (codes "type c = class; function h(k: integer): integer; begin h := k end; begin end; var x: c; begin display(x.h(1, y)) end.") ≡ (codes "refused C2 at 104")
-
-abbrev pub a_routine_without_entry_21 : Type 0
-a_routine_without_entry_21 = check_answer (codes "type c = class; function h(k: integer): integer; begin h := k end; begin end; var x: c; begin x.h(1) end.") ≡ (codes "refused C2 at 96")
-
-abbrev pub a_routine_without_entry_22 : Type 0
-a_routine_without_entry_22 = check_answer (codes "type c = class; function h(k: integer): integer; begin h := k end; begin end; var x: c; begin x.h end.") ≡ (codes "refused C2 at 96")
-
-abbrev pub a_routine_without_entry_23 : Type 0
-a_routine_without_entry_23 = check_answer (codes "type c = class; procedure h; begin end; begin end; var x: c; v: integer; begin v := x.h end.") ≡ (codes "refused C2 at 86")
-
-abbrev pub a_routine_without_entry_24 : Type 0
-a_routine_without_entry_24 = check_answer (codes "type c = class; function h: integer; begin h := 1 end; begin end; var x: c; v: integer; begin v := x.h end.") ≡ (codes "refused C5 at 101")
-
-abbrev pub a_routine_without_entry_25 : Type 0
-a_routine_without_entry_25 = check_answer (codes "type c = class; procedure h; begin end; begin end; var x: c; begin display(true = x.h) end.") ≡ (codes "refused C2 at 84")
-
-abbrev pub a_routine_without_entry_26 : Type 0
-a_routine_without_entry_26 = check_answer (codes "type c = class; procedure h(k: integer); begin end; begin end; var x: c; begin display(x.h(1)) end.") ≡ (codes "refused C2 at 89")
-
-abbrev pub a_routine_without_entry_27 : Type 0
-a_routine_without_entry_27 = check_answer (codes "type m = monitor; function h: integer; begin h := 1 end; begin end; var x: m; begin x.h end.") ≡ (codes "refused C2 at 86")
-
-abbrev pub a_routine_without_entry_28 : Type 0
-a_routine_without_entry_28 = check_answer (codes "type p = process; function h: integer; begin h := 1 end; begin end; var x: p; begin x.h end.") ≡ (codes "refused C2 at 86")
-
-abbrev pub a_routine_without_entry_29 : Type 0
-a_routine_without_entry_29 = check_answer (codes "type c = class; procedure h; begin end; begin end; d = class(x: c); var v: integer; begin v := x.h end; begin end.") ≡ (codes "refused C2 at 97")
-
 abbrev pub arguments_of_init_1 : Type 0
 arguments_of_init_1 = check_answer (codes "type m = monitor; begin end; p = process(g: m); begin end; var g: m; b: p; k: integer; begin init g; init b(g) end.") ≡ (codes "accepted\n")
 
@@ -312,4 +225,4 @@ abbrev pub rights_and_calls_29 : Type 0
 rights_and_calls_29 = check_answer (codes "type c = class(k: integer); var n: integer; procedure h; begin end; procedure entry e; begin n := k end; function entry g(i: integer): integer; begin g := i end; begin end; var u: c; begin u.z end.") ≡ (codes "refused C1 at 191")
 
 abbrev pub Components : Type 0
-Components = a_routine_without_entry_1 × a_routine_without_entry_2 × a_routine_without_entry_3 × a_routine_without_entry_4 × a_routine_without_entry_5 × a_routine_without_entry_6 × a_routine_without_entry_7 × a_routine_without_entry_8 × a_routine_without_entry_9 × a_routine_without_entry_10 × a_routine_without_entry_11 × a_routine_without_entry_12 × a_routine_without_entry_13 × a_routine_without_entry_14 × a_routine_without_entry_15 × a_routine_without_entry_16 × a_routine_without_entry_17 × a_routine_without_entry_18 × a_routine_without_entry_19 × a_routine_without_entry_20 × a_routine_without_entry_21 × a_routine_without_entry_22 × a_routine_without_entry_23 × a_routine_without_entry_24 × a_routine_without_entry_25 × a_routine_without_entry_26 × a_routine_without_entry_27 × a_routine_without_entry_28 × a_routine_without_entry_29 × arguments_of_init_1 × arguments_of_init_2 × arguments_of_init_3 × arguments_of_init_4 × arguments_of_init_5 × arguments_of_init_6 × arguments_of_init_7 × arguments_of_init_8 × arguments_of_init_9 × arguments_of_init_10 × arguments_of_init_11 × initialisation_1 × initialisation_2 × initialisation_3 × initialisation_4 × initialisation_5 × initialisation_6 × initialisation_7 × initialisation_8 × initialisation_9 × initialisation_10 × initialisation_11 × initialisation_12 × initialisation_13 × initialisation_14 × names_behind_a_point_1 × names_behind_a_point_2 × names_behind_a_point_3 × names_behind_a_point_4 × names_behind_a_point_5 × names_behind_a_point_6 × names_behind_a_point_7 × names_behind_a_point_8 × names_behind_a_point_9 × names_behind_a_point_10 × names_behind_a_point_11 × names_behind_a_point_12 × names_behind_a_point_13 × names_behind_a_point_14 × names_behind_a_point_15 × names_behind_a_point_16 × names_behind_a_point_17 × names_behind_a_point_18 × names_behind_a_point_19 × names_behind_a_point_20 × rights_and_calls_1 × rights_and_calls_2 × rights_and_calls_3 × rights_and_calls_4 × rights_and_calls_5 × rights_and_calls_6 × rights_and_calls_7 × rights_and_calls_8 × rights_and_calls_9 × rights_and_calls_10 × rights_and_calls_11 × rights_and_calls_12 × rights_and_calls_13 × rights_and_calls_14 × rights_and_calls_15 × rights_and_calls_16 × rights_and_calls_17 × rights_and_calls_18 × rights_and_calls_19 × rights_and_calls_20 × rights_and_calls_21 × rights_and_calls_22 × rights_and_calls_23 × rights_and_calls_24 × rights_and_calls_25 × rights_and_calls_26 × rights_and_calls_27 × rights_and_calls_28 × rights_and_calls_29
+Components = arguments_of_init_1 × arguments_of_init_2 × arguments_of_init_3 × arguments_of_init_4 × arguments_of_init_5 × arguments_of_init_6 × arguments_of_init_7 × arguments_of_init_8 × arguments_of_init_9 × arguments_of_init_10 × arguments_of_init_11 × initialisation_1 × initialisation_2 × initialisation_3 × initialisation_4 × initialisation_5 × initialisation_6 × initialisation_7 × initialisation_8 × initialisation_9 × initialisation_10 × initialisation_11 × initialisation_12 × initialisation_13 × initialisation_14 × names_behind_a_point_1 × names_behind_a_point_2 × names_behind_a_point_3 × names_behind_a_point_4 × names_behind_a_point_5 × names_behind_a_point_6 × names_behind_a_point_7 × names_behind_a_point_8 × names_behind_a_point_9 × names_behind_a_point_10 × names_behind_a_point_11 × names_behind_a_point_12 × names_behind_a_point_13 × names_behind_a_point_14 × names_behind_a_point_15 × names_behind_a_point_16 × names_behind_a_point_17 × names_behind_a_point_18 × names_behind_a_point_19 × names_behind_a_point_20 × rights_and_calls_1 × rights_and_calls_2 × rights_and_calls_3 × rights_and_calls_4 × rights_and_calls_5 × rights_and_calls_6 × rights_and_calls_7 × rights_and_calls_8 × rights_and_calls_9 × rights_and_calls_10 × rights_and_calls_11 × rights_and_calls_12 × rights_and_calls_13 × rights_and_calls_14 × rights_and_calls_15 × rights_and_calls_16 × rights_and_calls_17 × rights_and_calls_18 × rights_and_calls_19 × rights_and_calls_20 × rights_and_calls_21 × rights_and_calls_22 × rights_and_calls_23 × rights_and_calls_24 × rights_and_calls_25 × rights_and_calls_26 × rights_and_calls_27 × rights_and_calls_28 × rights_and_calls_29
