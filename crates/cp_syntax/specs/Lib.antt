@@ -1,4 +1,3 @@
-pub mod Readers
 pub mod Nests
 pub mod Views
 pub mod Refusals

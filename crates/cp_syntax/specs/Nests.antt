@@ -21,16 +21,20 @@ pub record Nests {X Y : Type 0} (view : X → Y) (reader : ℕ → Reader Y) (ro
   pub reads : (alloc : Global) (ts : Bor (List Token)) (r : Result (X × Bor (List Token)) Stop) → post alloc room ts r
       → Gives view r (reader room ts.now)
 
+-- One level deeper, if there is such a level.
+abbrev pub Below : {X Y : Type 0} (view : X → Y) (reader : ℕ → Reader Y) (room : ℕ) (pre : Global → ℕ → Bor (List Token) → Type 0)
+    (post : Global → ℕ → Bor (List Token) → Result (X × Bor (List Token)) Stop → Type 0) → Type 0
+Below view reader room pre post = 0 < room → Nests view reader (room - 1) pre post
+
 -- ---- of factors
 
 abbrev pub FactorsAt : (room : ℕ) (pre : Global → ℕ → Bor (List Token) → Type 0)
     (post : Global → ℕ → Bor (List Token) → Result (Expression × Bor (List Token)) Stop → Type 0) → Type 0
 FactorsAt = Nests view.expression factor_at
 
--- One level deeper, if there is such a level.
 abbrev pub FactorsBelow : (room : ℕ) (pre : Global → ℕ → Bor (List Token) → Type 0)
     (post : Global → ℕ → Bor (List Token) → Result (Expression × Bor (List Token)) Stop → Type 0) → Type 0
-FactorsBelow room pre post = 0 < room → FactorsAt (room - 1) pre post
+FactorsBelow = Below view.expression factor_at
 
 -- ---- of types
 
@@ -40,7 +44,7 @@ TypesAt = Nests view.type_expression type_at
 
 abbrev pub TypesBelow : (room : ℕ) (pre : Global → ℕ → Bor (List Token) → Type 0)
     (post : Global → ℕ → Bor (List Token) → Result (TypeExpression × Bor (List Token)) Stop → Type 0) → Type 0
-TypesBelow room pre post = 0 < room → TypesAt (room - 1) pre post
+TypesBelow = Below view.type_expression type_at
 
 -- ---- of statements
 
@@ -50,4 +54,4 @@ StatementsAt = Nests view.statement statement_at
 
 abbrev pub StatementsBelow : (room : ℕ) (pre : Global → ℕ → Bor (List Token) → Type 0)
     (post : Global → ℕ → Bor (List Token) → Result (Statement × Bor (List Token)) Stop → Type 0) → Type 0
-StatementsBelow room pre post = 0 < room → StatementsAt (room - 1) pre post
+StatementsBelow = Below view.statement statement_at

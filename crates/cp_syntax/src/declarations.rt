@@ -1,6 +1,6 @@
 //! Definitions of constants and types, and the whole text, if `room` levels may be opened.
 
-ghost use Rattle.std.specs.Prelude.{◌≡◌, map, Option};
+ghost use Rattle.std.specs.Prelude.{◌≡◌, ⊤, Option};
 ghost use Rattle.cp_model.specs.Syntax as s;
 ghost use Rattle.cp_model.specs.View as view;
 ghost use Rattle.cp_grammar.specs.Reading.{kind_at, Reader, Gives};
@@ -11,41 +11,57 @@ ghost use Rattle.cp_grammar.specs.Statements.{Deeper, deeper_at};
 ghost use Rattle.cp_grammar.specs.Declarations as spec;
 ghost use Rattle.cp_grammar.specs.Text as text;
 
-use crate::lists::{one_or_more, read_while};
+use crate::levels::Parser;
+use crate::lists::{Item, Node, one_or_more, repeated};
 use crate::names::{constant, identifier, names};
 use crate::routines::{body, parameters, routines, variables};
 use crate::tokens::{Read, after, expect, peek, sees_name};
 use crate::types::type_expression;
 use cp_grammar::Stop;
 use cp_model::token::{Kind, Symbol, Token};
-use cp_model::tree::{
-    ConstantDefinition, Defined, Identifier, Section, Sort, System, Tree, TypeDefinition,
-    TypeExpression,
-};
+use cp_model::tree::{ConstantDefinition, Defined, Section, Sort, System, Tree, TypeDefinition};
 use std::alloc::Global;
 
-#[tactic(auto, unfolding(cp_grammar::specs::Declarations::constant_definition_of))]
-fn constant_definition(alloc: Global, tokens: &[Token]) -> Read<'_, ConstantDefinition>
-    ensures { Gives (λ d. d) result (spec.constant_definition_of tokens.now) }
-{
-    let (name, rest) = identifier(alloc, tokens)?;
-    let (_, rest) = expect(rest, Symbol::Equal)?;
-    let (value, rest) = constant(alloc, rest)?;
-    let (_, rest) = expect(rest, Symbol::Semicolon)?;
-    Ok((ConstantDefinition { name, value }, rest))
+impl Node<Global> for ConstantDefinition {
+    ghost use Rattle.cp_model.specs.declared.tree.ConstantDefinition as plain;
+
+    ghost Plain = { plain.ConstantDefinition };
+
+    ghost view = { λ d. d };
+
+    ghost is_readable = { λ alloc. ⊤ };
+
+    ghost reader = { λ alloc. spec.constant_definition_of };
+
+    #[tactic(auto, unfolding(cp_grammar::specs::Declarations::constant_definition_of))]
+    fn read(alloc: Global, tokens: &[Token]) -> Read<'_, ConstantDefinition> {
+        let (name, rest) = identifier(alloc, tokens)?;
+        let (_, rest) = expect(rest, Symbol::Equal)?;
+        let (value, rest) = constant(alloc, rest)?;
+        let (_, rest) = expect(rest, Symbol::Semicolon)?;
+        Ok((ConstantDefinition { name, value }, rest))
+    }
+}
+
+impl Item<Global> for ConstantDefinition {
+    ghost begins = { is_name };
+
+    fn begins(tokens: &[Token]) -> bool {
+        sees_name(tokens)
+    }
 }
 
 /// Reads a system type after the word that says its sort.
 #[tactic(auto, unfolding(cp_grammar::specs::Declarations::system_from))]
-fn system(alloc: Global, room: usize, sort: Sort, tokens: &[Token]) -> Read<'_, System>
+fn system(parser: Parser, sort: Sort, tokens: &[Token]) -> Read<'_, System>
     ensures { Gives view.system result
-        (spec.system_from (type_at room) (deeper_at room) sort tokens.now) }
+        (spec.system_from (type_at parser.room) (deeper_at parser.room) sort tokens.now) }
 {
-    let (parameters, rest) = parameters(alloc, after(tokens))?;
+    let (parameters, rest) = parameters(parser.alloc, after(tokens))?;
     let (_, rest) = expect(rest, Symbol::Semicolon)?;
-    let (variables, rest) = variables(alloc, room, rest)?;
-    let (routines, rest) = routines(alloc, room, rest)?;
-    let (body, rest) = body(alloc, room, rest)?;
+    let (variables, rest) = variables(parser, rest)?;
+    let (routines, rest) = routines(parser, rest)?;
+    let (body, rest) = body(parser, rest)?;
     Ok((
         System {
             sort,
@@ -59,11 +75,11 @@ fn system(alloc: Global, room: usize, sort: Sort, tokens: &[Token]) -> Read<'_, 
 }
 
 #[tactic(auto, unfolding(cp_grammar::specs::Declarations::system_type))]
-fn system_type(alloc: Global, room: usize, sort: Sort, tokens: &[Token]) -> Read<'_, Defined>
+fn system_type(parser: Parser, sort: Sort, tokens: &[Token]) -> Read<'_, Defined>
     ensures { Gives view.defined_type result
-        (spec.system_type (type_at room) (deeper_at room) sort tokens.now) }
+        (spec.system_type (type_at parser.room) (deeper_at parser.room) sort tokens.now) }
 {
-    let (system, rest) = system(alloc, room, sort, tokens)?;
+    let (system, rest) = system(parser, sort, tokens)?;
     Ok((Defined::System(system), rest))
 }
 
@@ -78,111 +94,106 @@ fn enumeration(alloc: Global, tokens: &[Token]) -> Read<'_, Defined>
 }
 
 #[tactic(auto, unfolding(cp_grammar::specs::Declarations::written_type))]
-fn written_type(alloc: Global, room: usize, tokens: &[Token]) -> Read<'_, Defined>
+fn written_type(parser: Parser, tokens: &[Token]) -> Read<'_, Defined>
     ensures { Gives view.defined_type result
-        (spec.written_type (type_at room) (deeper_at room) tokens.now) }
+        (spec.written_type (type_at parser.room) (deeper_at parser.room) tokens.now) }
 {
-    let (of, rest) = type_expression(alloc, room, tokens)?;
+    let (of, rest) = type_expression(parser.alloc, parser.room, tokens)?;
     Ok((Defined::Written(of), rest))
 }
 
 /// Reads what a type definition gives a name to.
 #[tactic(auto, unfolding(cp_grammar::specs::Declarations::defined_of, cp_grammar::specs::Declarations::defined_by))]
-fn defined_type(alloc: Global, room: usize, tokens: &[Token]) -> Read<'_, Defined>
+fn defined_type(parser: Parser, tokens: &[Token]) -> Read<'_, Defined>
     ensures { Gives view.defined_type result
-        (spec.defined_of (type_at room) (deeper_at room) tokens.now) }
+        (spec.defined_of (type_at parser.room) (deeper_at parser.room) tokens.now) }
 {
     match peek(tokens) {
         Some(Kind::Symbol(symbol)) => match symbol {
-            Symbol::Process => system_type(alloc, room, Sort::Process, tokens),
-            Symbol::Monitor => system_type(alloc, room, Sort::Monitor, tokens),
-            Symbol::Class => system_type(alloc, room, Sort::Class, tokens),
-            Symbol::OpenParenthesis => enumeration(alloc, tokens),
-            _ => written_type(alloc, room, tokens),
+            Symbol::Process => system_type(parser, Sort::Process, tokens),
+            Symbol::Monitor => system_type(parser, Sort::Monitor, tokens),
+            Symbol::Class => system_type(parser, Sort::Class, tokens),
+            Symbol::OpenParenthesis => enumeration(parser.alloc, tokens),
+            _ => written_type(parser, tokens),
         },
-        _ => written_type(alloc, room, tokens),
+        _ => written_type(parser, tokens),
     }
 }
 
-#[tactic(auto, unfolding(cp_grammar::specs::Declarations::type_definition_of))]
-fn type_definition(alloc: Global, room: usize, tokens: &[Token]) -> Read<'_, TypeDefinition>
-    ensures { Gives view.type_definition result
-        (spec.type_definition_of (type_at room) (deeper_at room) tokens.now) }
-{
-    let (name, rest) = identifier(alloc, tokens)?;
-    let (_, rest) = expect(rest, Symbol::Equal)?;
-    let (defined, rest) = defined_type(alloc, room, rest)?;
-    let (_, rest) = expect(rest, Symbol::Semicolon)?;
-    Ok((TypeDefinition { name, defined }, rest))
-}
+impl Node<Parser> for TypeDefinition {
+    ghost Plain = { s.TypeDefinition };
 
-fn constants(alloc: Global, tokens: &[Token]) -> Read<'_, Vec<ConstantDefinition>>
-    ensures { Gives (λ v. v.items) result
-        (reading.one_or_more is_name spec.constant_definition_of tokens.now) }
-{
-    one_or_more(
-        alloc,
-        sees_name,
-        |rest| constant_definition(alloc, rest),
-        tokens,
-    )
-}
+    ghost view = { view.type_definition };
 
-fn types(alloc: Global, room: usize, tokens: &[Token]) -> Read<'_, Vec<TypeDefinition>>
-    ensures { Gives (λ v. map view.type_definition v.items) result
-        (reading.one_or_more is_name (spec.type_definition_of (type_at room) (deeper_at room))
-        tokens.now) }
-{
-    one_or_more(
-        alloc,
-        sees_name,
-        |rest| type_definition(alloc, room, rest),
-        tokens,
-    )
-}
+    ghost is_readable = { λ x. ⊤ };
 
-/// Reads the definitions after one word `const` or `type`.
-#[tactic(auto, unfolding(cp_grammar::specs::Declarations::section_of, cp_grammar::specs::Declarations::section_by))]
-fn section(alloc: Global, room: usize, tokens: &[Token]) -> Read<'_, Section>
-    ensures { Gives view.section_of result
-        (spec.section_of (type_at room) (deeper_at room) tokens.now) }
-{
-    match peek(tokens) {
-        Some(Kind::Symbol(Symbol::Const)) => {
-            let (definitions, rest) = constants(alloc, after(tokens))?;
-            Ok((Section::Constants(definitions), rest))
-        }
-        Some(Kind::Symbol(Symbol::Type)) => {
-            let (definitions, rest) = types(alloc, room, after(tokens))?;
-            Ok((Section::Types(definitions), rest))
-        }
-        _ => Err(Stop::Wrong(tokens.len())),
+    ghost reader = { λ x. spec.type_definition_of (type_at x.room) (deeper_at x.room) };
+
+    #[tactic(auto, unfolding(cp_grammar::specs::Declarations::type_definition_of))]
+    fn read(parser: Parser, tokens: &[Token]) -> Read<'_, TypeDefinition> {
+        let (name, rest) = identifier(parser.alloc, tokens)?;
+        let (_, rest) = expect(rest, Symbol::Equal)?;
+        let (defined, rest) = defined_type(parser, rest)?;
+        let (_, rest) = expect(rest, Symbol::Semicolon)?;
+        Ok((TypeDefinition { name, defined }, rest))
     }
 }
 
-fn begins_section(tokens: &[Token]) -> bool
-    ensures { result ≡ spec.begins_section (kind_at tokens.now) }
-{
-    matches!(
-        peek(tokens),
-        Some(Kind::Symbol(Symbol::Const | Symbol::Type))
-    )
+impl Item<Parser> for TypeDefinition {
+    ghost begins = { is_name };
+
+    fn begins(tokens: &[Token]) -> bool {
+        sees_name(tokens)
+    }
+}
+
+impl Node<Parser> for Section {
+    ghost Plain = { s.Section };
+
+    ghost view = { view.section_of };
+
+    ghost is_readable = { λ x. ⊤ };
+
+    ghost reader = { λ x. spec.section_of (type_at x.room) (deeper_at x.room) };
+
+    /// Reads the definitions after one word `const` or `type`.
+    #[tactic(auto, unfolding(cp_grammar::specs::Declarations::section_of, cp_grammar::specs::Declarations::section_by))]
+    fn read(parser: Parser, tokens: &[Token]) -> Read<'_, Section> {
+        match peek(tokens) {
+            Some(Kind::Symbol(Symbol::Const)) => {
+                let (definitions, rest) = one_or_more(parser.alloc, parser.alloc, after(tokens))?;
+                Ok((Section::Constants(definitions), rest))
+            }
+            Some(Kind::Symbol(Symbol::Type)) => {
+                let (definitions, rest) = one_or_more(parser.alloc, parser, after(tokens))?;
+                Ok((Section::Types(definitions), rest))
+            }
+            _ => Err(Stop::Wrong(tokens.len())),
+        }
+    }
+}
+
+impl Item<Parser> for Section {
+    ghost begins = { spec.begins_section };
+
+    fn begins(tokens: &[Token]) -> bool {
+        matches!(
+            peek(tokens),
+            Some(Kind::Symbol(Symbol::Const | Symbol::Type))
+        )
+    }
 }
 
 /// Reads a text up to its `.`.
 #[tactic(auto, unfolding(cp_grammar::specs::Text::tree_of))]
-fn tree(alloc: Global, room: usize, tokens: &[Token]) -> Read<'_, Tree>
-    ensures { Gives view.tree result (text.tree_of (type_at room) (deeper_at room) tokens.now) }
+fn tree(parser: Parser, tokens: &[Token]) -> Read<'_, Tree>
+    ensures { Gives view.tree result
+        (text.tree_of (type_at parser.room) (deeper_at parser.room) tokens.now) }
 {
-    let (sections, rest) = read_while(
-        Vec::new(alloc),
-        begins_section,
-        |rest| section(alloc, room, rest),
-        tokens,
-    )?;
-    let (variables, rest) = variables(alloc, room, rest)?;
-    let (routines, rest) = routines(alloc, room, rest)?;
-    let (body, rest) = body(alloc, room, rest)?;
+    let (sections, rest) = repeated(parser.alloc, parser, tokens)?;
+    let (variables, rest) = variables(parser, rest)?;
+    let (routines, rest) = routines(parser, rest)?;
+    let (body, rest) = body(parser, rest)?;
     let (_, rest) = expect(rest, Symbol::Dot)?;
     Ok((
         Tree {
@@ -200,7 +211,7 @@ fn tree(alloc: Global, room: usize, tokens: &[Token]) -> Read<'_, Tree>
 pub fn text(alloc: Global, room: usize, tokens: &[Token]) -> Read<'_, Tree>
     ensures { Gives view.tree result (text.text_at room tokens.now) }
 {
-    let (tree, rest) = tree(alloc, room, tokens)?;
+    let (tree, rest) = tree(Parser { alloc, room }, tokens)?;
     if !rest.is_empty() {
         return Err(Stop::Wrong(rest.len()));
     }

@@ -1,200 +1,146 @@
 //! From terms to lists of expressions, given a reader of factors.
 
-ghost use Rattle.std.specs.Prelude.{◌≡◌, map, IfOk, IfErr};
+ghost use Rattle.std.specs.Prelude.{◌≡◌, map, IfOk, Option};
+ghost use Rattle.std.specs.Option.{is_some};
 ghost use Rattle.cp_model.specs.Syntax.{chain_of};
 ghost use Rattle.cp_model.specs.Syntax as s;
 ghost use Rattle.cp_model.specs.View as view;
-ghost use Rattle.cp_grammar.specs.Reading.{kind_at, Gives};
+ghost use Rattle.cp_model.specs.declared.token.Kind.{Kind};
+ghost use Rattle.cp_model.specs.declared.token.Symbol.TheVariants as symbol;
+ghost use Rattle.cp_model.specs.declared.tree.Operator as plain;
+ghost use Rattle.cp_grammar.specs.Kinds.{is_symbol};
+ghost use Rattle.cp_grammar.specs.Reading.{kind_at, Reader, Gives};
 ghost use Rattle.cp_grammar.specs.Expressions as spec;
 ghost use Rattle.cp_syntax.specs.Nests.{FactorsAt};
 
-use crate::lists::{one_or_more, read_separated, read_while};
+use crate::levels::{Level, Nested, read_at};
+use crate::lists::{Item, Node, one_or_more, repeated, separated};
 use crate::operators::{product_operator, relation_operator, sign, sum_operator};
 use crate::tokens::{Read, after, place, sees};
 use cp_grammar::Stop;
 use cp_model::token::{Symbol, Token};
-use cp_model::tree::{Expression, Index, Operation, Operator, Sign};
+use cp_model::tree::{Expression, Index, Operation, Operator};
 use std::alloc::{AllocError, Global};
 
-/// The rules of expressions if `room` levels may still be opened, given a reader of factors for as
-/// many levels.
+impl Nested for Expression {
+    ghost Plain = { s.Expression };
+
+    ghost view = { view.expression };
+
+    ghost at = { spec.factor_at };
+}
+
+/// The operators of one class, and the operands between which they stand.
+trait Operators: Copy {
+    ghost operators: { Option Kind → Option plain.Operator };
+
+    /// What the class must know of the reader that it was given.
+    ghost has_operands: { Self → Type 0 };
+
+    ghost operands: { Self → Reader s.Expression };
+
+    /// The operator that is the next token, if it is one of the class.
+    fn operator(tokens: &[Token]) -> Option<Operator>
+        ensures { result ≡ operators (kind_at tokens.now) };
+
+    fn operand(self, tokens: &[Token]) -> Read<'_, Expression>
+        requires { has_operands self }
+        ensures { Gives view.expression result (operands self tokens.now) };
+}
+
+/// The operators between factors.
 #[derive(Clone, Copy)]
-pub struct Expressions<F> {
-    pub alloc: Global,
-    pub room: usize,
-    pub factor: F,
+struct Products<F>(Level<F>);
+
+impl<F: Fn(Global, usize, &[Token]) -> Read<'_, Expression> + Copy> Operators for Products<F> {
+    ghost operators = { spec.product_operator };
+
+    ghost has_operands = { λ x. FactorsAt x.0.room (F.pre x.0.read) (F.post x.0.read) };
+
+    ghost operands = { λ x. spec.factor_at x.0.room };
+
+    fn operator(tokens: &[Token]) -> Option<Operator> {
+        product_operator(tokens)
+    }
+
+    fn operand(self, tokens: &[Token]) -> Read<'_, Expression> {
+        read_at(self.0, tokens)
+    }
 }
 
-impl<F: Fn(Global, usize, &[Token]) -> Read<'_, Expression>> Expressions<F> {
-    /// Reads a factor, with the reader that was given.
-    pub fn factor<'a>(&self, tokens: &'a [Token]) -> Read<'a, Expression>
-        requires { FactorsAt self.now.room (F.pre self.now.factor) (F.post self.now.factor) }
-        ensures { Gives view.expression result (spec.factor_at self.now.room tokens.now) }
-    {
-        (self.factor)(self.alloc, self.room, tokens)
+/// The operators between terms.
+#[derive(Clone, Copy)]
+struct Sums<F>(Level<F>);
+
+impl<F: Fn(Global, usize, &[Token]) -> Read<'_, Expression> + Copy> Operators for Sums<F> {
+    ghost operators = { spec.sum_operator };
+
+    ghost has_operands = { λ x. FactorsAt x.0.room (F.pre x.0.read) (F.post x.0.read) };
+
+    ghost operands = { λ x. spec.term_of (spec.factor_at x.0.room) };
+
+    fn operator(tokens: &[Token]) -> Option<Operator> {
+        sum_operator(tokens)
     }
 
-    /// Reads an operator between factors, and the factor after it.
+    fn operand(self, tokens: &[Token]) -> Read<'_, Expression> {
+        term(self.0, tokens)
+    }
+}
+
+impl<O: Operators> Node<O> for Operation {
+    ghost Plain = { s.Operation };
+
+    ghost view = { view.operation };
+
+    ghost is_readable = { O.has_operands };
+
+    ghost reader = { λ x. spec.operation_of O.operators (O.operands x) };
+
     #[tactic(auto, unfolding(cp_grammar::specs::Expressions::operation_of))]
-    fn product<'a>(&self, tokens: &'a [Token]) -> Read<'a, Operation>
-        requires { FactorsAt self.now.room (F.pre self.now.factor) (F.post self.now.factor) }
-        ensures { Gives view.operation result
-            (spec.operation_of spec.product_operator (spec.factor_at self.now.room) tokens.now) }
-    {
-        let Some(operator) = product_operator(tokens) else {
+    fn read(class: O, tokens: &[Token]) -> Read<'_, Operation> {
+        let Some(operator) = O::operator(tokens) else {
             return Err(Stop::Wrong(tokens.len()));
         };
-        let (operand, rest) = self.factor(after(tokens))?;
-        Ok((operation(operator, place(tokens), operand), rest))
-    }
-
-    /// Reads factors with operators between them.
-    #[tactic(auto, unfolding(cp_grammar::specs::Expressions::term_of, cp_grammar::specs::Expressions::chain_from))]
-    fn term<'a>(&self, tokens: &'a [Token]) -> Read<'a, Expression>
-        requires { FactorsAt self.now.room (F.pre self.now.factor) (F.post self.now.factor) }
-        ensures { Gives view.expression result
-            (spec.term_of (spec.factor_at self.now.room) tokens.now) }
-    {
-        let (first, rest) = self.factor(tokens)?;
-        let (products, rest) = read_while(
-            Vec::new(self.alloc),
-            |rest| product_operator(rest).is_some(),
-            |rest| self.product(rest),
-            rest,
-        )?;
-        Ok((chain(self.alloc, first, products)?, rest))
-    }
-
-    /// Reads a term, with or without a sign before it.
-    #[tactic(auto, unfolding(cp_grammar::specs::Expressions::signed_term))]
-    fn signed_term<'a>(&self, tokens: &'a [Token]) -> Read<'a, Expression>
-        requires { FactorsAt self.now.room (F.pre self.now.factor) (F.post self.now.factor) }
-        ensures { Gives view.expression result
-            (spec.signed_term (spec.factor_at self.now.room) (spec.sign_of (kind_at tokens.now))
-            tokens.now) }
-    {
-        let Some(sign) = sign(tokens) else {
-            return self.term(tokens);
-        };
-        let (operand, rest) = self.term(after(tokens))?;
+        let at = place(tokens);
+        let (operand, rest) = class.operand(after(tokens))?;
         Ok((
-            signed_expression(self.alloc, sign, place(tokens), operand)?,
+            Operation {
+                operator,
+                at,
+                operand,
+            },
             rest,
         ))
     }
+}
 
-    /// Reads an operator between terms, and the term after it.
-    #[tactic(auto, unfolding(cp_grammar::specs::Expressions::operation_of))]
-    fn addition<'a>(&self, tokens: &'a [Token]) -> Read<'a, Operation>
-        requires { FactorsAt self.now.room (F.pre self.now.factor) (F.post self.now.factor) }
-        ensures { Gives view.operation result
-            (spec.operation_of spec.sum_operator (spec.term_of (spec.factor_at self.now.room))
-            tokens.now) }
-    {
-        let Some(operator) = sum_operator(tokens) else {
-            return Err(Stop::Wrong(tokens.len()));
-        };
-        let (operand, rest) = self.term(after(tokens))?;
-        Ok((operation(operator, place(tokens), operand), rest))
-    }
+impl<O: Operators> Item<O> for Operation {
+    ghost begins = { λ k. is_some (O.operators k) };
 
-    /// Reads terms with operators between them, and with or without a sign before the first.
-    #[tactic(auto, unfolding(cp_grammar::specs::Expressions::simple_of, cp_grammar::specs::Expressions::chain_from))]
-    fn simple<'a>(&self, tokens: &'a [Token]) -> Read<'a, Expression>
-        requires { FactorsAt self.now.room (F.pre self.now.factor) (F.post self.now.factor) }
-        ensures { Gives view.expression result
-            (spec.simple_of (spec.factor_at self.now.room) tokens.now) }
-    {
-        let (first, rest) = self.signed_term(tokens)?;
-        let (additions, rest) = read_while(
-            Vec::new(self.alloc),
-            |rest| sum_operator(rest).is_some(),
-            |rest| self.addition(rest),
-            rest,
-        )?;
-        Ok((chain(self.alloc, first, additions)?, rest))
-    }
-
-    /// Reads two simple expressions with a relation between them, or one alone.
-    #[tactic(auto, unfolding(cp_grammar::specs::Expressions::expression_of))]
-    pub fn expression<'a>(&self, tokens: &'a [Token]) -> Read<'a, Expression>
-        requires { FactorsAt self.now.room (F.pre self.now.factor) (F.post self.now.factor) }
-        ensures { Gives view.expression result
-            (spec.expression_of (spec.factor_at self.now.room) tokens.now) }
-    {
-        let (left, rest) = self.simple(tokens)?;
-        let Some(operator) = relation_operator(rest) else {
-            return Ok((left, rest));
-        };
-        let at = place(rest);
-        let (right, rest) = self.simple(after(rest))?;
-        Ok((
-            relation(self.alloc, left, operation(operator, at, right))?,
-            rest,
-        ))
-    }
-
-    /// Reads one or more expressions, with commas between them.
-    #[tactic(auto, unfolding(cp_grammar::specs::Expressions::expressions_from))]
-    pub fn expressions<'a>(&self, tokens: &'a [Token]) -> Read<'a, Vec<Expression>>
-        requires { FactorsAt self.now.room (F.pre self.now.factor) (F.post self.now.factor) }
-        ensures { Gives (λ v. map view.expression v.items) result
-            (spec.expressions_from (spec.factor_at self.now.room) tokens.now) }
-    {
-        read_separated(
-            self.alloc,
-            Symbol::Comma,
-            |rest| self.expression(rest),
-            tokens,
-        )
-    }
-
-    /// Reads the `[` or the `,`, and the index after it.
-    #[tactic(auto, unfolding(cp_grammar::specs::Expressions::index_of))]
-    fn index<'a>(&self, tokens: &'a [Token]) -> Read<'a, Index>
-        requires { FactorsAt self.now.room (F.pre self.now.factor) (F.post self.now.factor) }
-        ensures { Gives view.index result
-            (spec.index_of (spec.factor_at self.now.room) tokens.now) }
-    {
-        let (value, rest) = self.expression(after(tokens))?;
-        Ok((index(place(tokens), value), rest))
-    }
-
-    /// Reads one or more indices, each after a `[` or a `,`.
-    #[tactic(auto, unfolding(cp_grammar::specs::Expressions::indices_from))]
-    pub fn indices<'a>(&self, tokens: &'a [Token]) -> Read<'a, Vec<Index>>
-        requires { FactorsAt self.now.room (F.pre self.now.factor) (F.post self.now.factor) }
-        ensures { Gives (λ v. map view.index v.items) result
-            (spec.indices_from (spec.factor_at self.now.room) tokens.now) }
-    {
-        one_or_more(
-            self.alloc,
-            |rest| sees(rest, Symbol::Comma),
-            |rest| self.index(rest),
-            tokens,
-        )
+    fn begins(tokens: &[Token]) -> bool {
+        O::operator(tokens).is_some()
     }
 }
 
-fn operation(operator: Operator, at: usize, operand: Expression) -> Operation
-    ensures { view.operation
-        result ≡ record { operator = operator; at = at; operand = view.expression operand } }
+/// Reads the operations after the first operand.
+#[tactic(auto, unfolding(cp_grammar::specs::Expressions::chain_from))]
+fn chain<O: Operators>(
+    alloc: Global,
+    class: O,
+    first: Expression,
+    tokens: &[Token],
+) -> Read<'_, Expression>
+    requires { O.has_operands class }
+    ensures { Gives view.expression result
+        (spec.chain_from O.operators (O.operands class) (view.expression first) tokens.now) }
 {
-    Operation {
-        operator,
-        at,
-        operand,
-    }
-}
-
-fn index(at: usize, value: Expression) -> Index
-    ensures { view.index result ≡ record { at = at; value = view.expression value } }
-{
-    Index { at, value }
+    let (operations, rest) = repeated::<Operation, O>(alloc, class, tokens)?;
+    Ok((join(alloc, first, operations)?, rest))
 }
 
 /// Joins operands with the operators between them, if there are any.
-fn chain(alloc: Global, first: Expression, rest: Vec<Operation>) -> Result<Expression, AllocError>
+fn join(alloc: Global, first: Expression, rest: Vec<Operation>) -> Result<Expression, AllocError>
     ensures { IfOk result
         (λ e. view.expression e ≡ chain_of (view.expression first)
         (map view.operation rest.items)) }
@@ -215,20 +161,130 @@ fn relation(alloc: Global, left: Expression, right: Operation) -> Result<Express
 {
     let mut rest = Vec::new(alloc);
     rest.push(right)?;
-    chain(alloc, left, rest)
+    join(alloc, left, rest)
 }
 
-fn signed_expression(
-    alloc: Global,
-    sign: Sign,
-    at: usize,
-    operand: Expression,
-) -> Result<Expression, AllocError>
-    ensures { IfOk result (λ e. view.expression e ≡ s.Signed sign at (view.expression operand)) }
+/// Reads factors with operators between them.
+#[tactic(auto, unfolding(cp_grammar::specs::Expressions::term_of))]
+fn term<F: Fn(Global, usize, &[Token]) -> Read<'_, Expression> + Copy>(
+    level: Level<F>,
+    tokens: &[Token],
+) -> Read<'_, Expression>
+    requires { FactorsAt level.room (F.pre level.read) (F.post level.read) }
+    ensures { Gives view.expression result (spec.term_of (spec.factor_at level.room) tokens.now) }
 {
-    Ok(Expression::Signed {
-        sign,
-        at,
-        operand: Box::new(alloc, operand)?,
-    })
+    let (first, rest) = read_at(level, tokens)?;
+    chain(level.alloc, Products(level), first, rest)
+}
+
+/// Reads a term, with or without a sign before it.
+#[tactic(auto, unfolding(cp_grammar::specs::Expressions::signed_term))]
+fn signed_term<F: Fn(Global, usize, &[Token]) -> Read<'_, Expression> + Copy>(
+    level: Level<F>,
+    tokens: &[Token],
+) -> Read<'_, Expression>
+    requires { FactorsAt level.room (F.pre level.read) (F.post level.read) }
+    ensures { Gives view.expression result
+        (spec.signed_term (spec.factor_at level.room) (spec.sign_of (kind_at tokens.now))
+        tokens.now) }
+{
+    let Some(sign) = sign(tokens) else {
+        return term(level, tokens);
+    };
+    let at = place(tokens);
+    let (operand, rest) = term(level, after(tokens))?;
+    let operand = Box::new(level.alloc, operand)?;
+    Ok((Expression::Signed { sign, at, operand }, rest))
+}
+
+/// Reads terms with operators between them, and with or without a sign before the first.
+#[tactic(auto, unfolding(cp_grammar::specs::Expressions::simple_of))]
+fn simple<F: Fn(Global, usize, &[Token]) -> Read<'_, Expression> + Copy>(
+    level: Level<F>,
+    tokens: &[Token],
+) -> Read<'_, Expression>
+    requires { FactorsAt level.room (F.pre level.read) (F.post level.read) }
+    ensures { Gives view.expression result (spec.simple_of (spec.factor_at level.room) tokens.now) }
+{
+    let (first, rest) = signed_term(level, tokens)?;
+    chain(level.alloc, Sums(level), first, rest)
+}
+
+impl<F: Fn(Global, usize, &[Token]) -> Read<'_, Expression> + Copy> Node<Level<F>> for Expression {
+    ghost Plain = { s.Expression };
+
+    ghost view = { view.expression };
+
+    ghost is_readable = { λ x. FactorsAt x.room (F.pre x.read) (F.post x.read) };
+
+    ghost reader = { λ x. spec.expression_of (spec.factor_at x.room) };
+
+    /// Reads two simple expressions with a relation between them, or one alone.
+    #[tactic(auto, unfolding(cp_grammar::specs::Expressions::expression_of))]
+    fn read(level: Level<F>, tokens: &[Token]) -> Read<'_, Expression> {
+        let (left, rest) = simple(level, tokens)?;
+        let Some(operator) = relation_operator(rest) else {
+            return Ok((left, rest));
+        };
+        let at = place(rest);
+        let (operand, rest) = simple(level, after(rest))?;
+        let right = Operation {
+            operator,
+            at,
+            operand,
+        };
+        Ok((relation(level.alloc, left, right)?, rest))
+    }
+}
+
+/// Reads one or more expressions, with commas between them.
+#[tactic(auto, unfolding(cp_grammar::specs::Expressions::expressions_from))]
+pub fn expressions<F: Fn(Global, usize, &[Token]) -> Read<'_, Expression> + Copy>(
+    level: Level<F>,
+    tokens: &[Token],
+) -> Read<'_, Vec<Expression>>
+    requires { FactorsAt level.room (F.pre level.read) (F.post level.read) }
+    ensures { Gives (λ v. map view.expression v.items) result
+        (spec.expressions_from (spec.factor_at level.room) tokens.now) }
+{
+    separated(level.alloc, level, Symbol::Comma, tokens)
+}
+
+impl<F: Fn(Global, usize, &[Token]) -> Read<'_, Expression> + Copy> Node<Level<F>> for Index {
+    ghost Plain = { view.PlacedIndex };
+
+    ghost view = { view.index };
+
+    ghost is_readable = { λ x. FactorsAt x.room (F.pre x.read) (F.post x.read) };
+
+    ghost reader = { λ x. spec.index_of (spec.factor_at x.room) };
+
+    /// Reads the `[` or the `,`, and the index after it.
+    #[tactic(auto, unfolding(cp_grammar::specs::Expressions::index_of))]
+    fn read(level: Level<F>, tokens: &[Token]) -> Read<'_, Index> {
+        let at = place(tokens);
+        let (value, rest) = Expression::read(level, after(tokens))?;
+        Ok((Index { at, value }, rest))
+    }
+}
+
+impl<F: Fn(Global, usize, &[Token]) -> Read<'_, Expression> + Copy> Item<Level<F>> for Index {
+    ghost begins = { is_symbol symbol.Comma };
+
+    fn begins(tokens: &[Token]) -> bool {
+        sees(tokens, Symbol::Comma)
+    }
+}
+
+/// Reads one or more indices, each after a `[` or a `,`.
+#[tactic(auto, unfolding(cp_grammar::specs::Expressions::indices_from))]
+pub fn indices<F: Fn(Global, usize, &[Token]) -> Read<'_, Expression> + Copy>(
+    level: Level<F>,
+    tokens: &[Token],
+) -> Read<'_, Vec<Index>>
+    requires { FactorsAt level.room (F.pre level.read) (F.post level.read) }
+    ensures { Gives (λ v. map view.index v.items) result
+        (spec.indices_from (spec.factor_at level.room) tokens.now) }
+{
+    one_or_more(level.alloc, level, tokens)
 }

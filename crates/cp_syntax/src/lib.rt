@@ -5,9 +5,9 @@
 mod declarations;
 mod expressions;
 mod factors;
+mod levels;
 mod lists;
 mod names;
-mod nodes;
 mod operators;
 mod parsing;
 mod refusal;

@@ -1,75 +1,100 @@
 //! Items one after another, with or without symbols between them.
 
-ghost use Rattle.std.specs.Prelude.{◌≡◌, map, Bool, Option};
+ghost use Rattle.std.specs.Prelude.{◌≡◌, map, [], Bool, Option};
 ghost use Rattle.cp_model.specs.declared.token.Kind.{Kind};
-ghost use Rattle.cp_grammar.specs.Reading.{Reader, Gives};
+ghost use Rattle.cp_grammar.specs.Reading.{kind_at, Reader, Gives};
 ghost use Rattle.cp_grammar.specs.Reading as reading;
-ghost use Rattle.cp_syntax.specs.Readers.{Reads, Tests};
 
-use crate::nodes::Node;
 use crate::tokens::{Read, after, sees};
 use cp_model::token::{Symbol, Token};
 use std::alloc::Global;
 
-/// Reads items after those in `found`, as long as `goes_on` holds for the next token.
-pub fn read_while<X: Node + Drop, G: Fn(&[Token]) -> bool, F: Fn(&[Token]) -> Read<'_, X>>(
+/// A part of the syntax tree that occurs in lists, and how the rules `R` read it.
+pub trait Node<R>: Drop {
+    /// The plain data that stands for it in the grammar.
+    ghost Plain: { Type 0 };
+
+    ghost view: { Self → Plain };
+
+    /// What the rules must know of the reader that they were given.
+    ghost is_readable: { R → Type 0 };
+
+    ghost reader: { R → Reader Plain };
+
+    fn read(rules: R, tokens: &[Token]) -> Read<'_, Self>
+        requires { is_readable rules }
+        ensures { Gives view result (reader rules tokens.now) };
+}
+
+/// A part of the syntax tree that is read as long as the next token begins one.
+pub trait Item<R>: Node<R> {
+    ghost begins: { Option Kind → Bool };
+
+    fn begins(tokens: &[Token]) -> bool
+        ensures { result ≡ begins (kind_at tokens.now) };
+}
+
+/// Reads items as long as the next token begins one, after those in `found`.
+pub fn read_while<X: Item<R>, R: Copy>(
     found: Vec<X>,
-    goes_on: G,
-    item: F,
+    rules: R,
     tokens: &[Token],
 ) -> Read<'_, Vec<X>>
-    requires can_look { G.IsAlwaysCallable goes_on }
-    requires can_read { F.IsAlwaysCallable item }
-    ensures { (test : Option Kind → Bool) (reader : Reader X.Plain) → Tests (G.post goes_on) test
-        → Reads X.view (F.post item) reader
-        → Gives (λ v. map X.view v.items) result
-        (reading.repeat_while test reader (map X.view found.items) tokens.now) }
+    requires { X.is_readable rules }
+    ensures { Gives (λ v. map X.view v.items) result
+        (reading.repeat_while X.begins (X.reader rules) (map X.view found.items) tokens.now) }
 {
     let mut found = found;
     let mut rest = tokens;
     for _turn in 0..tokens.len() {
-        if !goes_on(rest) {
+        if !X::begins(rest) {
             return Ok((found, rest));
         }
-        let (x, left) = item(rest)?;
+        let (x, left) = X::read(rules, rest)?;
         found.push(x)?;
         rest = left;
     }
     Ok((found, rest))
 }
 
-/// Reads one item, and more as long as `goes_on` holds for the next token.
+/// Reads items as long as the next token begins one.
+pub fn repeated<X: Item<R>, R: Copy>(alloc: Global, rules: R, tokens: &[Token]) -> Read<'_, Vec<X>>
+    requires { X.is_readable rules }
+    ensures { Gives (λ v. map X.view v.items) result
+        (reading.repeat_while X.begins (X.reader rules) [] tokens.now) }
+{
+    read_while(Vec::new(alloc), rules, tokens)
+}
+
+/// Reads one item, and more as long as the next token begins one.
 #[tactic(auto, unfolding(cp_grammar::specs::Reading::repeat))]
-pub fn one_or_more<X: Node + Drop, G: Fn(&[Token]) -> bool, F: Fn(&[Token]) -> Read<'_, X>>(
+pub fn one_or_more<X: Item<R>, R: Copy>(
     alloc: Global,
-    goes_on: G,
-    item: F,
+    rules: R,
     tokens: &[Token],
 ) -> Read<'_, Vec<X>>
-    requires can_look { G.IsAlwaysCallable goes_on }
-    requires can_read { F.IsAlwaysCallable item }
-    ensures { (test : Option Kind → Bool) (reader : Reader X.Plain) → Tests (G.post goes_on) test
-        → Reads X.view (F.post item) reader
-        → Gives (λ v. map X.view v.items) result (reading.one_or_more test reader tokens.now) }
+    requires { X.is_readable rules }
+    ensures { Gives (λ v. map X.view v.items) result
+        (reading.one_or_more X.begins (X.reader rules) tokens.now) }
 {
-    let (first, rest) = item(tokens)?;
+    let (first, rest) = X::read(rules, tokens)?;
     let mut found = Vec::new(alloc);
     found.push(first)?;
-    read_while(found, goes_on, item, rest)
+    read_while(found, rules, rest)
 }
 
 /// Reads one or more items, with this symbol between them.
-pub fn read_separated<X: Node + Drop, F: Fn(&[Token]) -> Read<'_, X>>(
+pub fn separated<X: Node<R>, R: Copy>(
     alloc: Global,
+    rules: R,
     symbol: Symbol,
-    item: F,
     tokens: &[Token],
 ) -> Read<'_, Vec<X>>
-    requires { F.IsAlwaysCallable item }
-    ensures { (reader : Reader X.Plain) → Reads X.view (F.post item) reader
-        → Gives (λ v. map X.view v.items) result (reading.separated_by symbol reader tokens.now) }
+    requires { X.is_readable rules }
+    ensures { Gives (λ v. map X.view v.items) result
+        (reading.separated_by symbol (X.reader rules) tokens.now) }
 {
-    let (first, rest) = item(tokens)?;
+    let (first, rest) = X::read(rules, tokens)?;
     let mut found = Vec::new(alloc);
     found.push(first)?;
     let mut rest = rest;
@@ -77,7 +102,7 @@ pub fn read_separated<X: Node + Drop, F: Fn(&[Token]) -> Read<'_, X>>(
         if !sees(rest, symbol) {
             return Ok((found, rest));
         }
-        let (x, left) = item(after(rest))?;
+        let (x, left) = X::read(rules, after(rest))?;
         found.push(x)?;
         rest = left;
     }

@@ -1,10 +1,10 @@
 //! Names and constants.
 
-ghost use Rattle.std.specs.Prelude.{◌≡◌};
+ghost use Rattle.std.specs.Prelude.{◌≡◌, ⊤};
 ghost use Rattle.cp_grammar.specs.Reading.{kind_at, Gives};
 ghost use Rattle.cp_grammar.specs.Names as spec;
 
-use crate::lists::read_separated;
+use crate::lists::{Node, separated};
 use crate::tokens::{Read, after, peek, place};
 use cp_grammar::Stop;
 use cp_model::token::{Kind, Symbol, Token};
@@ -36,7 +36,7 @@ pub fn identifier(alloc: Global, tokens: &[Token]) -> Read<'_, Identifier>
 pub fn names(alloc: Global, tokens: &[Token]) -> Read<'_, Vec<Identifier>>
     ensures { Gives (λ v. v.items) result (spec.names_of tokens.now) }
 {
-    read_separated(alloc, Symbol::Comma, |rest| identifier(alloc, rest), tokens)
+    separated(alloc, alloc, Symbol::Comma, tokens)
 }
 
 /// Reads a constant.
@@ -76,5 +76,37 @@ fn negative(at: usize, tokens: &[Token]) -> Read<'_, Constant>
 pub fn constants(alloc: Global, tokens: &[Token]) -> Read<'_, Vec<Constant>>
     ensures { Gives (λ v. v.items) result (spec.constants_of tokens.now) }
 {
-    read_separated(alloc, Symbol::Comma, |rest| constant(alloc, rest), tokens)
+    separated(alloc, alloc, Symbol::Comma, tokens)
+}
+
+impl Node<Global> for Identifier {
+    ghost use Rattle.cp_model.specs.declared.tree.Identifier as plain;
+
+    ghost Plain = { plain.Identifier };
+
+    ghost view = { λ x. x };
+
+    ghost is_readable = { λ alloc. ⊤ };
+
+    ghost reader = { λ alloc. spec.identifier_of };
+
+    fn read(alloc: Global, tokens: &[Token]) -> Read<'_, Identifier> {
+        identifier(alloc, tokens)
+    }
+}
+
+impl Node<Global> for Constant {
+    ghost use Rattle.cp_model.specs.declared.tree.Constant as plain;
+
+    ghost Plain = { plain.Constant };
+
+    ghost view = { λ c. c };
+
+    ghost is_readable = { λ alloc. ⊤ };
+
+    ghost reader = { λ alloc. spec.constant_of };
+
+    fn read(alloc: Global, tokens: &[Token]) -> Read<'_, Constant> {
+        constant(alloc, tokens)
+    }
 }

@@ -1,19 +1,19 @@
 //! Statements that contain no statements, if `room` levels may be opened.
 
-ghost use Rattle.std.specs.Prelude.{◌≡◌, map};
+ghost use Rattle.std.specs.Prelude.{⊤};
 ghost use Rattle.cp_model.specs.Syntax as s;
-ghost use Rattle.cp_model.specs.View.{expressions_of};
 ghost use Rattle.cp_model.specs.View as view;
 ghost use Rattle.cp_grammar.specs.Reading.{Gives};
 ghost use Rattle.cp_grammar.specs.Expressions.{inner_at};
 ghost use Rattle.cp_grammar.specs.Statements as spec;
 
 use crate::factors::{designator, expression, optional_arguments};
-use crate::lists::read_separated;
+use crate::levels::Parser;
+use crate::lists::{Node, separated};
 use crate::names::identifier;
 use crate::tokens::{Read, after, place, sees};
 use cp_model::token::{Symbol, Token};
-use cp_model::tree::{Designator, Expression, Identifier, InitItem, Statement};
+use cp_model::tree::{InitItem, Statement};
 use std::alloc::Global;
 
 /// Reads an assignment or a call of a procedure.
@@ -23,11 +23,13 @@ pub fn assignment_or_call(alloc: Global, room: usize, tokens: &[Token]) -> Read<
 {
     let (d, rest) = designator(alloc, room, tokens)?;
     if sees(rest, Symbol::Assign) {
+        let at = place(rest);
         let (value, left) = expression(alloc, room, after(rest))?;
-        return Ok((assign(d, place(rest), value), left));
+        let target = d;
+        return Ok((Statement::Assign { target, at, value }, left));
     }
     let (arguments, rest) = optional_arguments(alloc, room, rest)?;
-    Ok((call(d, arguments), rest))
+    Ok((Statement::Call(d, arguments), rest))
 }
 
 /// Reads the word `init` and the components after it.
@@ -35,45 +37,31 @@ pub fn assignment_or_call(alloc: Global, room: usize, tokens: &[Token]) -> Read<
 pub fn init(alloc: Global, room: usize, tokens: &[Token]) -> Read<'_, Statement>
     ensures { Gives view.statement result (spec.init_of (inner_at room) tokens.now) }
 {
-    let (items, rest) = read_separated(
-        alloc,
-        Symbol::Comma,
-        |rest| init_item(alloc, room, rest),
-        after(tokens),
-    )?;
-    Ok((init_from(place(tokens), items), rest))
+    let at = place(tokens);
+    let parser = Parser { alloc, room };
+    let (items, rest) = separated(alloc, parser, Symbol::Comma, after(tokens))?;
+    Ok((Statement::Init { at, items }, rest))
 }
 
-#[tactic(auto, unfolding(cp_grammar::specs::Statements::init_item_of))]
-fn init_item(alloc: Global, room: usize, tokens: &[Token]) -> Read<'_, InitItem>
-    ensures { Gives view.init_item result (spec.init_item_of (inner_at room) tokens.now) }
-{
-    let (component, rest) = identifier(alloc, tokens)?;
-    let (arguments, rest) = optional_arguments(alloc, room, rest)?;
-    Ok((
-        InitItem {
-            component,
-            arguments,
-        },
-        rest,
-    ))
-}
+impl Node<Parser> for InitItem {
+    ghost Plain = { s.InitItem };
 
-fn assign(target: Designator, at: usize, value: Expression) -> Statement
-    ensures { view.statement result ≡ s.Assign (view.designator target) at (view.expression value) }
-{
-    Statement::Assign { target, at, value }
-}
+    ghost view = { view.init_item };
 
-fn call(d: Designator, arguments: Vec<Expression>) -> Statement
-    ensures { view.statement result ≡ s.Perform (view.designator d)
-        (expressions_of (map view.expression arguments.items)) }
-{
-    Statement::Call(d, arguments)
-}
+    ghost is_readable = { λ x. ⊤ };
 
-fn init_from(at: usize, items: Vec<InitItem>) -> Statement
-    ensures { view.statement result ≡ s.Init at (map view.init_item items.items) }
-{
-    Statement::Init { at, items }
+    ghost reader = { λ x. spec.init_item_of (inner_at x.room) };
+
+    #[tactic(auto, unfolding(cp_grammar::specs::Statements::init_item_of))]
+    fn read(parser: Parser, tokens: &[Token]) -> Read<'_, InitItem> {
+        let (component, rest) = identifier(parser.alloc, tokens)?;
+        let (arguments, rest) = optional_arguments(parser.alloc, parser.room, rest)?;
+        Ok((
+            InitItem {
+                component,
+                arguments,
+            },
+            rest,
+        ))
+    }
 }

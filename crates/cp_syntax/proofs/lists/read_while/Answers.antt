@@ -4,23 +4,18 @@ use Rattle.std.proofs.lemmas.Result.{err_from_is_err_and}
 use Rattle.cp_syntax.proofs.Loops.{repeat_ends, repeat_stops, repeat_goes, repeat_fails, fails_as}
 use Rattle.cp_syntax.proofs.lists.read_while.Goals as goal
 
-pub returns-then-not-goes_on : goal.returns-then-not-goes_on
-returns-then-not-goes_on g c test reader tests reads =
-    let stop = tests _ _ c.goes_on.ensures in
-    sym (c.loop-turn.invariant test reader tests reads) ∙ repeat_stops _ _ _ _ _ _ c.loop-turn-test.true (cc)
+pub returns-then-not-begins : goal.returns-then-not-begins
+returns-then-not-begins g c = sym c.loop-turn.invariant ∙ repeat_stops _ _ _ _ _ _ c.loop-turn-test.true (cc)
 
 pub returns-in_err-x : goal.returns-in_err-x
-returns-in_err-x g c test reader tests reads =
+returns-in_err-x g c =
     let p = err_from_is_err_and c.from_residual.result c.from_residual.ensures.1 in
-    let go = tests _ _ c.goes_on.ensures in
-    rw (p.1, p.2) (fails_as _ _ _ (repeat_fails _ _ _ _ _ _ _ c.loop-turn-test.true (cc) (reads _ _ c.in_err-x.ensures)) (c.loop-turn.invariant test reader tests reads))
+    rw (p.1, p.2) (fails_as _ _ _ (repeat_fails _ _ _ _ _ _ _ c.loop-turn-test.true (cc) c.in_err-x.ensures) c.loop-turn.invariant)
 
 pub loop-turn-preserved : goal.loop-turn-preserved
-loop-turn-preserved g c test reader tests reads =
-    let go = tests _ _ c.goes_on.ensures in
-    let one = reads _ _ c.in_ok-x.ensures in
+loop-turn-preserved g c =
     let e : map g.X.Node.view c.push.new.self.items ≡ map g.X.Node.view c.loop-turn.found.items ++ g.X.Node.view c.in_ok-x.x ∷ [] = rw c.in_ok-push.ensures.items (map_push _ c.loop-turn.found.items c.in_ok-x.x) in
-    rw e (sym (repeat_goes _ _ _ _ _ _ _ _ c.loop-turn-test.true (cc) one) ∙ c.loop-turn.invariant test reader tests reads)
+    rw e (sym (repeat_goes _ _ _ _ _ _ _ _ c.loop-turn-test.true (cc) c.in_ok-x.ensures) ∙ c.loop-turn.invariant)
 
 pub returns : goal.returns
-returns g c test reader tests reads = sym (c.loop-turn.invariant test reader tests reads) ∙ repeat_ends _ _ _ _ _ _ c.loop-turn-test.false
+returns g c = sym c.loop-turn.invariant ∙ repeat_ends _ _ _ _ _ _ c.loop-turn-test.false
