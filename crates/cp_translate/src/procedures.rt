@@ -1,6 +1,7 @@
 //! Calls of procedures: those that the text declares and the standard ones.
 
 ghost use Rattle.std.specs.Prelude.{◌≡◌, Some, IfOk, map};
+ghost use Rattle.cp_program.specs.View as view;
 ghost use Rattle.cp_model.specs.Abstract as a;
 ghost use Rattle.cp_model.specs.Calls as model;
 ghost use Rattle.cp_model.specs.Erase as erase;
@@ -13,7 +14,7 @@ ghost use Rattle.cp_program_model.specs.CodedTerms.{coded_term, coded_variable};
 ghost use Rattle.cp_program_model.specs.Programs as op;
 ghost use Rattle.cp_program_model.specs.Scopes as code;
 ghost use Rattle.cp_program_model.specs.Scopes.{environment};
-ghost use Rattle.cp_emit.specs.Emission.{place_of};
+ghost use Rattle.cp_emit.specs.Emission.{coded_call, place_of};
 ghost use Rattle.cp_scope.specs.Scopes.{IsCallee, IsScope};
 ghost use Rattle.cp_scope.specs.Standing.{base_of};
 ghost use Rattle.cp_translate.specs.Statements.{Enters, StatementOf};
@@ -21,9 +22,10 @@ ghost use Rattle.cp_translate.specs.Statements.{Enters, StatementOf};
 use crate::calls::words_before;
 use crate::standard::lone_name;
 use crate::translator::Translator;
-use cp_emit::Emitter;
+use cp_emit::{CodedCall, Emitter};
 use cp_model::tree::{Designator, Expression};
 use cp_program::operation::Operation;
+use cp_program::term::Spot;
 use cp_scope::{Base, Callee, CompileError};
 
 // Whether values of a base type are displayed as bytes.
@@ -58,6 +60,17 @@ impl<'s, 't> Translator<'s, 't> {
         emitter.emit(calls, display)
     }
 
+    // Makes the spot of the variable that is passed to a standard procedure, and the calls before it.
+    fn passed_spot(&self, e: &Expression, low: u32) -> Result<(Spot, Vec<CodedCall>), CompileError>
+        ensures { IfOk result (λ p. (s : code.Scope) → IsScope self.now.scope s
+            → let c = coded_variable s (erase.expression (tree.expression e.now)) low in
+            (map coded_call p.1.items ≡ c.calls) × (view.spot p.0 ≡ c.spot)) }
+    {
+        let mut calls = Vec::new(self.alloc);
+        let made = self.argument_spot(e, low, &mut calls)?;
+        Ok((made.spot, calls))
+    }
+
     // Emits an `accept`, which takes a value from the input.
     fn accept(
         &self,
@@ -74,10 +87,9 @@ impl<'s, 't> Translator<'s, 't> {
     {
         let simple = self.scope.expression_type(e)?;
         let simple = simple.ok_or(CompileError::Unaccepted)?;
-        let mut calls = Vec::new(self.alloc);
-        let made = self.argument_spot(e, low, &mut calls)?;
+        let (to, calls) = self.passed_spot(e, low)?;
         let accept = Operation::Accept {
-            to: made.spot,
+            to,
             low: simple.low,
             high: simple.high,
             next,
@@ -98,13 +110,8 @@ impl<'s, 't> Translator<'s, 't> {
             Enters emitter.old emitter.new entry
             (with_calls c.calls (op.Delay c.spot next) (place_of emitter.old))) }
     {
-        let mut calls = Vec::new(self.alloc);
-        let made = self.argument_spot(e, low, &mut calls)?;
-        let delay = Operation::Delay {
-            queue: made.spot,
-            next,
-        };
-        emitter.emit(calls, delay)
+        let (queue, calls) = self.passed_spot(e, low)?;
+        emitter.emit(calls, Operation::Delay { queue, next })
     }
 
     // Whether the running routine is a function.
@@ -125,13 +132,9 @@ impl<'s, 't> Translator<'s, 't> {
             Enters emitter.old emitter.new entry (with_calls c.calls
             (op.Continue c.spot (coded.runs_function s.routine)) (place_of emitter.old))) }
     {
-        let mut calls = Vec::new(self.alloc);
-        let made = self.argument_spot(e, low, &mut calls)?;
-        let go_on = Operation::Continue {
-            queue: made.spot,
-            function: self.runs_function(),
-        };
-        emitter.emit(calls, go_on)
+        let (queue, calls) = self.passed_spot(e, low)?;
+        let function = self.runs_function();
+        emitter.emit(calls, Operation::Continue { queue, function })
     }
 
     // Emits a call of the standard procedure with this name and first argument. Any name not listed

@@ -25,9 +25,9 @@ returns c =
     let e = erase.expression (tree.expression c.args.e.now) in
     let t = expression_type (environment s) e in
     let d = coded_variable s e c.args.low in
-    let made = rw c.new-calls.ensures.items at (c.in_ok-made.ensures s scope) in
+    let passed = c.in_ok-to.ensures s scope in
     let same = rw c.in_ok-simple-2.ensures.ok_part at (c.in_ok-simple.ensures s scope) in
-    entered c.args.emitter.now c.emit.new.self place c.argument_spot.new.calls.items d.calls
-    (operation.Accept c.in_ok-made.made.spot (narrow x.low) (narrow x.high) c.args.next) (op.Accept d.spot (low_of t) (high_of t) c.args.next)
-    made.calls (λ i. op.Accept (made.spot i) ((to_z-of_z w32 x.low low ∙ ap low_of same) i) ((to_z-of_z w32 x.high high ∙ ap high_of same) i) c.args.next) at emits)
+    entered c.args.emitter.now c.emit.new.self place c.in_ok-to.calls.items d.calls
+    (operation.Accept c.in_ok-to.to (narrow x.low) (narrow x.high) c.args.next) (op.Accept d.spot (low_of t) (high_of t) c.args.next)
+    passed.0 (λ i. op.Accept (passed.1 i) ((to_z-of_z w32 x.low low ∙ ap low_of same) i) ((to_z-of_z w32 x.high high ∙ ap high_of same) i) c.args.next) at emits)
     c.emit.ensures.entry c.emit.ensures.emits

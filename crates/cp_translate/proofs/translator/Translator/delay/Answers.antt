@@ -11,8 +11,8 @@ pub returns : goal.returns
 returns c =
     both_ok c.emit.result
     (λ place at emits s scope.
-    let made = rw c.new-calls.ensures.items at (c.in_ok-made.ensures s scope) in
+    let passed = c.in_ok-queue.ensures s scope in
     let d = coded_variable s (erase.expression (tree.expression c.args.e.now)) c.args.low in
-    entered c.args.emitter.now c.emit.new.self place c.argument_spot.new.calls.items d.calls (operation.Delay c.in_ok-made.made.spot c.args.next)
-    (op.Delay d.spot c.args.next) made.calls (λ i. op.Delay (made.spot i) c.args.next) at emits)
+    entered c.args.emitter.now c.emit.new.self place c.in_ok-queue.calls.items d.calls (operation.Delay c.in_ok-queue.queue c.args.next)
+    (op.Delay d.spot c.args.next) passed.0 (λ i. op.Delay (passed.1 i) c.args.next) at emits)
     c.emit.ensures.entry c.emit.ensures.emits

@@ -1,20 +1,20 @@
 use Rattle.cp_model.specs.Erase as erase
 use Rattle.cp_model.specs.View as tree
+use Rattle.cp_program_model.specs.CodedStatements.{runs_function}
 use Rattle.cp_program_model.specs.CodedTerms.{coded_variable}
 use Rattle.cp_program_model.specs.Programs as op
 use Rattle.cp_program.specs.declared.operation.Operation.TheVariants as operation
 use Rattle.cp_translate.proofs.Answered.{both_ok}
 use Rattle.cp_translate.proofs.Emitting.{entered}
-use Rattle.cp_program_model.specs.CodedStatements.{runs_function}
 use Rattle.cp_translate.proofs.translator.Translator.resume.Goals as goal
 
 pub returns : goal.returns
 returns c =
     both_ok c.emit.result
     (λ place at emits s scope.
-    let made = rw c.new-calls.ensures.items at (c.in_ok-made.ensures s scope) in
+    let passed = c.in_ok-queue.ensures s scope in
     let d = coded_variable s (erase.expression (tree.expression c.args.e.now)) c.args.low in
-    entered c.args.emitter.now c.emit.new.self place c.argument_spot.new.calls.items d.calls
-    (operation.Continue c.in_ok-made.made.spot c.runs_function.result) (op.Continue d.spot (runs_function s.routine)) made.calls
-    (λ i. op.Continue (made.spot i) (c.runs_function.ensures s scope i)) at emits)
+    entered c.args.emitter.now c.emit.new.self place c.in_ok-queue.calls.items d.calls
+    (operation.Continue c.in_ok-queue.queue c.runs_function-function.result) (op.Continue d.spot (runs_function s.routine)) passed.0
+    (λ i. op.Continue (passed.1 i) (c.runs_function-function.ensures s scope i)) at emits)
     c.emit.ensures.entry c.emit.ensures.emits
