@@ -85,11 +85,7 @@ fn finish<W: Write>(out: &mut W, bytes: &[u8]) -> Result<(), Refusal>
 }
 
 // Checks the text of a reader, and writes `accepted` and a line feed.
-fn check_text<R: Read, W: Write>(
-    alloc: Global,
-    text: &mut R,
-    out: &mut W,
-) -> Result<(), Refusal>
+fn check_text<R: Read, W: Write>(alloc: Global, text: &mut R, out: &mut W) -> Result<(), Refusal>
     ensures accepts { OnOk result
         (Accepts (R.remaining text.old) (W.contents out.old) (W.contents out.new)) }
     ensures unwritten { IfErr result

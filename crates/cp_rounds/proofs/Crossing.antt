@@ -9,7 +9,7 @@ use Rattle.cp_program.proofs.operation.Table.TheSendSync as table
 use Rattle.cp_program.proofs.operation.Target.TheSendSync as target
 use Rattle.cp_program.proofs.program.CodeUnit.TheSendSync as unit
 use Rattle.cp_program.proofs.program.Monitor.TheSendSync as monitor
-use Rattle.cp_program.proofs.program.Plan.TheSendSync as plan
+use Rattle.cp_program.proofs.program.StartPlan.TheSendSync as plan
 use Rattle.cp_program.proofs.program.Process.TheSendSync as process
 use Rattle.cp_program.specs.contracts.operation.Argument as argument
 use Rattle.cp_program.specs.contracts.operation.Call as call
