@@ -43,7 +43,7 @@ fn ending_program(alloc: Global, words: u32, shared: u32) -> Result<Program, Fai
         plan: 0,
     })?;
     let mut plans = Vec::new(alloc);
-    plans.push(program::Plan {
+    plans.push(program::StartPlan {
         starts: Vec::new(alloc),
     })?;
     let monitors = Vec::new(alloc);
