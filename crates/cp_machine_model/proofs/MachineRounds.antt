@@ -260,6 +260,9 @@ module _ (program : Program) (setup : Setup) (F : StandsFor program setup) (own 
       };
     }
 
+  pub end_stands : (s : State) (m : Machine) → IsIn program setup F own s m → IsIn program setup F own (close_round s) (machine.end_round m)
+  end_stands s m I = spelled s (close_round s) machine.end_round (λ k os ts A. end_round_stands s k os ts A) m I
+
   -- ---- a round
 
   pub round_stands : (n : ℕ) (s : State) (m : Machine) → IsIn program setup F own s m → IsIn program setup F own (meaning.phased_round setup n s) (machine.phased_round n (processes setup) m)

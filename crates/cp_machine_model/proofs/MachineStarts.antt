@@ -19,13 +19,13 @@ use Rattle.cp_program_model.specs.StandsFor.{StandsFor}
 use Rattle.cp_machine_model.specs.InState as public
 use Rattle.cp_machine_model.specs.InState.{NoneFresh}
 use Rattle.cp_machine_model.specs.Machines as machine
-use Rattle.cp_machine_model.specs.Machines.{Machine, first_machine, first_part, first_parts, transcript_of}
+use Rattle.cp_machine_model.specs.Machines.{Machine, end_round, first_machine, first_part, first_parts, transcript_of}
 use Rattle.cp_machine_model.specs.PrivateStates.{PrivateState}
-use Rattle.cp_machine_model.specs.RoundLaws.{RoundIsRound, RoundsAreRun, RunIsReported, StartIsIn}
+use Rattle.cp_machine_model.specs.RoundLaws.{EndIsEnd, RoundIsRound, RoundsAreRun, RunIsReported, StartIsIn}
 use Rattle.cp_machine_model.proofs.Finding.{some_is_not_none}
 use Rattle.cp_machine_model.proofs.KernelStarts.{kernel_starts}
 use Rattle.cp_machine_model.proofs.Layouts.{same_some}
-use Rattle.cp_machine_model.proofs.MachineRounds.{round_stands}
+use Rattle.cp_machine_model.proofs.MachineRounds.{end_stands, round_stands}
 use Rattle.cp_machine_model.proofs.Reporting.{report_is_report}
 use Rattle.cp_machine_model.proofs.Stands.{IsIn, PartStands}
 use Rattle.cp_machine_model.proofs.Starting.{start_is_part}
@@ -149,6 +149,11 @@ pub round_is_round : RoundIsRound
 round_is_round m setup s n I =
     as_whole m.program setup I.stands (own_words m) (meaning.phased_round setup n s) (machine.phased_round n (processes setup) m)
     (round_stands m.program setup I.stands (own_words m) n s m (part_by_part m setup s I))
+
+pub end_is_end : EndIsEnd
+end_is_end m setup s I =
+    as_whole m.program setup I.stands (own_words m) (meaning.close_round s) (end_round m)
+    (end_stands m.program setup I.stands (own_words m) s m (part_by_part m setup s I))
 
 pub rounds_are_run : RoundsAreRun
 rounds_are_run m setup s n rounds I =

@@ -28,7 +28,7 @@ use Rattle.cp_machine_model.specs.PrivateStates.{PrivateState}
 use Rattle.cp_machine_model.specs.Addresses.{Ground}
 use Rattle.cp_machine_model.specs.Beginning.{Begins}
 use Rattle.cp_machine_model.specs.KernelSteps.{Kernel, Turning, join_words, kernel_steps, outside, part_words}
-use Rattle.cp_machine_model.specs.Laws.{TurningOf, ground_of}
+use Rattle.cp_machine_model.specs.Laws.{OutputMoves, TurningOf, ground_of}
 use Rattle.cp_machine_model.specs.Machines.{Machine, after_kernel_turn, clock, kernel_turn, transcript_of}
 use Rattle.cp_machine_model.specs.PartOf.{PartOf, status_of}
 use Rattle.cp_machine_model.proofs.Stands.{AllStand, IsIn, PartStands}
@@ -56,6 +56,9 @@ output_moved G s before o P = record {
     append_nothing : (xs : List ℕ) → xs ++ [] ≡ xs
     append_nothing [] = refl
     append_nothing (x ∷ xs) = ap (λ ys. x ∷ ys) (append_nothing xs)
+
+pub output_moves : OutputMoves
+output_moves program setup F p own s before o P = output_moved (ground_of program setup F p own) s before o P
 
 -- ---- transcripts
 

@@ -1,6 +1,6 @@
 -- After waking and all private turns of a round, the private state of each process is still that of
 -- the process, and the kernel that of the state.
-use Rattle.std.proofs.Common.{◌≡◌, ℕ, zero, suc, Bool, true, false, List, [], ◌∷◌, refl, sym, ◌∙◌}
+use Rattle.std.proofs.Common.{◌≡◌, ℕ, zero, suc, Bool, true, false, List, [], ◌∷◌, refl, ap, sym, subst, ◌∙◌}
 use Rattle.std.specs.Prelude.{if◌then◌else◌, nat_eq, ◌%◌}
 use Rattle.cp_model.specs.Invariant.{Invariant}
 use Rattle.cp_model.specs.Locations.{ByName, Location, OfMonitor, under}
@@ -16,7 +16,7 @@ use Rattle.cp_machine_model.specs.PrivateStates.{PrivateState}
 use Rattle.cp_machine_model.specs.Steps.{private_steps}
 use Rattle.cp_machine_model.specs.KernelOf.{KernelOf}
 use Rattle.cp_machine_model.specs.KernelSteps.{Kernel}
-use Rattle.cp_machine_model.specs.Laws.{ground_of}
+use Rattle.cp_machine_model.specs.Laws.{WakingIsWaking, ground_of}
 use Rattle.cp_machine_model.specs.Machines.{wake_one}
 use Rattle.cp_machine_model.specs.PartOf.{PartOf}
 use Rattle.cp_machine_model.proofs.KernelBeside.{kernel_beside}
@@ -37,6 +37,12 @@ module _ (program : Program) (setup : Setup) (F : StandsFor program setup) (p ow
       by : (b : Bool) → PartOf (ground_of program setup F p own) (if b then record s { status = λ q. wake_status (s.status q) } else s) before (if b then wake_one o else o)
       by true = part_wakes (ground_of program setup F p own) s before o P
       by false = P
+
+pub waking_is_waking : WakingIsWaking
+waking_is_waking program setup F p own s before o due P =
+    let wakes : nat_eq (suc s.rounds % setup.tick) 0 ≡ true = ap (λ n. nat_eq n 0) due in
+    subst (λ (b : Bool). PartOf (ground_of program setup F p own) (wake setup s) before (if b then wake_one o else o)) wakes
+    (part_woken program setup F p own s before o P)
 
 -- A private turn touches no monitor.
 monitor_same : (setup : Setup) (n : ℕ) (s : State) (p : ℕ) → Invariant s → (l : Location) (m : ℕ) → l.owner ≡ OfMonitor m → (meaning.private_turn setup n s p).store l ≡ s.store l

@@ -1,7 +1,8 @@
 -- The laws of steps, turns and starts, which the functions of `src/law.rt` state.
-use Rattle.std.specs.Prelude.{◌≡◌, ◌≢◌, ◌≤◌, ℕ, ◌-◌, List, [], Some, length, slice_get}
+use Rattle.std.specs.Prelude.{◌≡◌, ◌≢◌, ◌≤◌, ℕ, suc, ◌-◌, ◌%◌, ◌++◌, List, [], Some, length, slice_get}
 use Rattle.cp_model.specs.Invariant.{Invariant}
 use Rattle.cp_model.specs.Operators.{realtime}
+use Rattle.cp_model.specs.Rounds.{wake}
 use Rattle.cp_model.specs.Start.{start}
 use Rattle.cp_model.specs.States.{Setup, State, process_count, running_clock}
 use Rattle.cp_model.specs.Turns as meaning
@@ -14,7 +15,7 @@ use Rattle.cp_machine_model.specs.Addresses.{Ground, OwnWords}
 use Rattle.cp_machine_model.specs.PartOf.{PartOf}
 use Rattle.cp_machine_model.specs.KernelSteps.{Kernel, Turning, kernel_step, kernel_steps}
 use Rattle.cp_machine_model.specs.KernelOf.{KernelOf}
-use Rattle.cp_machine_model.specs.Machines.{first_machine, first_part}
+use Rattle.cp_machine_model.specs.Machines.{first_machine, first_part, wake_one}
 use Rattle.cp_machine_model.specs.Beginning.{Begins}
 
 abbrev pub ground_of : (program : Program) (setup : Setup) → StandsFor program setup → (p own : ℕ) → Ground
@@ -127,3 +128,21 @@ abbrev pub PrivateTurnKeepsKernel : Type 0
 PrivateTurnKeepsKernel =
     (program : Program) (setup : Setup) (F : StandsFor program setup) (p n : ℕ) (s : State) (k : Kernel)
     → Invariant s → KernelOf program F.texts setup s k → KernelOf program F.texts setup (meaning.private_turn setup n s p) k
+
+-- ---- Between turns
+
+-- What a process wrote can move from its private state to its transcript.
+abbrev pub OutputMoves : Type 0
+OutputMoves =
+    (program : Program) (setup : Setup) (F : StandsFor program setup) (p own : ℕ)
+    → (s : State) (before : List ℕ) (o : PrivateState)
+    → let G = ground_of program setup F p own in
+    PartOf G s before o → PartOf G s (before ++ o.output) (record o { output = [] })
+
+-- In a round whose number is a multiple of the tick, a process that waits wakes.
+abbrev pub WakingIsWaking : Type 0
+WakingIsWaking =
+    (program : Program) (setup : Setup) (F : StandsFor program setup) (p own : ℕ)
+    → (s : State) (before : List ℕ) (o : PrivateState)
+    → let G = ground_of program setup F p own in
+    suc s.rounds % setup.tick ≡ 0 → PartOf G s before o → PartOf G (wake setup s) before (wake_one o)

@@ -7,7 +7,7 @@ use Rattle.cp_model.specs.States.{Setup, State, processes}
 use Rattle.cp_program_model.specs.Programs.{Program}
 use Rattle.cp_program_model.specs.StandsFor.{StandsFor}
 use Rattle.cp_machine_model.specs.InState.{IsIn, NoneFresh}
-use Rattle.cp_machine_model.specs.Machines.{Machine, first_machine, phased_round, phased_rounds}
+use Rattle.cp_machine_model.specs.Machines.{Machine, end_round, first_machine, phased_round, phased_rounds}
 use Rattle.cp_machine_model.specs.Reports.{machine_report}
 
 -- The first machine is in the start of the meaning.
@@ -22,6 +22,10 @@ abbrev pub RoundIsRound : Type 0
 RoundIsRound =
     (m : Machine) (setup : Setup) (s : State) (n : ℕ) → IsIn m setup s
     → IsIn (phased_round n (processes setup) m) setup (meaning.phased_round setup n s)
+
+-- The end of a round leads the machine to the state after the end of the meaning's.
+abbrev pub EndIsEnd : Type 0
+EndIsEnd = (m : Machine) (setup : Setup) (s : State) → IsIn m setup s → IsIn (end_round m) setup (meaning.close_round s)
 
 -- `rounds` rounds lead to the state that one processor reaches.
 abbrev pub RoundsAreRun : Type 0

@@ -3,8 +3,8 @@
 
 ghost use Rattle.cp_machine_model.specs.Laws.{KernelStepIsStep, KernelTurnIsTurn, KernelTurnKeepsBegins, KernelTurnKeepsParts};
 ghost use Rattle.cp_machine_model.specs.Laws.{PrivateStepIsStep, PrivateTurnIsTurn, PrivateTurnKeepsKernel, PrivateTurnKeepsParts};
-ghost use Rattle.cp_machine_model.specs.Laws.{StartIsKernel, StartIsPart};
-ghost use Rattle.cp_machine_model.specs.RoundLaws.{ReportIsReport, RoundIsRound, RoundsAreRun, RunIsReported, StartIsIn};
+ghost use Rattle.cp_machine_model.specs.Laws.{OutputMoves, StartIsKernel, StartIsPart, WakingIsWaking};
+ghost use Rattle.cp_machine_model.specs.RoundLaws.{EndIsEnd, ReportIsReport, RoundIsRound, RoundsAreRun, RunIsReported, StartIsIn};
 
 /// If a private state is that of its process in a state with the invariant, then the machine's
 /// private step makes it that of the process in the state after the meaning's private step. The
@@ -32,6 +32,13 @@ pub fn others()
     ensures shared { PrivateTurnKeepsKernel }
 {}
 
+/// A private state stays that of its process when its output moves to the transcript, and when the
+/// process wakes.
+pub fn between_turns()
+    ensures output { OutputMoves }
+    ensures wake { WakingIsWaking }
+{}
+
 /// The first private state of each process is that of the process in the start of the meaning. Only
 /// the first process runs from the start on, and each other one is right for a process that hasn't
 /// begun. The first kernel is that of the start.
@@ -42,10 +49,11 @@ pub fn start()
 
 /// The first machine is in the start of the meaning. A phased round leads a machine to the state
 /// that the meaning's phased round leads to, and any number of rounds to the state that one
-/// processor reaches.
+/// processor reaches. The end of a round alone is the meaning's too.
 pub fn rounds()
     ensures start { StartIsIn }
     ensures round { RoundIsRound }
+    ensures end { EndIsEnd }
     ensures run { RoundsAreRun }
 {}
 
