@@ -1,11 +1,8 @@
--- Private and shared words are separated again after a step.
+-- What a step reads of the kernel and changes in it, as plain data.
 use Rattle.std.proofs.Common.{◌≡◌, ◌++◌, ℕ, zero, suc, ℤ, List, length, take, drop, true, refl, ap, sym, ◌∙◌}
 use Rattle.std.specs.Prelude.{map, option_map}
-use Rattle.std.proofs.Math.Seq.{drop-append_seam, take-append_seam}
-use Rattle.cp_program_model.specs.Programs.{Program}
+use Rattle.std.proofs.Math.Seq.{take-append_seam}
 use Rattle.cp_machine_model.specs.KernelSteps as plain
-use Rattle.cp_machine_model.specs.PrivateStates.{Effect}
-use Rattle.cp_machine_model.specs.Steps.{step_with}
 use Rattle.cp_private.specs.States as states
 use Rattle.cp_private.specs.declared.outside.Gate.{Gate}
 use Rattle.cp_private.specs.declared.outside.Stage.{Stage}
@@ -17,31 +14,10 @@ use Rattle.std.proofs.lemmas.Option.{slice_get-map}
 use Rattle.std.specs.Prelude.{Option, None, Some, slice_get}
 use Rattle.cp_model.specs.States as model
 
-pub parted_as : (k : Kernel) (x y : Private) (input : List ℕ) (shared : List ℤ) (e : Effect)
-    → length y.memory.words.items ≡ length x.memory.words.items
-    → plain.part_words (length x.memory.words.items) (turning k x input) (states.join y input shared, e)
-    ≡ record {
-      kernel = plain.apply_effect (length x.memory.words.items) x.number e (record (kernel_of k) { shared = shared });
-      own = states.private_of y input;
-    }
-parted_as k x y input shared e same =
-    let own = length x.memory.words.items in
-    let ws = y.memory.words.items in
-    let first : take own (ws ++ shared) ≡ ws = ap (λ n. take n (ws ++ shared)) (sym same) ∙ take-append_seam ws shared in
-    let rest : drop own (ws ++ shared) ≡ shared = ap (λ n. drop n (ws ++ shared)) (sym same) ∙ drop-append_seam ws shared in
-    λ i. record {
-      kernel = plain.apply_effect own x.number e (record (kernel_of k) { shared = rest i });
-      own = record (states.join y input shared) { words = first i };
-    }
-
 pub kernel_same : (k mid : Kernel) → mid.gates ≡ k.gates → mid.stages ≡ k.stages
     → kernel_of mid ≡ record (kernel_of k) { shared = mid.shared.items }
 kernel_same k mid gates stages =
     λ i. record { shared = mid.shared.items; gates = map states.gate (gates i).items; stages = map states.stage (stages i).items }
-
-pub step_due : (program : Program) (clock : ℕ) (x : plain.Turning) → plain.is_due program x ≡ true
-    → plain.kernel_step program clock x ≡ plain.part_words (length x.own.words) x (step_with program (plain.outside clock x) (plain.join_words x))
-step_due program clock x due = rw due refl
 
 -- The words of a vector that was lent as a slice of the same length.
 pub lent : {X : Type 0} (ys xs : List X) (n : ℕ) → length ys ≡ length xs → n ≡ length xs → take n (ys ++ drop (length ys) xs) ≡ ys

@@ -7,3 +7,5 @@ pub mod Lasting
 pub mod Results
 pub mod Returning
 pub mod KindsMeant
+pub mod Parted
+pub mod Started

@@ -1,27 +1,35 @@
--- What private steps and turns promise, and what the kind of the next step promises, for each state
--- of which a private state is a part.
-use Rattle.std.specs.Prelude.{◌≡◌, ℕ, List}
+-- What steps and turns, the start, waking and the kind of the next step promise for each state of
+-- which a private state is a part.
+use Rattle.std.specs.Prelude.{◌≡◌, ◌≤◌, ◌%◌, ℕ, suc, ℤ, true, List, [], length}
 use Rattle.cp_model.specs.Invariant.{Invariant, IsBlocked}
 use Rattle.cp_model.specs.Operators.{realtime}
-use Rattle.cp_model.specs.States.{Setup, State, running_clock}
+use Rattle.cp_model.specs.Rounds.{wake}
+use Rattle.cp_model.specs.Start.{start}
+use Rattle.cp_model.specs.States.{Setup, State, process_count, running_clock}
 use Rattle.cp_model.specs.Turns as meaning
+use Rattle.cp_program_model.specs.Programs as code
 use Rattle.cp_program_model.specs.StandsFor.{StandsFor}
-use Rattle.cp_machine_model.specs.Laws.{ground_of}
+use Rattle.cp_machine_model.specs.Beginning.{Begins}
+use Rattle.cp_machine_model.specs.KernelSteps.{Kernel, Turning, apply_effect, is_due, outside}
+use Rattle.cp_machine_model.specs.Laws.{TurningOf, ground_of}
 use Rattle.cp_machine_model.specs.PartOf.{PartOf}
 use Rattle.cp_program.specs.declared.program.Program.{Program}
 use Rattle.cp_program.specs.View as view
-use Rattle.cp_private.specs.States.{private_of}
+use Rattle.cp_private.specs.States.{effect, outside_of, private_of}
+use Rattle.cp_private.specs.declared.effect.Effect.{Effect}
 use Rattle.cp_private.specs.declared.kind.Kind.{Kind}
 use Rattle.cp_private.specs.declared.kind.Kind.TheVariants as kind
+use Rattle.cp_private.specs.declared.outside.Outside.{Outside}
 use Rattle.cp_private.specs.declared.private.Private.{Private}
 
--- y is the part of the process after its private step, for every state of which x is the part.
+-- y is the part of the process after its private step, for every state of which x is the part. The
+-- invariant of references and rights holds again.
 abbrev pub MakesStep : Program → Private → Private → List ℕ → ℕ → Type 0
 MakesStep program x y input clock =
     (setup : Setup) (F : StandsFor (view.program program) setup) (p own : ℕ) (s : State) (before : List ℕ)
     → let G = ground_of (view.program program) setup F p own in
     Invariant s → clock ≡ realtime (running_clock setup s) → PartOf G s before (private_of x input)
-    → PartOf G (meaning.private_step setup s p) before (private_of y input)
+    → PartOf G (meaning.private_step setup s p) before (private_of y input) × Invariant (meaning.private_step setup s p)
 
 -- The same for a turn.
 abbrev pub MakesTurn : Program → ℕ → Private → Private → List ℕ → ℕ → Type 0
@@ -29,7 +37,44 @@ MakesTurn program n x y input clock =
     (setup : Setup) (F : StandsFor (view.program program) setup) (p own : ℕ) (s : State) (before : List ℕ)
     → let G = ground_of (view.program program) setup F p own in
     Invariant s → clock ≡ realtime (running_clock setup s) → PartOf G s before (private_of x input)
-    → PartOf G (meaning.private_turn setup n s p) before (private_of y input)
+    → PartOf G (meaning.private_turn setup n s p) before (private_of y input) × Invariant (meaning.private_turn setup n s p)
+
+-- A kernel and the private state of the process whose turn it is.
+abbrev pub beside : Kernel → Private → List ℕ → Turning
+beside k x input = record { kernel = k; own = private_of x input }
+
+-- For every kernel with these shared words, of which the step reads what it reads of others: if both
+-- are those of a state and the step is the kernel's, then the effect that is left to the kernel
+-- makes them those of the state after the meaning's kernel step. The invariant holds again.
+abbrev pub MakesKernelStep : Program → Outside → Private → List ℤ → Private → List ℤ → Effect → Type 0
+MakesKernelStep program w x shared y after e =
+    (setup : Setup) (F : StandsFor (view.program program) setup) (p own : ℕ) (s : State) (before : List ℕ) (k : Kernel)
+    → k.shared ≡ shared
+    → outside_of w (length x.memory.words.items) ≡ outside w.clock (beside k x w.input.now)
+    → is_due (view.program program) (beside k x w.input.now) ≡ true
+    → Invariant s → w.clock ≡ realtime (running_clock setup s) → 1 ≤ p → p ≤ process_count setup
+    → TurningOf (view.program program) setup F p own s before (beside k x w.input.now)
+    → TurningOf (view.program program) setup F p own (meaning.kernel_step setup s p) before
+    (beside (apply_effect (length x.memory.words.items) x.number (effect e) (record k { shared = after })) y w.input.now)
+    × Invariant (meaning.kernel_step setup s p)
+
+-- Whatever text the program stands for, x is the private state of process p at its start. It is
+-- ready to begin if p isn't the initial process.
+abbrev pub IsAtStart : Program → ℕ → Private → Type 0
+IsAtStart program p x =
+    (setup : Setup) (F : StandsFor (view.program program) setup)
+    → let o = private_of x (setup.inputs p) in
+    let G = ground_of (view.program program) setup F p (length o.words) in
+    PartOf G (start setup) [] o × ((k : Kernel) → 2 ≤ p → Begins G (start setup) k o)
+
+-- y is the part of the process after the waking of a round whose number is a multiple of the tick,
+-- for every state of which x is the part.
+abbrev pub Wakes : Private → Private → Type 0
+Wakes x y =
+    (program : code.Program) (setup : Setup) (F : StandsFor program setup) (p own : ℕ)
+    → (s : State) (before input : List ℕ)
+    → let G = ground_of program setup F p own in
+    suc s.rounds % setup.tick ≡ 0 → PartOf G s before (private_of x input) → PartOf G (wake setup s) before (private_of y input)
 
 -- The kind of step in the meaning.
 abbrev pub meaning_kind : Kind → meaning.Kind

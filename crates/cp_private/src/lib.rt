@@ -15,6 +15,7 @@
 //!   `initialisation`: the steps of operations.
 //! - `step`, `turn`, `turns`, `kind`: a step of any operation, turns, and whether the next step is
 //!   private or the kernel's.
+//! - `limits`: which number of a plan is out of its range.
 #![tactic(auto)]
 
 mod alone;
@@ -27,6 +28,7 @@ pub mod effect;
 mod frames;
 mod initialisation;
 pub mod kind;
+pub mod limits;
 mod making;
 pub mod outside;
 mod passing;

@@ -3,6 +3,7 @@
 ghost use Rattle.std.specs.Prelude.{◌≡◌, ◌<◌, ◌≤◌, ◌-◌, ◌*◌, ◌^◌, ℕ, List, [], IfOk, OnOk, Some, pos, replicate, length, slice_get, vec_capacity, vec_len};
 ghost use Rattle.cp_program_model.specs.Programs as code;
 ghost use Rattle.cp_program_model.specs.Starts.{carry_out, word};
+ghost use Rattle.cp_private.specs.Promises.{IsAtStart, Wakes};
 ghost use Rattle.cp_private.specs.Rooms.{HasRoomFor};
 ghost use Rattle.cp_private.specs.States.{activity, private_of};
 ghost use Rattle.cp_machine_model.specs.KernelSteps.{Kernel};
@@ -12,6 +13,7 @@ ghost use Rattle.cp_program.specs.View as view;
 use crate::private::{Activity, Frame, Private};
 use crate::turn::Turn;
 use crate::words;
+use cp_machine_model::law;
 use cp_program::program::{Process, Program};
 use cp_program::reach::Memory;
 use smallvec::SmallVec;
@@ -75,13 +77,8 @@ fn first_words(
 }
 
 impl Private {
-    /// Returns the private state of process p at the start.
-    ///
-    /// # Errors
-    ///
-    /// `AllocError` if memory runs out, if the process has 2^30 or more words or temps, or if its
-    /// number is 2^30 or more.
-    pub fn new(alloc: Global, program: &Program, p: usize) -> Result<Private, AllocError>
+    // The private state of process p at the start, as plain data.
+    fn first(alloc: Global, program: &Program, p: usize) -> Result<Private, AllocError>
         requires first { 1 ≤ p }
         requires last { p ≤ length (view.program program.now).processes }
         ensures { IfOk result (λ x. (input : List ℕ) (row : code.Process)
@@ -118,6 +115,24 @@ impl Private {
             output: Vec::new(alloc),
             consumed: 0,
         })
+    }
+
+    /// Returns the private state of process p at the start.
+    ///
+    /// # Errors
+    ///
+    /// `AllocError` if memory runs out, if the process has 2^30 or more words or temps, or if its
+    /// number is 2^30 or more.
+    pub fn new(alloc: Global, program: &Program, p: usize) -> Result<Private, AllocError>
+        requires first { 1 ≤ p }
+        requires last { p ≤ length (view.program program.now).processes }
+        ensures start { IfOk result (λ x. (input : List ℕ) (row : code.Process)
+            → slice_get (view.program program.now).processes (p - 1) ≡ Some row
+            → private_of x input ≡ plain.first_part (view.program program.now) (λ q. input) p row) }
+        ensures meaning { IfOk result (IsAtStart program.now p) }
+    {
+        law::start();
+        Private::first(alloc, program, p)
     }
 
     /// Returns a private state with the same content.
@@ -225,9 +240,11 @@ impl Private {
     pub fn wake(&mut self)
         ensures content { (input : List ℕ) → private_of self.new input ≡ plain.wake_one
             (private_of self.old input) }
+        ensures meaning { Wakes self.old self.new }
         ensures number { self.new.number ≡ self.old.number }
         ensures output { self.new.output ≡ self.old.output }
     {
+        law::between_turns();
         if matches!(self.activity, Activity::Waiting) {
             self.activity = Activity::Running;
         }

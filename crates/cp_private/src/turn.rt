@@ -1,6 +1,9 @@
 //! Turns: how many steps a process may make in a row.
 
-ghost use Rattle.std.specs.Prelude.{◌≡◌, ◌≤◌, ◌↔◌, IfOk, IsOk};
+ghost use Rattle.std.specs.Prelude.{◌≡◌, ◌≤◌, ◌↔◌, IfErr, IfOk, IsOk};
+ghost use Rattle.cp_private.specs.declared.limits.L1.TheVariants as limit;
+
+use crate::limits::L1;
 
 /// A number of steps, at least 1 and at most 10,000.
 #[derive(Clone, Copy, Debug, PartialEq, Eq)]
@@ -9,24 +12,21 @@ pub struct Turn {
     ghost in_range: { (1 ≤ steps) × (steps ≤ 10000) },
 }
 
-/// A number that is not a turn: 0, or more than 10,000.
-#[derive(Clone, Copy, Debug, PartialEq, Eq)]
-pub struct NoTurn;
-
 impl Turn {
     /// Returns a turn of `steps` steps.
     ///
     /// # Errors
     ///
-    /// `NoTurn` if the number isn't within 1..=10,000.
-    pub fn new(steps: u32) -> Result<Turn, NoTurn>
+    /// `L1::Turn` if the number isn't within 1..=10,000.
+    pub fn new(steps: u32) -> Result<Turn, L1>
         ensures range { IsOk result ↔ ((1 ≤ steps) × (steps ≤ 10000)) }
         ensures steps { IfOk result (λ turn. turn.steps ≡ steps) }
+        ensures field { IfErr result (λ e. e ≡ limit.Turn) }
     {
         if 1 <= steps && steps <= 10_000 {
             Ok(Turn { steps })
         } else {
-            Err(NoTurn)
+            Err(L1::Turn)
         }
     }
 

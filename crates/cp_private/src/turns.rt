@@ -2,7 +2,7 @@
 
 ghost use Rattle.std.specs.Prelude.{◌≡◌, ◌≤◌, ◌+◌, ◌*◌, length, vec_capacity, vec_len};
 ghost use Rattle.cp_private.specs.Keeping.{IsAddressable, KeepsRestButOutput};
-ghost use Rattle.cp_private.specs.Promises.{MakesStep, MakesTurn};
+ghost use Rattle.cp_private.specs.Promises.{MakesKernelStep, MakesStep, MakesTurn};
 ghost use Rattle.cp_private.specs.Rooms.{HasRoomFor, KeepsRoom};
 ghost use Rattle.cp_private.specs.States.{IsAlone, effect, join, outside_of, private_of};
 ghost use Rattle.cp_machine_model.specs.Steps as plain;
@@ -13,6 +13,7 @@ use crate::outside::Outside;
 use crate::private::Private;
 use crate::turn::Turn;
 use cp_machine_model::law;
+use cp_model::law::invariant;
 use cp_program::program::Program;
 
 // Makes `count` steps, as long as the next one is private.
@@ -47,6 +48,7 @@ pub fn private_step(program: &Program, private: &mut Private, input: &[u8], cloc
 {
     take_steps(program, private, &Outside::alone(input, clock), 1);
     law::private_steps();
+    invariant();
 }
 
 /// Makes as many steps as the turn has, as long as the next one is private. It takes no memory:
@@ -67,11 +69,11 @@ pub fn private_turn(program: &Program, private: &mut Private, input: &[u8], cloc
         turn.steps(),
     );
     law::private_steps();
+    invariant();
 }
 
-/// Makes one step of a running process, of any kind, and returns what it leaves to the kernel. It
-/// takes no memory.
-pub fn step(
+// Makes the step of the next operation, if there is one.
+fn act(
     program: &Program,
     private: &mut Private,
     shared: &mut [i32],
@@ -88,4 +90,26 @@ pub fn step(
         Some(operation) => private.make(operation, program, shared, outside),
         None => Effect::None,
     }
+}
+
+/// Makes one step of a running process, of any kind, and returns what it leaves to the kernel. It
+/// takes no memory.
+pub fn step(
+    program: &Program,
+    private: &mut Private,
+    shared: &mut [i32],
+    outside: &Outside,
+) -> Effect
+    requires shared { IsAddressable shared.old }
+    requires room { HasRoomFor private.old 1 }
+    ensures step { let w = outside_of outside.now (length private.old.memory.words.items) in
+        (join private.new outside.now.input.now shared.new, effect result) ≡ plain.step_with
+        (view.program program.now) w (join private.old outside.now.input.now shared.old) }
+    ensures meaning { MakesKernelStep program.now outside.now private.old shared.old private.new
+        shared.new result }
+    ensures kept { KeepsRestButOutput private.old shared.old private.new shared.new }
+{
+    law::kernel_steps();
+    invariant();
+    act(program, private, shared, outside)
 }

@@ -7,7 +7,8 @@ use Rattle.cp_machine_model.specs.KernelSteps as plain
 use Rattle.cp_private.specs.States as states
 use Rattle.cp_kernel.specs.KernelOf.{IsAmong, IsBegun, kernel_of, turning}
 use Rattle.cp_kernel.proofs.Asking.{room_kept}
-use Rattle.cp_kernel.proofs.Parting.{kernel_same, parted_as, step_due}
+use Rattle.cp_private.proofs.Parted.{parted_as, step_due}
+use Rattle.cp_kernel.proofs.Parting.{kernel_same}
 use Rattle.cp_kernel.proofs.step.kernel_step.Goals as goal
 
 pub returns-clause-step : goal.returns-clause-step
@@ -27,7 +28,7 @@ returns-clause-step c =
     let numbered = c.number-p.ensures.number input in
     let applied = c.apply.ensures.step ∙ ((λ i. plain.apply_effect (counted i) (numbered i) e (same i))) in
     (λ i. record { kernel = applied i; own = states.private_of y input })
-    ∙ (sym (parted_as k x y input mid.shared.items e c.act-effect.ensures.own) ∙ (made ∙ sym due))
+    ∙ (sym (parted_as (kernel_of k) x y input mid.shared.items e c.act-effect.ensures.own) ∙ (made ∙ sym due))
 
 pub returns-clause-kept : goal.returns-clause-kept
 returns-clause-kept c =
