@@ -5,7 +5,7 @@ use Rattle.std.proofs.lemmas.Bool.{true≢false}
 use Rattle.cp_model.specs.Actions.{action, is_kernel_action}
 use Rattle.cp_model.specs.Configurations as stage
 use Rattle.cp_model.specs.Configurations.{Status}
-use Rattle.cp_model.specs.Continuations.{marked_monitors}
+use Rattle.cp_model.specs.Continuations.{is_in_monitor, marked_monitors}
 use Rattle.cp_model.specs.Invariant.{Invariant, IsBlocked}
 use Rattle.cp_model.specs.Locations.{OfActivation, OfMonitor, OfProcess, Owner}
 use Rattle.cp_model.specs.Operators.{realtime}
@@ -82,16 +82,12 @@ module _ (program : Program) (setup : Setup) (F : StandsFor program setup) (p ow
       by true = refl
       by false = refl
 
-  -- It holds a gate.
-  ready_held : (is : s.status p ≡ stage.Ready) (m : ℕ) (ms : List ℕ) → marked_monitors (s.continuation p) ≡ m ∷ ms → meaning.kind s p ≡ meaning_kind (kind_of program o)
-  ready_held is m ms marks =
-      let held : steps.is_held o.gate ≡ true = gate_is_held G s.store o (s.continuation p) m ms (on is) marks in
-      let defined : meaning.kind s p ≡ meaning.Kernel =
-      ap (λ z. meaning.kind_of z (s.continuation p)) is
-      ∙ ap (λ ns. if (elim ns as (λ z. Bool) [ [] ↦ false | n ∷ rest ↦ true ]) || is_kernel_action (action (s.continuation p)) then meaning.Kernel else meaning.Private) marks in
-      defined ∙ ap meaning_kind (sym (ap (λ x. if machine.is_running x
+  -- What runs and holds a gate takes steps of the kernel.
+  held_is_kernel : o.activity ≡ machine.Running → steps.is_held o.gate ≡ true → kind_of program o ≡ kind.Kernel
+  held_is_kernel runs held =
+      ap (λ x. if machine.is_running x
       then (if steps.is_private o (operation_of program o) then kind.Private else (if needs_kernel o (operation_of program o) then kind.Kernel else kind.None))
-      else kind.None) (running is) ∙ gated held))
+      else kind.None) runs ∙ gated held
     where
       gated : steps.is_held o.gate ≡ true
           → (if steps.is_private o (operation_of program o) then kind.Private else (if needs_kernel o (operation_of program o) then kind.Kernel else kind.None)) ≡ kind.Kernel
@@ -99,6 +95,37 @@ module _ (program : Program) (setup : Setup) (F : StandsFor program setup) (p ow
         | None ↦ ap (λ b. if b then kind.Kernel else kind.None) held
         | Some x ↦ ap (λ b. told b (steps.is_kernel_operation x)) held
       ]
+
+  -- It holds a gate.
+  ready_held : (is : s.status p ≡ stage.Ready) (m : ℕ) (ms : List ℕ) → marked_monitors (s.continuation p) ≡ m ∷ ms → meaning.kind s p ≡ meaning_kind (kind_of program o)
+  ready_held is m ms marks =
+      let held : steps.is_held o.gate ≡ true = gate_is_held G s.store o (s.continuation p) m ms (on is) marks in
+      let defined : meaning.kind s p ≡ meaning.Kernel =
+      ap (λ z. meaning.kind_of z (s.continuation p)) is
+      ∙ ap (λ ns. if (elim ns as (λ z. Bool) [ [] ↦ false | n ∷ rest ↦ true ]) || is_kernel_action (action (s.continuation p)) then meaning.Kernel else meaning.Private) marks in
+      defined ∙ ap meaning_kind (sym (held_is_kernel (running is) held))
+
+  -- It asks or is delayed, so it is in a monitor.
+  blocked_runs : (x : Status) → s.status p ≡ x → IsBlocked x → o.activity ≡ machine.Running
+  blocked_runs (stage.Asking m) is h = running_is o.activity (subst IsRunning (same (stage.Asking m) is) tt)
+  blocked_runs (stage.Delayed m q) is h = running_is o.activity (subst IsRunning (same (stage.Delayed m q) is) tt)
+  blocked_runs stage.Unstarted is h = absurd h
+  blocked_runs stage.Fresh is h = absurd h
+  blocked_runs stage.Ready is h = absurd h
+  blocked_runs stage.Ended is h = absurd h
+  blocked_runs stage.Waiting is h = absurd h
+  blocked_runs (stage.Faulted n) is h = absurd h
+
+  pub blocked_is_kernel : IsBlocked (s.status p) → kind_of program o ≡ kind.Kernel
+  blocked_is_kernel h = inside (marked_monitors (s.continuation p)) refl (I.blocked p h)
+    where
+      runs : o.activity ≡ machine.Running
+      runs = blocked_runs (s.status p) refl h
+
+      inside : (ms : List ℕ) → marked_monitors (s.continuation p) ≡ ms → is_in_monitor (s.continuation p) ≡ true → kind_of program o ≡ kind.Kernel
+      inside [] marks there = absurd (true≢false (sym there ∙ ap (λ ns. elim ns as (λ z. Bool) [ [] ↦ false | n ∷ rest ↦ true ]) marks))
+      inside (m ∷ ms) marks there =
+          held_is_kernel runs (gate_is_held G s.store o (s.continuation p) m ms (part.runs_on (subst GoesOn (sym runs) tt)) marks)
 
   -- It doesn't run.
   still : (x : Status) → s.status p ≡ x → meaning.kind_of x (s.continuation p) ≡ meaning.NoStep → (IsRunning (private_status x) → ⊥) → meaning.kind s p ≡ meaning_kind (kind_of program o)

@@ -82,10 +82,12 @@ meaning_kind kind.Private = meaning.Private
 meaning_kind kind.Kernel = meaning.Kernel
 meaning_kind kind.None = meaning.NoStep
 
--- k is the kind of the process's next step in each state of which x is the part, unless the process
--- asks or is delayed, which only the kernel knows.
+-- In each state of which x is the part, k is the kind of the process's next step. Of a process that
+-- asks or is delayed, which only the kernel knows, k is the kind of the step that it makes when it
+-- goes on.
 abbrev pub TellsKind : Program → Private → List ℕ → Kind → Type 0
 TellsKind program x input k =
     (setup : Setup) (F : StandsFor (view.program program) setup) (p own : ℕ) (s : State) (before : List ℕ)
     → let G = ground_of (view.program program) setup F p own in
-    Invariant s → PartOf G s before (private_of x input) → (IsBlocked (s.status p) → ⊥) → meaning.kind s p ≡ meaning_kind k
+    Invariant s → PartOf G s before (private_of x input)
+    → ((IsBlocked (s.status p) → ⊥) → meaning.kind s p ≡ meaning_kind k) × (IsBlocked (s.status p) → k ≡ kind.Kernel)
