@@ -7,3 +7,4 @@ pub mod Stepping
 pub mod Transcripts
 pub mod Begins
 pub mod Copies
+pub mod Meant

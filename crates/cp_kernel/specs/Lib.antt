@@ -1,3 +1,4 @@
 pub mod Due
 pub mod KernelOf
 pub mod Turns
+pub mod Promises

@@ -6,9 +6,11 @@ ghost use Rattle.cp_private.specs.States.{private_of, stage as stage_view};
 ghost use Rattle.cp_machine_model.specs.Machines as plain;
 ghost use Rattle.cp_program.specs.View as view;
 ghost use Rattle.cp_kernel.specs.KernelOf.{kernel_of};
+ghost use Rattle.cp_kernel.specs.Promises.{EndsRound};
 ghost use Rattle.cp_kernel.specs.Turns.{parts_of};
 
 use crate::kernel::Kernel;
+use cp_machine_model::law;
 use cp_private::outside::Stage;
 use cp_private::private::Private;
 use cp_program::program::Program;
@@ -54,9 +56,8 @@ fn close_stages(stages: &mut [Stage])
     }
 }
 
-/// Ends the round: each process that was started in it begins, with the parameters that wait for
-/// it. `privates` has the private states of all processes. It takes no memory.
-pub fn end_round(program: &Program, kernel: &mut Kernel, privates: &mut [Private])
+// The end of a round, as plain data.
+fn close(program: &Program, kernel: &mut Kernel, privates: &mut [Private])
     ensures kernel { let k = kernel_of kernel.old in kernel_of kernel.new
         ≡ record k { stages = map plain.next_stage k.stages } }
     ensures gates { kernel.new.gates ≡ kernel.old.gates }
@@ -69,4 +70,22 @@ pub fn end_round(program: &Program, kernel: &mut Kernel, privates: &mut [Private
 {
     begin_all(program, kernel, privates);
     close_stages(&mut kernel.stages);
+}
+
+/// Ends the round: each process that was started in it begins, with the parameters that wait for
+/// it. `privates` has the private states of all processes. It takes no memory.
+pub fn end_round(program: &Program, kernel: &mut Kernel, privates: &mut [Private])
+    ensures kernel { let k = kernel_of kernel.old in kernel_of kernel.new
+        ≡ record k { stages = map plain.next_stage k.stages } }
+    ensures gates { kernel.new.gates ≡ kernel.old.gates }
+    ensures transcripts { kernel.new.transcripts ≡ kernel.old.transcripts }
+    ensures parts { (inputs : ℕ → List ℕ) → parts_of inputs 1 privates.new ≡ map
+        (plain.begin_one (view.program program.now) (kernel_of kernel.old))
+        (parts_of inputs 1 privates.old) }
+    ensures meaning { EndsRound program.now kernel.old privates.old kernel.new privates.new }
+    ensures numbers { map (λ (x : Private). x.number) privates.new
+        ≡ map (λ (x : Private). x.number) privates.old }
+{
+    law::rounds();
+    close(program, kernel, privates);
 }

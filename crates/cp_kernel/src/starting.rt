@@ -6,8 +6,10 @@ ghost use Rattle.cp_private.specs.States as states;
 ghost use Rattle.cp_machine_model.specs.Machines as plain;
 ghost use Rattle.cp_program.specs.View as view;
 ghost use Rattle.cp_kernel.specs.KernelOf.{Bytes, kernel_of, transcripts_of, unset_gate};
+ghost use Rattle.cp_kernel.specs.Promises.{IsAtStart};
 
 use crate::kernel::Kernel;
+use cp_machine_model::law;
 use cp_private::outside::{Gate, Holder, Stage};
 use cp_private::starting::start_words;
 use cp_program::program::Program;
@@ -96,13 +98,8 @@ fn empty_transcripts(alloc: Global, count: usize) -> Result<Vec<Vec<u8>>, AllocE
 }
 
 impl Kernel {
-    /// Returns the kernel at the start: no monitor is initialised, and only the initial process has
-    /// begun.
-    ///
-    /// # Errors
-    ///
-    /// `AllocError` if memory runs out, or if there are 2^30 shared words or more.
-    pub fn new(alloc: Global, program: &Program) -> Result<Kernel, AllocError>
+    // The kernel at the start, as plain data.
+    fn first(alloc: Global, program: &Program) -> Result<Kernel, AllocError>
         ensures start { IfOk result (λ k. (tick : ℕ) (inputs : ℕ → List ℕ)
             → kernel_of k ≡ (plain.first_machine (view.program program.now) tick inputs).kernel) }
         ensures transcripts { IfOk result (λ k. (tick : ℕ) (inputs : ℕ → List ℕ)
@@ -116,5 +113,23 @@ impl Kernel {
             stages: first_stages(alloc, processes)?,
             transcripts: empty_transcripts(alloc, processes)?,
         })
+    }
+
+    /// Returns the kernel at the start: no monitor is initialised, and only the initial process has
+    /// begun.
+    ///
+    /// # Errors
+    ///
+    /// `AllocError` if memory runs out, or if there are 2^30 shared words or more.
+    pub fn new(alloc: Global, program: &Program) -> Result<Kernel, AllocError>
+        ensures start { IfOk result (λ k. (tick : ℕ) (inputs : ℕ → List ℕ)
+            → kernel_of k ≡ (plain.first_machine (view.program program.now) tick inputs).kernel) }
+        ensures transcripts { IfOk result (λ k. (tick : ℕ) (inputs : ℕ → List ℕ)
+            → transcripts_of k
+            ≡ (plain.first_machine (view.program program.now) tick inputs).transcripts) }
+        ensures meaning { IfOk result (IsAtStart program.now) }
+    {
+        law::start();
+        Kernel::first(alloc, program)
     }
 }

@@ -6,10 +6,13 @@ ghost use Rattle.cp_private.specs.States.{private_of};
 ghost use Rattle.cp_machine_model.specs.KernelSteps as plain;
 ghost use Rattle.cp_program.specs.View as view;
 ghost use Rattle.cp_kernel.specs.KernelOf.{HasRoomForAskers, HasRoomForBytes, IsAmong, kernel_of, turning};
+ghost use Rattle.cp_kernel.specs.Promises.{MakesKernelTurn};
 ghost use Rattle.cp_kernel.specs.Turns.{IsTurned, Moves};
 
 use crate::kernel::Kernel;
 use crate::step::{is_due, kernel_step};
+use cp_machine_model::law;
+use cp_model::law::invariant;
 use cp_private::private::Private;
 use cp_private::turn::Turn;
 use cp_program::program::Program;
@@ -93,11 +96,16 @@ pub fn kernel_turn(
         (vec_len private.old.output + 11 * turn.steps) }
     ensures turn { IsTurned (view.program program.now) clock turn.steps kernel.old kernel.new
         private.old private.new input.now }
+    ensures meaning { MakesKernelTurn program.now turn.steps kernel.old private.old kernel.new
+        private.new input.now clock }
     ensures asking { (n : ℕ) → HasRoomForAskers kernel.old (n + 1) → HasRoomForAskers kernel.new n }
     ensures number { private.new.number ≡ private.old.number }
     ensures empty { vec_len private.new.output ≡ 0 }
     ensures capacity { vec_capacity private.old.output ≤ vec_capacity private.new.output }
 {
+    law::kernel_steps();
+    law::between_turns();
+    invariant();
     take_steps(program, kernel, private, input, clock, turn.steps());
     move_output(kernel, private);
 }

@@ -62,7 +62,7 @@ output_moves program setup F p own s before o P = output_moved (ground_of progra
 
 -- ---- transcripts
 
-transcript_there : (ts : List (List ℕ)) (p : ℕ) (bytes : List ℕ) → p - 1 < length ts → transcript_of (slice_set ts (p - 1) bytes) p ≡ bytes
+pub transcript_there : (ts : List (List ℕ)) (p : ℕ) (bytes : List ℕ) → p - 1 < length ts → transcript_of (slice_set ts (p - 1) bytes) p ≡ bytes
 transcript_there ts p bytes h = λ i. elim (set_there ts (p - 1) bytes h i) as (λ z. List ℕ) [ None ↦ [] | Some b ↦ b ]
 
 transcript_elsewhere : (ts : List (List ℕ)) (p q : ℕ) (bytes : List ℕ) → (p - 1 ≡ q - 1 → ⊥) → transcript_of (slice_set ts (p - 1) bytes) q ≡ transcript_of ts q
