@@ -73,12 +73,7 @@ pub fn private_turn(program: &Program, private: &mut Private, input: &[u8], cloc
 }
 
 // Makes the step of the next operation, if there is one.
-fn act(
-    program: &Program,
-    private: &mut Private,
-    shared: &mut [i32],
-    outside: &Outside,
-) -> Effect
+fn act(program: &Program, private: &mut Private, shared: &mut [i32], outside: &Outside) -> Effect
     requires shared { IsAddressable shared.old }
     requires room { HasRoomFor private.old 1 }
     ensures step { let w = outside_of outside.now (length private.old.memory.words.items) in

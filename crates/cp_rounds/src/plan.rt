@@ -4,6 +4,7 @@ ghost use Rattle.std.specs.Prelude.{◌≡◌, ◌<◌, ◌≤◌, ◌-◌, ◌�
 ghost use Rattle.cp_rounds.specs.Plans.{AreInRange, IsFirstOut};
 
 use crate::wave::Wave;
+use cp_private::limits::L1;
 use cp_private::turn::Turn;
 
 /// How a round is made: a turn has at most `turn` steps, and `workers` workers draw chunks of
@@ -22,15 +23,6 @@ pub struct Plan {
     ghost wave_in_range: { (1 ≤ wave) × (wave ≤ 255) },
 }
 
-/// The first field of a plan that is out of range.
-#[derive(Clone, Copy, Debug, PartialEq, Eq)]
-pub enum OutOfRange {
-    Turn,
-    Workers,
-    Chunk,
-    Wave,
-}
-
 fn is_within(number: u32, most: u32) -> bool
     ensures { IsTrue result ↔ ((1 ≤ number) × (number ≤ most)) }
 {
@@ -42,8 +34,8 @@ impl Plan {
     ///
     /// # Errors
     ///
-    /// The first field that is out of range, in the order turn, workers, chunk, wave.
-    pub fn new(turn: u32, workers: u32, chunk: u32, wave: u32) -> Result<Plan, OutOfRange>
+    /// `L1` with the first field that is out of range, in the order turn, workers, chunk, wave.
+    pub fn new(turn: u32, workers: u32, chunk: u32, wave: u32) -> Result<Plan, L1>
         ensures range { IsOk result ↔ AreInRange turn workers chunk wave }
         ensures turn { IfOk result (λ plan. plan.turn.steps ≡ turn) }
         ensures workers { IfOk result (λ plan. plan.workers ≡ workers) }
@@ -51,18 +43,15 @@ impl Plan {
         ensures wave { IfOk result (λ plan. plan.wave ≡ wave) }
         ensures first { IfErr result (IsFirstOut turn workers chunk wave) }
     {
-        let turn = match Turn::new(turn) {
-            Ok(turn) => turn,
-            Err(_) => return Err(OutOfRange::Turn),
-        };
+        let turn = Turn::new(turn)?;
         if !is_within(workers, 64) {
-            return Err(OutOfRange::Workers);
+            return Err(L1::Workers);
         }
         if !is_within(chunk, 255) {
-            return Err(OutOfRange::Chunk);
+            return Err(L1::Chunk);
         }
         if !is_within(wave, 255) {
-            return Err(OutOfRange::Wave);
+            return Err(L1::Wave);
         }
         Ok(Plan {
             turn,

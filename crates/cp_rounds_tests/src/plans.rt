@@ -3,12 +3,13 @@
 
 use crate::machines::{activity, has_written, machine_of};
 use crate::ways::Way;
+use cp_private::limits::L1;
 use cp_private::outside::Holder;
 use cp_private::private::Activity;
 use cp_rounds::gate::Open;
 use cp_rounds::machine::Machine;
-use cp_rounds::plan::{OutOfRange, Plan};
-use cp_rounds::tick::{NoTick, Tick};
+use cp_rounds::plan::Plan;
+use cp_rounds::tick::Tick;
 use std::alloc::{AllocError, Global};
 use std::sync::Wait;
 use std::test::Fail;
@@ -18,18 +19,18 @@ use std::thread::Threads;
 fn plans_and_ticks_have_ranges(rt: HostRuntime) {
     assert!(rt; Plan::new(10_000, 64, 255, 255).is_ok());
     assert!(rt; Plan::new(1, 1, 1, 1).is_ok());
-    assert!(rt; Plan::new(10_001, 1, 1, 1) == Err(OutOfRange::Turn));
-    assert!(rt; Plan::new(0, 0, 0, 0) == Err(OutOfRange::Turn));
-    assert!(rt; Plan::new(1, 0, 0, 0) == Err(OutOfRange::Workers));
-    assert!(rt; Plan::new(1, 65, 0, 0) == Err(OutOfRange::Workers));
-    assert!(rt; Plan::new(1, 1, 0, 0) == Err(OutOfRange::Chunk));
-    assert!(rt; Plan::new(1, 1, 256, 0) == Err(OutOfRange::Chunk));
-    assert!(rt; Plan::new(1, 1, 1, 0) == Err(OutOfRange::Wave));
-    assert!(rt; Plan::new(1, 1, 1, 256) == Err(OutOfRange::Wave));
+    assert!(rt; Plan::new(10_001, 1, 1, 1) == Err(L1::Turn));
+    assert!(rt; Plan::new(0, 0, 0, 0) == Err(L1::Turn));
+    assert!(rt; Plan::new(1, 0, 0, 0) == Err(L1::Workers));
+    assert!(rt; Plan::new(1, 65, 0, 0) == Err(L1::Workers));
+    assert!(rt; Plan::new(1, 1, 0, 0) == Err(L1::Chunk));
+    assert!(rt; Plan::new(1, 1, 256, 0) == Err(L1::Chunk));
+    assert!(rt; Plan::new(1, 1, 1, 0) == Err(L1::Wave));
+    assert!(rt; Plan::new(1, 1, 1, 256) == Err(L1::Wave));
     assert!(rt; Tick::new(1).is_ok());
     assert!(rt; Tick::new(1_000_000).is_ok());
-    assert!(rt; Tick::new(0) == Err(NoTick));
-    assert!(rt; Tick::new(1_000_001) == Err(NoTick));
+    assert!(rt; Tick::new(0) == Err(L1::Tick));
+    assert!(rt; Tick::new(1_000_001) == Err(L1::Tick));
 }
 
 // One thread for each chunk of a wave, and one for the kernel turns if there are several waves.

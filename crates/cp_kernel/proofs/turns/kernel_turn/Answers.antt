@@ -37,10 +37,11 @@ returns-clause-meaning c = λ setup F p own s I now first last count T.
     let n = c.args.turn.steps in
     let few : p ≤ length (transcripts_of k) = omega (arith, last, count) in
     let law = c.kernel_steps.ensures.turn program setup F p own n s (transcript_of (transcripts_of k) p) (turning k x input) I first last T in
-    let here = subst (λ clock. TurningOf program setup F p own (meaning.kernel_turn setup n s p) (transcript_of (transcripts_of k) p) (plain.kernel_steps program clock n (turning k x input))) (sym now) law in
-    (kernel_turn_made program setup F p own n c.args.clock (meaning.kernel_turn setup n s p) k c.move_output.new.kernel x c.move_output.new.private input
-    c.between_turns.ensures.output (returns-clause-turn c) first few T.part.number here,
-    c.invariant.ensures.kernel_turn setup n p s I)
+    let here = subst (λ clock. TurningOf program setup F p own (meaning.kernel_turn setup n s p) (transcript_of (transcripts_of k) p) (plain.kernel_steps program clock n (turning k x input))) (sym now) law in (
+      kernel_turn_made program setup F p own n c.args.clock (meaning.kernel_turn setup n s p) k c.move_output.new.kernel x c.move_output.new.private input
+          c.between_turns.ensures.output (returns-clause-turn c) first few T.part.number here,
+      c.invariant.ensures.kernel_turn setup n p s I,
+    )
 
 pub returns-clause-asking : goal.returns-clause-asking
 returns-clause-asking c = λ n h. room_kept c.take_steps.new.kernel c.move_output.new.kernel n c.move_output.ensures.gates (c.take_steps.ensures.asking n h)

@@ -9,6 +9,7 @@ pub returns-clause-meaning : goal.returns-clause-meaning
 returns-clause-meaning c = λ input setup F p own s before I part.
     let program = view.program c.args.program.now in
     let o = private_of c.args.private.now input in
-    let is = c.kind_at_counter.ensures input in
-    ((λ free. kind_is_meant program setup F p own s before o I part free ∙ ap meaning_kind (sym is)),
-    (λ blocked. is ∙ blocked_is_kernel program setup F p own s before o I part blocked))
+    let is = c.kind_at_counter.ensures input in (
+      (λ free. kind_is_meant program setup F p own s before o I part free ∙ ap meaning_kind (sym is)),
+      (λ blocked. is ∙ blocked_is_kernel program setup F p own s before o I part blocked),
+    )

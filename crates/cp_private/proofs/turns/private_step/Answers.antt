@@ -13,7 +13,8 @@ returns-clause-meaning c =
     let program = view.program c.args.program.now in
     let o = private_of c.args.private.now c.args.input.now in
     let step : private_of c.take_steps.new.private c.args.input.now ≡ private_step program c.args.clock o = search rules in
-    let there = step ∙ ap (λ k. private_step program k o) now in
-    (subst (PartOf (ground_of program setup F p own) (meaning.private_step setup s p) before) (sym there)
-    (c.private_steps.ensures.step program setup F p own s before o I P),
-    c.invariant.ensures.private_step setup p s I)
+    let there = step ∙ ap (λ k. private_step program k o) now in (
+      subst (PartOf (ground_of program setup F p own) (meaning.private_step setup s p) before) (sym there)
+          (c.private_steps.ensures.step program setup F p own s before o I P),
+      c.invariant.ensures.private_step setup p s I,
+    )

@@ -14,7 +14,8 @@ returns-clause-meaning c =
     let n = c.args.turn.steps in
     let o = private_of c.args.private.now c.args.input.now in
     let steps : private_of c.take_steps.new.private c.args.input.now ≡ private_steps program c.args.clock n o = search rules in
-    let there = steps ∙ ap (λ k. private_steps program k n o) now in
-    (subst (PartOf (ground_of program setup F p own) (meaning.private_turn setup n s p) before) (sym there)
-    (c.private_steps.ensures.turn program setup F p own n s before o I P),
-    c.invariant.ensures.private_turn setup n p s I)
+    let there = steps ∙ ap (λ k. private_steps program k n o) now in (
+      subst (PartOf (ground_of program setup F p own) (meaning.private_turn setup n s p) before) (sym there)
+          (c.private_steps.ensures.turn program setup F p own n s before o I P),
+      c.invariant.ensures.private_turn setup n p s I,
+    )

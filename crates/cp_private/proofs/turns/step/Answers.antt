@@ -15,7 +15,8 @@ returns-clause-meaning c = λ setup F p own s before k there known due I now fir
     let x = c.args.private.now in
     let y = c.act.new.private in
     let made = kernel_step_made program w k x y c.args.shared.now c.act.new.shared (effect c.act.result) c.act.ensures.step c.act.ensures.kept.own.words there known due in
-    let meant = made ∙ ap (λ n. kernel_step program n (beside k x w.input.now)) now in
-    (subst (TurningOf program setup F p own (meaning.kernel_step setup s p) before) (sym meant)
-    (c.kernel_steps.ensures.step program setup F p own s before (beside k x w.input.now) I first last T),
-    c.invariant.ensures.kernel_step setup p s I)
+    let meant = made ∙ ap (λ n. kernel_step program n (beside k x w.input.now)) now in (
+      subst (TurningOf program setup F p own (meaning.kernel_step setup s p) before) (sym meant)
+          (c.kernel_steps.ensures.step program setup F p own s before (beside k x w.input.now) I first last T),
+      c.invariant.ensures.kernel_step setup p s I,
+    )
