@@ -23,6 +23,9 @@ pub mod Layers
 pub mod Scopes
 pub mod Owners
 pub mod DeclaredNames
+pub mod MonitorPlaces
+pub mod TypeOrder
+pub mod NamedTypes
 pub mod DeclaredVariables
 pub mod Headings
 pub mod Distinctness

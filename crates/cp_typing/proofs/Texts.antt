@@ -1,5 +1,5 @@
 -- Whole texts: definitions in order, the standard names, and the initial process. An accepted text is well typed.
-use Rattle.std.proofs.Common.{◌≡◌, ◌≤◌, ◌⊎◌, inl, inr, ℕ, zero, suc, ◌+◌, pos, Bool, true, false, List, [], ◌∷◌, ◌++◌, Some, None, if◌then◌else◌, slice_get, map, take, arith, refl, ap, sym, subst, ◌∙◌, append_assoc, append-nil, codes, bytes_eq}
+use Rattle.std.proofs.Common.{◌≡◌, ◌≤◌, ◌⊎◌, inl, inr, ℕ, zero, suc, ◌+◌, pos, Bool, true, false, List, [], ◌∷◌, ◌++◌, Some, None, if◌then◌else◌, slice_get, length, map, take, arith, refl, ap, sym, subst, ◌∙◌, append_assoc, append-nil, codes, bytes_eq}
 use Rattle.cp_model.specs.Syntax as s
 use Rattle.cp_model.specs.Abstract as a
 use Rattle.cp_model.specs.Erase as erase
@@ -34,6 +34,7 @@ use Rattle.cp_typing.proofs.TableMeanings.{GlobalAs, NamesAs, RowAs, StructureAs
 use Rattle.cp_typing.proofs.Layers.{IsOuter}
 use Rattle.cp_typing.proofs.Visible.{some_same}
 use Rattle.cp_typing.proofs.DeclaredVariables.{VariablesMade, variables_made}
+use Rattle.cp_typing.proofs.TypeOrder.{ascend_kept, ascend_on, more_on, no_more}
 use Rattle.cp_typing.proofs.Stages.{Defined, Stage, SystemTyped, constant_defined, later_on, later_same, in_order_on, no_systems, type_defined, typed_later}
 use Rattle.cp_typing.proofs.ComponentBodies.{body_need, Inside, Opened, open_scope, bodies_typed}
 use Rattle.cp_typing.proofs.SystemTypes.{system_defined}
@@ -80,6 +81,9 @@ defined_on env mid after g rs ys ds es d e =
       in_order = λ k l.
           let l2 : Later (define_all (define_all g ds) es) k = subst (λ z. Later z k) scope l in
           in_order_on k ds es g ys (d.in_order k (later_on (define_all g ds) (define_all (define_all g ds) es) k e.later l2)) (e.in_order k l2);
+      added = more_on env.names mid.names after.names rs d.more e.more d.added e.added;
+      ascend = ascend_on after.names e.more (length rs) (length d.more) (length e.more) ds es
+          (ascend_kept mid.names after.names d.more e.more e.added (length rs) (length d.more) ds d.ascend) e.ascend;
       typed = λ i w h. go i w (split_at (systems_of ds) (systems_of es) i w (sym (ap (λ l. slice_get l i) systems) ∙ h));
     }
   where
@@ -97,7 +101,7 @@ defined_on env mid after g rs ys ds es d e =
         (subst (λ l. SystemTyped (define_all (define_all g ds) es) l w) (append_assoc ys (systems_of ds) (take h.0 (systems_of es))) (e.typed h.0 w h.1)))
 
 defined_none : (env : Environment) (g : GlobalScope) (rs : Types) (ys : List a.System) → Stage env g rs ys → Defined env g rs ys [] env
-defined_none env g rs ys stage = record { more = rs; later = later_same g; stage = subst (Stage env g rs) (sym (no_systems ys)) stage; typed = λ i w h. absurd (cc); in_order = λ k l. tt }
+defined_none env g rs ys stage = record { more = rs; later = later_same g; stage = subst (Stage env g rs) (sym (no_systems ys)) stage; typed = λ i w h. absurd (cc); in_order = λ k l. tt; added = no_more env.names rs; ascend = omega arith }
 
 constants_defined : (ds : List ConstantDefinition) (env : Environment) (g : GlobalScope) (rs : Types) (ys : List a.System) → Stage env g rs ys
     → (define_each define_constant env ds).violations ≡ [] → Defined env g rs ys (map erase.constant_definition ds) (define_each define_constant env ds).env
@@ -249,6 +253,9 @@ no_components (suc (suc zero)) w i h = absurd (cc)
 no_components (suc (suc (suc zero))) w i h = absurd (cc)
 no_components (suc (suc (suc (suc t)))) w i h = absurd (cc)
 
+nothing : (j : ℕ) (w : a.System) → slice_get {X = a.System} [] j ≡ Some w → ⊥
+nothing j w h = absurd (cc)
+
 standard_stage : Stage standard_environment standard_scope standard_types []
 standard_stage = record {
   globals = each_as S standard_types standard_names standards_as;
@@ -259,6 +266,7 @@ standard_stage = record {
   region = refl;
   seen = no_scope;
   systems = no_components;
+  earlier = λ t n w i h e. absurd (nothing (no_components t w i h).0 w (no_components t w i h).1);
   processes = refl;
   monitors = refl;
   types = λ h l. ((λ e. (refl, omega arith), tt), ((λ e. (refl, omega arith), tt), ((λ e. (refl, omega arith), tt), ((λ e. (tt, omega arith), tt), tt))));
