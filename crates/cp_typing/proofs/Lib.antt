@@ -1,6 +1,7 @@
 pub mod Bounds
 pub mod Names
 pub mod Judging
+pub mod ComponentNames
 pub mod TableMeanings
 pub mod TypeRows
 pub mod StructuredTypes
@@ -41,6 +42,10 @@ pub mod MemberNames
 pub mod ComponentBodies
 pub mod SystemTypes
 pub mod Enumerations
+pub mod Definitions
+pub mod StandardNames
+pub mod EarlierRights
+pub mod MonitorOrder
 pub mod Texts
 pub mod FoundCalls
 pub mod CallsKept
