@@ -2,6 +2,7 @@ pub mod Bounds
 pub mod Names
 pub mod Judging
 pub mod ComponentNames
+pub mod Locations
 pub mod TableMeanings
 pub mod TypeRows
 pub mod StructuredTypes

@@ -123,6 +123,15 @@ module _ (names after : Names) (rs more : Types) (m : MoreNames names after rs m
   )
   ascend_kept low high (d ∷ ds) h = (other_kept (defined_name d) h.0, ascend_kept low high ds h.1)
 
+-- A place is at least 1.
+pub place_positive : (x : Text) (ds : List a.Definition) → 1 ≤ place_of x ds
+place_positive x [] = omega arith
+place_positive x (d ∷ ds) = by (bytes_eq x (defined_name d))
+  where
+    by : (b : Bool) → 1 ≤ (if b then 1 else suc (place_of x ds))
+    by true = omega arith
+    by false = omega arith
+
 module _ (names : Names) (rs : Types) where
   ascend_wider : (low middle high : ℕ) (ds : List a.Definition) → low ≤ middle → Ascend names rs middle high ds → Ascend names rs low high ds
   ascend_wider low middle high [] l h = omega (arith, l, h)
@@ -143,14 +152,6 @@ module _ (names : Names) (rs : Types) where
   ascend_on low middle high (d ∷ ds) es h k = (h.0, ascend_on low middle high ds es h.1 k)
 
   -- ---- Rows and places
-
-  pub place_positive : (x : Text) (ds : List a.Definition) → 1 ≤ place_of x ds
-  place_positive x [] = omega arith
-  place_positive x (d ∷ ds) = by (bytes_eq x (defined_name d))
-    where
-      by : (b : Bool) → 1 ≤ (if b then 1 else suc (place_of x ds))
-      by true = omega arith
-      by false = omega arith
 
   -- A name of a system type.
   pub record SystemName (x : Text) (t : ℕ) : Type 0 where
