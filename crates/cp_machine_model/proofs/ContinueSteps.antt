@@ -47,7 +47,8 @@ use Rattle.cp_machine_model.proofs.RunningOn.{runs_moved, runs_stacked, runs_sto
 use Rattle.cp_machine_model.proofs.Separate.{cell_no_result}
 use Rattle.cp_machine_model.proofs.Standards.{By, argument_none, continues, not_called, one, rests, used_none}
 use Rattle.cp_machine_model.proofs.Stepping.{Now, Stepped, faulted, went}
-use Rattle.cp_machine_model.proofs.Writing.{changed_other, integer_is}
+use Rattle.cp_typing.proofs.Locations.{integer_is}
+use Rattle.cp_machine_model.proofs.Writing.{changed_other}
 use Rattle.cp_machine_model.proofs.Effects.{EffectAgrees, going, return_leaves, then_means, told}
 use Rattle.cp_machine_model.proofs.MonitorsThere.{monitor_below}
 use Rattle.cp_machine_model.specs.Steps.{act}

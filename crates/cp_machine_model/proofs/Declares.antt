@@ -15,8 +15,7 @@ use Rattle.cp_typing.specs.Declared.{SystemVariable, sort_of}
 use Rattle.cp_typing.specs.SoundTypes.{SoundType}
 use Rattle.cp_typing.specs.WellTyped.{WellTyped, text_systems}
 use Rattle.cp_program_model.specs.StandsFor.{IsInText, StandsFor, component_at, component_in, system_of_monitor, system_of_process}
-use Rattle.cp_program_model.proofs.CallsStand.{IsNamed, is_named}
-use Rattle.cp_program_model.proofs.KnownStand.{each_found}
+use Rattle.cp_typing.proofs.ComponentNames.{IsNamed, each_found, is_named}
 use Rattle.cp_machine_model.specs.PrivateStates as machine
 use Rattle.cp_machine_model.specs.Addresses.{Ground, scope}
 use Rattle.cp_machine_model.specs.Left.{Running, Runs}

@@ -24,7 +24,8 @@ use Rattle.cp_machine_model.proofs.Layouts.{same_some}
 use Rattle.cp_machine_model.proofs.Stacks.{Stacked, found_inside}
 use Rattle.cp_machine_model.proofs.Owned.{OwnRight, reference_inside, result_inside}
 use Rattle.cp_machine_model.proofs.Separate.{cell_below, cell_no_own_right, cell_no_reference, cell_no_result, own_right_below, separate}
-use Rattle.cp_machine_model.proofs.Writing.{cell_written, changed_other, location_is}
+use Rattle.cp_typing.proofs.Locations.{location_is}
+use Rattle.cp_machine_model.proofs.Writing.{cell_written, changed_other}
 
 -- A location in an activation belongs to an activation that exists.
 pub live_owner : (G : Ground) (xs : List Activation) (l : Location) (v : Part) (d : ℕ) → lies G xs l ≡ Some v → l.owner ≡ OfActivation G.p d → d < length xs

@@ -47,7 +47,8 @@ use Rattle.cp_machine_model.proofs.InitOffsets.{Offset, offset_same, offset_with
 use Rattle.cp_machine_model.proofs.Layouts.{same_some}
 use Rattle.cp_machine_model.proofs.Passing.{KeptOutside, PassingAgrees, SameOutside, Stays}
 use Rattle.cp_machine_model.proofs.Settling.{snoc_same, stored_at}
-use Rattle.cp_machine_model.proofs.Writing.{changed_other, location_itself}
+use Rattle.cp_typing.proofs.Locations.{location_itself}
+use Rattle.cp_machine_model.proofs.Writing.{changed_other}
 
 module _ (G : Ground) (sys : System) (at : Location) (c from : ℕ) (distinct : Distinct (declarations (scope G) sys.parameters))
     (one : (p : Name × Variable) → IsIn p (declarations (scope G) sys.parameters) → is_component p.1.type ≡ false → (words (scope G) p.1.type ≡ 1) × IsCell p.1.type) where

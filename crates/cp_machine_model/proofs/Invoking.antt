@@ -54,7 +54,7 @@ use Rattle.cp_machine_model.proofs.RunningOn.{runs_here, runs_over, runs_stacked
 use Rattle.cp_machine_model.proofs.Owned.{result_inside}
 use Rattle.cp_machine_model.proofs.Separate.{part_below}
 use Rattle.cp_machine_model.proofs.Stepping.{Now, beyond, clock_of, faulted, gate_entered, stopped, went}
-use Rattle.cp_machine_model.proofs.Writing.{location_is, owner_is, same_owner_itself}
+use Rattle.cp_typing.proofs.Locations.{location_is, owner_is, same_owner_itself}
 use Rattle.cp_machine_model.proofs.Stacks.{own_in_whole}
 use Rattle.cp_machine_model.proofs.Effects.{EffectAgrees, LeavesIt, Means, WentOn, enters, going, passed_leaves, provided_leaves, then_means, told}
 use Rattle.cp_model.specs.Configurations.{StepResult}

@@ -35,7 +35,7 @@ use Rattle.cp_model.proofs.WriteReach.{WritesIn, bind_in, starting_writes_in}
 use Rattle.cp_machine_model.proofs.Finding.{some_is_not_none}
 use Rattle.cp_machine_model.proofs.Layouts.{same_some}
 use Rattle.cp_machine_model.proofs.Invoking.{argument_in, put_outside}
-use Rattle.cp_machine_model.proofs.Writing.{same_owner_itself}
+use Rattle.cp_typing.proofs.Locations.{same_owner_itself}
 
 -- ---- stores
 

@@ -43,7 +43,7 @@ use Rattle.cp_machine_model.proofs.Apart.{cell_has_word}
 use Rattle.cp_machine_model.proofs.Bounds.{part_fits}
 use Rattle.cp_machine_model.proofs.Copying.{holds_simple}
 use Rattle.cp_machine_model.proofs.StartLeaves.{IsSimple, found_farther, simple_part, starts_keep, starts_write, type_is}
-use Rattle.cp_machine_model.proofs.Writing.{same_owner_itself}
+use Rattle.cp_typing.proofs.Locations.{same_owner_itself}
 
 -- ---- variables that are found
 

@@ -50,7 +50,8 @@ use Rattle.cp_machine_model.proofs.Layouts.{PartsLie, same_some}
 use Rattle.cp_machine_model.proofs.Rooms.{refers}
 use Rattle.cp_machine_model.proofs.StartLeaves.{IsSimple, first_name, simple_part}
 use Rattle.cp_machine_model.proofs.Puts.{bytes_eq_turned, put_all_two}
-use Rattle.cp_machine_model.proofs.Writing.{changed_other, same_owner_itself}
+use Rattle.cp_typing.proofs.Locations.{same_owner_itself}
+use Rattle.cp_machine_model.proofs.Writing.{changed_other}
 
 -- The words outside the parameters are as before.
 abbrev pub SameOutside : ℕ → ℕ → List ℤ → List ℤ → Type 0

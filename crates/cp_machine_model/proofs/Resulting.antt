@@ -29,7 +29,8 @@ use Rattle.cp_machine_model.proofs.RunningOn.{runs_room, runs_stacked, runs_with
 use Rattle.cp_machine_model.proofs.Owned.{OwnRight, reference_inside, result_inside}
 use Rattle.cp_machine_model.proofs.Separate.{cell_no_result, local_no_own_right, locals_apart}
 use Rattle.cp_machine_model.proofs.Stacks.{Stacked, found_inside}
-use Rattle.cp_machine_model.proofs.Writing.{changed_other, location_itself}
+use Rattle.cp_typing.proofs.Locations.{location_itself}
+use Rattle.cp_machine_model.proofs.Writing.{changed_other}
 
 abbrev pub name_of_path : Name → Path → Name
 name_of_path d (ByName x ∷ p) = x

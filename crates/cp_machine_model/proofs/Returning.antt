@@ -40,7 +40,7 @@ use Rattle.cp_machine_model.proofs.Layouts.{same_some}
 use Rattle.cp_machine_model.proofs.LeftKept.{left_kept, left_raised}
 use Rattle.cp_machine_model.proofs.Stacks.{Stack, Stacked, stacked}
 use Rattle.cp_machine_model.proofs.Stepping.{Now, Stepped, both_step, does, faulted, gates_left, went}
-use Rattle.cp_machine_model.proofs.Writing.{integer_is, owner_is}
+use Rattle.cp_typing.proofs.Locations.{integer_is, owner_is}
 use Rattle.cp_machine_model.proofs.Given.{all_kept}
 use Rattle.cp_machine_model.proofs.Effects.{going, leaves, return_leaves, then_means, told}
 use Rattle.cp_machine_model.specs.Steps.{act}

@@ -36,7 +36,8 @@ use Rattle.cp_machine_model.proofs.RunningOn.{runs_kept, runs_stacked}
 use Rattle.cp_machine_model.proofs.Owned.{OwnRight, reference_inside, result_inside}
 use Rattle.cp_machine_model.proofs.Separate.{cell_below, cell_no_own_right, cell_no_reference, cell_no_result, own_right_below, separate}
 use Rattle.cp_machine_model.proofs.Stacks.{Stacked, found_inside}
-use Rattle.cp_machine_model.proofs.Writing.{is_cell, location_is, location_itself}
+use Rattle.cp_typing.proofs.Locations.{location_is, location_itself}
+use Rattle.cp_machine_model.proofs.Writing.{is_cell}
 use Rattle.cp_machine_model.proofs.Given.{KeepsGiven, all_kept, rights_kept}
 use Rattle.std.proofs.lemmas.Bool.{true≢false}
 use Rattle.cp_model.specs.CallSteps.{is_initialised}

@@ -26,7 +26,7 @@ use Rattle.cp_typing.proofs.StartWrites.{found_in, written}
 use Rattle.cp_program_model.specs.Layout.{Part, distance, farther, member_part, part}
 use Rattle.cp_machine_model.proofs.Finding.{some_is_not_none}
 use Rattle.cp_machine_model.proofs.Layouts.{same_some}
-use Rattle.cp_machine_model.proofs.Writing.{location_is}
+use Rattle.cp_typing.proofs.Locations.{location_is}
 
 -- ---- indices of an array
 

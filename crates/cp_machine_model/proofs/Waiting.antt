@@ -12,8 +12,7 @@ use Rattle.cp_typing.specs.WellTyped.{WellTyped, text_systems}
 use Rattle.cp_program_model.specs.Layout.{component_words}
 use Rattle.cp_program_model.specs.Sites.{BodyOf}
 use Rattle.cp_program_model.specs.StandsFor.{Apart, IsInText, MonitorStands, ProcessStands, StandsFor, system_of_monitor, system_of_process}
-use Rattle.cp_program_model.proofs.CallsStand.{IsNamed, is_named}
-use Rattle.cp_program_model.proofs.KnownStand.{each_found}
+use Rattle.cp_typing.proofs.ComponentNames.{IsNamed, each_found, is_named}
 use Rattle.std.specs.Prelude.{take}
 use Rattle.std.proofs.lemmas.Bool.{true≢false}
 use Rattle.cp_machine_model.specs.Addresses.{Ground, scope}

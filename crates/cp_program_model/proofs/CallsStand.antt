@@ -19,66 +19,13 @@ use Rattle.cp_program_model.specs.Layout.{member, rights}
 use Rattle.cp_program_model.specs.Scopes.{Scope, environment, part_start, right_start, target_by, target_of, unit_of}
 use Rattle.cp_program_model.proofs.Found.{kept_found, kept_none, not_a_member, right_found, variable_is_member}
 use Rattle.cp_typing.specs.Declared.{Distinct}
+use Rattle.cp_typing.proofs.ComponentNames.{IsNamed, is_named}
 use Rattle.cp_typing.proofs.Names.{bytes_same, lookup_first, lookup_later}
 use Rattle.cp_program_model.specs.CodedTerms.{call_of}
 use Rattle.cp_program_model.proofs.Environments.{environment_at}
 use Rattle.cp_program_model.proofs.Standing.{CallFits, Standing, UnitThere, place_at}
 
 -- ---- Names of components
-
-named_as : (x : Name) (b : Bool) (t : ResolvedType) (r : Bool) (n : Component) → as_component x b (Some (record { by_reference = r; type = t })) ≡ Some n
-    → (n.name ≡ x) × (n.is_parameter ≡ b) × ((inner : Members) × (t ≡ ComponentOf n.system inner))
-named_as x b (ComponentOf s inner) r n h =
-    let same : record { name = x; system = s; is_parameter = b } ≡ n = ap (λ o. elim o [ None ↦ record { name = x; system = s; is_parameter = b } | Some z ↦ z ]) h in
-    (sym (ap (λ z. z.name) same), sym (ap (λ z. z.is_parameter) same), (inner, ap (λ z. ComponentOf z.system inner) same))
-named_as x b (Simple c low high start) r n h = absurd (cc)
-named_as x b (ArrayOf low high t) r n h = absurd (cc)
-named_as x b (RecordOf ms) r n h = absurd (cc)
-named_as x b Queue r n h = absurd (cc)
-named_as x b NoType r n h = absurd (cc)
-
--- A component has the name by which it is found, and the declaration of that name.
-pub record IsNamed (env : Environment) (x : Name) (n : Component) : Type 0 where
-  pub name : n.name ≡ x
-  pub variable : Variable
-  pub inner : Members
-  pub type : variable.type ≡ ComponentOf n.system inner
-  pub parameter : n.is_parameter ≡ true → lookup x (declarations env.globals env.system.parameters) ≡ Some variable
-  pub own : n.is_parameter ≡ false → lookup x (declarations env.globals env.system.variables) ≡ Some variable
-
-module _ (env : Environment) (x : Name) (n : Component) where
-  from_variables : (o : Option Variable) → lookup x (declarations env.globals env.system.variables) ≡ o → as_component x false o ≡ Some n → IsNamed env x n
-  from_variables None is h = absurd (cc)
-  from_variables (Some v) is h =
-      let k = named_as x false v.type v.by_reference n h in
-      record {
-        name = k.0;
-        variable = v;
-        inner = k.2.0;
-        type = k.2.1;
-        parameter = λ e. absurd (cc (e, k.1));
-        own = λ e. is;
-      }
-
-  from_both : (o w : Option Variable) → lookup x (declarations env.globals env.system.parameters) ≡ o → lookup x (declarations env.globals env.system.variables) ≡ w
-      → (c : Option Component) → as_component x true o ≡ c → option_or c (as_component x false w) ≡ Some n → IsNamed env x n
-  from_both o w io iw None e h = from_variables w iw h
-  from_both None w io iw (Some m) e h = absurd (cc)
-  from_both (Some v) w io iw (Some m) e h =
-      let k = named_as x true v.type v.by_reference n (e ∙ h) in
-      record {
-        name = k.0;
-        variable = v;
-        inner = k.2.0;
-        type = k.2.1;
-        parameter = λ f. io;
-        own = λ f. absurd (cc (f, k.1));
-      }
-
-  pub is_named : component_named env x ≡ Some n → IsNamed env x n
-  is_named h =
-      from_both (lookup x (declarations env.globals env.system.parameters)) (lookup x (declarations env.globals env.system.variables)) refl refl
-      (as_component x true (lookup x (declarations env.globals env.system.parameters))) refl h
 
 pub name_kept : (env : Environment) (x : Name) (n : Component) → component_named env x ≡ Some n → component_named env n.name ≡ Some n
 name_kept env x n h = ap (component_named env) (is_named env x n h).name ∙ h

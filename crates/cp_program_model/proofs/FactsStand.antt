@@ -23,9 +23,9 @@ use Rattle.cp_typing.proofs.LowerBounds.{lower_bounds}
 use Rattle.cp_program_model.specs.Scopes.{Scope, declared_type, environment_at, frame_at, groups_of, type_name}
 use Rattle.cp_program_model.specs.Starts.{unset}
 use Rattle.cp_program_model.specs.Known.{NamedBefore, NamesInOrder, RunsIn, SystemFacts, TextFacts, place_at}
-use Rattle.cp_program_model.proofs.CallsStand.{IsNamed, is_named}
+use Rattle.cp_typing.proofs.ComponentNames.{IsNamed, each_found, is_named}
 use Rattle.cp_program_model.proofs.DefinitionsStand.{component_name}
-use Rattle.cp_program_model.proofs.KnownStand.{DeclaredIn, declared_in, each_found, each_map, found_in_both, system_is_component}
+use Rattle.cp_program_model.proofs.KnownStand.{DeclaredIn, declared_in, each_map, found_in_both, system_is_component}
 
 -- ---- Types
 

@@ -28,7 +28,8 @@ use Rattle.cp_program_model.proofs.Fits.{AllBelow, below_split, term_fits}
 use Rattle.cp_program_model.proofs.Standing.{Chained, Standing, place_at, split}
 use Rattle.cp_program_model.proofs.Temps.{term_grows}
 use Rattle.cp_program_model.proofs.TermsStand.{term_stands}
-use Rattle.cp_program_model.proofs.CallsStand.{IsNamed, is_named, named_target}
+use Rattle.cp_typing.proofs.ComponentNames.{IsNamed, is_named}
+use Rattle.cp_program_model.proofs.CallsStand.{named_target}
 
 -- ---- Temps
 

@@ -19,7 +19,7 @@ use Rattle.cp_typing.proofs.Facts.{taken}
 use Rattle.cp_typing.proofs.Names.{lookup_first, lookup_later}
 use Rattle.cp_program_model.specs.Scopes.{declared_type, groups_of, is_among, type_name}
 use Rattle.cp_program_model.specs.Known.{InOrder, NamesInOrder, Plannable, PlannableMembers, SystemKnown, TextFacts, TextKnown}
-use Rattle.cp_program_model.proofs.CallsStand.{IsNamed, is_named}
+use Rattle.cp_typing.proofs.ComponentNames.{IsNamed, each_found, is_named}
 use Rattle.cp_program_model.proofs.DefinitionsStand.{component_name}
 use Rattle.cp_program_model.proofs.SystemsStand.{get_seam, sound_plannable}
 
@@ -93,18 +93,6 @@ named_in_scope g s n h =
 pub each_map : (P Q : Name × Variable → Type 0) (vs : List (Name × Variable)) → ((v : Name × Variable) → P v → Q v) → Each P vs → Each Q vs
 each_map P Q [] f h = tt
 each_map P Q (v ∷ vs) f h = (f v h.0, each_map P Q vs f h.1)
-
-pub each_found : (P : Variable → Type 0) (vs : List (Name × Variable)) (x : Name) (v : Variable) → Each (λ w. P w.1) vs → lookup x vs ≡ Some v → P v
-each_found P [] x v h is = absurd (cc)
-each_found P (w ∷ vs) x v h is = go (bytes_eq x w.0) is (each_found P vs x v h.1)
-  where
-    go : (b : Bool) → (if b then Some w.1 else lookup x vs) ≡ Some v → (lookup x vs ≡ Some v → P v) → P v
-    go true is rest = subst P (ap (or_first w.1) is) h.0
-      where
-        or_first : Variable → Option Variable → Variable
-        or_first z None = z
-        or_first z (Some y) = y
-    go false is rest = rest is
 
 pub found_in_both : (P : Variable → Type 0) (vs ws : List (Name × Variable)) (x : Name) (v : Variable) → Each (λ w. P w.1) vs → Each (λ w. P w.1) ws → lookup x (vs ++ ws) ≡ Some v → P v
 found_in_both P vs ws x v h k is = go (lookup x vs) refl

@@ -61,7 +61,7 @@ module _ (G : GlobalScope → Type 0) (ys : List a.System) (y : s.System) (p : P
       (new_fewer (keys env.names) [] (routine_names (map erase.routine y.routines))
       (subst (λ l. NewNames l (routine_names (map erase.routine y.routines))) (sym (append-nil (keys env.names))) (routines_new y.sort y.routines env routines_sound)))
 
-  visible_in_body : (g : GlobalScope) → G g → (at : Location) → Visible G all.env routines_all.more (body_place g ys (erase.system y) at)
+  pub visible_in_body : (g : GlobalScope) → G g → (at : Location) → Visible G all.env routines_all.more (body_place g ys (erase.system y) at)
   visible_in_body g in_scope at =
       let place : Place = body_place g ys (erase.system y) at in
       let m : RoutinesMade G ys (erase.system y) env rs 0 y.routines all.env = routines_all in

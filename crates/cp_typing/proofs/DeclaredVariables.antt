@@ -1,6 +1,6 @@
 -- Declared variables: what they add to the environment of the rules, and what the meaning says
 -- about them.
-use Rattle.std.proofs.Common.{◌≡◌, ◌≤◌, ◌+◌, ◌*◌, ℕ, Bool, true, false, ◌||◌, not, List, [], ◌∷◌, ◌++◌, if◌then◌else◌, length, map, refl, ap, ap₂, sym, subst, ◌∙◌, arith, append_assoc, append-nil}
+use Rattle.std.proofs.Common.{◌≡◌, ◌≤◌, ◌+◌, ◌*◌, ℕ, Bool, true, false, ◌||◌, not, List, [], ◌∷◌, ◌++◌, Option, Some, None, if◌then◌else◌, slice_get, length, map, refl, ap, ap₂, sym, subst, ◌∙◌, arith, append_assoc, append-nil}
 use Rattle.cp_model.specs.Syntax as s
 use Rattle.cp_model.specs.Abstract as a
 use Rattle.cp_model.specs.Erase as erase
@@ -20,15 +20,21 @@ use Rattle.cp_model.specs.RulesDeclarations.{Declared, Variables, declare_all, i
 use Rattle.cp_model.specs.Types.{ArrayOf, ComponentOf, GlobalScope, Members, Queue, RecordOf, ResolvedType, Simple, resolved_type}
 use Rattle.cp_model.specs.Declarations.{Variable, declarations, declared_group}
 use Rattle.cp_model.specs.States.{count_components}
+use Rattle.cp_model.specs.Names.{lookup}
+use Rattle.std.specs.Option.{option_or}
+use Rattle.cp_model.specs.declared.rules.Access.{Access}
 use Rattle.cp_typing.specs.Words.{component_words, rights_in, words, words_of_members, words_of_variables}
 use Rattle.cp_typing.proofs.Bounds.{times_bound}
 use Rattle.cp_typing.proofs.Owners.{CountedIn, CountsMore, OwnersFitIn, group_fits, owners_append, owners_none, counted_append, counted_none, group_counted, named_group}
-use Rattle.cp_typing.proofs.Names.{NewNames, keys, keys-append, new_append}
+use Rattle.cp_typing.proofs.Names.{NewNames, keys, keys-append, lookup-append, new_append}
 use Rattle.cp_typing.proofs.Judging.{first_empty, rest_empty, sound_has}
 use Rattle.cp_typing.proofs.TypesMade.{placed_allows, placed_sound, type_made, placed_inner}
 use Rattle.cp_typing.proofs.TypeRows.{TypeMade, with_tables}
 use Rattle.cp_typing.proofs.TableMeanings.{Declares, Grows, NamesAs, RowAs, StructureAs, Tables, TypeAt, Types, grows_on, grows_same, names_kept}
-use Rattle.cp_typing.proofs.LayerNames.{VariablesAs, variables_append}
+use Rattle.cp_typing.proofs.LayerNames.{VariablesAs, variable_found, variables_append}
+use Rattle.cp_typing.proofs.Visible.{some_same}
+use Rattle.cp_typing.proofs.MonitorPlaces.{group_types, written_types}
+use Rattle.cp_typing.proofs.NamedTypes.{AllNamed, EntryNamed, found_before, group_named, named_append, named_kept, only_names, type_found, types_append}
 use Rattle.cp_typing.proofs.DeclaredNames.{entries, keys-entries, all_new, all_declared, names_added, tables_same, grows_between, with_counts, all_counted, AllowsSort, PlacedAs, AllPlaced, text_of}
 
 module _ (G : GlobalScope → Type 0) where
@@ -71,6 +77,8 @@ module _ (G : GlobalScope → Type 0) where
     pub declares : Declares G (map erase.variable_group gs) declared
     pub meets : VariablesAs false more entries_of declared
     pub placed : AllPlaced p declared
+    -- the row of a component's type is that of the name by which the type is written
+    pub named : (g : GlobalScope) → G g → AllNamed env.names more entries_of (written_types (map erase.variable_group gs))
     pub words : (g : GlobalScope) → G g → total ≤ word_limit → words_of_variables g declared ≤ total
     pub counted : CountedIn p env after declared
     pub owners_fit : OwnersFitIn p G declared
@@ -149,6 +157,19 @@ module _ (G : GlobalScope → Type 0) where
   counted_from position.ComponentVariable env before after ds e f c = (c.0 ∙ e, c.1 ∙ f)
   counted_from position.RoutineVariable env before after ds e f c = (c.0 ∙ e, c.1 ∙ f)
 
+  -- the written type of a group's variables, in scopes of which something is known
+  group_entry : (env before : Environment) (rs : Types) (te : s.TypeExpression) (n t : ℕ) → (type_of before te).of ≡ Sound n → n ≡ t
+      → (m : TypeMade G before rs (type_of before te).env n (erase.type_expression te))
+      → ((x : Text) (u : ℕ) → lookup x before.names ≡ Some (entity.Type u) → lookup x env.names ≡ Some (entity.Type u))
+      → (g : GlobalScope) → G g → EntryNamed env.names m.made.more (own_variable t) (erase.type_expression te)
+  group_entry env before rs te n t h same m back g in_scope = λ y inner there.
+      let is : m.type ≡ ComponentOf y inner = some_same (slice_get m.made.more t) m.type (ComponentOf y inner) (subst (λ k. TypeAt m.made.more k m.type) same m.there) there in
+      let x : (x : Identifier) × (te ≡ s.Named x) = only_names G before rs g in_scope te n h m y inner is in (
+        x.0.name,
+        ap erase.type_expression x.1,
+        back x.0.name t (type_found x.0 (lookup x.0.name before.names) t (ap (λ z. (type_of before z).of) (sym x.1) ∙ h ∙ ap (λ k. Sound k) same)),
+      )
+
   group_made : (env : Environment) (rs : Types) (p : Position) (g : s.Variables) → NamesAs G rs env.names → Tables G env rs → (variable_group env p g).violations ≡ []
       → VariablesMade env rs p (g ∷ []) (variable_group env p g).env (variable_group env p g).words
   group_made env rs p g names tables h =
@@ -201,6 +222,9 @@ module _ (G : GlobalScope → Type 0) where
         meets = group_as one.made.more is.0 one.type g.names there;
         placed = group_placed p one.type g.names
             (placed_structure m.env one.made.more p (row_of m.env inner.0).structure one.type row.structure allows.0, ap (λ q. allows_queues p || not q) (sym row.queues) ∙ allows.1);
+        named = λ z k. group_named env.names one.made.more is.0 (erase.type_expression g.of)
+            (group_entry env defined.env rs g.of inner.0 is.0 inner.1 same_type one
+            (λ x u f. found_before env.names unfinished_variable g.names no_type x u (sym (ap (λ w. lookup x w.names) inside) ∙ f)) z k) g.names;
         words = λ z k l. group_words z one.type g.names (words_of m.env judged)
             (subst (λ j. words_of m.env j ≤ word_limit → words z one.type ≤ words_of m.env j) (sym is.1)
             (placed_words m.env one.made.more is.0 one.type z k (one.made.tables.rows is.0 one.type there))) l;
@@ -214,6 +238,10 @@ module _ (G : GlobalScope → Type 0) where
         same = ap (λ (z : Environment). record z { names = more_names; processes = counted.env.processes; monitors = counted.env.monitors })
             (one.made.same ∙ ap (λ z. with_tables z m.env) inside);
       })
+
+    where
+      no_type : (t : ℕ) → unfinished_variable ≡ entity.Type t → ⊥
+      no_type t h = absurd (cc)
 
   pub variables_none : (env : Environment) (rs : Types) (p : Position) → NamesAs G rs env.names → Tables G env rs → VariablesMade env rs p [] env 0
   variables_none env rs p names tables = record {
@@ -230,11 +258,24 @@ module _ (G : GlobalScope → Type 0) where
     declares = λ z k. refl;
     meets = tt;
     placed = tt;
+    named = λ g k. tt;
     words = λ g k h. omega arith;
     counted = counted_none p env;
     owners_fit = owners_none p G;
     same = refl;
   }
+
+  -- a type that is found behind variables was found before them
+  not_variable : (rs : Types) (names vs : Names) (ds : List (Text × Variable)) → VariablesAs false rs vs ds → (n : Text) (t : ℕ)
+      → lookup n (names ++ vs) ≡ Some (entity.Type t) → lookup n names ≡ Some (entity.Type t)
+  not_variable rs names vs ds meets n t h = go (lookup n names) (sym (lookup-append n names vs) ∙ h)
+    where
+      go : (o : Option Entity) → option_or o (lookup n vs) ≡ Some (entity.Type t) → o ≡ Some (entity.Type t)
+      go (Some e) k = k
+      go None k = absurd (variable_no_type (variable_found false rs n (entity.Type t) vs ds meets k).is)
+        where
+          variable_no_type : {u : ℕ} {acc : Access} → entity.Type t ≡ entity.Variable u acc → ⊥
+          variable_no_type e = absurd (cc)
 
   declares_on : (g : s.Variables) (gs : List s.Variables) (ds es : List (Text × Variable)) → Declares G (map erase.variable_group (g ∷ [])) ds → Declares G (map erase.variable_group gs) es
       → Declares G (map erase.variable_group (g ∷ gs)) (ds ++ es)
@@ -267,6 +308,11 @@ module _ (G : GlobalScope → Type 0) where
         meets = variables_append false more.more first.entries_of more.entries_of first.declared more.declared
             (entries_kept false one.env rest.env first.more more.more more.grows first.entries_of first.declared first.meets) more.meets;
         placed = placed_append p first.declared more.declared first.placed more.placed;
+        named = λ z k. subst (AllNamed env.names more.more (first.entries_of ++ more.entries_of)) (sym (types_append (erase.type_expression g.of) (map erase.name g.names) (written_types (map erase.variable_group gs))))
+            (named_append env.names more.more first.entries_of more.entries_of (written_types (map erase.variable_group (g ∷ []))) (written_types (map erase.variable_group gs))
+            (named_kept env.names env.names first.more more.more (λ n t f. f) more.components first.entries_of (written_types (map erase.variable_group (g ∷ []))) (first.named z k))
+            (named_kept env.names one.env.names more.more more.more (λ n t f. not_variable first.more env.names first.entries_of first.declared first.meets n t (sym (ap (lookup n) first.names_are) ∙ f))
+            (λ t y inner f. f) more.entries_of (written_types (map erase.variable_group gs)) (more.named z k)));
         words = λ z k l. omega (arith, words-append z first.declared more.declared, first.words z k (omega (arith, l)), more.words z k (omega (arith, l)));
         counted = counted_append p env one.env rest.env first.declared more.declared first.counted more.counted;
         owners_fit = owners_append p G first.declared more.declared first.owners_fit more.owners_fit;

@@ -1,5 +1,5 @@
 -- An enumeration in which nothing is broken: its type and its values are those of the meaning.
-use Rattle.std.proofs.Common.{◌≡◌, ℕ, suc, ◌-◌, ℤ, pos, Bool, true, false, ◌||◌, List, [], ◌∷◌, ◌++◌, Option, Some, None, if◌then◌else◌, length, map, arith, refl, ap, sym, subst, ◌∙◌, append_assoc, append-nil, codes, bytes_eq}
+use Rattle.std.proofs.Common.{◌≡◌, ℕ, suc, ◌-◌, ℤ, pos, Bool, true, false, ◌||◌, List, [], ◌∷◌, ◌++◌, Option, Some, None, if◌then◌else◌, length, map, arith, refl, ap, sym, subst, ◌∙◌, append_assoc, append-nil, length-append, codes, bytes_eq}
 use Rattle.std.specs.Option.{option_or}
 use Rattle.std.proofs.lemmas.Bool.{true≢false}
 use Rattle.cp_model.specs.Abstract as a
@@ -26,7 +26,8 @@ use Rattle.cp_typing.proofs.TableMeanings.{data_row, simple_data, BaseAt, Grows,
 use Rattle.cp_typing.proofs.Layers.{IsOuter}
 use Rattle.cp_typing.proofs.DeclaredNames.{declare_new, declared_new, names_more, tables_same, each_new, names_of, each_declared, text_of}
 use Rattle.cp_typing.proofs.RoutineNames.{all_distinct}
-use Rattle.cp_typing.proofs.Stages.{Defined, Stage, first_there, no_systems, not_first, stage_named, tables_fewer, type_later, outer_more, later_on, names_fewer}
+use Rattle.cp_typing.proofs.TypeOrder.{all_kept}
+use Rattle.cp_typing.proofs.Stages.{last_found, Defined, Stage, first_there, no_systems, not_first, stage_named, tables_fewer, type_later, outer_more, later_on, names_fewer}
 use Rattle.cp_typing.proofs.MemberNames.{mapped_length, new_fewer}
 
 abbrev Constants : Type 0
@@ -178,7 +179,8 @@ module _ (env : Environment) (g : GlobalScope) (rs : Types) (ys : List a.System)
 
   stage_a : Stage named scope_a more ys
   stage_a = stage_named env own g scope_a rs more ys ys x.name (entity.Type t) stage tables_own grows_own
-      (λ n w i h. stage.systems n w i (not_new rs (full_range b) n w i refl h)) (record { region = refl; processes = refl; monitors = refl })
+      (λ n w i h. stage.systems n w i (not_new rs (full_range b) n w i refl h))
+      (all_kept (Later g) env own rs more stage.tables grows_own (λ n w i h. not_new rs (full_range b) n w i refl h) stage.earlier) (record { region = refl; processes = refl; monitors = refl })
       (λ k l. ((λ alone. enumeration_fits k, tt), stage.types k (later_on g scope_a k later_a l))) later_a none tt
       (full_range b, type_there, λ k l. l.types x.name (full_range b) (first_there x.name (full_range b) g.types))
       (λ z n. (refl, not_first x.name z (full_range b) g.types n))
@@ -229,6 +231,7 @@ module _ (env : Environment) (g : GlobalScope) (rs : Types) (ys : List a.System)
     clock = lookup_first (codes "realtime") named.names (value_entries t 0 xs) (entity.Standard standard.Realtime) stage_a.clock;
     seen = λ z h. (no_constant z h, no_type z h);
     systems = stage_a.systems;
+    earlier = stage_a.earlier;
   }
 
   after_is : (define_enumeration env x xs).env ≡ after
@@ -242,4 +245,16 @@ module _ (env : Environment) (g : GlobalScope) (rs : Types) (ys : List a.System)
     stage = subst (Stage after scope_behind more) (sym (no_systems ys)) stage_behind;
     typed = λ i w h. absurd (cc);
     in_order = λ k l. tt;
+    added = record {
+      names = λ z f h. lookup_first z named.names (value_entries t 0 xs) f (lookup_first z env.names ((x.name, entity.Type t) ∷ []) f h);
+      types = grows_own.types;
+    };
+    ascend = (
+      record {
+        stands_for = entity.Type t;
+        is = lookup_first x.name named.names (value_entries t 0 xs) (entity.Type t) (last_found env.names x.name (entity.Type t) none);
+        other = (full_range b, type_there, refl);
+      },
+      omega (arith, length-append rs (full_range b ∷ [])),
+    );
   })

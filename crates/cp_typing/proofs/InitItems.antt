@@ -180,6 +180,7 @@ module _ (G : GlobalScope → Type 0) (env : Environment) (rs : Types) (p : Plac
     pub type : part.type ≡ ComponentOf system inner
     pub meets : SystemAs G env rs number system
     pub rows : List ParameterRow
+    pub rows_are : rows ≡ parameters_from env (system_row env number).first (system_row env number).count
     pub rows_as : ParametersAs rs rows meets.heading.variables
     pub count : length rows ≡ count_of i.arguments
     pub arguments_sound : init_arguments env rows i.arguments ≡ []
@@ -212,6 +213,7 @@ module _ (G : GlobalScope → Type 0) (env : Environment) (rs : Types) (p : Plac
         type = k.type;
         meets = meets;
         rows = parameters_from env row.first row.count;
+        rows_are = refl;
         rows_as = meets.heading.rows;
         count = rows ∙ eqb-true row.count (count_of i.arguments) count.0;
         arguments_sound = ap (λ j. init_arguments env (parameters_in env j) i.arguments) (sym parts.1) ∙ rest_empty (c8_named env mode.Value x ++ violations_of component) all h;

@@ -1,6 +1,8 @@
 pub mod Bounds
 pub mod Names
 pub mod Judging
+pub mod ComponentNames
+pub mod Locations
 pub mod TableMeanings
 pub mod TypeRows
 pub mod StructuredTypes
@@ -23,6 +25,9 @@ pub mod Layers
 pub mod Scopes
 pub mod Owners
 pub mod DeclaredNames
+pub mod MonitorPlaces
+pub mod TypeOrder
+pub mod NamedTypes
 pub mod DeclaredVariables
 pub mod Headings
 pub mod Distinctness
@@ -38,6 +43,10 @@ pub mod MemberNames
 pub mod ComponentBodies
 pub mod SystemTypes
 pub mod Enumerations
+pub mod Definitions
+pub mod StandardNames
+pub mod EarlierRights
+pub mod MonitorOrder
 pub mod Texts
 pub mod FoundCalls
 pub mod CallsKept

@@ -1,5 +1,5 @@
 -- The outermost scope, definition by definition: what the rules and the meaning know of it.
-use Rattle.std.proofs.Common.{◌≡◌, ℕ, ℤ, Bool, true, false, List, [], ◌∷◌, ◌++◌, Option, Some, None, if◌then◌else◌, slice_get, take, refl, ap, sym, subst, ◌∙◌, append_assoc, append-nil, codes, bytes_eq}
+use Rattle.std.proofs.Common.{◌≡◌, ℕ, ℤ, Bool, true, false, List, [], ◌∷◌, ◌++◌, Option, Some, None, if◌then◌else◌, slice_get, length, take, arith, refl, ap, sym, subst, ◌∙◌, append_assoc, append-nil, codes, bytes_eq}
 use Rattle.std.specs.Option.{option_or}
 use Rattle.cp_model.specs.Syntax as s
 use Rattle.cp_model.specs.Abstract as a
@@ -27,12 +27,13 @@ use Rattle.cp_model.specs.Names.{lookup}
 use Rattle.cp_typing.specs.Systems.{systems_of}
 use Rattle.cp_typing.specs.Declared.{AllFormed, IsData}
 use Rattle.cp_typing.specs.WellTyped.{Later, TypedInOrder, TypedSystem}
-use Rattle.cp_typing.proofs.Names.{AllDistinct, bytes_eq-refl, bytes_same, lookup_first, keys, keys-append, lookup-append, none_has}
+use Rattle.cp_typing.proofs.Names.{AllDistinct, bytes_eq-refl, bytes_same, lookup_first, lookup_later, keys, keys-append, lookup-append, none_has}
 use Rattle.cp_typing.proofs.Judging.{first_empty, rest_empty, sound_has}
-use Rattle.cp_typing.proofs.TypesMade.{placed_sound, type_made, placed_inner}
+use Rattle.cp_typing.proofs.TypesMade.{alone_in, placed_allows, placed_sound, type_made, placed_inner}
 use Rattle.cp_typing.proofs.TypeRows.{TypeMade, ValueAs, constant_valued}
 use Rattle.cp_typing.proofs.TableMeanings.{GlobalAs, Grows, HeadingAs, NamesAs, ReturnsAs, RoutineAs, RoutineOf, RowAs, StructureAs, SystemAs, Tables, data_fits, row_data, TypeAt, Types, grows_same, names_kept}
 use Rattle.cp_typing.proofs.Visible.{some_same}
+use Rattle.cp_typing.proofs.TypeOrder.{Ascend, MoreNames, ParametersBefore, all_kept}
 use Rattle.cp_typing.proofs.Layers.{IsOuter}
 use Rattle.cp_typing.proofs.DeclaredNames.{declare_new, declared_new, grows_between, names_more, tables_same}
 use Rattle.cp_typing.proofs.RoutineNames.{all_distinct}
@@ -133,6 +134,7 @@ pub record Stage (env : Environment) (g : GlobalScope) (rs : Types) (ys : List a
   pub types : (h : GlobalScope) → Later g h → AllFormed h g.types
   pub seen : Seen env.names g
   pub systems : (t : ℕ) (w : a.System) (inner : Members) → TypeAt rs t (ComponentOf w inner) → (i : ℕ) × (slice_get ys i ≡ Some w)
+  pub earlier : ParametersBefore env rs
 
 -- a system type is typed after the system types before it, in every scope with more definitions
 abbrev pub SystemTyped : GlobalScope → List a.System → a.System → Type 0
@@ -145,6 +147,8 @@ pub record Defined (env : Environment) (g : GlobalScope) (rs : Types) (ys : List
   pub stage : Stage after (define_all g ds) more (ys ++ systems_of ds)
   pub typed : (i : ℕ) (y : a.System) → slice_get (systems_of ds) i ≡ Some y → SystemTyped (define_all g ds) (ys ++ take i (systems_of ds)) y
   pub in_order : (h : GlobalScope) → Later (define_all g ds) h → TypedInOrder h g ys ds
+  pub added : MoreNames env.names after.names rs more
+  pub ascend : Ascend after.names more (length rs) (length more) ds
 
 -- a lookup in a scope with one more name before the others
 front : {A : Type 0} (x y : Text) (v : A) (vs : List (Text × A)) (w : A) → lookup x vs ≡ None → lookup y vs ≡ Some w → lookup y ((x, v) ∷ vs) ≡ Some w
@@ -205,10 +209,10 @@ keeps_rest env = record { region = refl; processes = refl; monitors = refl }
 pub stage_named : (env env1 : Environment) (g g1 : GlobalScope) (rs more : Types) (ys zs : List a.System) (x : Text) (e : Entity) → Stage env g rs ys → Tables (Later g) env1 more
     → Grows env env1 rs more
     → ((t : ℕ) (w : a.System) (inner : Members) → TypeAt more t (ComponentOf w inner) → (i : ℕ) × (slice_get zs i ≡ Some w))
-    → KeepsRest env env1 → ((h : GlobalScope) → Later g1 h → AllFormed h g1.types) → Later g g1 → lookup x env.names ≡ None → IsOuter e → GlobalAs (Later g1) more x e
+    → ParametersBefore env1 more → KeepsRest env env1 → ((h : GlobalScope) → Later g1 h → AllFormed h g1.types) → Later g g1 → lookup x env.names ≡ None → IsOuter e → GlobalAs (Later g1) more x e
     → ((y : Text) → bytes_eq y x ≡ false → (lookup y g1.constants ≡ lookup y g.constants) × (lookup y g1.types ≡ lookup y g.types))
     → Stage (with_names (env.names ++ (x, e) ∷ []) env1) g1 more zs
-stage_named env env1 g g1 rs more ys zs x e stage tables grows systems rest types later none outer new same =
+stage_named env env1 g g1 rs more ys zs x e stage tables grows systems earlier rest types later none outer new same =
     let sub : (h : GlobalScope) → Later g1 h → Later g h = λ h l. later_on g g1 h later l in
     let after : Environment = with_names (env.names ++ (x, e) ∷ []) env1 in
     record {
@@ -227,7 +231,12 @@ stage_named env env1 g g1 rs more ys zs x e stage tables grows systems rest type
           let eq : (lookup y g1.constants ≡ lookup y g.constants) × (lookup y g1.types ≡ lookup y g.types) = same y parts.1 in
           (eq.0 ∙ old.0, eq.1 ∙ old.1);
       systems = systems;
+      earlier = earlier;
     }
+
+-- the name that was added last
+pub last_found : (names : Names) (x : Text) (e : Entity) → lookup x names ≡ None → lookup x (names ++ (x, e) ∷ []) ≡ Some e
+last_found names x e none = lookup_later x names ((x, e) ∷ []) none ∙ first_there x e []
 
 pub no_systems : (ys : List a.System) → ys ++ [] ≡ ys
 no_systems ys = append-nil ys
@@ -251,7 +260,7 @@ constant_defined env g rs ys d stage h =
     let g1 : GlobalScope = record g { constants = (x, w) ∷ g.constants } in
     let later : Later g g1 = constant_later x w g (stage.seen x none).0 in
     let behind : Stage (with_names (env.names ++ (x, e) ∷ []) env) g1 rs ys =
-    stage_named env env g g1 rs rs ys ys x e stage stage.tables (grows_same env env rs refl refl refl refl refl) stage.systems (keeps_rest env) (λ k l. stage.types k (later_on g g1 k later l)) later none tt
+    stage_named env env g g1 rs rs ys ys x e stage stage.tables (grows_same env env rs refl refl refl refl refl) stage.systems stage.earlier (keeps_rest env) (λ k l. stage.types k (later_on g g1 k later l)) later none tt
     (v.0, v.1, λ k l. l.constants x w (first_there x w g.constants)) (λ y n. (not_first x y w g.constants n, refl)) in
     let after_is : (define_constant env d).env ≡ with_names (env.names ++ (x, e) ∷ []) env =
     ap (λ k. declare d.name (entity_of (λ c. entity.Constant c.0 c.1) k) env) is.1 ∙ declare_new env d.name e none in
@@ -262,6 +271,8 @@ constant_defined env g rs ys d stage h =
       stage = subst (λ k. Stage (with_names (env.names ++ (x, e) ∷ []) env) k rs (ys ++ [])) (sym scope_is) (subst (Stage (with_names (env.names ++ (x, e) ∷ []) env) g1 rs) (sym (no_systems ys)) behind);
       typed = λ i y e. absurd (cc);
       in_order = λ k l. tt;
+      added = record { names = λ z f k. lookup_first z env.names ((x, e) ∷ []) f k; types = λ t r k. k };
+      ascend = (record { stands_for = e; is = last_found env.names x e none; other = tt }, omega arith);
     })
 
 -- ---- written types
@@ -295,8 +306,12 @@ type_defined env g rs ys x te stage h =
     grows_between env unfinished m.env m.env rs one.made.more one.made.longer one.made.grows
     (sym (ap (λ z. z.types) opened)) (sym (ap (λ z. z.members) opened)) (sym (ap (λ z. z.routines) opened)) (sym (ap (λ z. z.systems) opened)) (sym (ap (λ z. z.parameters) opened)) refl refl refl refl refl in
     let there : TypeAt one.made.more is.0 r = subst (TypeAt one.made.more is.0) (sym r_is) (subst (λ k. TypeAt one.made.more k one.type) same one.there) in
+    let alone : is_component one.type ≡ false =
+    alone_in (Later g) m.env one.made.more position.Definition (λ y. refl) (row_of m.env inner.0).structure one.type (one.made.tables.rows inner.0 one.type one.there).structure
+    (placed_allows (Later g) m.env position.Definition (type_at te) inner.0 is.0 inner.2).0 in
     let behind : Stage (with_names (env.names ++ (x.name, e) ∷ []) m.env) g1 one.made.more ys =
-    stage_named env m.env g g1 rs one.made.more ys ys x.name e stage one.made.tables grows (λ t w i k. stage.systems t w i (one.made.components t w i k)) (record {
+    stage_named env m.env g g1 rs one.made.more ys ys x.name e stage one.made.tables grows (λ t w i k. stage.systems t w i (one.made.components t w i k))
+    (all_kept (Later g) env m.env rs one.made.more stage.tables grows one.made.components stage.earlier) (record {
       region = ap (λ z. z.region) one.made.same ∙ ap (λ z. z.region) opened;
       processes = ap (λ z. z.processes) one.made.same ∙ ap (λ z. z.processes) opened;
       monitors = ap (λ z. z.monitors) one.made.same ∙ ap (λ z. z.monitors) opened;
@@ -313,6 +328,11 @@ type_defined env g rs ys x te stage h =
       stage = subst (Stage (with_names (env.names ++ (x.name, e) ∷ []) m.env) g1 one.made.more) (sym (no_systems ys)) behind;
       typed = λ i y e. absurd (cc);
       in_order = λ k l. tt;
+      added = record { names = λ z f k. lookup_first z env.names ((x.name, e) ∷ []) f k; types = grows.types };
+      ascend = (
+        record { stands_for = e; is = last_found env.names x.name e none; other = (one.type, subst (λ k. TypeAt one.made.more k one.type) same one.there, alone) },
+        omega (arith, stage.tables.lengths, one.made.tables.lengths, one.made.longer, ap (λ z. length z.types) opened),
+      );
     })
 
 -- what is typed stays typed in scopes with more definitions

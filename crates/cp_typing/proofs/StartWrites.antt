@@ -12,65 +12,7 @@ use Rattle.cp_typing.specs.Declared.{Distinct}
 use Rattle.cp_typing.specs.StartValues.{IsIn}
 use Rattle.cp_typing.proofs.Names.{bytes_eq-refl, bytes_same}
 use Rattle.cp_typing.proofs.Visible.{some_same}
-
--- ---- equal locations
-
-same_integer_is : (i j : ℤ) → same_integer i j ≡ true → i ≡ j
-same_integer_is (pos a) (pos b) h = ap (λ n. pos n) (eqb-true a b h)
-same_integer_is (negsuc a) (negsuc b) h = ap (λ n. negsuc n) (eqb-true a b h)
-same_integer_is (pos a) (negsuc b) h = absurd (true≢false (sym h))
-same_integer_is (negsuc a) (pos b) h = absurd (true≢false (sym h))
-
-same_step_is : (s t : PathStep) → same_path_step s t ≡ true → s ≡ t
-same_step_is (ByName x) (ByName y) h = ap (λ z. ByName z) (bytes_same x y h)
-same_step_is (ByIndex i) (ByIndex j) h = ap (λ z. ByIndex z) (same_integer_is i j h)
-same_step_is (ByName x) (ByIndex j) h = absurd (true≢false (sym h))
-same_step_is (ByIndex i) (ByName y) h = absurd (true≢false (sym h))
-
-same_path_is : (p q : Path) → same_path p q ≡ true → p ≡ q
-same_path_is [] [] h = refl
-same_path_is (s ∷ p) (t ∷ q) h =
-    let k : (same_path_step s t ≡ true) × (same_path p q ≡ true) = and_parts (same_path_step s t) (same_path p q) h in
-    ap₂ (λ x y. x ∷ y) (same_step_is s t k.0) (same_path_is p q k.1)
-same_path_is [] (t ∷ q) h = absurd (true≢false (sym h))
-same_path_is (s ∷ p) [] h = absurd (true≢false (sym h))
-
-same_owner_is : (o w : Owner) → same_owner o w ≡ true → o ≡ w
-same_owner_is (OfProcess p) (OfProcess q) h = ap (λ n. OfProcess n) (eqb-true p q h)
-same_owner_is (OfMonitor p) (OfMonitor q) h = ap (λ n. OfMonitor n) (eqb-true p q h)
-same_owner_is (OfActivation p d) (OfActivation q e) h =
-    let k : (nat_eq p q ≡ true) × (nat_eq d e ≡ true) = and_parts (nat_eq p q) (nat_eq d e) h in ap₂ (λ m n. OfActivation m n) (eqb-true p q k.0) (eqb-true d e k.1)
-same_owner_is (OfProcess p) (OfMonitor q) h = absurd (true≢false (sym h))
-same_owner_is (OfProcess p) (OfActivation q e) h = absurd (true≢false (sym h))
-same_owner_is (OfMonitor p) (OfProcess q) h = absurd (true≢false (sym h))
-same_owner_is (OfMonitor p) (OfActivation q e) h = absurd (true≢false (sym h))
-same_owner_is (OfActivation p d) (OfProcess q) h = absurd (true≢false (sym h))
-same_owner_is (OfActivation p d) (OfMonitor q) h = absurd (true≢false (sym h))
-
-same_location_is : (l k : Location) → same_location l k ≡ true → l ≡ k
-same_location_is l k h =
-    let z : (same_owner l.owner k.owner ≡ true) × (same_path l.path k.path ≡ true) = and_parts (same_owner l.owner k.owner) (same_path l.path k.path) h in
-    ap₂ location (same_owner_is l.owner k.owner z.0) (same_path_is l.path k.path z.1)
-  where
-    location : Owner → Path → Location
-    location o p = record { owner = o; path = p }
-
-same_location-refl : (l : Location) → same_location l l ≡ true
-same_location-refl l = and_from (same_owner l.owner l.owner) (same_path l.path l.path) (owner l.owner) (path l.path)
-  where
-    owner : (o : Owner) → same_owner o o ≡ true
-    owner (OfProcess p) = eq-eqb p p refl
-    owner (OfMonitor m) = eq-eqb m m refl
-    owner (OfActivation p d) = and_from (nat_eq p p) (nat_eq d d) (eq-eqb p p refl) (eq-eqb d d refl)
-
-    step : (s : PathStep) → same_path_step s s ≡ true
-    step (ByName x) = bytes_eq-refl x
-    step (ByIndex (pos n)) = eq-eqb n n refl
-    step (ByIndex (negsuc n)) = eq-eqb n n refl
-
-    path : (p : Path) → same_path p p ≡ true
-    path [] = refl
-    path (s ∷ p) = and_from (same_path_step s s) (same_path p p) (step s) (path p)
+use Rattle.cp_typing.proofs.Locations.{location_is, location_itself}
 
 -- ---- what stays of writes
 
@@ -83,14 +25,14 @@ stays [] st l v one h = h
 stays (w ∷ ws) st l v one h = stays ws (put w.0 w.1 st) l v (λ u k. one u (inr k)) (go (same_location w.0 l) refl)
   where
     go : (b : Bool) → same_location w.0 l ≡ b → (if b then w.1 else st l) ≡ v
-    go true is = one w.1 (inl (ap (λ k. (k, w.1)) (sym (same_location_is w.0 l is))))
+    go true is = one w.1 (inl (ap (λ k. (k, w.1)) (sym (location_is w.0 l is))))
     go false is = h
 
 pub written : (ws : Writes) (st : Store) (l : Location) (v : Value) → OneValue ws l v → IsIn (l, v) ws → put_all ws st l ≡ v
 written [] st l v one h = absurd h
 written (w ∷ ws) st l v one (inl h) =
     stays ws (put w.0 w.1 st) l v (λ u k. one u (inr k))
-    (subst (λ z. put z.0 z.1 st l ≡ v) h (ap (λ b. if b then v else st l) (same_location-refl l)))
+    (subst (λ z. put z.0 z.1 st l ≡ v) h (ap (λ b. if b then v else st l) (location_itself l)))
 written (w ∷ ws) st l v one (inr h) = written ws (put w.0 w.1 st) l v (λ u k. one u (inr k)) h
 
 -- ---- names and numbers

@@ -16,7 +16,7 @@ use Rattle.cp_model.specs.declared.rules.TypeRow.{TypeRow}
 use Rattle.cp_model.specs.declared.rules.SystemRow.{SystemRow}
 use Rattle.cp_model.specs.declared.rules.Standard.TheVariants as standard
 use Rattle.cp_model.specs.declared.rules.Part.TheVariants as part
-use Rattle.cp_model.specs.RulesEnvironment.{Environment, Members as MemberList, Names, Text, c1_declared, declare, is_process, no_system, system_row, with_names}
+use Rattle.cp_model.specs.RulesEnvironment.{Environment, Members as MemberList, Names, Text, c1_declared, declare, is_process, no_system, parameters_from, queue_row, row_of, system_in, system_row, with_names}
 use Rattle.cp_model.specs.RulesTypes.{cap_words, word_limit}
 use Rattle.cp_model.specs.RulesNeeds.{need_statements}
 use Rattle.cp_model.specs.RulesStatements.{statements}
@@ -45,7 +45,8 @@ use Rattle.cp_typing.proofs.RoutineNames.{all_distinct}
 use Rattle.cp_typing.proofs.ExpressionNeeds.{Bounded}
 use Rattle.cp_typing.proofs.Bounds.{capped_within}
 use Rattle.cp_typing.proofs.Members.{component_most, component_total, is_right, members_of, rows_length}
-use Rattle.cp_typing.proofs.Stages.{Defined, KeepsRest, Stage, SystemTyped, later_on, later_same, typed_later, outer_more, first_there, not_first, stage_named, type_later}
+use Rattle.cp_typing.proofs.TypeOrder.{AllBefore, ParametersBefore, all_before, one_before}
+use Rattle.cp_typing.proofs.Stages.{Defined, KeepsRest, Stage, SystemTyped, later_on, later_same, last_found, typed_later, outer_more, first_there, not_first, stage_named, type_later}
 use Rattle.cp_typing.proofs.MemberNames.{routine_member_found, dropped_distinct, lookup_dropped, all_by_value, known_among}
 use Rattle.cp_typing.proofs.ComponentBodies.{Opened, Inside, open_scope, bodies_typed, body_need, routines_all}
 
@@ -366,6 +367,27 @@ module _ (env : Environment) (g : GlobalScope) (rs : Types) (ys : List a.System)
       system_in (ComponentOf w i) = w
       system_in _ = meaning
 
+  -- the parameters have types that were there before
+  earlier_behind : ParametersBefore closed after_types
+  earlier_behind t n w i there is = elim (slice_last all_made.more type t (ComponentOf w i) there) [
+    | inl e ↦ one_before G env closed rs after_types stage.tables grows_env stage.earlier t n w i (made.components t w i (all_made.components t w i e)) is
+    | inr e ↦ new e.0
+  ]
+    where
+      new : t ≡ length all_made.more → AllBefore t (parameters_from closed (system_row closed n).first (system_row closed n).count)
+      new at =
+          let row_is : row_of closed t ≡ row =
+          ap (λ k. row_of closed k) (at ∙ sym all_made.behind.tables.lengths) ∙ get_or-append_seam behind.env.types row [] queue_row in
+          let number : length behind.env.systems ≡ n =
+          some_same (Some (length behind.env.systems)) (length behind.env.systems) n refl (sym (ap (λ r. system_in r.structure) row_is) ∙ is) in
+          let system : system_row closed n ≡ system_is = ap (λ k. system_row closed k) (sym number) ∙ row_there in
+          let long : length rs ≤ t =
+          omega (arith, at, stage.tables.lengths, ap length types_inside, made.longer, all_made.longer, all_made.behind.tables.lengths) in
+          let kept : parameters_from closed (length env.parameters) (length head.rows) ≡ head.rows =
+          grows_own.parameters (length env.parameters) (length head.rows) (omega (arith, ap length parameters_own, length-append env.parameters head.rows))
+          ∙ ap (λ l. take (length head.rows) (drop (length env.parameters) l)) parameters_own ∙ taken_behind G ys meaning env.parameters head.rows in
+          subst (AllBefore t) (sym (ap (λ r. parameters_from closed r.first r.count) system ∙ kept)) (all_before rs t long head.rows made_head.declared made_head.rows)
+
   keeps_closed : KeepsRest env closed
   keeps_closed =
       let own_is : (own.env.processes ≡ inside.processes) × (own.env.monitors ≡ inside.monitors) = counted_elsewhere y.sort inside own.env made.declared made.counted in
@@ -376,7 +398,7 @@ module _ (env : Environment) (g : GlobalScope) (rs : Types) (ys : List a.System)
       }
 
   stage_behind : Stage (with_names (env.names ++ (x.name, entity.Type place) ∷ []) closed) scope_behind after_types (ys ++ meaning ∷ [])
-  stage_behind = stage_named env closed g scope_behind rs after_types ys (ys ++ meaning ∷ []) x.name (entity.Type place) stage tables_closed grows_env systems_behind keeps_closed
+  stage_behind = stage_named env closed g scope_behind rs after_types ys (ys ++ meaning ∷ []) x.name (entity.Type place) stage tables_closed grows_env systems_behind earlier_behind keeps_closed
       (λ k l. ((λ alone. absurd (true≢false alone), members_same k (later_on g scope_behind k later_behind l)), stage.types k (later_on g scope_behind k later_behind l))) later_behind none tt
       (type, subst (λ n. TypeAt after_types n type) (sym all_made.behind.tables.lengths) (slice_seam all_made.more type), λ k l. l.types x.name type (first_there x.name type g.types))
       (λ z n. (refl, not_first x.name z type g.types n))
@@ -390,6 +412,16 @@ module _ (env : Environment) (g : GlobalScope) (rs : Types) (ys : List a.System)
     in_order = λ k l. (
       (later_on g scope_behind k later_behind l, type_is_typed g (later_same g), l.types x.name type (first_there x.name type g.types)),
       tt,
+    );
+    added = record { names = λ z f h. lookup_first z env.names ((x.name, entity.Type place) ∷ []) f h; types = grows_env.types };
+    ascend = (
+      record {
+        row = place;
+        is = last_found env.names x.name (entity.Type place) none;
+        from = omega (arith, stage.tables.lengths, ap length types_inside, made.longer, all_made.longer);
+        below = omega (arith, all_made.behind.tables.lengths, length-append all_made.more (type ∷ []));
+      },
+      omega (arith, all_made.behind.tables.lengths, length-append all_made.more (type ∷ [])),
     );
   })
     where

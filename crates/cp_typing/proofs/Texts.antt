@@ -1,5 +1,5 @@
--- Whole texts: definitions in order, the standard names, and the initial process. An accepted text is well typed.
-use Rattle.std.proofs.Common.{◌≡◌, ◌≤◌, ◌⊎◌, inl, inr, ℕ, zero, suc, ◌+◌, pos, Bool, true, false, List, [], ◌∷◌, ◌++◌, Some, None, if◌then◌else◌, slice_get, map, take, arith, refl, ap, sym, subst, ◌∙◌, append_assoc, append-nil, codes, bytes_eq}
+-- An accepted text is well typed: its definitions, and its initial process.
+use Rattle.std.proofs.Common.{◌≡◌, ◌≤◌, ◌⊎◌, inl, inr, ℕ, zero, suc, ◌+◌, pos, Bool, true, false, List, [], ◌∷◌, ◌++◌, Some, None, if◌then◌else◌, slice_get, length, map, take, arith, refl, ap, sym, subst, ◌∙◌, append_assoc, append-nil, codes, bytes_eq}
 use Rattle.cp_model.specs.Syntax as s
 use Rattle.cp_model.specs.Abstract as a
 use Rattle.cp_model.specs.Erase as erase
@@ -34,6 +34,7 @@ use Rattle.cp_typing.proofs.TableMeanings.{GlobalAs, NamesAs, RowAs, StructureAs
 use Rattle.cp_typing.proofs.Layers.{IsOuter}
 use Rattle.cp_typing.proofs.Visible.{some_same}
 use Rattle.cp_typing.proofs.DeclaredVariables.{VariablesMade, variables_made}
+use Rattle.cp_typing.proofs.TypeOrder.{ascend_kept, ascend_on, more_on, no_more}
 use Rattle.cp_typing.proofs.Stages.{Defined, Stage, SystemTyped, constant_defined, later_on, later_same, in_order_on, no_systems, type_defined, typed_later}
 use Rattle.cp_typing.proofs.ComponentBodies.{body_need, Inside, Opened, open_scope, bodies_typed}
 use Rattle.cp_typing.proofs.SystemTypes.{system_defined}
@@ -43,228 +44,11 @@ use Rattle.cp_typing.proofs.Members.{members_words}
 use Rattle.cp_typing.proofs.TypeRows.{holds}
 use Rattle.cp_typing.proofs.Owners.{CountsMore}
 use Rattle.cp_typing.proofs.Enumerations.{enumeration_defined}
-
--- ---- definitions one after another
-
-all_behind : (g : GlobalScope) (ds es : List a.Definition) → define_all g (ds ++ es) ≡ define_all (define_all g ds) es
-all_behind g [] es = refl
-all_behind g (d ∷ ds) es = all_behind (define g d) ds es
-
-systems_behind : (ds es : List a.Definition) → systems_of (ds ++ es) ≡ systems_of ds ++ systems_of es
-systems_behind [] es = refl
-systems_behind (a.SystemDef x y ∷ ds) es = ap (λ l. y ∷ l) (systems_behind ds es)
-systems_behind (a.ConstantDef x c ∷ ds) es = systems_behind ds es
-systems_behind (a.TypeDef x t ∷ ds) es = systems_behind ds es
-systems_behind (a.EnumDef x vs ∷ ds) es = systems_behind ds es
-
-split_at : {A : Type 0} (xs zs : List A) (i : ℕ) (w : A) → slice_get (xs ++ zs) i ≡ Some w
-    → ((slice_get xs i ≡ Some w) × (take i (xs ++ zs) ≡ take i xs)) ⊎ ((j : ℕ) × (slice_get zs j ≡ Some w) × (take i (xs ++ zs) ≡ xs ++ take j zs))
-split_at [] zs i w h = inr (i, h, refl)
-split_at (x ∷ xs) zs zero w h = inl (h, refl)
-split_at (x ∷ xs) zs (suc i) w h = elim (split_at xs zs i w h) [
-  | inl g ↦ inl (g.0, ap (λ l. x ∷ l) g.1)
-  | inr g ↦ inr (g.0, g.1, ap (λ l. x ∷ l) g.2)
-]
-
-defined_on : (env mid after : Environment) (g : GlobalScope) (rs : Types) (ys : List a.System) (ds es : List a.Definition) → (d : Defined env g rs ys ds mid)
-    → Defined mid (define_all g ds) d.more (ys ++ systems_of ds) es after → Defined env g rs ys (ds ++ es) after
-defined_on env mid after g rs ys ds es d e =
-    let scope : define_all g (ds ++ es) ≡ define_all (define_all g ds) es = all_behind g ds es in
-    let systems : systems_of (ds ++ es) ≡ systems_of ds ++ systems_of es = systems_behind ds es in
-    record {
-      more = e.more;
-      later = subst (Later g) (sym scope) (later_on g (define_all g ds) (define_all (define_all g ds) es) d.later e.later);
-      stage = subst (λ l. Stage after (define_all g (ds ++ es)) e.more (ys ++ l)) (sym systems)
-          (subst (λ k. Stage after k e.more (ys ++ (systems_of ds ++ systems_of es))) (sym scope)
-          (subst (Stage after (define_all (define_all g ds) es) e.more) (append_assoc ys (systems_of ds) (systems_of es)) e.stage));
-      in_order = λ k l.
-          let l2 : Later (define_all (define_all g ds) es) k = subst (λ z. Later z k) scope l in
-          in_order_on k ds es g ys (d.in_order k (later_on (define_all g ds) (define_all (define_all g ds) es) k e.later l2)) (e.in_order k l2);
-      typed = λ i w h. go i w (split_at (systems_of ds) (systems_of es) i w (sym (ap (λ l. slice_get l i) systems) ∙ h));
-    }
-  where
-    go : (i : ℕ) (w : a.System)
-        → ((slice_get (systems_of ds) i ≡ Some w) × (take i (systems_of ds ++ systems_of es) ≡ take i (systems_of ds)))
-        ⊎ ((j : ℕ) × (slice_get (systems_of es) j ≡ Some w) × (take i (systems_of ds ++ systems_of es) ≡ systems_of ds ++ take j (systems_of es)))
-        → SystemTyped (define_all g (ds ++ es)) (ys ++ take i (systems_of (ds ++ es))) w
-    go i w (inl h) =
-        subst (λ l. SystemTyped (define_all g (ds ++ es)) (ys ++ l) w) (sym (ap (take i) (systems_behind ds es) ∙ h.1))
-        (subst (λ k. SystemTyped k (ys ++ take i (systems_of ds)) w) (sym (all_behind g ds es))
-        (typed_later (define_all g ds) (define_all (define_all g ds) es) (ys ++ take i (systems_of ds)) w e.later (d.typed i w h.0)))
-    go i w (inr h) =
-        subst (λ l. SystemTyped (define_all g (ds ++ es)) (ys ++ l) w) (sym (ap (take i) (systems_behind ds es) ∙ h.2))
-        (subst (λ k. SystemTyped k (ys ++ (systems_of ds ++ take h.0 (systems_of es))) w) (sym (all_behind g ds es))
-        (subst (λ l. SystemTyped (define_all (define_all g ds) es) l w) (append_assoc ys (systems_of ds) (take h.0 (systems_of es))) (e.typed h.0 w h.1)))
-
-defined_none : (env : Environment) (g : GlobalScope) (rs : Types) (ys : List a.System) → Stage env g rs ys → Defined env g rs ys [] env
-defined_none env g rs ys stage = record { more = rs; later = later_same g; stage = subst (Stage env g rs) (sym (no_systems ys)) stage; typed = λ i w h. absurd (cc); in_order = λ k l. tt }
-
-constants_defined : (ds : List ConstantDefinition) (env : Environment) (g : GlobalScope) (rs : Types) (ys : List a.System) → Stage env g rs ys
-    → (define_each define_constant env ds).violations ≡ [] → Defined env g rs ys (map erase.constant_definition ds) (define_each define_constant env ds).env
-constants_defined [] env g rs ys stage h = defined_none env g rs ys stage
-constants_defined (d ∷ ds) env g rs ys stage h =
-    let one : Declared = define_constant env d in
-    let first : Defined env g rs ys (erase.constant_definition d ∷ []) one.env = constant_defined env g rs ys d stage (first_empty one.violations _ h) in
-    defined_on env one.env _ g rs ys (erase.constant_definition d ∷ []) (map erase.constant_definition ds) first
-    (constants_defined ds one.env (define_all g (erase.constant_definition d ∷ [])) first.more (ys ++ systems_of (erase.constant_definition d ∷ [])) first.stage (rest_empty one.violations _ h))
-
-one_defined : (x : Identifier) (d : s.Defined) (env : Environment) (g : GlobalScope) (rs : Types) (ys : List a.System) → Stage env g rs ys → (define_as env x d).violations ≡ []
-    → Defined env g rs ys (erase.definition x d ∷ []) (define_as env x d).env
-one_defined x (s.Written t) env g rs ys stage h = type_defined env g rs ys x t stage h
-one_defined x (s.Enumeration xs) env g rs ys stage h = enumeration_defined env g rs ys x xs stage h
-one_defined x (s.SystemType y) env g rs ys stage h = system_defined env g rs ys x y stage h
-
-abbrev define_type_definition : Environment → s.TypeDefinition → Declared
-define_type_definition e d = define_as e d.name d.defined
-
-types_defined : (ds : List s.TypeDefinition) (env : Environment) (g : GlobalScope) (rs : Types) (ys : List a.System) → Stage env g rs ys
-    → (define_each define_type_definition env ds).violations ≡ [] → Defined env g rs ys (map erase.type_definition ds) (define_each define_type_definition env ds).env
-types_defined [] env g rs ys stage h = defined_none env g rs ys stage
-types_defined (d ∷ ds) env g rs ys stage h =
-    let one : Declared = define_type_definition env d in
-    let first : Defined env g rs ys (erase.type_definition d ∷ []) one.env = one_defined d.name d.defined env g rs ys stage (first_empty one.violations _ h) in
-    defined_on env one.env _ g rs ys (erase.type_definition d ∷ []) (map erase.type_definition ds) first
-    (types_defined ds one.env (define_all g (erase.type_definition d ∷ [])) first.more (ys ++ systems_of (erase.type_definition d ∷ [])) first.stage (rest_empty one.violations _ h))
-
-section_defined : (x : s.Section) (env : Environment) (g : GlobalScope) (rs : Types) (ys : List a.System) → Stage env g rs ys → (define_section env x).violations ≡ []
-    → Defined env g rs ys (erase.section x) (define_section env x).env
-section_defined (s.Constants ds) env g rs ys stage h = constants_defined ds env g rs ys stage h
-section_defined (s.Types ds) env g rs ys stage h = types_defined ds env g rs ys stage h
-
-sections_defined : (xs : List s.Section) (env : Environment) (g : GlobalScope) (rs : Types) (ys : List a.System) → Stage env g rs ys
-    → (define_each define_section env xs).violations ≡ [] → Defined env g rs ys (erase.sections xs) (define_each define_section env xs).env
-sections_defined [] env g rs ys stage h = defined_none env g rs ys stage
-sections_defined (x ∷ xs) env g rs ys stage h =
-    let one : Declared = define_section env x in
-    let first : Defined env g rs ys (erase.section x) one.env = section_defined x env g rs ys stage (first_empty one.violations _ h) in
-    defined_on env one.env _ g rs ys (erase.section x) (erase.sections xs) first
-    (sections_defined xs one.env (define_all g (erase.section x)) first.more (ys ++ systems_of (erase.section x)) first.stage (rest_empty one.violations _ h))
-
--- ---- the standard names
-
-abbrev standard_types : Types
-standard_types = full_range a.Integer ∷ full_range a.Boolean ∷ full_range a.Char ∷ Queue ∷ []
-
-abbrev EachAs : (GlobalScope → Type 0) → Types → Names → Type 0
-EachAs G rs [] = Unit {0}
-EachAs G rs (n ∷ ns) = GlobalAs G rs n.0 n.1 × EachAs G rs ns
-
-abbrev EachOuter : Names → Type 0
-EachOuter [] = Unit {0}
-EachOuter (n ∷ ns) = IsOuter n.1 × EachOuter ns
-
-each_as : (G : GlobalScope → Type 0) (rs : Types) (ns : Names) → EachAs G rs ns → NamesAs G rs ns
-each_as G rs [] h x e f = absurd (cc)
-each_as G rs (n ∷ ns) h x e f = go (bytes_eq x n.0) refl f (each_as G rs ns h.1 x e)
-  where
-    go : (b : Bool) → bytes_eq x n.0 ≡ b → (if b then Some n.1 else lookup x ns) ≡ Some e → (lookup x ns ≡ Some e → GlobalAs G rs x e) → GlobalAs G rs x e
-    go true is f rest = subst (GlobalAs G rs x) (some_same (Some n.1) n.1 e refl f) (subst (λ z. GlobalAs G rs z n.1) (sym (bytes_same x n.0 is)) h.0)
-    go false is f rest = rest f
-
-each_outer : (ns : Names) → EachOuter ns → (x : Text) (e : Entity) → lookup x ns ≡ Some e → IsOuter e
-each_outer [] h x e f = absurd (cc)
-each_outer (n ∷ ns) h x e f = go (bytes_eq x n.0) f (each_outer ns h.1 x e)
-  where
-    go : (b : Bool) → (if b then Some n.1 else lookup x ns) ≡ Some e → (lookup x ns ≡ Some e → IsOuter e) → IsOuter e
-    go true f rest = subst IsOuter (some_same (Some n.1) n.1 e refl f) h.0
-    go false f rest = rest f
-
-abbrev S : GlobalScope → Type 0
-S = Later standard_scope
-
--- a type and a constant of the language
-a_type : (x : Text) (t : ℕ) (r : ResolvedType) → TypeAt standard_types t r → lookup x standard_scope.types ≡ Some r → GlobalAs S standard_types x (entity.Type t)
-a_type x t r there found = (r, there, λ g l. l.types x r found)
-
-truth : (x : Text) (n : ℕ) → lookup x standard_scope.constants ≡ Some (a.Boolean, pos n) → GlobalAs S standard_types x (entity.Constant 1 (pos n))
-truth x n found = (a.Boolean, refl, λ g l. l.constants x (a.Boolean, pos n) found)
-
-standards_as : EachAs S standard_types standard_names
-standards_as = (
-  a_type (codes "integer") 0 (full_range a.Integer) refl refl,
-  (
-    a_type (codes "boolean") 1 (full_range a.Boolean) refl refl,
-    (
-      a_type (codes "char") 2 (full_range a.Char) refl refl,
-      (
-        a_type (codes "queue") 3 Queue refl refl,
-        (
-          truth (codes "false") 0 refl,
-          (
-            truth (codes "true") 1 refl,
-            (refl, (refl, (refl, (refl, (refl, (refl, (refl, (refl, (refl, (refl, (refl, (refl, tt)))))))))))),
-          ),
-        ),
-      ),
-    ),
-  ),
-)
-
-abbrev AllIn : {A : Type 0} → List (Text × A) → Names → Type 0
-AllIn [] ns = Unit {0}
-AllIn (v ∷ vs) ns = ((e : Entity) × (lookup v.0 ns ≡ Some e)) × AllIn vs ns
-
-none_too : {A : Type 0} (x : Text) (vs : List (Text × A)) (ns : Names) → AllIn vs ns → lookup x ns ≡ None → lookup x vs ≡ None
-none_too x [] ns h none = refl
-none_too x (v ∷ vs) ns h none = go (bytes_eq x v.0) refl (none_too x vs ns h.1 none)
-  where
-    go : (b : Bool) → bytes_eq x v.0 ≡ b → lookup x vs ≡ None → (if b then Some v.1 else lookup x vs) ≡ None
-    go false is rest = rest
-    go true is rest = absurd (cc (ap (λ z. lookup z ns) (bytes_same x v.0 is), none, h.0.1))
-
-no_scope : (x : Text) → lookup x standard_names ≡ None → (lookup x standard_scope.constants ≡ None) × (lookup x standard_scope.types ≡ None)
-no_scope x h = (
-  none_too x standard_scope.constants standard_names ((entity.Constant 1 (pos 0), refl), ((entity.Constant 1 (pos 1), refl), tt)) h,
-  none_too x standard_scope.types standard_names
-      ((entity.Type 0, refl), ((entity.Type 1, refl), ((entity.Type 2, refl), ((entity.Type 3, refl), tt)))) h,
-)
-
-standard_row : (t : ℕ) (b : a.BaseType) → (row_of standard_environment t).words ≡ 1
-    → StructureAs S standard_environment standard_types (row_of standard_environment t).structure (full_range b) → (row_of standard_environment t).has_queues ≡ false
-    → RowAs S standard_environment standard_types (row_of standard_environment t) (full_range b)
-standard_row t b words structure queues = data_row S standard_environment standard_types (row_of standard_environment t) (full_range b) structure
-    (simple_data S (row_of standard_environment t) b (first_ordinal b) (last_ordinal b) (pos 0) words queues (starts_within b))
-  where
-    starts_within : (b : a.BaseType) → within (first_ordinal b) (last_ordinal b) (pos 0) ≡ true
-    starts_within a.Integer = refl
-    starts_within a.Char = refl
-    starts_within a.Boolean = refl
-    starts_within (a.Enumeration x n) = grind arith
-
-standard_rows : (t : ℕ) (r : ResolvedType) → TypeAt standard_types t r → RowAs S standard_environment standard_types (row_of standard_environment t) r
-standard_rows zero r h = subst (RowAs S standard_environment standard_types (row_of standard_environment 0)) (some_same (Some (full_range a.Integer)) (full_range a.Integer) r refl h)
-    (standard_row 0 a.Integer refl (refl, refl, refl) refl)
-standard_rows (suc zero) r h = subst (RowAs S standard_environment standard_types (row_of standard_environment 1)) (some_same (Some (full_range a.Boolean)) (full_range a.Boolean) r refl h)
-    (standard_row 1 a.Boolean refl (refl, refl, refl) refl)
-standard_rows (suc (suc zero)) r h = subst (RowAs S standard_environment standard_types (row_of standard_environment 2)) (some_same (Some (full_range a.Char)) (full_range a.Char) r refl h)
-    (standard_row 2 a.Char refl (refl, refl, refl) refl)
-standard_rows (suc (suc (suc zero))) r h = subst (RowAs S standard_environment standard_types (row_of standard_environment 3)) (some_same (Some Queue) Queue r refl h)
-    (data_row S standard_environment standard_types queue_row Queue tt (queue_data S))
-standard_rows (suc (suc (suc (suc t)))) r h = absurd (cc)
-
-no_components : (t : ℕ) (w : a.System) (i : Members) → TypeAt standard_types t (ComponentOf w i) → (j : ℕ) × (slice_get {X = a.System} [] j ≡ Some w)
-no_components zero w i h = absurd (cc)
-no_components (suc zero) w i h = absurd (cc)
-no_components (suc (suc zero)) w i h = absurd (cc)
-no_components (suc (suc (suc zero))) w i h = absurd (cc)
-no_components (suc (suc (suc (suc t)))) w i h = absurd (cc)
-
-standard_stage : Stage standard_environment standard_scope standard_types []
-standard_stage = record {
-  globals = each_as S standard_types standard_names standards_as;
-  tables = record { rows = standard_rows; lengths = refl; integer = refl; boolean = refl; char = refl; queue = refl };
-  is_outer = each_outer standard_names (tt, (tt, (tt, (tt, (tt, (tt, (tt, (tt, (tt, (tt, (tt, (tt, (tt, (tt, (tt, (tt, (tt, (tt, tt))))))))))))))))));
-  distinct = (refl, (refl, (refl, (refl, (refl, (refl, (refl, (refl, (refl, (refl, (refl, (refl, (refl, (refl, (refl, (refl, (refl, (refl, tt))))))))))))))))));
-  clock = refl;
-  region = refl;
-  seen = no_scope;
-  systems = no_components;
-  processes = refl;
-  monitors = refl;
-  types = λ h l. ((λ e. (refl, omega arith), tt), ((λ e. (refl, omega arith), tt), ((λ e. (refl, omega arith), tt), ((λ e. (tt, omega arith), tt), tt))));
-}
-
--- ---- the text
+use Rattle.cp_typing.proofs.Definitions.{sections_defined}
+use Rattle.cp_typing.proofs.StandardNames.{standard_stage, standard_types}
+use Rattle.cp_typing.specs.PassedRights.{PassesInOrder}
+use Rattle.cp_typing.specs.TypePlaces.{type_place}
+use Rattle.cp_typing.proofs.MonitorOrder.{passes_in_order}
 
 module _ (t : s.Tree) (accepted : Accepted t) where
   abbrev defined : Declared
@@ -373,6 +157,9 @@ module _ (t : s.Tree) (accepted : Accepted t) where
   others_fit : (n : ℕ) → AllOwnersFit n g (declarations g (erase.abstract t).initial.variables)
   others_fit n = subst (AllOwnersFit n g) (sym (variables_are.declares g (later_same g))) (variables_are.owners_fit n g (later_same g))
 
+  passes : PassesInOrder (type_place (record { tree = erase.abstract t; inputs = λ p. []; tick = 0 })) (record { tree = erase.abstract t; inputs = λ p. []; tick = 0 })
+  passes = passes_in_order t defined.env made.more stage (length standard_types) (length made.more) made.ascend own.env own.words variables_are opened routines_sound body_sound
+
   -- a setup with this text
   well_typed : (inputs : ℕ → List ℕ) (tick : ℕ) → WellTyped (record { tree = erase.abstract t; inputs = inputs; tick = tick })
   well_typed inputs tick = record {
@@ -385,6 +172,7 @@ module _ (t : s.Tree) (accepted : Accepted t) where
     monitors = monitors_fit;
     types = stage.types g (later_same g);
     in_order = made.in_order g (later_same g);
+    passes = passes;
     words = record { initial = initial_words; others = others_fit };
   }
 

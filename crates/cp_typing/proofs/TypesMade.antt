@@ -103,7 +103,7 @@ module _ (G : GlobalScope → Type 0) where
   abbrev pub NoSystem : Position → Type 0
   NoSystem p = (y : _) → allows_system p y ≡ false
 
-  alone_in : (env : Environment) (rs : Types) (p : Position) → NoSystem p → (st : Structure) (r : ResolvedType) → StructureAs G env rs st r
+  pub alone_in : (env : Environment) (rs : Types) (p : Position) → NoSystem p → (st : Structure) (r : ResolvedType) → StructureAs G env rs st r
       → allows_structure env p st ≡ true → is_component r ≡ false
   alone_in env rs p none st (Simple b low high start) h e = refl
   alone_in env rs p none st (ArrayOf low high r) h e = refl

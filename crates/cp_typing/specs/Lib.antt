@@ -7,6 +7,8 @@ pub mod Words
 pub mod Needs
 pub mod TypedTasks
 pub mod Variables
+pub mod TypePlaces
+pub mod PassedRights
 pub mod WellTyped
 pub mod StartValues
 pub mod Magnitudes

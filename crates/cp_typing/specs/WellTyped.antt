@@ -13,6 +13,8 @@ use Rattle.cp_typing.specs.Declared.{AllFormed, Each, Distinct, InitialVariable,
 use Rattle.cp_typing.specs.StaticTypes.{is_clock}
 use Rattle.cp_typing.specs.Systems.{systems_of}
 use Rattle.cp_typing.specs.Needs.{WordsFit}
+use Rattle.cp_typing.specs.PassedRights.{PassesInOrder}
+use Rattle.cp_typing.specs.TypePlaces.{type_place}
 
 -- ---- Where statements stand
 
@@ -99,4 +101,5 @@ pub record WellTyped (setup : Setup) : Type 0 where
   pub monitors : monitor_count setup ≤ 255
   pub types : AllFormed (globals setup.tree) (globals setup.tree).types
   pub in_order : TypedInOrder (globals setup.tree) standard_scope [] setup.tree.definitions
+  pub passes : PassesInOrder (type_place setup) setup
   pub words : WordsFit setup
