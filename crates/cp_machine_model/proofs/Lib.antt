@@ -147,3 +147,6 @@ pub mod ReportParts
 pub mod ReportStatus
 pub mod Reporting
 pub mod MachineStarts
+-- Rounds in any order of events.
+pub mod LawfulEvents
+pub mod MachineReplays

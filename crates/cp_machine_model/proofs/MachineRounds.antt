@@ -55,7 +55,7 @@ not_begun_kernel (stage.Asking m) h = h
 not_begun_kernel (stage.Delayed m q) h = h
 not_begun_kernel (stage.Faulted n) h = h
 
-not_begun_beside : (s u : State) (p : ℕ) → SameKernelPart s u → HasNotBegun (u.status p) → HasNotBegun (s.status p)
+pub not_begun_beside : (s u : State) (p : ℕ) → SameKernelPart s u → HasNotBegun (u.status p) → HasNotBegun (s.status p)
 not_begun_beside s u p S h = not_begun_kernel (s.status p) (subst HasNotBegun (S.status p) (kernel_not_begun (u.status p) h))
 
 unstarted_only : (x : Status) → HasNotBegun (after_closing x) → x ≡ stage.Unstarted
@@ -74,7 +74,7 @@ idle_step : (program : Program) (clock : ℕ) (o : PrivateState) → o.activity 
 idle_step program clock o is =
     ap (λ a. if is_running a then (if is_private o (operation_of program o) then (act_on program (alone clock o) o (operation_of program o)).0 else o) else o) is
 
-idle_steps : (program : Program) (clock n : ℕ) (o : PrivateState) → o.activity ≡ NotBegun → private_steps program clock n o ≡ o
+pub idle_steps : (program : Program) (clock n : ℕ) (o : PrivateState) → o.activity ≡ NotBegun → private_steps program clock n o ≡ o
 idle_steps program clock zero o is = refl
 idle_steps program clock (suc n) o is = ap (private_steps program clock n) (idle_step program clock o is) ∙ idle_steps program clock n o is
 
@@ -107,11 +107,11 @@ is_in_numbers (suc n) p q a b = by (nat_eq q p) refl (λ d. is_in_numbers n (suc
 -- ---- the machine
 
 module _ (program : Program) (setup : Setup) (F : StandsFor program setup) (own : ℕ → ℕ) where
-  abbrev held : ℕ → Kernel → List PrivateState → List (List ℕ) → Machine
+  abbrev pub held : ℕ → Kernel → List PrivateState → List (List ℕ) → Machine
   held r k os ts = record { program = program; tick = setup.tick; kernel = k; parts = os; transcripts = ts; rounds = r }
 
   -- What keeps every machine that is given part by part keeps every machine.
-  spelled : (s u : State) (f : Machine → Machine)
+  pub spelled : (s u : State) (f : Machine → Machine)
       → ((k : Kernel) (os : List PrivateState) (ts : List (List ℕ)) → AllStand program setup F own s k os ts → IsIn program setup F own u (f (held s.rounds k os ts)))
       → (m : Machine) → IsIn program setup F own s m → IsIn program setup F own u (f m)
   spelled s u f keeps m I = subst (λ z. IsIn program setup F own u (f z)) (sym same) (keeps m.kernel m.parts m.transcripts I.all)

@@ -101,10 +101,10 @@ rounds_stand program setup F own n (suc rounds) s m I =
 -- ---- as the laws say it
 
 -- The number of words in the private state of each process.
-abbrev own_words : Machine → ℕ → ℕ
+abbrev pub own_words : Machine → ℕ → ℕ
 own_words m p = elim (slice_get m.parts (p - 1)) [ None ↦ 0 | Some o ↦ length o.words ]
 
-part_by_part : (m : Machine) (setup : Setup) (s : State) (I : public.IsIn m setup s) → IsIn m.program setup I.stands (own_words m) s m
+pub part_by_part : (m : Machine) (setup : Setup) (s : State) (I : public.IsIn m setup s) → IsIn m.program setup I.stands (own_words m) s m
 part_by_part m setup s I = record {
   program_is = refl;
   tick_is = I.tick;
@@ -121,7 +121,7 @@ part_by_part m setup s I = record {
   };
 }
 
-as_whole : (program : Program) (setup : Setup) (F : StandsFor program setup) (own : ℕ → ℕ) (s : State) (m : Machine) → IsIn program setup F own s m → public.IsIn m setup s
+pub as_whole : (program : Program) (setup : Setup) (F : StandsFor program setup) (own : ℕ → ℕ) (s : State) (m : Machine) → IsIn program setup F own s m → public.IsIn m setup s
 as_whole program setup F own s m I =
     subst (λ z. public.IsIn z setup s) (sym same)
     (record {

@@ -9,6 +9,7 @@ pub mod Left
 pub mod PartOf
 pub mod KernelSteps
 pub mod Machines
+pub mod Replays
 pub mod Beginning
 pub mod KernelOf
 pub mod Laws

@@ -1,13 +1,16 @@
--- The laws of whole rounds, runs and reports.
-use Rattle.std.specs.Prelude.{◌≡◌, ℕ}
+-- The laws of whole rounds, of rounds in any order of events, of runs and of reports.
+use Rattle.std.specs.Prelude.{◌≡◌, ℕ, List}
+use Rattle.cp_model.specs.Orders.{IsLawful}
 use Rattle.cp_model.specs.Report.{report}
 use Rattle.cp_model.specs.Rounds as meaning
+use Rattle.cp_model.specs.Rounds.{Event}
 use Rattle.cp_model.specs.Start.{start}
-use Rattle.cp_model.specs.States.{Setup, State, processes}
+use Rattle.cp_model.specs.States.{Setup, State, process_count, processes}
 use Rattle.cp_program_model.specs.Programs.{Program}
 use Rattle.cp_program_model.specs.StandsFor.{StandsFor}
 use Rattle.cp_machine_model.specs.InState.{IsIn, NoneFresh}
 use Rattle.cp_machine_model.specs.Machines.{Machine, end_round, first_machine, phased_round, phased_rounds}
+use Rattle.cp_machine_model.specs.Replays.{AreWithin, replay}
 use Rattle.cp_machine_model.specs.Reports.{machine_report}
 
 -- The first machine is in the start of the meaning.
@@ -32,6 +35,21 @@ abbrev pub RoundsAreRun : Type 0
 RoundsAreRun =
     (m : Machine) (setup : Setup) (s : State) (n rounds : ℕ) → IsIn m setup s
     → IsIn (phased_rounds n (processes setup) rounds m) setup (meaning.run setup n rounds s)
+
+-- Events of processes of the text, lawful or not, lead the machine to the state that the same
+-- events lead to.
+abbrev pub ReplayIsReplay : Type 0
+ReplayIsReplay =
+    (m : Machine) (setup : Setup) (s : State) (n : ℕ) (events : List Event)
+    → AreWithin (process_count setup) events → IsIn m setup s
+    → IsIn (replay n events m) setup (meaning.replay_round setup n s events)
+
+-- A lawful order leads to the state that one processor reaches.
+abbrev pub LawfulReplayIsRound : Type 0
+LawfulReplayIsRound =
+    (m : Machine) (setup : Setup) (s : State) (n : ℕ) (events : List Event)
+    → IsLawful n (processes setup) events → IsIn m setup s
+    → IsIn (replay n events m) setup (meaning.sequential_round setup n s)
 
 -- The report read from the machine is that of its state.
 abbrev pub ReportIsReport : Type 0

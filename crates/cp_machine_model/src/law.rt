@@ -4,7 +4,7 @@
 ghost use Rattle.cp_machine_model.specs.Laws.{KernelStepIsStep, KernelTurnIsTurn, KernelTurnKeepsBegins, KernelTurnKeepsParts};
 ghost use Rattle.cp_machine_model.specs.Laws.{PrivateStepIsStep, PrivateTurnIsTurn, PrivateTurnKeepsKernel, PrivateTurnKeepsParts};
 ghost use Rattle.cp_machine_model.specs.Laws.{OutputMoves, StartIsKernel, StartIsPart, WakingIsWaking};
-ghost use Rattle.cp_machine_model.specs.RoundLaws.{EndIsEnd, ReportIsReport, RoundIsRound, RoundsAreRun, RunIsReported, StartIsIn};
+ghost use Rattle.cp_machine_model.specs.RoundLaws.{EndIsEnd, LawfulReplayIsRound, ReplayIsReplay, ReportIsReport, RoundIsRound, RoundsAreRun, RunIsReported, StartIsIn};
 
 /// If a private state is that of its process in a state with the invariant, then the machine's
 /// private step makes it that of the process in the state after the meaning's private step. The
@@ -62,4 +62,12 @@ pub fn rounds()
 pub fn reports()
     ensures read { ReportIsReport }
     ensures run { RunIsReported }
+{}
+
+/// A list of events of processes of the text, lawful or not, leads a machine that is in a state to
+/// the state that the same events lead to. A lawful list leads to the state that one processor
+/// reaches.
+pub fn replays()
+    ensures replay { ReplayIsReplay }
+    ensures lawful { LawfulReplayIsRound }
 {}
