@@ -238,7 +238,6 @@ module _ (G : GlobalScope → Type 0) where
         same = ap (λ (z : Environment). record z { names = more_names; processes = counted.env.processes; monitors = counted.env.monitors })
             (one.made.same ∙ ap (λ z. with_tables z m.env) inside);
       })
-
     where
       no_type : (t : ℕ) → unfinished_variable ≡ entity.Type t → ⊥
       no_type t h = absurd (cc)
