@@ -40,7 +40,6 @@ use Rattle.cp_hierarchy.proofs.Pushing.{Put, answer_put, push_fits}
 use Rattle.cp_hierarchy.proofs.Found.{FoundIs, IsCallable, callee_is, do_is, number_earlier, own_place, process_no_monitor, repeat_is, while_is}
 use Rattle.cp_model.specs.States.{is_in}
 
-
 abbrev pub StartFits : World → Effect → Type 0
 StartFits w (Starts r k) = AllFit w k
 StartFits w _ = Unit {0}
