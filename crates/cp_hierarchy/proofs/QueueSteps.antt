@@ -1,46 +1,33 @@
 -- `delay`, `continue`, returns and the other standard statements. A queue belongs to the monitor of
 -- the innermost end mark, so what `continue` hands on is the gate that the process leaves.
-use Rattle.std.proofs.Common.{◌≡◌, ℕ, ℤ, ◌<◌, ◌≤◌, List, [], ◌∷◌, ◌++◌, Bool, true, false, not, ◌&&◌, Option, Some, None, codes, refl, ap, sym, subst, ◌∙◌, ◌⊎◌, inl, inr, arith}
-use Rattle.std.specs.Prelude.{if◌then◌else◌, slice_get}
+use Rattle.std.proofs.Common.{◌≡◌, ℕ, ◌<◌, List, [], ◌∷◌, ◌++◌, Bool, true, false, not, ◌&&◌, Option, Some, None, codes, refl, ap, sym, subst, ◌∙◌, ◌⊎◌, inl, inr, arith}
+use Rattle.std.specs.Prelude.{if◌then◌else◌}
 use Rattle.std.specs.Str.{bytes_eq}
 use Rattle.std.proofs.lemmas.Bool.{true≢false}
-use Rattle.cp_model.specs.Abstract.{Char, Integer, Arms, Assign, At, Binary, Call, Case, Class, Cycle, Designator, Expression, Expressions, For, If, Init, Known, Letter, Literal, Monitor, MoreArms, MoreExpressions, Name, Negative, NoArm, NoExpression, Not, Nothing, Part, Perform, Plain, Positive, Process, Repeat, Routine, Seq, Sort, Statement, System, Use, While}
-use Rattle.cp_model.specs.Types.{base_of_type, named_type, ArrayOf, ComponentOf, GlobalScope, NoType, Queue, RecordOf, ResolvedType, Simple}
-use Rattle.cp_model.specs.Declarations.{Variable, declarations}
-use Rattle.cp_model.specs.Locations.{ByName, Location, OfActivation, OfMonitor, OfProcess, Owner, root, same_location, under}
-use Rattle.cp_model.specs.Stores.{Absent, ClassRight, Initialised, MonitorRight, Ordinal, QueueHolds, Reference, Store, Value, Writes, forget, put, put_all}
+use Rattle.cp_model.specs.Abstract.{Char, Binary, Call, Designator, Expression, Expressions, Known, Letter, Literal, Monitor, MoreExpressions, Name, Negative, NoExpression, Not, Positive, Process, Use}
+use Rattle.cp_model.specs.Types.{base_of_type, named_type}
+use Rattle.cp_model.specs.Locations.{ByName, Location, OfActivation, OfMonitor, OfProcess, Owner, same_location}
+use Rattle.cp_model.specs.Stores.{Absent, ClassRight, Initialised, MonitorRight, Ordinal, QueueHolds, Reference, Store, Value, forget, put}
 use Rattle.cp_model.specs.Environments.{Environment, Frame}
-use Rattle.cp_model.specs.Places.{Place, TypedValue, ordinal_of, simple_value}
-use Rattle.cp_model.specs.Outcomes.{Fault, Gives, Outcome, and_then}
+use Rattle.cp_model.specs.Places.{Place, simple_value}
+use Rattle.cp_model.specs.Outcomes.{Gives, Outcome}
 use Rattle.cp_model.specs.Expressions.{name_of, place, value}
-use Rattle.cp_model.specs.Continuations.{Do, EndBody, EndCall, EndProcess, ForNext, RepeatTest, Task, WhileTest, depth, marked_monitors, push}
-use Rattle.cp_model.specs.Components.{monitor_right, name_location, Component, class_location, component_named, declared_monitor, monitor_location, monitor_number, process_location, process_number}
-use Rattle.cp_model.specs.Calls.{Callee, Found, UserCall, call_in_task, callee, procedure_call}
-use Rattle.cp_model.specs.Actions.{Action, Acts, Calls, Rests, action}
-use Rattle.cp_model.specs.Configurations.{Configuration, Context, Effect, Opens, Own, Starts, StepResult, own_step}
-use Rattle.cp_model.specs.Integers.{same_integer}
-use Rattle.cp_model.specs.Assignments.{starting_writes, writes_of}
-use Rattle.cp_model.specs.Arguments.{argument_writes, bind, designator_of, init_argument_writes, named_right_writes, reference_writes, right_writes}
-use Rattle.cp_model.specs.CallSteps.{Target, activation_environment, call, called_configuration, component_target, entering, innermost_call, is_initialised, leaving, return_value, returns, target}
-use Rattle.cp_model.specs.Initialisation.{body_environment, init_arguments, init_component}
-use Rattle.cp_model.specs.StandardCalls.{display_text, continue, delay, enqueue, next_input, next_place, process_in_queue, standard_procedure, standard_statement}
-use Rattle.cp_model.specs.StatementSteps.{chosen_arm, execute, for_step, has_label, is_past, is_true, next_counter}
-use Rattle.cp_model.specs.Step.{run_task, step_of, take_action}
-use Rattle.cp_model.specs.Invariant.{StoreInvariant}
+use Rattle.cp_model.specs.Continuations.{Do, EndBody, EndCall, EndProcess, ForNext, RepeatTest, Task, WhileTest, marked_monitors}
+use Rattle.cp_model.specs.Configurations.{Configuration, Context}
+use Rattle.cp_model.specs.Arguments.{designator_of}
+use Rattle.cp_model.specs.CallSteps.{innermost_call, return_value, returns}
+use Rattle.cp_model.specs.StandardCalls.{display_text, continue, delay, enqueue, next_input, next_place, process_in_queue, standard_statement}
 use Rattle.cp_model.proofs.ExpressionReach.{IfGives, then_gives}
-use Rattle.cp_model.proofs.StatementInvariant.{class_location_owner}
 use Rattle.cp_typing.proofs.Locations.{location_is, location_itself}
 use Rattle.cp_hierarchy.specs.Hierarchy.{Descends}
 use Rattle.cp_hierarchy.specs.Gates.{IsInnermost}
-use Rattle.cp_hierarchy.specs.Effects.{EffectFits, NoNewQueue, OneNewQueue, Resumes}
-use Rattle.cp_typing.specs.PassedRights.{AllPassEarlier, IsEarlier, PassesEarlier}
-use Rattle.cp_hierarchy.specs.InOrder.{AllFit, ArmsKeep, CallEndsNext, Fits, FrameFits, HasFrame, Here, InitFits, InitOf, IsOrdered, Keeps, OwnQueue, OwnerFits, RightsDescend, SortFits, StandardFits, World}
-use Rattle.cp_hierarchy.proofs.Lists.{descends_rest, in_head}
-use Rattle.cp_hierarchy.proofs.Writes.{AllTame, append_tame, forget_queues, forget_rights, puts_queues, puts_rights, queues_then, starting_tame, writes_tame}
-use Rattle.cp_hierarchy.proofs.Pushing.{Put, answer_put, push_fits}
-use Rattle.cp_hierarchy.proofs.Found.{FoundIs, IsCallable, callee_is, do_is, number_earlier, own_place, process_no_monitor, repeat_is, while_is}
-use Rattle.cp_model.specs.States.{is_in}
-use Rattle.cp_hierarchy.proofs.Stepping.{IsBefore, StartFits}
+use Rattle.cp_hierarchy.specs.Effects.{NoNewQueue, OneNewQueue, Resumes}
+use Rattle.cp_hierarchy.specs.InOrder.{AllFit, CallEndsNext, Fits, FrameFits, HasFrame, OwnQueue, OwnerFits, RightsDescend, SortFits, StandardFits, World}
+use Rattle.cp_hierarchy.proofs.Lists.{descends_rest}
+use Rattle.cp_hierarchy.proofs.Writes.{forget_queues, forget_rights, puts_queues, puts_rights, queues_then}
+use Rattle.cp_hierarchy.proofs.Pushing.{answer_put}
+use Rattle.cp_hierarchy.proofs.Found.{own_place}
+use Rattle.cp_hierarchy.proofs.Stepping.{IsBefore}
 use Rattle.cp_hierarchy.proofs.Stepping.{StepFits, either, goes_on, stays, then_fits, then_writes}
 
 module _ (w : World) (c : Context) (config : Configuration) (S : IsBefore w c config) where

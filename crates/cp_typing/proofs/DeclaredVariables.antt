@@ -33,7 +33,7 @@ use Rattle.cp_typing.proofs.TypeRows.{TypeMade, with_tables}
 use Rattle.cp_typing.proofs.TableMeanings.{Declares, Grows, NamesAs, RowAs, StructureAs, Tables, TypeAt, Types, grows_on, grows_same, names_kept}
 use Rattle.cp_typing.proofs.LayerNames.{VariablesAs, variable_found, variables_append}
 use Rattle.cp_typing.proofs.Visible.{some_same}
-use Rattle.cp_typing.proofs.MonitorPlaces.{group_types, written_types}
+use Rattle.cp_typing.proofs.MonitorPlaces.{written_types}
 use Rattle.cp_typing.proofs.NamedTypes.{AllNamed, EntryNamed, found_before, group_named, named_append, named_kept, only_names, type_found, types_append}
 use Rattle.cp_typing.proofs.DeclaredNames.{entries, keys-entries, all_new, all_declared, names_added, tables_same, grows_between, with_counts, all_counted, AllowsSort, PlacedAs, AllPlaced, text_of}
 

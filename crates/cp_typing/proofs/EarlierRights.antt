@@ -1,7 +1,7 @@
 -- What `init` passes on in a body in which nothing is broken: a right to a component has the row of
 -- its parameter, and the row of a parameter is below that of the system type that has it. So where
 -- monitors of lower rows have earlier places, each right that a monitor gets is to an earlier one.
-use Rattle.std.proofs.Common.{◌≡◌, ◌<◌, ◌++◌, ℕ, Bool, true, false, List, [], ◌∷◌, Option, Some, None, nat_eq, eqb-true, if◌then◌else◌, length, refl, ap, sym, subst, ◌∙◌, arith}
+use Rattle.std.proofs.Common.{◌≡◌, ◌<◌, ◌++◌, ℕ, Bool, true, false, List, [], ◌∷◌, Option, Some, nat_eq, eqb-true, if◌then◌else◌, refl, ap, sym, subst, ◌∙◌}
 use Rattle.std.proofs.lemmas.Bool.{true≢false}
 use Rattle.cp_model.specs.Syntax as s
 use Rattle.cp_model.specs.Abstract as a
@@ -16,7 +16,7 @@ use Rattle.cp_model.specs.declared.rules.ParameterRow.{ParameterRow}
 use Rattle.cp_model.specs.declared.rules.Mode.TheVariants as mode
 use Rattle.cp_model.specs.RulesJudged.{Judged, Sound, then_judge, guard, violations_of}
 use Rattle.cp_model.specs.RulesEnvironment.{Environment, Text, c1_named, c4_c9_named, is_component, row_of}
-use Rattle.cp_model.specs.RulesNames.{c8_named, count_of, first_token}
+use Rattle.cp_model.specs.RulesNames.{c8_named, first_token}
 use Rattle.cp_model.specs.RulesExpressions.{judge}
 use Rattle.cp_model.specs.RulesStatements as st
 use Rattle.cp_model.specs.RulesStatements.{Labelled, bound, c12_init, c12_passed, c2_condition, c2_selector, component_argument, for_variable, init_argument, init_arguments, init_item, init_items, labels, selector_base}

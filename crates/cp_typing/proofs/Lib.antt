@@ -41,6 +41,7 @@ pub mod AllRoutines
 pub mod Stages
 pub mod MemberNames
 pub mod ComponentBodies
+pub mod SystemWords
 pub mod SystemTypes
 pub mod Enumerations
 pub mod Definitions

@@ -15,7 +15,7 @@ use Rattle.cp_model.specs.Types.{GlobalScope}
 use Rattle.cp_model.specs.Declarations.{Variable}
 use Rattle.cp_model.specs.Names.{lookup}
 use Rattle.cp_typing.proofs.Names.{AllDistinct, NewNames, bytes_same, keys, lookup-append, lookup_has}
-use Rattle.cp_typing.proofs.TableMeanings.{Types}
+use Rattle.cp_typing.proofs.TableMeanings.{RoutineOf, Types}
 use Rattle.cp_typing.proofs.Visible.{some_same}
 use Rattle.cp_typing.proofs.LayerNames.{FoundAs, variable_found}
 use Rattle.cp_typing.proofs.Headings.{AllWritten}
@@ -114,3 +114,13 @@ known_among G ys y env rs k c x r h = in_outer (lookup x c.outer) refl (sym (ap 
     in_outer : (o : Option Entity) → lookup x c.outer ≡ o → option_or o (lookup x (c.parameters ++ (c.variables ++ c.routines))) ≡ Some (entity.Routine r) → KnownRoutine G ys y env rs k x (entity.Routine r)
     in_outer None is h = in_parameters (lookup x c.parameters) refl (sym (lookup-append x c.parameters _) ∙ h)
     in_outer (Some e) is h = absurd (c.is_outer x (entity.Routine r) (is ∙ h))
+
+-- A member that is a routine is one of the component, where the names before the component's are
+-- left out.
+pub member_known : (G : GlobalScope → Type 0) (ys : List a.System) (y : a.System) (env : Environment) (rs : Types) (k : ℕ) → ComponentScope G ys y env rs k → (before : ℕ) (x : Text) (m : Member)
+    → lookup x (routine_members (drop before env.names)) ≡ Some m → (r : ℕ) × (m ≡ member.Routine r) × RoutineOf G env rs r x y
+member_known G ys y env rs k c before x m h =
+    let f = routine_member_found x m (drop before env.names) (dropped_distinct before env.names c.distinct) h in
+    let n : KnownRoutine G ys y env rs k x (entity.Routine f.0) = known_among G ys y env rs k c x f.0 (lookup_dropped before env.names x (entity.Routine f.0) c.distinct f.2) in
+    let same : n.number ≡ f.0 = cc (n.is) in
+    (f.0, f.1, subst (λ j. RoutineOf G env rs j x y) same (record { within = n.within; place = n.place; routine = n.routine; there = n.there; named = n.named; meets = n.meets; need = n.need }))

@@ -2,22 +2,21 @@
 -- later name of a system type has a higher row, and what `init` passes on has a lower row than what
 -- it is passed to. So each right that the initial process passes to a monitor is to a monitor whose
 -- type was defined earlier.
-use Rattle.std.proofs.Common.{◌≡◌, ◌<◌, ◌≤◌, ◌⊎◌, inl, inr, ◌+◌, ℕ, Bool, true, false, List, [], ◌∷◌, ◌++◌, Option, Some, None, if◌then◌else◌, slice_get, length, map, refl, ap, sym, subst, ◌∙◌, arith, bytes_eq}
+use Rattle.std.proofs.Common.{◌≡◌, ◌≤◌, ◌⊎◌, inl, inr, ◌+◌, ℕ, Bool, true, false, List, [], ◌∷◌, Option, Some, None, if◌then◌else◌, slice_get, length, map, refl, ap, sym, subst, ◌∙◌, arith, bytes_eq}
 use Rattle.std.specs.Option.{option_or}
 use Rattle.std.proofs.lemmas.Bool.{true≢false}
 use Rattle.cp_model.specs.Syntax as s
 use Rattle.cp_model.specs.Abstract as a
 use Rattle.cp_model.specs.Erase as erase
-use Rattle.cp_model.specs.declared.tree.Identifier.{Identifier}
 use Rattle.cp_model.specs.declared.tree.Sort.{Sort}
 use Rattle.cp_model.specs.declared.tree.Sort.TheVariants as sort
 use Rattle.cp_model.specs.declared.rules.Access.{Access}
 use Rattle.cp_model.specs.declared.rules.Entity.{Entity}
 use Rattle.cp_model.specs.declared.rules.Entity.TheVariants as entity
 use Rattle.cp_model.specs.declared.rules.Position.TheVariants as position
-use Rattle.cp_model.specs.RulesEnvironment.{Environment, Names, Text, declare_if_new}
+use Rattle.cp_model.specs.RulesEnvironment.{Environment, Text, declare_if_new}
 use Rattle.cp_model.specs.RulesStatements.{statements}
-use Rattle.cp_model.specs.RulesDeclarations.{Declared, routine, routines}
+use Rattle.cp_model.specs.RulesDeclarations.{routine, routines}
 use Rattle.cp_model.specs.Types.{ArrayOf, ComponentOf, GlobalScope, Members, NoType, Queue, RecordOf, ResolvedType, Simple, standard_scope}
 use Rattle.cp_model.specs.Declarations.{declarations, define_all, is_component}
 use Rattle.cp_model.specs.Components.{Component, component_named, declared_monitor, is_component_of, process_location, same_sort}
@@ -32,7 +31,6 @@ use Rattle.cp_typing.proofs.Names.{lookup-append}
 use Rattle.cp_typing.proofs.ComponentNames.{IsNamed, is_named}
 use Rattle.cp_typing.proofs.TableMeanings.{TypeAs, TypeAt, Types}
 use Rattle.cp_typing.proofs.Visible.{PartAs, Visible, component_of, some_same}
-use Rattle.cp_typing.proofs.Layers.{IsOuter}
 use Rattle.cp_typing.proofs.TypeOrder.{Ascend, ParametersBefore, SystemName, all_kept, found_behind, places_ascend}
 use Rattle.cp_typing.proofs.MonitorPlaces.{monitor_place, written_types}
 use Rattle.cp_typing.proofs.NamedTypes.{EntryNamed, written_type}

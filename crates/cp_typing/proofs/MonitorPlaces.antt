@@ -1,14 +1,14 @@
 -- Where the type of a monitor variable stands among the definitions: a monitor is numbered by its
 -- variable, and the type names of the monitors are listed by the same numbers.
-use Rattle.std.proofs.Common.{◌≡◌, ◌⊎◌, inl, inr, ◌<◌, ◌≤◌, ℕ, zero, suc, ◌+◌, Bool, true, false, List, [], ◌∷◌, ◌++◌, Option, Some, None, if◌then◌else◌, slice_get, length, replicate, refl, ap, sym, subst, ◌∙◌, arith, bytes_eq}
+use Rattle.std.proofs.Common.{◌≡◌, ℕ, suc, ◌+◌, Bool, true, false, List, [], ◌∷◌, ◌++◌, Option, Some, None, if◌then◌else◌, slice_get, length, replicate, refl, ap, sym, ◌∙◌, arith, bytes_eq}
 use Rattle.std.proofs.lemmas.Bool.{true≢false}
-use Rattle.cp_model.specs.Abstract.{Definition, Group, Monitor, Name, SystemDef, TypeExpression, TypeName}
+use Rattle.cp_model.specs.Abstract.{Group, Monitor, Name, TypeExpression, TypeName}
 use Rattle.cp_model.specs.Names.{lookup}
 use Rattle.cp_model.specs.Types.{GlobalScope, ResolvedType, resolved_type}
 use Rattle.cp_model.specs.Declarations.{Variable, declarations, declared_group, globals}
 use Rattle.cp_model.specs.Components.{count_before, is_component_of}
 use Rattle.cp_model.specs.States.{Setup}
-use Rattle.cp_typing.specs.TypePlaces.{monitor_types, place_of, type_of_monitor, type_place, written_name}
+use Rattle.cp_typing.specs.TypePlaces.{monitor_types, place_of, type_place, written_name}
 
 abbrev pub group_types : TypeExpression → List Name → List (Name × TypeExpression) → List (Name × TypeExpression)
 group_types t [] rest = rest

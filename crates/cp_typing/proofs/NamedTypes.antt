@@ -1,6 +1,6 @@
 -- The written types of variables that are components: only a name stands for a system type, so the
 -- row of such a variable is that of the name.
-use Rattle.std.proofs.Common.{◌≡◌, ℕ, Bool, true, false, List, [], ◌∷◌, ◌++◌, Option, Some, None, if◌then◌else◌, map, refl, ap, ap₂, sym, subst, ◌∙◌, bytes_eq}
+use Rattle.std.proofs.Common.{◌≡◌, ℕ, Bool, true, false, List, [], ◌∷◌, ◌++◌, Option, Some, None, if◌then◌else◌, map, refl, ap, sym, subst, ◌∙◌, bytes_eq}
 use Rattle.std.specs.Option.{option_or}
 use Rattle.std.proofs.lemmas.Bool.{true≢false}
 use Rattle.cp_model.specs.Syntax as s
@@ -16,7 +16,7 @@ use Rattle.cp_model.specs.RulesEnvironment.{Environment, Names, Text, resolve, r
 use Rattle.cp_model.specs.RulesTypes.{Made, c2_type, c6_c8_placed, judge_in_position, named_type, type_at, type_of}
 use Rattle.cp_model.specs.RulesDeclarations.{own_variable}
 use Rattle.cp_model.specs.Names.{lookup}
-use Rattle.cp_model.specs.Types.{ArrayOf, ComponentOf, GlobalScope, Members, NoType, Queue, RecordOf, ResolvedType, Simple, array_type, constant_value, subrange_type}
+use Rattle.cp_model.specs.Types.{ArrayOf, ComponentOf, GlobalScope, Members, NoType, Queue, RecordOf, ResolvedType, Simple, array_type, subrange_type}
 use Rattle.cp_model.specs.Declarations.{is_component}
 use Rattle.cp_typing.proofs.Names.{lookup-append}
 use Rattle.cp_typing.proofs.Judging.{sound_same}
@@ -25,7 +25,7 @@ use Rattle.cp_typing.proofs.TypeRows.{TypeMade}
 use Rattle.cp_typing.proofs.TypesMade.{alone_in, placed_allows, placed_inner}
 use Rattle.cp_typing.proofs.DeclaredNames.{entries}
 use Rattle.cp_typing.proofs.Visible.{some_same}
-use Rattle.cp_typing.proofs.MonitorPlaces.{group_types, written_types}
+use Rattle.cp_typing.proofs.MonitorPlaces.{group_types}
 
 -- ---- Entries and their written types
 

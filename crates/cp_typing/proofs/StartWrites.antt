@@ -1,11 +1,10 @@
 -- The writes of the start: each location is written with one value, which stays.
-use Rattle.std.proofs.Common.{◌≡◌, inl, inr, ℕ, suc, ℤ, pos, negsuc, Bool, true, false, List, [], ◌∷◌, Some, if◌then◌else◌, nat_eq, eqb-true, eq-eqb, bytes_eq, refl, ap, ap₂, sym, subst, ◌∙◌, arith}
-use Rattle.std.proofs.lemmas.Bool.{true≢false, and_from, and_parts}
+use Rattle.std.proofs.Common.{◌≡◌, inl, inr, ℕ, suc, Bool, true, false, List, [], ◌∷◌, Some, if◌then◌else◌, bytes_eq, refl, ap, sym, subst, ◌∙◌, arith}
+use Rattle.std.proofs.lemmas.Bool.{true≢false}
 use Rattle.cp_model.specs.Abstract.{Name, Sort}
 use Rattle.cp_model.specs.Names.{lookup}
-use Rattle.cp_model.specs.Integers.{same_integer}
 use Rattle.cp_model.specs.Declarations.{Variable}
-use Rattle.cp_model.specs.Locations.{ByIndex, ByName, Location, OfActivation, OfMonitor, OfProcess, Owner, Path, PathStep, same_location, same_owner, same_path, same_path_step}
+use Rattle.cp_model.specs.Locations.{Location, same_location}
 use Rattle.cp_model.specs.Stores.{Store, Value, Writes, put, put_all}
 use Rattle.cp_model.specs.Components.{count_before, is_component_of}
 use Rattle.cp_typing.specs.Declared.{Distinct}

@@ -1,13 +1,12 @@
 -- A system type in which nothing is broken: its bodies are typed, and the rules and the meaning
 -- agree about it.
-use Rattle.std.proofs.Common.{◌≡◌, ◌<◌, ◌≤◌, filter, ap₂, inl, inr, ℕ, zero, suc, ◌+◌, true, false, List, [], ◌∷◌, ◌++◌, Some, None, if◌then◌else◌, get_or, slice_get, length, take, drop, refl, ap, sym, subst, ◌∙◌, arith, append-nil, length-append, codes}
+use Rattle.std.proofs.Common.{◌≡◌, ◌<◌, ◌≤◌, ap₂, inl, inr, ℕ, zero, suc, ◌+◌, true, false, List, [], ◌∷◌, ◌++◌, Some, None, if◌then◌else◌, get_or, slice_get, length, take, drop, refl, ap, sym, subst, ◌∙◌, arith, append-nil, length-append, codes}
 use Rattle.std.proofs.lemmas.Bool.{true≢false}
 use Rattle.std.proofs.Math.Seq.{get_or-append_seam}
 use Rattle.cp_model.specs.Syntax as s
 use Rattle.cp_model.specs.Abstract as a
 use Rattle.cp_model.specs.Erase as erase
 use Rattle.cp_model.specs.declared.tree.Identifier.{Identifier}
-use Rattle.cp_model.specs.declared.tree.Sort.{Sort}
 use Rattle.cp_model.specs.declared.rules.Entity.TheVariants as entity
 use Rattle.cp_model.specs.declared.rules.Structure.TheVariants as structure
 use Rattle.cp_model.specs.declared.rules.Member.{Member}
@@ -24,11 +23,10 @@ use Rattle.cp_model.specs.RulesDeclarations.{Declared, Heading, Variables, headi
 use Rattle.cp_model.specs.Rules.{define_system, routine_members, variable_position}
 use Rattle.cp_model.specs.Types.{ComponentOf, GlobalScope, Members, ResolvedType}
 use Rattle.cp_model.specs.Declarations.{reported_members}
-use Rattle.cp_model.specs.declared.tree.Sort.TheVariants as sort
 use Rattle.cp_model.specs.Names.{lookup}
 use Rattle.cp_typing.specs.Declared.{Each, SystemParameter, SystemVariable}
-use Rattle.cp_typing.specs.Words.{rights_in, words_of_members, words as type_words}
-use Rattle.cp_typing.specs.Needs.{owner_words, process_need, statement_need}
+use Rattle.cp_typing.specs.Words.{words as type_words}
+use Rattle.cp_typing.specs.Needs.{owner_words, statement_need}
 use Rattle.cp_typing.specs.WellTyped.{Later}
 use Rattle.cp_typing.proofs.VariableKinds.{system_parameters, system_variables}
 use Rattle.cp_typing.proofs.Owners.{counted_elsewhere}
@@ -40,14 +38,13 @@ use Rattle.cp_typing.proofs.Visible.{some_same}
 use Rattle.cp_typing.proofs.DeclaredVariables.{VariablesMade, variables_made}
 use Rattle.cp_typing.proofs.DeclaredNames.{each_declared, names_of, declare_new, declared_new, names_local, names_more, tables_grown, tables_same}
 use Rattle.cp_typing.proofs.Headings.{HeadingMade, heading_made}
-use Rattle.cp_typing.proofs.ComponentScopes.{KnownRoutine, RoutinesMade, taken_behind}
+use Rattle.cp_typing.proofs.ComponentScopes.{RoutinesMade, taken_behind}
 use Rattle.cp_typing.proofs.RoutineNames.{all_distinct}
-use Rattle.cp_typing.proofs.ExpressionNeeds.{Bounded}
-use Rattle.cp_typing.proofs.Bounds.{capped_within}
-use Rattle.cp_typing.proofs.Members.{component_most, component_total, is_right, members_of, rows_length}
+use Rattle.cp_typing.proofs.Members.{members_of, rows_length}
 use Rattle.cp_typing.proofs.TypeOrder.{AllBefore, ParametersBefore, all_before, one_before}
 use Rattle.cp_typing.proofs.Stages.{Defined, KeepsRest, Stage, SystemTyped, later_on, later_same, last_found, typed_later, outer_more, first_there, not_first, stage_named, type_later}
-use Rattle.cp_typing.proofs.MemberNames.{routine_member_found, dropped_distinct, lookup_dropped, all_by_value, known_among}
+use Rattle.cp_typing.proofs.MemberNames.{all_by_value, member_known}
+use Rattle.cp_typing.proofs.SystemWords.{Counted, class_fits, owner_fits}
 use Rattle.cp_typing.proofs.ComponentBodies.{Opened, Inside, open_scope, bodies_typed, body_need, routines_all}
 
 -- ---- a definition of a system type
@@ -271,22 +268,8 @@ module _ (env : Environment) (g : GlobalScope) (rs : Types) (ys : List a.System)
 
   entry_of : (z : Text) (m : Member) → lookup z member_list ≡ Some m → (r : ℕ) × (m ≡ member.Routine r) × RoutineOf G closed after_types r z meaning
   entry_of z m h =
-      let d : AllDistinct (keys behind.env.names) = all_made.behind.distinct in
-      let k : (r : ℕ) × (m ≡ member.Routine r) × (lookup z (drop (length named.names) behind.env.names) ≡ Some (entity.Routine r)) =
-      routine_member_found z m (drop (length named.names) behind.env.names) (dropped_distinct (length named.names) behind.env.names d) h in
-      let n : KnownRoutine G ys meaning behind.env all_made.more (0 + length y.routines) z (entity.Routine k.0) =
-      known_among G ys meaning behind.env all_made.more (0 + length y.routines) all_made.behind z k.0 (lookup_dropped (length named.names) behind.env.names z (entity.Routine k.0) d k.2) in
-      let same : n.number ≡ k.0 = cc (n.is) in
-      let one : RoutineOf G behind.env all_made.more n.number z meaning = record {
-        within = n.within;
-        place = n.place;
-        routine = n.routine;
-        there = n.there;
-        named = n.named;
-        meets = n.meets;
-        need = n.need;
-      } in
-      (k.0, k.1, subst (λ j. RoutineOf G closed after_types j z meaning) same (routine_of_kept G behind.env closed all_made.more after_types grows_closed n.number z meaning one))
+      let k = member_known G ys meaning behind.env all_made.more (0 + length y.routines) all_made.behind (length named.names) z m h in
+      (k.0, k.1, routine_of_kept G behind.env closed all_made.more after_types grows_closed k.0 z meaning k.2)
 
   members_here : (h : GlobalScope) → G h → reported_members h meaning ≡ members_of made_head.declared made.declared
   members_here h i = ap₂ members_of (made_head.declares h i) (made.declares h i)
@@ -294,39 +277,18 @@ module _ (env : Environment) (g : GlobalScope) (rs : Types) (ys : List a.System)
   members_same : (h : GlobalScope) → G h → reported_members g meaning ≡ reported_members h meaning
   members_same h i = members_here g (later_same g) ∙ sym (members_here h i)
 
-  -- the rules count at least as many words as a component takes, including the need of a process
-  own_words : (h : GlobalScope) → G h → words ≤ word_limit
-      → 1 + rights_in h meaning + words_of_members h (reported_members h meaning) + (if is_process y.sort then need_statements behind.env y.body.list else 0) ≤ words
-  own_words h i fits =
-      let need : ℕ = if is_process y.sort then need_statements behind.env y.body.list else 0 in
-      let total : words ≡ 1 + length head.rows + own.words + need = capped_within (1 + length head.rows + own.words + need) fits in
-      let rights : rights_in h meaning ≡ length (filter is_right made_head.declared) = ap (λ ds. length (filter is_right ds)) (made_head.declares h i) in
-      omega (
-        arith,
-        total,
-        rights,
-        ap (words_of_members h) (members_here h i),
-        component_total y.sort h made_head.declared made.declared made_head.parameters,
-        rows_length rs head.rows made_head.declared made_head.rows,
-        made.words h i (omega (arith, total, fits)),
-      )
-
   own_body_need : (k : ℕ) (h : GlobalScope) → G h → need_statements behind.env y.body.list ≤ word_limit
       → statement_need k h meaning None meaning.body ≤ need_statements behind.env y.body.list
   own_body_need k h i fits = body_need G ys y (variable_position y.sort) own.env made.more opened_scope routines_sound body_sound k h i fits
 
-  owner_fits : (k : ℕ) (h : GlobalScope) → G h → words ≤ word_limit → owner_words k h meaning ≤ words
-  owner_fits k h i fits =
-      let need : ℕ = if is_process y.sort then need_statements behind.env y.body.list else 0 in
-      let total : words ≡ 1 + length head.rows + own.words + need = capped_within (1 + length head.rows + own.words + need) fits in
-      omega (arith, fits, total, own_words h i fits, by_sort y.sort (own_body_need k h i) (omega (arith, fits, total)))
-    where
-      by_sort : (z : Sort) → Bounded (statement_need k h meaning None meaning.body) (need_statements behind.env y.body.list)
-          → (if is_process z then need_statements behind.env y.body.list else 0) ≤ word_limit
-          → process_need (erase.sort_of z) (statement_need k h meaning None meaning.body) ≤ (if is_process z then need_statements behind.env y.body.list else 0)
-      by_sort sort.Process f g = f g
-      by_sort sort.Monitor f g = omega arith
-      by_sort sort.Class f g = omega arith
+  counted : (h : GlobalScope) → G h → Counted y h made_head.declared made.declared (length head.rows) own.words
+  counted h i = record {
+    declares = made_head.declares h i;
+    members = members_here h i;
+    parameters = made_head.parameters;
+    count = rows_length rs head.rows made_head.declared made_head.rows;
+    words = made.words h i;
+  }
 
   system_as : SystemAs G closed after_types (length behind.env.systems) meaning
   system_as = record {
@@ -337,13 +299,13 @@ module _ (env : Environment) (g : GlobalScope) (rs : Types) (ys : List a.System)
     within_members = subst (λ w. w.members < length closed.members) (sym row_there) (omega (arith, length-append behind.env.members (member_list ∷ [])));
     routines = λ z m h. entry_of z m (sym (ap (lookup z) members_there) ∙ h);
     body_need = λ k h i. subst (λ w. w.body_need ≤ word_limit → statement_need k h meaning None meaning.body ≤ w.body_need) (sym row_there) (own_body_need k h i);
-    words = λ k h i. subst (λ w. w.words ≤ word_limit → owner_words k h meaning ≤ w.words) (sym row_there) (owner_fits k h i);
+    words = λ k h i. subst (λ w. w.words ≤ word_limit → owner_words k h meaning ≤ w.words) (sym row_there) (owner_fits y h made_head.declared made.declared (length head.rows) own.words (counted h i) (need_statements behind.env y.body.list) k (own_body_need k h i));
   }
 
   class_words : (h : GlobalScope) → G h → words ≤ word_limit → type_words h type ≤ words
   class_words h i fits =
-      let all : ℕ = 1 + rights_in h meaning + words_of_members h (reported_members g meaning) in
-      omega (arith, component_most meaning.sort all, ap (words_of_members h) (members_same h i), own_words h i fits)
+      subst (λ m. type_words h (ComponentOf meaning m) ≤ words) (sym (members_same h i))
+      (class_fits y h made_head.declared made.declared (length head.rows) own.words (counted h i) (need_statements behind.env y.body.list) fits)
 
   tables_closed : Tables G closed after_types
   tables_closed = tables_added G behind.env closed all_made.more row type all_made.behind.tables refl grows_closed

@@ -1,49 +1,36 @@
 -- An accepted text is well typed: its definitions, and its initial process.
-use Rattle.std.proofs.Common.{◌≡◌, ◌≤◌, ◌⊎◌, inl, inr, ℕ, zero, suc, ◌+◌, pos, Bool, true, false, List, [], ◌∷◌, ◌++◌, Some, None, if◌then◌else◌, slice_get, length, map, take, arith, refl, ap, sym, subst, ◌∙◌, append_assoc, append-nil, codes, bytes_eq}
+use Rattle.std.proofs.Common.{◌≡◌, ◌≤◌, ℕ, suc, ◌+◌, List, [], ◌++◌, length, arith, refl, ap, sym, subst, ◌∙◌, append-nil}
 use Rattle.cp_model.specs.Syntax as s
 use Rattle.cp_model.specs.Abstract as a
 use Rattle.cp_model.specs.Erase as erase
-use Rattle.cp_model.specs.declared.tree.ConstantDefinition.{ConstantDefinition}
-use Rattle.cp_model.specs.declared.tree.Identifier.{Identifier}
 use Rattle.cp_model.specs.declared.tree.Sort.TheVariants as sort
-use Rattle.cp_model.specs.declared.rules.Entity.{Entity}
-use Rattle.cp_model.specs.declared.rules.Entity.TheVariants as entity
 use Rattle.cp_model.specs.declared.rules.Position.TheVariants as position
 use Rattle.cp_model.specs.RulesJudged.{Violations, unless}
-use Rattle.cp_model.specs.RulesEnvironment.{Environment, Names, Text, queue_row, row_of, standard_environment, standard_names}
+use Rattle.cp_model.specs.RulesEnvironment.{standard_environment}
 use Rattle.cp_model.specs.RulesNeeds.{need_statements}
 use Rattle.cp_model.specs.RulesStatements.{statements}
 use Rattle.cp_model.specs.RulesDeclarations.{Declared, Variables, routines, variables}
-use Rattle.cp_model.specs.Rules.{Accepted, c13_initial, define_as, define_constant, define_each, define_section}
-use Rattle.cp_model.specs.Types.{ComponentOf, GlobalScope, Members, NoMembers, Queue, ResolvedType, first_ordinal, full_range, last_ordinal, standard_scope}
-use Rattle.cp_model.specs.Declarations.{declarations, define, define_all, globals}
-use Rattle.cp_model.specs.Places.{within}
+use Rattle.cp_model.specs.Rules.{Accepted, c13_initial, define_each, define_section}
+use Rattle.cp_model.specs.Types.{GlobalScope, NoMembers, standard_scope}
+use Rattle.cp_model.specs.Declarations.{declarations, globals}
 use Rattle.cp_model.specs.RulesTypes.{is_within, word_limit}
 use Rattle.cp_model.specs.declared.rules.Rule.TheVariants.{C13}
 use Rattle.cp_model.specs.States.{count_components}
-use Rattle.cp_model.specs.Names.{lookup}
 use Rattle.cp_typing.specs.Systems.{systems_of}
 use Rattle.cp_typing.specs.Declared.{Each, InitialVariable}
 use Rattle.cp_typing.specs.WellTyped.{Later, TypedBodies, WellTyped}
 use Rattle.cp_typing.specs.Laws.{AcceptedTextsAreWellTyped}
 use Rattle.cp_typing.specs.Words.{words_of_variables}
 use Rattle.cp_typing.specs.Needs.{AllOwnersFit, owner_words}
-use Rattle.cp_typing.proofs.Names.{bytes_same}
 use Rattle.cp_typing.proofs.Judging.{first_empty, rest_empty}
-use Rattle.cp_typing.proofs.TableMeanings.{GlobalAs, NamesAs, RowAs, StructureAs, TypeAt, Types, data_row, queue_data, simple_data}
-use Rattle.cp_typing.proofs.Layers.{IsOuter}
-use Rattle.cp_typing.proofs.Visible.{some_same}
 use Rattle.cp_typing.proofs.DeclaredVariables.{VariablesMade, variables_made}
-use Rattle.cp_typing.proofs.TypeOrder.{ascend_kept, ascend_on, more_on, no_more}
-use Rattle.cp_typing.proofs.Stages.{Defined, Stage, SystemTyped, constant_defined, later_on, later_same, in_order_on, no_systems, type_defined, typed_later}
+use Rattle.cp_typing.proofs.Stages.{Defined, Stage, later_same}
 use Rattle.cp_typing.proofs.ComponentBodies.{body_need, Inside, Opened, open_scope, bodies_typed}
-use Rattle.cp_typing.proofs.SystemTypes.{system_defined}
 use Rattle.cp_typing.proofs.VariableKinds.{initial_variables}
 use Rattle.cp_typing.proofs.Bounds.{is_within_true}
 use Rattle.cp_typing.proofs.Members.{members_words}
 use Rattle.cp_typing.proofs.TypeRows.{holds}
 use Rattle.cp_typing.proofs.Owners.{CountsMore}
-use Rattle.cp_typing.proofs.Enumerations.{enumeration_defined}
 use Rattle.cp_typing.proofs.Definitions.{sections_defined}
 use Rattle.cp_typing.proofs.StandardNames.{standard_stage, standard_types}
 use Rattle.cp_typing.specs.PassedRights.{PassesInOrder}

@@ -1,7 +1,7 @@
 -- The order of definitions, by the numbers of rows: a system type has a row of its own, after those
 -- of all types that were defined before it. So of two system types the one with the lower row
 -- stands earlier in the text, by its name; two of them may be equal as values.
-use Rattle.std.proofs.Common.{◌≡◌, ◌⊎◌, inl, inr, ◌<◌, ◌≤◌, ℕ, zero, suc, ◌+◌, ◌-◌, ℤ, Bool, true, false, List, [], ◌∷◌, ◌++◌, Option, Some, None, if◌then◌else◌, slice_get, length, refl, ap, sym, subst, ◌∙◌, arith, bytes_eq}
+use Rattle.std.proofs.Common.{◌≡◌, ◌⊎◌, inl, inr, ◌<◌, ◌≤◌, ℕ, zero, suc, ◌-◌, ℤ, Bool, true, false, List, [], ◌∷◌, ◌++◌, Option, Some, None, if◌then◌else◌, slice_get, length, refl, ap, sym, subst, ◌∙◌, arith, bytes_eq}
 use Rattle.std.proofs.lemmas.Bool.{true≢false}
 use Rattle.cp_model.specs.Abstract as a
 use Rattle.cp_model.specs.declared.rules.Entity.{Entity}
@@ -14,7 +14,7 @@ use Rattle.cp_model.specs.Names.{lookup}
 use Rattle.cp_model.specs.Types.{ComponentOf, GlobalScope, Members, ResolvedType, constant_value, full_range, resolved_type}
 use Rattle.cp_model.specs.Declarations.{Variable, define, define_all, is_component, reported_members, with_constant}
 use Rattle.cp_typing.specs.TypePlaces.{defined_name, place_of}
-use Rattle.cp_typing.proofs.Names.{bytes_same, lookup-append}
+use Rattle.cp_typing.proofs.Names.{bytes_same}
 use Rattle.cp_typing.proofs.TableMeanings.{Grows, OptionalAt, ParametersAs, StructureAs, SystemAs, Tables, TypeAt, Types}
 use Rattle.cp_typing.proofs.Visible.{some_same}
 

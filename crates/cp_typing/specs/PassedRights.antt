@@ -1,6 +1,6 @@
 -- What `init` passes on: each right to a monitor that the initial process passes to a monitor is
 -- to one whose type was defined earlier.
-use Rattle.std.specs.Prelude.{List, None, Option, Some, [], false, ℕ, ◌<◌, ◌≡◌, ◌∷◌}
+use Rattle.std.specs.Prelude.{List, None, Option, Some, false, ℕ, ◌<◌, ◌≡◌, ◌∷◌}
 use Rattle.cp_model.specs.Abstract.{Arms, Assign, Case, Cycle, Expression, Expressions, For, If, Init, Monitor, MoreArms, MoreExpressions, Name, NoArm, Nothing, Perform, Plain, Repeat, Seq, Statement, Use, While}
 use Rattle.cp_model.specs.Types.{ComponentOf, ResolvedType}
 use Rattle.cp_model.specs.Declarations.{Variable, declarations}
