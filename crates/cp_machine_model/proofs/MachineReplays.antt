@@ -16,6 +16,8 @@ use Rattle.cp_model.proofs.PartsKept.{private_step_kernel_part}
 use Rattle.cp_model.proofs.RoundCount.{private_turn_count}
 use Rattle.cp_model.proofs.RoundLaws.{lawful_is_sequential}
 use Rattle.cp_model.proofs.StateInvariant.{private_step_keeps}
+use Rattle.cp_hierarchy.specs.InOrder.{world}
+use Rattle.cp_hierarchy.proofs.Reached.{round_keeps}
 use Rattle.cp_program_model.specs.Programs.{Program}
 use Rattle.cp_program_model.specs.StandsFor.{StandsFor}
 use Rattle.cp_machine_model.specs.Beginning.{Begins}
@@ -33,7 +35,7 @@ use Rattle.cp_machine_model.proofs.BeginsBeside.{begins_beside}
 use Rattle.cp_machine_model.proofs.KernelTurns.{private_turn_keeps_kernel, private_turn_keeps_parts}
 use Rattle.cp_machine_model.proofs.LawfulEvents.{lawful_within}
 use Rattle.cp_machine_model.proofs.MachineRounds.{end_round_stands, idle_steps, not_begun_beside, spelled, wake_stands}
-use Rattle.cp_machine_model.proofs.MachineStarts.{as_whole, own_words, part_by_part}
+use Rattle.cp_machine_model.proofs.MachineStarts.{as_whole, ordered, own_words, part_by_part}
 use Rattle.cp_machine_model.proofs.MachineTurns.{kernel_turn_stands}
 use Rattle.cp_machine_model.proofs.PrivateTurns.{private_turn_is_turn}
 use Rattle.cp_machine_model.proofs.Tables.{set_elsewhere, set_found}
@@ -138,8 +140,9 @@ pub replay_is_replay : ReplayIsReplay
 replay_is_replay m setup s n es h I =
     as_whole m.program setup I.stands (own_words m) (meaning.replay_round setup n s es) (replay n es m)
     (replay_stands m.program setup I.stands (own_words m) n es h s m (part_by_part m setup s I))
+    (round_keeps (world setup) (ordered m.program setup I.stands) setup n es s I.order)
 
 pub lawful_replay_is_round : LawfulReplayIsRound
 lawful_replay_is_round m setup s n es lawful I =
-    subst (λ u. public.IsIn (replay n es m) setup u) (lawful_is_sequential setup n s es I.invariant lawful)
+    subst (λ u. public.IsIn (replay n es m) setup u) (lawful_is_sequential setup n s es I.order.invariant lawful)
     (replay_is_replay m setup s n es (lawful_within n (process_count setup) es lawful) I)

@@ -13,6 +13,9 @@ use Rattle.cp_model.specs.Start.{start}
 use Rattle.cp_model.specs.States.{Setup, State, process_count, processes}
 use Rattle.cp_model.proofs.RoundLaws.{phased_is_sequential}
 use Rattle.cp_model.proofs.StartInvariant.{start_invariant}
+use Rattle.cp_hierarchy.specs.InOrder.{InOrder, IsOrdered, world}
+use Rattle.cp_hierarchy.proofs.Reached.{closes, run_keeps, start_in_order, whole_round_keeps}
+use Rattle.cp_hierarchy.proofs.Texts.{text_is_ordered}
 use Rattle.cp_program_model.specs.Programs as code
 use Rattle.cp_program_model.specs.Programs.{Program}
 use Rattle.cp_program_model.specs.StandsFor.{StandsFor}
@@ -117,12 +120,12 @@ part_by_part m setup s I = record {
         let P = I.parts p o low there in
         let own : length o.words ≡ own_words m p = λ i. elim (sym there i) as (λ z. ℕ) [ None ↦ 0 | Some x ↦ length x.words ] in
         subst (λ n. PartStands m.program setup I.stands n p s m.kernel (transcript_of m.transcripts p) o) own (record { part = P.part; begins = P.begins });
-    invariant = I.invariant;
+    invariant = I.order.invariant;
   };
 }
 
-pub as_whole : (program : Program) (setup : Setup) (F : StandsFor program setup) (own : ℕ → ℕ) (s : State) (m : Machine) → IsIn program setup F own s m → public.IsIn m setup s
-as_whole program setup F own s m I =
+pub as_whole : (program : Program) (setup : Setup) (F : StandsFor program setup) (own : ℕ → ℕ) (s : State) (m : Machine) → IsIn program setup F own s m → InOrder (world setup) s → public.IsIn m setup s
+as_whole program setup F own s m I order =
     subst (λ z. public.IsIn z setup s) (sym same)
     (record {
       stands = F;
@@ -135,30 +138,38 @@ as_whole program setup F own s m I =
           let Q = subst (λ n. PartStands program setup F n p s m.kernel (transcript_of m.transcripts p) o) (sym P.part.count) P in
           record { part = Q.part; begins = Q.begins };
       kernel = I.all.kernel;
-      invariant = I.all.invariant;
+      order = order;
     })
   where
     same : m ≡ record { program = program; tick = setup.tick; kernel = m.kernel; parts = m.parts; transcripts = m.transcripts; rounds = s.rounds }
     same i = record { program = I.program_is i; tick = I.tick_is i; kernel = m.kernel; parts = m.parts; transcripts = m.transcripts; rounds = I.rounds_are i }
 
+-- The text keeps the order of its gates.
+pub ordered : (program : Program) (setup : Setup) → StandsFor program setup → IsOrdered (world setup)
+ordered program setup F = text_is_ordered setup F.typed
+
 pub start_is_in : StartIsIn
 start_is_in program setup F =
     as_whole program setup F (first_own program setup) (start setup) (first_machine program setup.tick setup.inputs) (start_stands program setup F)
+    (start_in_order setup (ordered program setup F))
 
 pub round_is_round : RoundIsRound
 round_is_round m setup s n I =
     as_whole m.program setup I.stands (own_words m) (meaning.phased_round setup n s) (machine.phased_round n (processes setup) m)
     (round_stands m.program setup I.stands (own_words m) n s m (part_by_part m setup s I))
+    (subst (InOrder (world setup)) (sym (phased_is_sequential setup n s I.order.invariant)) (whole_round_keeps (world setup) (ordered m.program setup I.stands) setup n s I.order))
 
 pub end_is_end : EndIsEnd
 end_is_end m setup s I =
     as_whole m.program setup I.stands (own_words m) (meaning.close_round s) (end_round m)
     (end_stands m.program setup I.stands (own_words m) s m (part_by_part m setup s I))
+    (closes (world setup) (ordered m.program setup I.stands) setup s I.order)
 
 pub rounds_are_run : RoundsAreRun
 rounds_are_run m setup s n rounds I =
     as_whole m.program setup I.stands (own_words m) (meaning.run setup n rounds s) (machine.phased_rounds n (processes setup) rounds m)
     (rounds_stand m.program setup I.stands (own_words m) n rounds s m (part_by_part m setup s I))
+    (run_keeps (world setup) (ordered m.program setup I.stands) setup n rounds s I.order)
 
 -- ---- reports
 
@@ -199,5 +210,6 @@ pub run_is_reported : RunIsReported
 run_is_reported program setup n rounds F =
     report_is_report (machine.phased_rounds n (processes setup) rounds (first_machine program setup.tick setup.inputs)) setup (meaning.run setup n rounds (start setup))
     (as_whole program setup F (first_own program setup) (meaning.run setup n rounds (start setup)) (machine.phased_rounds n (processes setup) rounds (first_machine program setup.tick setup.inputs))
-    (rounds_stand program setup F (first_own program setup) n rounds (start setup) (first_machine program setup.tick setup.inputs) (start_stands program setup F)))
+    (rounds_stand program setup F (first_own program setup) n rounds (start setup) (first_machine program setup.tick setup.inputs) (start_stands program setup F))
+    (run_keeps (world setup) (ordered program setup F) setup n rounds (start setup) (start_in_order setup (ordered program setup F))))
     (run_calm setup n rounds (start setup) (start_calm setup))

@@ -1,9 +1,9 @@
 -- When a machine, as plain data, is in a state of the system.
 use Rattle.std.specs.Prelude.{◌≡◌, ◌≤◌, ◌-◌, ℕ, Some, length, slice_get}
 use Rattle.cp_model.specs.Configurations.{Fresh}
-use Rattle.cp_model.specs.Invariant.{Invariant}
 use Rattle.cp_model.specs.Parts.{HasNotBegun}
 use Rattle.cp_model.specs.States.{Setup, State, process_count}
+use Rattle.cp_hierarchy.specs.InOrder.{InOrder, world}
 use Rattle.cp_program_model.specs.StandsFor.{StandsFor}
 use Rattle.cp_machine_model.specs.Beginning.{Begins}
 use Rattle.cp_machine_model.specs.KernelOf.{KernelOf}
@@ -17,6 +17,8 @@ pub record PartStands (m : Machine) (setup : Setup) (F : StandsFor m.program set
   pub part : PartOf (ground_of m.program setup F p (length o.words)) s (transcript_of m.transcripts p) o
   pub begins : HasNotBegun (s.status p) → Begins (ground_of m.program setup F p (length o.words)) s m.kernel o
 
+-- All that the machine holds is that of the state. The state has the invariant, and its gates are in
+-- order, by the places of the monitors' types in the text.
 pub record IsIn (m : Machine) (setup : Setup) (s : State) : Type 0 where
   pub stands : StandsFor m.program setup
   pub tick : m.tick ≡ setup.tick
@@ -25,7 +27,7 @@ pub record IsIn (m : Machine) (setup : Setup) (s : State) : Type 0 where
   pub transcript_count : length m.transcripts ≡ process_count setup
   pub parts : (p : ℕ) (o : PrivateState) → 1 ≤ p → slice_get m.parts (p - 1) ≡ Some o → PartStands m setup stands s p o
   pub kernel : KernelOf m.program stands.texts setup s m.kernel
-  pub invariant : Invariant s
+  pub order : InOrder (world setup) s
 
 -- Between rounds, each process that has been started has begun.
 abbrev pub NoneFresh : State → Type 0
