@@ -1,0 +1,5 @@
+pub mod Added
+pub mod FirstPiece
+pub mod Lines
+pub mod Numerals
+pub mod Parts

@@ -1,0 +1,5 @@
+pub mod Events
+pub mod Parts
+pub mod Pieces
+pub mod Reading
+pub mod Rounds
