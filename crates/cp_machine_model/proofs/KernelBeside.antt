@@ -9,7 +9,7 @@ use Rattle.cp_model.specs.Invariant.{Invariant}
 use Rattle.cp_model.specs.Locations.{Location, OfActivation, OfMonitor, OfProcess, Owner}
 use Rattle.cp_model.specs.Parts.{SameKernelPart, kernel_status}
 use Rattle.cp_model.specs.Rounds.{after_closing, close_round, wake}
-use Rattle.cp_model.specs.States.{Gate, Setup, State}
+use Rattle.cp_model.specs.States.{Gate, Setup, State, process_count}
 use Rattle.cp_model.specs.Turns.{private_step}
 use Rattle.cp_model.proofs.PartsKept.{private_step_kernel_part}
 use Rattle.cp_model.proofs.PrivateStepsKept.{wake_kernel_part}
@@ -60,7 +60,7 @@ module _ (program : Program) (texts : List UnitText) (setup : Setup) where
       stages = λ p low high.
           let g = stage_of k.stages p in
           known_stage G (u.status p) g (subst (λ x. StageMeans G x g) (sym (S.status p)) (stage_known G (s.status p) g (K.gates_stand.stages p low high)));
-      askers = λ m. subst (λ (f : ℕ → Gate). AreProcesses (f m).askers) (sym S.gates) (K.gates_stand.askers m);
+      askers = λ m. subst (λ (f : ℕ → Gate). AreProcesses (process_count setup) (f m).askers) (sym S.gates) (K.gates_stand.askers m);
     };
     data_means = data_beside G is_shared s.store u.store (λ l mine. by l.owner refl mine) [] k.shared K.data_means;
   }

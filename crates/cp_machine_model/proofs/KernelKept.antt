@@ -23,15 +23,15 @@ use Rattle.cp_machine_model.specs.PrivateStates as machine
 use Rattle.cp_machine_model.proofs.GatesKept.{gate_set}
 use Rattle.cp_machine_model.proofs.StagesKept.{ready_means, stage_set}
 
-append_processes : (ps qs : List ℕ) → AreProcesses ps → AreProcesses qs → AreProcesses (ps ++ qs)
-append_processes [] qs h g = g
-append_processes (p ∷ ps) qs h g = (h.0, append_processes ps qs h.1 g)
+append_processes : (n : ℕ) (ps qs : List ℕ) → AreProcesses n ps → AreProcesses n qs → AreProcesses n (ps ++ qs)
+append_processes n [] qs h g = g
+append_processes n (p ∷ ps) qs h g = (h.0, h.1, append_processes n ps qs h.2 g)
 
 module _ (G : Ground) (monitors processes : ℕ) where
   abbrev Stand : State → Kernel → Type 0
   Stand s k = GatesStand G monitors processes s k
 
-  gate_kept : (s : State) (k : Kernel) (m : ℕ) (h : Holder) (ps : List ℕ) → IsNumber monitors m → AreProcesses ps → Stand s k → Stand (meaning.set_gate m h ps s) (steps.set_gate m h ps k)
+  gate_kept : (s : State) (k : Kernel) (m : ℕ) (h : Holder) (ps : List ℕ) → IsNumber monitors m → AreProcesses processes ps → Stand s k → Stand (meaning.set_gate m h ps s) (steps.set_gate m h ps k)
   gate_kept s k m h ps number all S = record {
     gate_count = length-set k.gates (m - 1) (record { holder = h; askers = ps }) ∙ S.gate_count;
     stage_count = S.stage_count;
@@ -40,7 +40,7 @@ module _ (G : Ground) (monitors processes : ℕ) where
     askers = λ j. by j (nat_eq m j);
   }
     where
-      by : (j : ℕ) (b : Bool) → AreProcesses (if b then record { holder = h; askers = ps } else s.gates j).askers
+      by : (j : ℕ) (b : Bool) → AreProcesses processes (if b then record { holder = h; askers = ps } else s.gates j).askers
       by j true = all
       by j false = S.askers j
 
@@ -64,13 +64,13 @@ module _ (G : Ground) (monitors processes : ℕ) where
   passed_kept : (s : State) (k : Kernel) (m : ℕ) → IsNumber monitors m → Stand s k → Stand (meaning.pass_on m s) (steps.pass_on m k)
   passed_kept s k m number S = subst (λ ps. Stand (meaning.pass_on m s) (steps.pass_to m ps k)) (sym (same_askers s k m S)) (by (s.gates m).askers (S.askers m))
     where
-      by : (ps : List ℕ) → AreProcesses ps → Stand (meaning.pass_to m ps s) (steps.pass_to m ps k)
+      by : (ps : List ℕ) → AreProcesses processes ps → Stand (meaning.pass_to m ps s) (steps.pass_to m ps k)
       by [] all = gate_kept s k m Free [] number tt S
-      by (r ∷ rs) all = ready_kept (meaning.set_gate m (HeldBy r) rs s) (steps.set_gate m (HeldBy r) rs k) r all.0 (gate_kept s k m (HeldBy r) rs number all.1 S)
+      by (r ∷ rs) all = ready_kept (meaning.set_gate m (HeldBy r) rs s) (steps.set_gate m (HeldBy r) rs k) r all.0 (gate_kept s k m (HeldBy r) rs number all.2 S)
 
-  entered_kept : (s : State) (k : Kernel) (p m : ℕ) → 1 ≤ p → IsNumber monitors m → Stand s k
+  entered_kept : (s : State) (k : Kernel) (p m : ℕ) → IsNumber processes p → IsNumber monitors m → Stand s k
       → Stand (meaning.enter p m (s.gates m).holder s) (steps.enter_gate p m (gate_of k.gates m).holder k)
-  entered_kept s k p m low number S =
+  entered_kept s k p m asker number S =
       subst (λ h. Stand (meaning.enter p m (s.gates m).holder s) (steps.enter_gate p m h k)) (sym (ap (λ (g : Gate). g.holder) (S.gates m))) (by (s.gates m).holder)
     where
       taken : Holder → Stand (meaning.set_gate m (HeldBy p) (s.gates m).askers s) (steps.set_gate m (HeldBy p) (gate_of k.gates m).askers k)
@@ -81,8 +81,8 @@ module _ (G : Ground) (monitors processes : ℕ) where
       by : (h : Holder) → Stand (meaning.enter p m h s) (steps.enter_gate p m h k)
       by (HeldBy q) =
           subst (λ ps. Stand (meaning.enter p m (HeldBy q) s) (steps.set_stage p (Asking m) (steps.set_gate m (HeldBy q) (ps ++ p ∷ []) k))) (sym (same_askers s k m S))
-          (stage_kept (meaning.set_gate m (HeldBy q) ((s.gates m).askers ++ p ∷ []) s) (steps.set_gate m (HeldBy q) ((s.gates m).askers ++ p ∷ []) k) p (effect.Asking m) (Asking m) low (λ high. refl)
-          (gate_kept s k m (HeldBy q) ((s.gates m).askers ++ p ∷ []) number (append_processes (s.gates m).askers (p ∷ []) (S.askers m) (low, tt)) S))
+          (stage_kept (meaning.set_gate m (HeldBy q) ((s.gates m).askers ++ p ∷ []) s) (steps.set_gate m (HeldBy q) ((s.gates m).askers ++ p ∷ []) k) p (effect.Asking m) (Asking m) asker.0 (λ high. refl)
+          (gate_kept s k m (HeldBy q) ((s.gates m).askers ++ p ∷ []) number (append_processes processes (s.gates m).askers (p ∷ []) (S.askers m) (asker.0, asker.1, tt)) S))
       by Free = taken Free
       by Unset = taken Unset
 
@@ -149,7 +149,7 @@ module _ (G : Ground) (monitors processes : ℕ) where
         from : Stand (set_status p effect.Waiting s) k → Stand (set_status p effect.Waiting (with_configuration s p c)) k
         from T = record { gate_count = T.gate_count; stage_count = T.stage_count; gates = T.gates; stages = T.stages; askers = T.askers }
     applied c (effect.Enters m) (machine.Enters n) h =
-        subst (λ z. Stand (after_step s p (Gives (c, effect.Enters m))) (steps.apply_effect own p (machine.Enters z) k)) h.0 (entered_kept (with_configuration s p c) k p m number.0 h.1 (moved c))
+        subst (λ z. Stand (after_step s p (Gives (c, effect.Enters m))) (steps.apply_effect own p (machine.Enters z) k)) h.0 (entered_kept (with_configuration s p c) k p m number h.1 (moved c))
     applied c (effect.Leaves m) (machine.Leaves n) h =
         subst (λ z. Stand (after_step s p (Gives (c, effect.Leaves m))) (steps.apply_effect own p (machine.Leaves z) k)) h.0 (passed_kept (with_configuration s p c) k m h.1 (moved c))
     applied c (effect.Delays m q) (machine.Delays n at) h =

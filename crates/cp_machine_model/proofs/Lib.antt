@@ -150,3 +150,5 @@ pub mod MachineStarts
 -- Rounds in any order of events.
 pub mod LawfulEvents
 pub mod MachineReplays
+-- Chains of askers.
+pub mod Waits

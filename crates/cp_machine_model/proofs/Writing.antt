@@ -1,16 +1,15 @@
 -- Storing a value in a simple variable and in its word.
-use Rattle.std.proofs.Common.{◌≡◌, ◌≢◌, ◌⊎◌, inl, inr, ℕ, ◌<◌, ℤ, pos, negsuc, List, [], ◌∷◌, length, Bool, true, false, Option, Some, refl, ap, sym, subst, ◌∙◌}
-use Rattle.std.specs.Prelude.{◌&&◌, if◌then◌else◌, nat_eq, slice_set}
+use Rattle.std.proofs.Common.{◌≡◌, ◌≢◌, ◌⊎◌, inl, inr, ℕ, ◌<◌, ℤ, pos, List, length, Bool, true, false, Option, Some, refl, ap, sym, subst, ◌∙◌}
+use Rattle.std.specs.Prelude.{if◌then◌else◌, nat_eq, slice_set}
 use Rattle.std.proofs.lemmas.Bool.{eq-eqb, eqb-true, true≢false}
 use Rattle.std.proofs.lemmas.List.{get_or-set_other, get_or-set_same}
 use Rattle.cp_model.specs.Abstract.{Class, Sort}
-use Rattle.cp_model.specs.Locations.{ByIndex, ByName, Location, OfActivation, OfMonitor, OfProcess, Owner, Path, PathStep, same_location, same_owner, same_path, same_path_step}
+use Rattle.cp_model.specs.Locations.{Location, same_location}
 use Rattle.cp_model.specs.Stores.{Store, Value, put}
 use Rattle.cp_model.specs.Types.{ArrayOf, ComponentOf, NoType, Queue, RecordOf, ResolvedType, Simple}
 use Rattle.cp_program_model.specs.Layout.{Part}
 use Rattle.cp_program_model.specs.Starts.{word}
 use Rattle.cp_typing.proofs.Locations.{location_is, location_itself}
-use Rattle.cp_model.specs.Integers.{same_integer}
 use Rattle.cp_machine_model.specs.Means.{CellMeans, MarkMeans}
 use Rattle.cp_machine_model.specs.Addresses.{Activation, Ground, in_sight, lies, scope}
 use Rattle.cp_machine_model.proofs.Apart.{IsCell, IsClass, cell_head}

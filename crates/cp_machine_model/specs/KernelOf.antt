@@ -39,10 +39,10 @@ StageMeans G status.Waiting Begun = Unit {0}
 StageMeans G (status.Faulted n) Begun = Unit {0}
 StageMeans G _ _ = ⊥
 
--- The numbers of processes begin at 1. The number 0 stands for nobody.
-abbrev pub AreProcesses : List ℕ → Type 0
-AreProcesses [] = Unit {0}
-AreProcesses (p ∷ ps) = (1 ≤ p) × AreProcesses ps
+-- All are numbers of processes, from 1 to `n`. The number 0 stands for nobody.
+abbrev pub AreProcesses : ℕ → List ℕ → Type 0
+AreProcesses n [] = Unit {0}
+AreProcesses n (p ∷ ps) = (1 ≤ p) × (p ≤ n) × AreProcesses n ps
 
 -- The gates and stages of a kernel are those of a state.
 pub record GatesStand (G : Ground) (monitors processes : ℕ) (s : State) (k : Kernel) : Type 0 where
@@ -50,7 +50,7 @@ pub record GatesStand (G : Ground) (monitors processes : ℕ) (s : State) (k : K
   pub stage_count : length k.stages ≡ processes
   pub gates : (m : ℕ) → gate_of k.gates m ≡ s.gates m
   pub stages : (p : ℕ) → 1 ≤ p → p ≤ length k.stages → StageMeans G (s.status p) (stage_of k.stages p)
-  pub askers : (m : ℕ) → AreProcesses (s.gates m).askers
+  pub askers : (m : ℕ) → AreProcesses processes (s.gates m).askers
 
 -- The gates and stages are those of the state, and the shared words mean what the store holds for
 -- the monitors.

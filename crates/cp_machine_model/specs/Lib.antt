@@ -17,3 +17,4 @@ pub mod EffectOf
 pub mod Reports
 pub mod InState
 pub mod RoundLaws
+pub mod Chains

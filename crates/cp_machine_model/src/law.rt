@@ -1,6 +1,7 @@
 //! The laws of steps, turns and starts, and those of whole rounds and reports. `specs/Laws.antt`
 //! and `specs/RoundLaws.antt` state them.
 
+ghost use Rattle.cp_machine_model.specs.Chains.{ChainIsChain, StatesMakeHierarchies};
 ghost use Rattle.cp_machine_model.specs.Laws.{KernelStepIsStep, KernelTurnIsTurn, KernelTurnKeepsBegins, KernelTurnKeepsParts};
 ghost use Rattle.cp_machine_model.specs.Laws.{PrivateStepIsStep, PrivateTurnIsTurn, PrivateTurnKeepsKernel, PrivateTurnKeepsParts};
 ghost use Rattle.cp_machine_model.specs.Laws.{OutputMoves, StartIsKernel, StartIsPart, WakingIsWaking};
@@ -70,4 +71,12 @@ pub fn reports()
 pub fn replays()
     ensures replay { ReplayIsReplay }
     ensures lawful { LawfulReplayIsRound }
+{}
+
+/// The gates of each state that a machine is in make a hierarchy, by the places of the monitors'
+/// types in the text, so no processes wait for each other in a circle. The chain that is read off a
+/// machine's kernel is the asking chain of the state, which ends.
+pub fn waits()
+    ensures hierarchy { StatesMakeHierarchies }
+    ensures chain { ChainIsChain }
 {}

@@ -1,0 +1,5 @@
+use Rattle.cp_machine_model.proofs.Waits.{chain_is_chain, states_make_hierarchies}
+use Rattle.cp_machine_model.proofs.law.waits.Goals as goal
+
+pub returns : goal.returns
+returns c = record { hierarchy = states_make_hierarchies; chain = chain_is_chain }
