@@ -2,3 +2,4 @@ pub mod Due
 pub mod KernelOf
 pub mod Turns
 pub mod Promises
+pub mod ChainOf

@@ -4,7 +4,7 @@
 //! defines (`specs/KernelOf.antt` defines the plain data). No effect of a step takes memory.
 //!
 //! - `kernel`, `starting`: the kernel, and how it starts.
-//! - `reading`: what can be read of it.
+//! - `reading`, `chain`: what can be read of it.
 //! - `effects`: what a step leaves to the kernel.
 //! - `step`, `turns`: one step of the kernel, and kernel turns.
 //! - `closing`: the end of a round.
@@ -12,6 +12,7 @@
 //! - `room`: room for what kernel turns add.
 #![tactic(auto)]
 
+pub mod chain;
 pub mod closing;
 mod copying;
 mod effects;

@@ -5,7 +5,7 @@
 //! the laws of cp_machine_model, the machine is then in the next state of the meaning
 //! (`specs/InStates.antt`).
 //!
-//! - `machine`, `reading`: the public calls. `starting`: how a machine starts.
+//! - `machine`, `reading`, `chain`: the public calls. `starting`: how a machine starts.
 //! - `setting`, `parts`, `moment`: what no round changes, what rounds change, and the time of a
 //!   round.
 //! - `plan`, `tick`, `gate`: how rounds are made, and what is called before each turn.
@@ -16,6 +16,7 @@
 //!   place.
 #![tactic(auto)]
 
+mod chain;
 mod closing;
 mod desk;
 pub mod gate;
