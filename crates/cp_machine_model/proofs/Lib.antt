@@ -152,3 +152,4 @@ pub mod LawfulEvents
 pub mod MachineReplays
 -- Chains of askers.
 pub mod Waits
+pub mod ChainLines

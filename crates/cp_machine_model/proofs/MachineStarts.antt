@@ -206,10 +206,15 @@ start_calm setup p is = by (nat_eq 1 p) (subst tells (sym is) tt)
     by true h = h
     by false h = h
 
+pub run_is_calm : (setup : Setup) (n rounds : ℕ) → NoneFresh (meaning.run setup n rounds (start setup))
+run_is_calm setup n rounds = run_calm setup n rounds (start setup) (start_calm setup)
+
+-- After any number of rounds from the start, the machine is in the state that one processor reaches.
+pub run_is_in : (program : Program) (setup : Setup) (n rounds : ℕ) → StandsFor program setup
+    → public.IsIn (machine.phased_rounds n (processes setup) rounds (first_machine program setup.tick setup.inputs)) setup (meaning.run setup n rounds (start setup))
+run_is_in program setup n rounds F = rounds_are_run (first_machine program setup.tick setup.inputs) setup (start setup) n rounds (start_is_in program setup F)
+
 pub run_is_reported : RunIsReported
 run_is_reported program setup n rounds F =
     report_is_report (machine.phased_rounds n (processes setup) rounds (first_machine program setup.tick setup.inputs)) setup (meaning.run setup n rounds (start setup))
-    (as_whole program setup F (first_own program setup) (meaning.run setup n rounds (start setup)) (machine.phased_rounds n (processes setup) rounds (first_machine program setup.tick setup.inputs))
-    (rounds_stand program setup F (first_own program setup) n rounds (start setup) (first_machine program setup.tick setup.inputs) (start_stands program setup F))
-    (run_keeps (world setup) (ordered program setup F) setup n rounds (start setup) (start_in_order setup (ordered program setup F))))
-    (run_calm setup n rounds (start setup) (start_calm setup))
+    (run_is_in program setup n rounds F) (run_is_calm setup n rounds)

@@ -1,7 +1,7 @@
 //! The laws of steps, turns and starts, and those of whole rounds and reports. `specs/Laws.antt`
 //! and `specs/RoundLaws.antt` state them.
 
-ghost use Rattle.cp_machine_model.specs.Chains.{ChainIsChain, StatesMakeHierarchies};
+ghost use Rattle.cp_machine_model.specs.Chains.{ChainIsChain, ReportHasChains, RunHasChains, StatesMakeHierarchies};
 ghost use Rattle.cp_machine_model.specs.Laws.{KernelStepIsStep, KernelTurnIsTurn, KernelTurnKeepsBegins, KernelTurnKeepsParts};
 ghost use Rattle.cp_machine_model.specs.Laws.{PrivateStepIsStep, PrivateTurnIsTurn, PrivateTurnKeepsKernel, PrivateTurnKeepsParts};
 ghost use Rattle.cp_machine_model.specs.Laws.{OutputMoves, StartIsKernel, StartIsPart, WakingIsWaking};
@@ -75,8 +75,11 @@ pub fn replays()
 
 /// The gates of each state that a machine is in make a hierarchy, by the places of the monitors'
 /// types in the text, so no processes wait for each other in a circle. The chain that is read off a
-/// machine's kernel is the asking chain of the state, which ends.
+/// machine's kernel is the asking chain of the state, which ends. Between rounds, the report with the
+/// lines of these chains is that of the state.
 pub fn waits()
     ensures hierarchy { StatesMakeHierarchies }
     ensures chain { ChainIsChain }
+    ensures report { ReportHasChains }
+    ensures run { RunHasChains }
 {}
