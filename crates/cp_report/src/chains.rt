@@ -15,7 +15,7 @@ use std::alloc::AllocError;
 
 fn push_chain(out: &mut Vec<u8>, chain: Chain<'_>) -> Result<(), AllocError>
     ensures { OnOk result (out.new.items ≡ out.old.items ++
-        flat_map number_text (processes_left chain)) }
+        flat_map number_text (processes_left chain.entry)) }
 {
     for process in chain {
         push_number(out, process)?;
