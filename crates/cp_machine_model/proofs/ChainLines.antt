@@ -9,9 +9,9 @@ use Rattle.cp_model.specs.Chains.{IsAskingChain}
 use Rattle.cp_model.specs.Report.{Text, chain_line, chain_lines_within, report, with_chain}
 use Rattle.cp_model.specs.Rounds.{run}
 use Rattle.cp_model.specs.Start.{start}
-use Rattle.cp_model.specs.States.{Setup, State, monitor_count, processes}
+use Rattle.cp_model.specs.States.{Setup, State, monitor_count, numbers_from, processes}
 use Rattle.cp_model.proofs.AskingChains.{report_within_is_report}
-use Rattle.cp_machine_model.specs.Chains.{HasReportWithChains, ReportHasChains, RunHasChains, chain, chain_lines, is_asker}
+use Rattle.cp_machine_model.specs.Chains.{HasReportWithChains, ReportHasChains, RunHasChains, chain, chain_lines, is_asker, machine_chains}
 use Rattle.cp_machine_model.specs.InState.{IsIn, NoneFresh}
 use Rattle.cp_machine_model.specs.KernelSteps.{stage_of}
 use Rattle.cp_machine_model.specs.Machines.{Machine, first_machine, phased_rounds}
@@ -50,7 +50,8 @@ module _ (m : Machine) (setup : Setup) (s : State) (I : IsIn m setup s) where
   pub has_chains : NoneFresh s → HasReportWithChains m setup s
   has_chains calm =
       let same = ap (option_map (λ (l : Text). report setup s ++ l)) (lines (processes setup))
-      ∙ ap (λ t. Some (t ++ chain_lines m.kernel (processes setup))) (sym (report_is_report m setup s I calm)) in
+      ∙ ap (λ n. Some (report setup s ++ chain_lines m.kernel (numbers_from 1 n))) (sym I.part_count)
+      ∙ ap (λ t. Some (t ++ machine_chains m)) (sym (report_is_report m setup s I calm)) in
       (same, report_within_is_report (monitor_count setup) setup s _ same)
 
 pub report_has_chains : ReportHasChains

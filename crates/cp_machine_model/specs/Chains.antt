@@ -4,7 +4,7 @@ use Rattle.cp_model.specs.Chains.{holding_process}
 use Rattle.cp_model.specs.Report.{IsReportWithChains, Text, chain_line, report_with_chains_within}
 use Rattle.cp_model.specs.Rounds.{run}
 use Rattle.cp_model.specs.Start.{start}
-use Rattle.cp_model.specs.States.{Setup, State, monitor_count, processes}
+use Rattle.cp_model.specs.States.{Setup, State, monitor_count, numbers_from, processes}
 use Rattle.cp_typing.specs.TypePlaces.{type_place}
 use Rattle.cp_hierarchy.specs.Hierarchy.{EndingChain, Hierarchy}
 use Rattle.cp_program_model.specs.Programs.{Program}
@@ -47,8 +47,12 @@ abbrev pub chain_lines : Kernel → List ℕ → Text
 chain_lines k [] = []
 chain_lines k (p ∷ ps) = chain_line_of k p ++ chain_lines k ps
 
+-- The chain lines of all processes of a machine, by number.
+abbrev pub machine_chains : Machine → Text
+machine_chains m = chain_lines m.kernel (numbers_from 1 (length m.parts))
+
 abbrev pub report_with_chains : Setup → Machine → Text
-report_with_chains setup m = machine_report setup m ++ chain_lines m.kernel (processes setup)
+report_with_chains setup m = machine_report setup m ++ machine_chains m
 
 -- ---- Laws
 

@@ -1,3 +1,2 @@
-pub mod MachineStates
 pub mod Answers
 pub mod Runs

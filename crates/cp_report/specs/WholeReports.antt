@@ -6,6 +6,7 @@ use Rattle.cp_model.specs.Report.{Text}
 use Rattle.cp_model.specs.States.{Setup}
 use Rattle.cp_model.specs.View as view
 use Rattle.cp_model.specs.declared.tree.Tree as tree
+use Rattle.cp_machine_model.specs.Chains.{report_with_chains}
 use Rattle.cp_machine_model.specs.Machines as plain
 use Rattle.cp_machine_model.specs.Reports.{machine_report}
 use Rattle.cp_scope.specs.Texts.{TablesStand}
@@ -16,3 +17,9 @@ abbrev pub IsReport : Tables → plain.Machine → Text → Type 0
 IsReport tables m bytes =
     (setup : Setup) (text : tree.Tree) → setup.tree ≡ erase.abstract (view.tree text) → TablesStand (globals setup.tree) tables text
     → bytes ≡ machine_report setup m
+
+-- The same, with the lines of chains after the report.
+abbrev pub IsReportWithChains : Tables → plain.Machine → Text → Type 0
+IsReportWithChains tables m bytes =
+    (setup : Setup) (text : tree.Tree) → setup.tree ≡ erase.abstract (view.tree text) → TablesStand (globals setup.tree) tables text
+    → bytes ≡ report_with_chains setup m

@@ -22,7 +22,8 @@ fn push_holder(out: &mut Vec<u8>, holder: Holder) -> Result<(), AllocError>
     }
 }
 
-fn push_number(out: &mut Vec<u8>, number: u32) -> Result<(), AllocError>
+/// Adds a space and the number of a process.
+pub(crate) fn push_number(out: &mut Vec<u8>, number: u32) -> Result<(), AllocError>
     ensures { OnOk result (out.new.items ≡ out.old.items ++ number_text number) }
 {
     out.extend_from_slice(b" ")?;

@@ -5,12 +5,14 @@
 //! - `telling`, `walk`: what is reported of a part of a variable, and the walk over all parts.
 //! - `heads`, `components`: the lines of whole components.
 //! - `listing`, `status`: the processes or monitors by number, and the status of a process.
-//! - `lines`, `gates`: single lines, and the lines of the gates of monitors.
+//! - `lines`, `gates`, `chains`: single lines, the lines of the gates of monitors, and those of chains
+//!   of askers.
 //! - `subject`, `processes`, `monitors`: what a report describes, and the lines of its processes
 //!   and monitors.
 //! - `report`: the whole report.
 #![tactic(auto)]
 
+mod chains;
 mod components;
 mod gates;
 mod heads;

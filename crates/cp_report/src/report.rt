@@ -4,8 +4,9 @@ ghost use Rattle.std.specs.Prelude.{OnOk, IfOk, map};
 ghost use Rattle.cp_rounds.specs.Views.{machine_of};
 ghost use Rattle.cp_scope.specs.Standing.{entry};
 ghost use Rattle.cp_report.specs.Subjects.{TellsAll};
-ghost use Rattle.cp_report.specs.WholeReports.{IsReport};
+ghost use Rattle.cp_report.specs.WholeReports.{IsReport, IsReportWithChains};
 
+use crate::chains::push_chains;
 use crate::lines::push_rounds;
 use crate::listing::components;
 use crate::subject::Subject;
@@ -51,5 +52,23 @@ pub fn report(alloc: Global, tables: &Tables, machine: &Machine) -> Result<Vec<u
     let mut walk = Walk::new(alloc, 0);
     let mut bytes = Vec::new(alloc);
     subject.push_all(&mut walk, &mut bytes, &processes)?;
+    Ok(bytes)
+}
+
+/// Returns the report and after it the chains: a line for each process that asks for a gate.
+///
+/// # Errors
+///
+/// `AllocError` if memory runs out.
+pub fn report_with_chains(
+    alloc: Global,
+    tables: &Tables,
+    machine: &Machine,
+) -> Result<Vec<u8>, AllocError>
+    ensures { IfOk result
+        (λ bytes. IsReportWithChains tables.now (machine_of machine.now) bytes.items) }
+{
+    let mut bytes = report(alloc, tables, machine)?;
+    push_chains(&mut bytes, machine)?;
     Ok(bytes)
 }

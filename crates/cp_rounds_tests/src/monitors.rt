@@ -8,6 +8,7 @@ use cp_private::outside::{Holder, Stage};
 use cp_private::private::Activity;
 use cp_rounds::gate::Open;
 use cp_rounds::machine::Machine;
+use std::alloc::Global;
 use std::process::Abort;
 use std::test::Fail;
 
@@ -199,6 +200,41 @@ fn a_delay_in_a_taken_queue_is_a_fault(rt: HostRuntime) -> Result<(), Fail> {
         );
         expect_gate(&rt, &machine, 1, Holder::Process(3), &[4], way);
         assert_eq!(rt; machine.kernel().word(1), 2, "{way:?}");
+    }
+    Ok(())
+}
+
+// `h` is the inner monitor. Process 2 stops in it with fault 4, since x is 0.
+const CHAINED: &str = "type n = monitor; var x: integer;
+      procedure entry w; begin x := 1 div x end; begin end;
+    m = monitor(i: n); procedure entry e; begin i.w end; begin end;
+    pn = process(i: n); begin i.w end;
+    pm = process(a: m); begin a.e end;
+    var h: n; g: m; b: pn; c, d: pm;
+    begin init h, g(h), b(h), c(g), d(g) end.";
+
+// Expects the asking chain of a process.
+fn expect_chain(
+    rt: &impl Abort,
+    alloc: Global,
+    machine: &Machine,
+    p: u32,
+    chain: &[u32],
+    way: Way,
+) -> Result<(), Fail> {
+    let found: Vec<u32> = machine.chain(p).collect(alloc)?;
+    assert!(rt; found.as_slice() == chain, "process {p}, {way:?}");
+    Ok(())
+}
+
+#[test]
+fn a_chain_leads_to_a_process_that_asks_for_no_gate(rt: HostRuntime) -> Result<(), Fail> {
+    for way in ways() {
+        let mut machine = machine_of(rt.alloc(), CHAINED)?;
+        way.make(&rt, &mut machine, 2, 10, &Open)?;
+        expect_chain(&rt, rt.alloc(), &machine, 2, &[2], way)?;
+        expect_chain(&rt, rt.alloc(), &machine, 3, &[3, 2], way)?;
+        expect_chain(&rt, rt.alloc(), &machine, 4, &[4, 3, 2], way)?;
     }
     Ok(())
 }
