@@ -174,7 +174,10 @@ impl Board {
     /// Splits a seat into two. The allowance is halved, and the first seat keeps the larger half,
     /// the draws and the calls of the stop. Both seats keep what has been seen. The seat comes back
     /// if its allowance is 1, and only then.
-    pub fn split(&self, seat: Seat) -> Result<(Seat, Seat), Seat>
+    ///
+    /// The second seat begins to draw from the stripe that is `apart` stripes behind the first
+    /// seat's. Nothing is promised about it: seats that begin at different stripes are only faster.
+    pub fn split(&self, seat: Seat, apart: usize) -> Result<(Seat, Seat), Seat>
         requires { IsSeatOf self.now seat }
         ensures tables { IfOk result (λ r. (r.0.table ≡ seat.table) × (r.1.table ≡ seat.table)) }
         ensures first { IfOk result (λ r. r.0.view ≡ first_half seat.view) }
@@ -197,7 +200,7 @@ impl Board {
         } = seat;
         let second_pass = self.table.shared.split_seat::<Halves>(&mut pass);
         let half = allowance / 2;
-        let next = if stripe + 1 < stripes { stripe + 1 } else { 0 };
+        let next = (stripe + apart % stripes) % stripes;
         let first = Seat {
             pass,
             stripe,

@@ -1,5 +1,7 @@
 //! The right of one thread to draw from a board. `specs/SeatInside.antt` defines how the fields of
 //! a seat relate to its view.
+ghost use Rattle.std.specs.Prelude.{◌≡◌};
+
 use crate::marks::Marks;
 use crate::view::View;
 use std::marker::Model;
@@ -27,4 +29,13 @@ impl Model for Seat {
     ghost view = { seat_model };
 
     ghost invariant = { IsValidSeat };
+}
+
+impl Seat {
+    /// Returns how many seats this one may be split into.
+    pub fn allowance(&self) -> usize
+        ensures { result ≡ self.now.view.allowance }
+    {
+        self.allowance
+    }
 }

@@ -72,7 +72,7 @@ fn a_seat_draws_its_own_stripe_first(rt: HostRuntime) -> Result<(), Fail> {
 fn two_threads_draw_each_number_once(rt: HostRuntime) -> Result<(), Fail> {
     let alloc = rt.alloc();
     let (board, seat) = Board::new(alloc, 255, 7)?;
-    let Ok((first, second)) = board.split(seat) else {
+    let Ok((first, second)) = board.split(seat, 1) else {
         panic!(rt; "a new seat can be split")
     };
     let ((first, some), (second, others)) = join(
@@ -123,7 +123,7 @@ fn draw_apart<R: Threads + Sync>(
     ensures of { IsSeatOf board.now result.0 }
     ensures allowance { result.0.view.allowance ≡ seat.view.allowance }
 {
-    let (first, second) = match board.split(seat) {
+    let (first, second) = match board.split(seat, 1) {
         Ok(halves) => halves,
         Err(seat) => {
             gate.arrive(64);
@@ -176,7 +176,7 @@ fn sixty_four_threads_draw_each_number_once(rt: HostRuntime) -> Result<(), Fail>
 #[test]
 fn a_stop_is_seen_on_the_same_thread(rt: HostRuntime) -> Result<(), Fail> {
     let (board, seat) = Board::new(rt.alloc(), 5, 3)?;
-    let Ok((mut first, mut second)) = board.split(seat) else {
+    let Ok((mut first, mut second)) = board.split(seat, 1) else {
         panic!(rt; "a new seat can be split")
     };
     let before = board.stopped(&mut second);
@@ -212,7 +212,7 @@ fn ask_with(board: &Board, mut seat: Seat) -> (Seat, bool)
 #[test]
 fn a_stop_from_another_thread_is_seen(rt: HostRuntime) -> Result<(), Fail> {
     let (board, seat) = Board::new(rt.alloc(), 5, 3)?;
-    let Ok((first, second)) = board.split(seat) else {
+    let Ok((first, second)) = board.split(seat, 1) else {
         panic!(rt; "a new seat can be split")
     };
     let (first, ()) = join(&rt, || stop_with(&board, first), || ());
@@ -227,7 +227,7 @@ fn a_stop_from_another_thread_is_seen(rt: HostRuntime) -> Result<(), Fail> {
 #[test]
 fn a_stop_is_seen_on_another_thread(rt: HostRuntime) -> Result<(), Fail> {
     let (board, seat) = Board::new(rt.alloc(), 5, 3)?;
-    let Ok((first, second)) = board.split(seat) else {
+    let Ok((first, second)) = board.split(seat, 1) else {
         panic!(rt; "a new seat can be split")
     };
     let first = stop_with(&board, first);

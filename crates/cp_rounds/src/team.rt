@@ -94,7 +94,7 @@ where
     if workers == 1 {
         return work(alloc, board, seat, wave, job, gate);
     }
-    let Ok((mut mine, theirs)) = board.split(seat) else {
+    let Ok((mut mine, theirs)) = board.split(seat, 1) else {
         unreachable!()
     };
     let fewer = workers / 2;
@@ -182,7 +182,7 @@ where
         let (seat, done) = work(alloc, board, seat, wave, job, gate);
         return (seat, done, aside);
     }
-    let Ok((mut mine, theirs)) = board.split(seat) else {
+    let Ok((mut mine, theirs)) = board.split(seat, 1) else {
         unreachable!()
     };
     let fewer = workers / 2;

@@ -1,0 +1,177 @@
+//! The places of the shifts, and the loop of a thread.
+
+ghost use Rattle.std.specs.Prelude.{◌≡◌, ◌<◌, IfOk, length};
+
+use crate::shift::{Sheets, Shift};
+use crate::work::Work;
+use std::alloc::{AllocError, Global};
+use std::hint;
+use std::sync::atomic::{AtomicU64, Ordering};
+use std::sync::{Mutex, Wait};
+
+// How many times a thread looks for a change before it sleeps.
+const LOOKS: u32 = 2_000;
+
+/// Waits until the word is no longer `seen`: looks for a while, and then sleeps.
+fn wait_for_change<R: Wait>(rt: &R, word: &AtomicU64, asleep: &AtomicU64, seen: u64) {
+    for _look in 0..LOOKS {
+        if word.load(Ordering::SeqCst) != seen {
+            return;
+        }
+        hint::spin_loop();
+    }
+    asleep.fetch_add(1, Ordering::SeqCst);
+    word.park(rt, (seen % 4_294_967_296) as u32);
+    asleep.fetch_sub(1, Ordering::SeqCst);
+}
+
+/// Changes the word, and wakes the threads that wait for it.
+fn change(word: &AtomicU64, asleep: &AtomicU64) {
+    word.fetch_add(1, Ordering::SeqCst);
+    if asleep.load(Ordering::SeqCst) > 0 {
+        word.wake_all();
+    }
+}
+
+// The place of one thread. A shift in it either waits for the thread or has come back. The next
+// wave may begin while shifts of the one before are still out, so there is room for two.
+#[derive(Drop)]
+struct Place<'a, C: Sheets> {
+    even: Mutex<Option<Shift<'a, C>>>,
+    odd: Mutex<Option<Shift<'a, C>>>,
+    // How many shifts have been laid here.
+    laid: AtomicU64,
+    asleep: AtomicU64,
+}
+
+impl<'a, C: Sheets> Place<'a, C> {
+    // Returns where the shift of a wave lies.
+    fn of(&self, wave: usize) -> &Mutex<Option<Shift<'a, C>>> {
+        if wave % 2 == 0 { &self.even } else { &self.odd }
+    }
+}
+
+/// A place for the shift of each thread but the calling one.
+#[derive(Drop)]
+pub struct Rack<'a, C: Sheets> {
+    places: Vec<Place<'a, C>>,
+    // How many shifts have come back.
+    back: AtomicU64,
+    asleep: AtomicU64,
+}
+
+/// How far the calling thread has gone through the places.
+#[derive(Drop)]
+pub(crate) struct Sweep {
+    place: usize,
+    back: u64,
+}
+
+impl<'a, C: Sheets> Rack<'a, C> {
+    /// Returns a rack with this many places, all of them empty.
+    ///
+    /// # Errors
+    ///
+    /// `AllocError` if memory runs out.
+    pub fn new(alloc: Global, threads: usize) -> Result<Rack<'a, C>, AllocError>
+        ensures { IfOk result (λ rack. length rack.places.items ≡ threads) }
+    {
+        let mut places = Vec::with_capacity(alloc, threads)?;
+        for _place in 0..threads {
+            places.push(Place {
+                even: Mutex::new(None),
+                odd: Mutex::new(None),
+                laid: AtomicU64::new(0),
+                asleep: AtomicU64::new(0),
+            })?;
+        }
+        Ok(Rack {
+            places,
+            back: AtomicU64::new(0),
+            asleep: AtomicU64::new(0),
+        })
+    }
+
+    /// Returns the number of places.
+    pub fn places(&self) -> usize
+        ensures { result ≡ length self.now.places.items }
+    {
+        self.places.len()
+    }
+
+    /// Lays a shift in a place, and wakes its thread. If there is no such place, the shift is lost.
+    pub(crate) fn lay<R: Wait>(&self, rt: &R, place: usize, shift: Shift<'a, C>) {
+        let Some(place) = self.places.get(place) else {
+            return;
+        };
+        let wave = shift.wave();
+        *place.of(wave).lock(rt) = Some(shift);
+        change(&place.laid, &place.asleep);
+    }
+
+    /// Returns the place and the count with which a sweep begins.
+    pub(crate) fn sweep(&self) -> Sweep {
+        Sweep {
+            place: 0,
+            back: self.back.load(Ordering::SeqCst),
+        }
+    }
+
+    /// Returns the next shift of a wave that lies in its place, whether it has come back or was
+    /// never taken. Waits until there is one.
+    pub(crate) fn take_back<R: Wait>(
+        &self,
+        rt: &R,
+        wave: usize,
+        sweep: &mut Sweep,
+    ) -> Shift<'a, C> {
+        for _ in rt.forever() {
+            let Some(place) = self.places.get(sweep.place) else {
+                wait_for_change(rt, &self.back, &self.asleep, sweep.back);
+                *sweep = self.sweep();
+                continue;
+            };
+            sweep.place = sweep.place.wrapping_add(1);
+            if let Some(shift) = place.of(wave).lock(rt).take() {
+                return shift;
+            }
+        }
+        unreachable!()
+    }
+
+    /// Works on each shift that is laid in a place, until one of them sees a stop.
+    pub fn serve<R: Wait, W: Work>(&self, rt: &R, place: usize, work: &W)
+        requires can { W.can work.now }
+    {
+        let Some(place) = self.places.get(place) else {
+            return;
+        };
+        let mut seen = 0;
+        for _ in rt.forever() {
+            wait_for_change(rt, &place.laid, &place.asleep, seen);
+            seen = place.laid.load(Ordering::SeqCst);
+            if !self.work_at(rt, &place.even, work) || !self.work_at(rt, &place.odd, work) {
+                return;
+            }
+        }
+    }
+
+    // Works on the shift in a place, if there is one that waits, and puts it back. Returns false if
+    // it sees a stop.
+    fn work_at<R: Wait, W: Work>(
+        &self,
+        rt: &R,
+        place: &Mutex<Option<Shift<'a, C>>>,
+        work: &W,
+    ) -> bool
+        requires can { W.can work.now }
+    {
+        let Some(mut shift) = place.lock(rt).take() else {
+            return true;
+        };
+        let goes_on = shift.work(rt, work);
+        *place.lock(rt) = Some(shift);
+        change(&self.back, &self.asleep);
+        goes_on
+    }
+}

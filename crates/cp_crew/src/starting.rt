@@ -1,0 +1,32 @@
+//! How the threads of a crew start.
+
+use crate::rack::Rack;
+use crate::shift::Sheets;
+use crate::work::Work;
+use std::alloc::AllocError;
+use std::sync::Wait;
+use std::thread::{Scope, Threads};
+
+/// Starts a thread for each place of the rack. Each of them ends when it sees a stop.
+///
+/// # Errors
+///
+/// `AllocError` if a thread could not be started. Those before it were started.
+pub fn start<'s, 'a, E, C: Sheets + Send + Sync, R: Threads + Wait + Sync, W: Work + Sync>(
+    rt: &'s R,
+    scope: &'s Scope<'s, E>,
+    rack: &'s Rack<'a, C>,
+    work: &'s W,
+) -> Result<(), AllocError>
+    requires can { W.can work.now }
+{
+    for place in 0..rack.places() {
+        let served = move ||
+            requires { W.can work.now }
+        { rack.serve(rt, place, work) };
+        if scope.spawn(served).is_err() {
+            return Err(AllocError);
+        }
+    }
+    Ok(())
+}

@@ -1,0 +1,216 @@
+//! A wave, as the calling thread sees it.
+
+ghost use Rattle.std.specs.Prelude.{◌≡◌, ◌<◌, ◌≤◌, ℕ, IfOk};
+ghost use Rattle.std.specs.Arc.{arc_value};
+ghost use Rattle.cp_board.specs.Models.{IsSeatOf};
+ghost use Rattle.cp_board.specs.Views.{IsDone};
+
+use crate::rack::Rack;
+use crate::shift::{Sheet, Sheets, Shift};
+use crate::work::{Work, draw_all};
+use cp_board::{Board, FULL_ALLOWANCE, MOST_NUMBERS, MOST_STRIPES, Seat};
+use std::alloc::{AllocError, Global};
+use std::marker::PhantomData;
+use std::snapshot::Snapshot;
+use std::sync::{Arc, OnceLock, OnceToken, Wait};
+
+/// The board of a wave with the calling thread's seat, and a shift for each helper. Making it takes
+/// memory, and nothing that is done with it afterwards does.
+#[derive(Drop)]
+pub struct Wave<'a, C: Sheets> {
+    /// The number of the wave among those that share their threads.
+    pub number: usize,
+    /// The number of the wave's chunks.
+    pub chunks: usize,
+    board: Arc<Board, Global>,
+    seat: Seat,
+    shifts: Vec<Shift<'a, C>>,
+    sheet: OnceToken<'a, Sheet>,
+    of: PhantomData<C>,
+    ghost cell: { sheet.of ≡ C.sheet number },
+    ghost board_is: { arc_value board ≡ sheet.value.value },
+    ghost seat_of: { IsSeatOf sheet.value.value seat },
+    ghost numbers: { sheet.value.value.shape.numbers ≡ chunks },
+}
+
+// Splits a seat into this many, or fewer if its allowance doesn't suffice: returns one of them, and
+// adds the others to `shifts`. The seats begin to draw from different stripes, as far as there are
+// enough.
+fn deal<'a, C: Sheets>(
+    sheet: &OnceToken<'a, Sheet>,
+    wave: usize,
+    board: &Arc<Board, Global>,
+    seat: Seat,
+    seats: usize,
+    shifts: &mut Vec<Shift<'a, C>>,
+) -> Result<Seat, AllocError>
+    requires cell { sheet.now.of ≡ C.sheet wave }
+    requires board { arc_value board.now ≡ sheet.now.value.value }
+    requires seat { IsSeatOf sheet.now.value.value seat }
+    ensures { IfOk result (IsSeatOf sheet.now.value.value) }
+{
+    if seats <= 1 {
+        return Ok(seat);
+    }
+    let given = seats / 2;
+    let kept = seats - given;
+    match board.split(seat, kept) {
+        Ok((mine, theirs)) => {
+            let theirs = deal(sheet, wave, board, theirs, given, shifts)?;
+            let shared = Arc::try_clone(board)?;
+            shifts.push(Shift::new(sheet, wave, shared, theirs))?;
+            deal(sheet, wave, board, mine, kept, shifts)
+        }
+        Err(seat) => Ok(seat),
+    }
+}
+
+// Joins the seat with all others of its board, which it waits for.
+fn collect<'a, C: Sheets, R: Wait>(
+    rt: &R,
+    rack: &Rack<'a, C>,
+    sheet: &OnceToken<'a, Sheet>,
+    wave: usize,
+    board: &Board,
+    mine: Seat,
+) -> Seat
+    requires cell { sheet.now.of ≡ C.sheet wave }
+    requires board { board.now ≡ sheet.now.value.value }
+    requires mine { IsSeatOf board.now mine }
+    requires done { IsDone mine.view }
+    ensures of { IsSeatOf board.now result }
+    ensures done { IsDone result.view }
+    ensures whole { result.view.allowance ≡ FULL_ALLOWANCE }
+{
+    let mut seat = mine;
+    let mut sweep = rack.sweep();
+    for _ in rt.forever() {
+        if seat.allowance() == FULL_ALLOWANCE {
+            return seat;
+        }
+        let shift = rack.take_back(rt, wave, &mut sweep);
+        if let Some(theirs) = shift.finish(sheet, wave) {
+            seat = board.join(seat, theirs);
+        }
+    }
+    unreachable!()
+}
+
+// Returns a board that nobody else draws from any more.
+fn owned<R: Wait>(rt: &R, board: Arc<Board, Global>) -> Board
+    ensures { result ≡ arc_value board }
+{
+    let mut shared = board;
+    for _ in rt.forever() {
+        match Arc::try_unwrap(shared) {
+            Ok(board) => return board,
+            Err(again) => shared = again,
+        }
+    }
+    unreachable!()
+}
+
+// Lays shifts in the first places.
+fn lay_all<'a, C: Sheets, R: Wait>(rt: &R, rack: &Rack<'a, C>, shifts: &mut Vec<Shift<'a, C>>) {
+    'lay: while let Some(shift) = shifts.pop() {
+        rack.lay(rt, shifts.len(), shift);
+    }
+}
+
+impl<'a, C: Sheets> Wave<'a, C> {
+    /// Returns a wave of `chunks` chunks, for this many workers, of which the calling thread is
+    /// one. The cell has to be empty: the sheet of the wave is written there.
+    ///
+    /// # Errors
+    ///
+    /// `AllocError` if memory runs out, or if the cell is written.
+    pub fn new<R: Wait>(
+        rt: &R,
+        alloc: Global,
+        cell: &'a OnceLock<Sheet>,
+        number: usize,
+        chunks: usize,
+        workers: usize,
+    ) -> Result<Wave<'a, C>, AllocError>
+        requires cell { cell.now.id ≡ C.sheet number }
+        requires chunks { chunks ≤ MOST_NUMBERS }
+        ensures number { IfOk result (λ wave. wave.number ≡ number) }
+        ensures chunks { IfOk result (λ wave. wave.chunks ≡ chunks) }
+    {
+        let stripes = workers.min(chunks).min(MOST_STRIPES).max(1);
+        let (board, seat) = Board::new(alloc, chunks, stripes)?;
+        let Ok(sheet) = cell.set(rt, Snapshot::of(&board)) else {
+            return Err(AllocError);
+        };
+        let Ok(board) = Arc::new(alloc, board) else {
+            return Err(AllocError);
+        };
+        let mut shifts = Vec::with_capacity(alloc, workers.saturating_sub(1))?;
+        let seat = deal(&sheet, number, &board, seat, workers, &mut shifts)?;
+        Ok(Wave {
+            number,
+            chunks,
+            board,
+            seat,
+            shifts,
+            sheet,
+            of: PhantomData,
+        })
+    }
+
+    /// Lays the shifts in the first places of the rack, and wakes their threads.
+    pub fn begin<R: Wait>(&mut self, rt: &R, rack: &Rack<'a, C>)
+        ensures number { self.new.number ≡ self.old.number }
+        ensures chunks { self.new.chunks ≡ self.old.chunks }
+    {
+        lay_all(rt, rack, &mut self.shifts);
+    }
+
+    /// Draws chunks and works on them until none is left, begins the next wave, and takes back all
+    /// shifts of this one. The board that it returns can be closed with the seat, which then says
+    /// that each chunk was drawn, and drawn once.
+    ///
+    /// The next wave begins before this one's shifts are back, so that no thread waits for another.
+    /// The places hold the shifts of two consecutive waves.
+    pub fn finish<R: Wait, W: Work>(
+        self,
+        rt: &R,
+        rack: &Rack<'a, C>,
+        next: Option<&mut Wave<'a, C>>,
+        work: &W,
+    ) -> (Board, Seat)
+        requires can { W.can work.now }
+        ensures of { IsSeatOf result.0 result.1 }
+        ensures board { result.0 ≡ arc_value self.entry.board }
+        ensures chunks { result.0.shape.numbers ≡ self.entry.chunks }
+        ensures done { IsDone result.1.view }
+        ensures whole { result.1.view.allowance ≡ FULL_ALLOWANCE }
+    {
+        let Wave {
+            number,
+            board,
+            mut seat,
+            sheet,
+            ..
+        } = self;
+        draw_all(rt, &board, &mut seat, number, work);
+        if let Some(next) = next {
+            next.begin(rt, rack);
+        }
+        let seat = collect(rt, rack, &sheet, number, &board, seat);
+        (owned(rt, board), seat)
+    }
+
+    /// Calls the stop, and lays the shifts, so that each thread that takes one sees the stop and
+    /// ends.
+    pub fn stop<R: Wait>(self, rt: &R, rack: &Rack<'a, C>) {
+        let Wave {
+            board,
+            mut seat,
+            mut shifts,
+            ..
+        } = self;
+        board.stop(&mut seat);
+        lay_all(rt, rack, &mut shifts);
+    }
+}
