@@ -50,3 +50,8 @@ module _ {X : Type 0} where
   got_at [] i h = absurd (Prim.omega arith)
   got_at (x ∷ xs) zero h = (x, refl)
   got_at (x ∷ xs) (suc i) h = got_at xs i (Prim.omega arith)
+
+  pub got_left : (xs ys : List X) (i : ℕ) (x : X) → slice_get xs i ≡ Some x → slice_get (xs ++ ys) i ≡ Some x
+  got_left [] ys i x e = absurd (none_some x e)
+  got_left (z ∷ xs) ys zero x e = e
+  got_left (z ∷ xs) ys (suc i) x e = got_left xs ys i x e

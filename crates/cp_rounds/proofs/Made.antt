@@ -19,8 +19,7 @@ use Rattle.cp_rounds.specs.MachineOf.{input_at, input_of, machine_with}
 use Rattle.cp_rounds.specs.Runs.{AreSame, RoundsMade, TurnsTaken}
 use Rattle.cp_rounds.specs.Turned.{moment_of, take_turn, with_turn_taken}
 use Rattle.cp_rounds.specs.declared.setting.Setting.{Setting}
-use Rattle.cp_rounds.proofs.Lists.{got_below, got_snoc, none_some, some_is}
-use Rattle.cp_rounds.proofs.Results.{got_left}
+use Rattle.cp_rounds.proofs.Lists.{got_below, got_left, got_snoc, none_some, some_is}
 use Rattle.cp_rounds.proofs.Rounds.{Remains, kernel_turn_is, longer, rounds_after, private_turns_made, set_apart, set_here, turned_count, turns_apart, turns_next, turns_remain}
 
 -- ---- Private states with their inputs

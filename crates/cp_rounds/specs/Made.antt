@@ -3,23 +3,10 @@ use Rattle.std.specs.Prelude.{◌≡◌, ◌≤◌, ◌+◌, ◌-◌, ℕ, suc, 
 use Rattle.cp_kernel.specs.KernelOf.{Bytes, HasRoomForAskers, HasRoomForBytes, kernel_of, transcripts_of}
 use Rattle.cp_kernel.specs.declared.kernel.Kernel.{Kernel}
 use Rattle.cp_model.specs.States.{numbers_from}
-use Rattle.cp_private.specs.Rooms.{HasRoomFor}
 use Rattle.cp_private.specs.States.{private_of}
 use Rattle.cp_private.specs.declared.private.Private.{Private}
 use Rattle.cp_machine_model.specs.Machines.{Machine, kernel_turns}
-use Rattle.cp_program.specs.View as view
 use Rattle.cp_rounds.specs.MachineOf.{input_at}
-use Rattle.cp_rounds.specs.Turned as plain
-use Rattle.cp_rounds.specs.declared.moment.Moment.{Moment}
-use Rattle.cp_rounds.specs.declared.setting.Setting.{Setting}
-
--- y is what the private turn of a round makes of the private state at index i, and has room for
--- what its kernel turn writes.
-pub record AfterPrivateTurn (g : Setting) (t : ℕ) (w : Moment) (xs : List Private) (i : ℕ) (y : Private) : Type 0 where
-  pub turned : (x : Private) → slice_get xs i ≡ Some x
-      → private_of y (input_at g.inputs.items i) ≡ plain.take_turn (view.program g.program) t w (private_of x (input_at g.inputs.items i))
-  pub number : (x : Private) → slice_get xs i ≡ Some x → y.number ≡ x.number
-  pub room : HasRoomFor y t
 
 -- The kernel and the first private states of the machine m are these.
 pub record Stands (m : Machine) (inputs : List Bytes) (ys : List Private) (k : Kernel) : Type 0 where

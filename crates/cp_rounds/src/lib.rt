@@ -9,18 +9,18 @@
 //! - `setting`, `parts`, `moment`: what no round changes, what rounds change, and the time of a
 //!   round.
 //! - `plan`, `tick`, `gate`: how rounds are made, and what is called before each turn.
-//! - `turns`, `closing`: private turns, and the end of a round.
-//! - `waves`, `generation`, `whole`, `team`, `worker`, `wave`: one round by threads of its own,
-//!   which draw chunks from a board and make new private states.
-//! - `run`, `round`, `desk`, `task`: many rounds by threads that are kept, which make turns in
-//!   place.
+//! - `turns`, `closing`: a private turn, and the end of a round.
+//! - `run`, `round`: rounds by threads that are kept, which draw the chunks of each wave from its
+//!   board.
+//! - `desk`, `task`, `desk_turns`: private turns on their way between threads, and how the threads
+//!   make them.
 #![tactic(auto)]
 
 mod chain;
 mod closing;
 mod desk;
+mod desk_turns;
 pub mod gate;
-mod generation;
 mod law;
 pub mod machine;
 mod moment;
@@ -32,10 +32,5 @@ mod run;
 mod setting;
 mod starting;
 mod task;
-mod team;
 pub mod tick;
 mod turns;
-mod wave;
-mod waves;
-mod whole;
-mod worker;

@@ -9,7 +9,6 @@ ghost use Rattle.cp_rounds.specs.InStates.{IsStarted, MakesRound, MakesRounds};
 ghost use Rattle.cp_rounds.specs.MachineOf.{input_of};
 ghost use Rattle.cp_rounds.specs.Views.{IsAfter, machine_of, processes_of};
 
-use crate::closing::close_round;
 use crate::gate::TurnGate;
 use crate::parts::Parts;
 use crate::plan::Plan;
@@ -17,7 +16,6 @@ use crate::run::make_rounds_of;
 use crate::setting::Setting;
 use crate::starting::first_parts;
 use crate::tick::Tick;
-use crate::waves::make_turns;
 use cp_machine_model::law;
 use cp_program::program::Program;
 use std::alloc::{AllocError, Global};
@@ -26,7 +24,17 @@ use std::sync::Wait;
 use std::thread::Threads;
 
 // How many rounds share their threads. Each of these rounds takes a cell.
-const ROUNDS_AT_ONCE: u32 = 4_096;
+const ROUNDS_AT_ONCE: usize = 4_096;
+
+// How many waves share their threads, if a round has no more. Each of these waves takes a cell.
+const WAVES_AT_ONCE: usize = 65_536;
+
+// Returns how many rounds of so many waves share their threads.
+fn rounds_at_once(waves: usize) -> u32
+    ensures { 0 < result }
+{
+    (WAVES_AT_ONCE / waves.max(1)).min(ROUNDS_AT_ONCE).max(1) as u32
+}
 
 /// A machine. The module `reading` has the calls that read it.
 #[derive(Drop)]
@@ -99,23 +107,10 @@ impl Machine {
         ensures processes { processes_of self.new ≡ processes_of self.old }
     {
         law::rounds();
-        let moment = self.setting.moment(self.rounds);
-        make_turns(
-            rt,
-            self.alloc,
-            &self.setting,
-            moment,
-            plan,
-            gate,
-            &mut self.parts,
-        )?;
-        close_round(
-            &self.setting,
-            &mut self.parts.privates,
-            &mut self.parts.kernel,
-        );
-        self.rounds += 1;
-        Ok(())
+        match self.make_rounds(rt, 1, plan, gate) {
+            Ok(()) => Ok(()),
+            Err(_) => Err(AllocError),
+        }
     }
 
     // Makes `rounds` rounds, by threads that are started once. `Err` has the number of rounds made.
@@ -183,7 +178,8 @@ impl Machine {
         law::rounds();
         let mut done = 0;
         'part: while done < rounds {
-            let count = (rounds - done).min(ROUNDS_AT_ONCE);
+            let at_once = rounds_at_once(plan.waves(self.parts.privates.len()));
+            let count = (rounds - done).min(at_once);
             match self.make_rounds(rt, count as usize, plan, gate) {
                 Ok(()) => done += count,
                 Err(made) => return Err(MemoryAt(done + made as u32 + 1)),

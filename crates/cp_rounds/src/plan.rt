@@ -1,9 +1,8 @@
 //! Plans: how long a turn is, and how a round is divided among workers.
 
-ghost use Rattle.std.specs.Prelude.{◌≡◌, ◌<◌, ◌≤◌, ◌-◌, ◌↔◌, IfErr, IfOk, IsOk, IsTrue};
+ghost use Rattle.std.specs.Prelude.{◌≡◌, ◌<◌, ◌≤◌, ◌+◌, ◌*◌, ◌/◌, ◌↔◌, ℕ, IfErr, IfOk, IsOk, IsTrue};
 ghost use Rattle.cp_rounds.specs.Plans.{AreInRange, IsFirstOut};
 
-use crate::wave::Wave;
 use cp_private::limits::L1;
 use cp_private::turn::Turn;
 
@@ -61,14 +60,35 @@ impl Plan {
         })
     }
 
-    /// Returns the wave of `processes` processes that begins at index `first`.
-    pub fn wave_from(&self, first: usize, processes: usize) -> Wave
-        requires first { first < processes }
-        ensures first { result.first ≡ first }
-        ensures end { (first < result.end) × (result.end ≤ processes) }
-        ensures whole { processes - first ≤ self.now.wave → result.end ≡ processes }
+    /// Returns how many waves a round of `processes` processes has.
+    pub fn waves(&self, processes: usize) -> usize
+        ensures { result ≤ processes }
     {
-        Wave::next(first, processes, self.wave as usize, self.chunk as usize)
+        let wave = self.wave as usize;
+        processes / wave + if processes % wave == 0 { 0 } else { 1 }
+    }
+
+    /// Returns how many chunks the wave at this index has, in a round of `processes` processes.
+    pub fn chunks(&self, wave: usize, processes: usize) -> usize
+        ensures most { result ≤ 255 }
+        ensures each { (j : ℕ) → j < self.now.wave → wave * self.now.wave + j < processes
+            → j / self.now.chunk < result }
+    {
+        let first = wave.saturating_mul(self.wave as usize);
+        let size = processes.saturating_sub(first).min(self.wave as usize);
+        let chunk = self.chunk as usize;
+        (size + chunk - 1) / chunk
+    }
+
+    /// Returns the indices of the processes of a chunk: that of the first one, and the one after
+    /// that of the last.
+    pub(crate) fn places(&self, wave: usize, chunk: usize) -> (usize, usize) {
+        let first = wave.saturating_mul(self.wave as usize);
+        let from = first.saturating_add(chunk.saturating_mul(self.chunk as usize));
+        let end = from
+            .saturating_add(self.chunk as usize)
+            .min(first.saturating_add(self.wave as usize));
+        (from, end)
     }
 
     /// Returns how many threads make the rounds of `processes` processes: at most one for each

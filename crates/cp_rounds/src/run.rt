@@ -1,11 +1,12 @@
 //! Rounds by threads that are kept from one round to the next. The module `round` makes each round.
 
-ghost use Rattle.std.specs.Prelude.{◌≡◌, ◌<◌, ◌+◌, ◌-◌, ◌*◌, ◌^◌, IfErr, IfOk, length};
-ghost use Rattle.cp_rounds.specs.Runs.{AreNamed, AreTimes, PartsAfter};
+ghost use Rattle.std.specs.Prelude.{◌≡◌, ◌<◌, ◌+◌, ◌-◌, ◌*◌, ◌^◌, IfErr, IfOk, length, slice_get};
+ghost use Rattle.cp_rounds.specs.Runs.{AreNamed, AreTimes, PartsAfter, name_of};
 ghost use Rattle.cp_rounds.specs.Tasks.{IsCourseOf};
 ghost use Rattle.cp_rounds.specs.declared.parts.Parts.{Parts};
 
 use crate::desk::Desk;
+use crate::desk_turns::DeskTurns;
 use crate::gate::TurnGate;
 use crate::law::settings_are_shared;
 use crate::parts::Parts;
@@ -13,102 +14,111 @@ use crate::plan::Plan;
 use crate::round::make_round;
 use crate::setting::Setting;
 use crate::task::{Course, Start};
+use cp_crew::{Rack, Sheet, Wave, start};
 use std::alloc::{AllocError, Global};
 use std::marker::Brand;
 use std::sync::{OnceLock, Wait};
 use std::thread;
 use std::thread::{Scope, Threads};
 
-// Makes a round for each cell. `Err` has the number of rounds made.
-fn make_rounds<'a, C: Course, R: Wait, G: TurnGate>(
+/// Returns the cell at an index.
+pub(crate) fn cell_at<'a, T>(cells: &'a [OnceLock<T>], index: usize) -> &'a OnceLock<T>
+    requires { index < length cells.now }
+    ensures { result.now.id ≡ name_of (slice_get cells.now index) }
+{
+    &cells[index]
+}
+
+/// What a run holds: how turns are made, and a cell for each of its rounds and waves.
+#[derive(Drop)]
+pub struct Run<'a, C: Course, G: TurnGate> {
+    /// The allocator from which the waves take their memory.
+    pub(crate) alloc: Global,
+    pub(crate) turns: DeskTurns<'a, C, G>,
+    pub(crate) rack: Rack<'a, C>,
+    /// The number of rounds that were made before the run.
+    pub(crate) done: u64,
+    /// The cells of the starts of its rounds.
+    pub(crate) cells: &'a [OnceLock<Start>],
+    /// The cells of the sheets of its waves, and of one more, which ends the threads.
+    pub(crate) sheets: &'a [OnceLock<Sheet>],
+    ghost cell_names: { AreNamed C.cell cells.now },
+    ghost sheet_names: { AreNamed C.sheet sheets.now },
+    ghost times: { AreTimes C.moment turns.setting.now done },
+    ghost few: { done + length cells.now < 2 ^ 64 },
+    ghost room: { length cells.now * turns.waves < length sheets.now },
+}
+
+impl<'a, C: Course, G: TurnGate> Run<'a, C, G> {
+    /// Returns the number of a wave of a round, among all waves of the run.
+    pub(crate) fn number_of(&self, round: usize, wave: usize) -> usize
+        requires round { round < length self.now.cells.now }
+        requires wave { wave < self.now.turns.waves }
+        ensures { result < length self.now.sheets.now }
+    {
+        // The number is below this one, so it fits.
+        let all = self.sheets.len();
+        prove!(all > 0);
+        round * self.turns.waves + wave
+    }
+
+    // Makes a round for each cell. `Err` has the number of rounds made.
+    fn make_rounds<R: Wait>(&self, rt: &R, parts: &mut Parts) -> Result<(), usize>
+        requires count { length self.now.turns.desk.tasks.items ≡ length
+            parts.old.privates.items }
+        ensures made { IfOk result (λ _. PartsAfter self.now.turns.setting.now
+            self.now.turns.plan.turn.steps self.now.done (length self.now.cells.now) parts.old
+            parts.new) }
+        ensures partly { IfErr result (λ n. (n < length self.now.cells.now)
+            × PartsAfter self.now.turns.setting.now self.now.turns.plan.turn.steps self.now.done n
+            parts.old parts.new) }
+        ensures count { length parts.new.privates.items ≡ length parts.old.privates.items }
+    {
+        for round in 0..self.cells.len() {
+            if make_round(rt, self, round, parts).is_err() {
+                return Err(round);
+            }
+        }
+        Ok(())
+    }
+}
+
+// Returns a last wave without chunks, whose stop ends the threads of a run.
+fn ending<'a, C: Course, R: Wait, G: TurnGate>(
     rt: &R,
-    desk: &Desk<'a, C>,
-    cells: &'a [OnceLock<Start>],
-    setting: &Setting,
-    done: u64,
-    plan: &Plan,
-    gate: &G,
-    parts: &mut Parts,
-) -> Result<(), usize>
-    requires count { length desk.now.tasks.items ≡ length parts.old.privates.items }
-    requires cells { AreNamed C.cell cells.now }
-    requires times { AreTimes C.moment setting.now done }
-    requires few { done + length cells.now < 2 ^ 64 }
-    requires course { IsCourseOf C.turned C.input C.most setting.now plan.now.turn.steps }
-    ensures made { IfOk result
-        (λ _. PartsAfter setting.now plan.now.turn.steps done (length cells.now) parts.old
-        parts.new) }
-    ensures partly { IfErr result
-        (λ n. (n < length cells.now)
-        × PartsAfter setting.now plan.now.turn.steps done n parts.old parts.new) }
-    ensures count { length parts.new.privates.items ≡ length parts.old.privates.items }
-{
-    for round in 0..cells.len() {
-        let cell = &cells[round];
-        let before = done + round as u64;
-        if make_round(rt, desk, cell, round, before, setting, plan, gate, parts).is_err() {
-            return Err(round);
-        }
-    }
-    Ok(())
+    run: &Run<'a, C, G>,
+) -> Result<Wave<'a, C>, AllocError> {
+    let last = run.sheets.len() - 1;
+    let workers = run.rack.places().saturating_add(1);
+    Wave::new(rt, run.alloc, cell_at(run.sheets, last), last, 0, workers)
 }
 
-// Starts the threads of a plan, except the calling one.
-fn start_threads<'s, 'a, E, C: Course + Send + Sync, R: Threads + Wait + Sync, G: TurnGate>(
-    rt: &'s R,
-    scope: &'s Scope<'s, E>,
-    desk: &'s Desk<'a, C>,
-    setting: &'s Setting,
-    plan: &Plan,
-    gate: &'s G,
-) -> Result<(), AllocError>
-    requires course { IsCourseOf C.turned C.input C.most setting.now plan.now.turn.steps }
-{
-    settings_are_shared();
-    let Plan { turn, chunk, .. } = *plan;
-    for number in 1..plan.threads(desk.processes()) {
-        let served = move ||
-            requires { IsCourseOf C.turned C.input C.most setting.now turn.steps }
-        { desk.serve(rt, number as u64, u64::from(chunk), setting, turn, gate) };
-        if scope.spawn(served).is_err() {
-            return Err(AllocError);
-        }
-    }
-    Ok(())
-}
-
-// Makes a round for each cell by the threads of a plan. The desk is closed when it returns, so that
-// all threads end.
+// Starts the threads of a run, and makes its rounds. The stop is called when it returns, so that all
+// threads end.
 fn make_rounds_at<'s, 'a, E, C: Course + Send + Sync, R: Threads + Wait + Sync, G: TurnGate>(
     rt: &'s R,
     scope: &'s Scope<'s, E>,
-    desk: &'s Desk<'a, C>,
-    cells: &'a [OnceLock<Start>],
-    setting: &'s Setting,
-    done: u64,
-    plan: &Plan,
-    gate: &'s G,
+    run: &'s Run<'a, C, G>,
     mut parts: Parts,
 ) -> (Parts, Result<(), usize>)
-    requires some { 0 < length cells.now }
-    requires count { length desk.now.tasks.items ≡ length parts.privates.items }
-    requires cells { AreNamed C.cell cells.now }
-    requires times { AreTimes C.moment setting.now done }
-    requires few { done + length cells.now < 2 ^ 64 }
-    requires course { IsCourseOf C.turned C.input C.most setting.now plan.now.turn.steps }
-    ensures made { IfOk result.1
-        (λ _. PartsAfter setting.now plan.now.turn.steps done (length cells.now) parts result.0) }
-    ensures partly { IfErr result.1
-        (λ n. (n < length cells.now)
-        × PartsAfter setting.now plan.now.turn.steps done n parts result.0) }
+    requires some { 0 < length run.now.cells.now }
+    requires count { length run.now.turns.desk.tasks.items ≡ length parts.privates.items }
+    ensures made { IfOk result.1 (λ _. PartsAfter run.now.turns.setting.now
+        run.now.turns.plan.turn.steps run.now.done (length run.now.cells.now) parts result.0) }
+    ensures partly { IfErr result.1 (λ n. (n < length run.now.cells.now)
+        × PartsAfter run.now.turns.setting.now run.now.turns.plan.turn.steps run.now.done n parts
+        result.0) }
     ensures count { length result.0.privates.items ≡ length parts.privates.items }
 {
-    if start_threads(rt, scope, desk, setting, plan, gate).is_err() {
-        desk.close();
+    settings_are_shared();
+    let Ok(ending) = ending(rt, run) else {
         return (parts, Err(0));
-    }
-    let made = make_rounds(rt, desk, cells, setting, done, plan, gate, &mut parts);
-    desk.close();
+    };
+    let made = match start(rt, scope, &run.rack, &run.turns) {
+        Ok(()) => run.make_rounds(rt, &mut parts),
+        Err(_) => Err(0),
+    };
+    ending.stop(rt, &run.rack);
     (parts, made)
 }
 
@@ -138,36 +148,24 @@ impl Holder for Parts {
     }
 }
 
-// Makes a round for each cell, by threads that are kept through all rounds.
+// Makes the rounds of a run, by threads that are kept through all rounds.
 fn make_rounds_kept<
-    'x,
+    's,
     'a,
     C: Course + Send + Sync,
     R: Threads + Wait + Sync,
     G: TurnGate,
     H: Holder,
->(
-    rt: &'x R,
-    desk: &'x Desk<'a, C>,
-    cells: &'a [OnceLock<Start>],
-    setting: &'x Setting,
-    done: u64,
-    plan: &'x Plan,
-    gate: &'x G,
-    held: H,
-) -> (H, Result<(), usize>)
-    requires some { 0 < length cells.now }
-    requires count { length desk.now.tasks.items ≡ length (H.holds held).privates.items }
-    requires cells { AreNamed C.cell cells.now }
-    requires times { AreTimes C.moment setting.now done }
-    requires few { done + length cells.now < 2 ^ 64 }
-    requires course { IsCourseOf C.turned C.input C.most setting.now plan.now.turn.steps }
-    ensures made { IfOk result.1
-        (λ _. PartsAfter setting.now plan.now.turn.steps done (length cells.now) (H.holds held)
+>(rt: &'s R, run: &'s Run<'a, C, G>, held: H) -> (H, Result<(), usize>)
+    requires some { 0 < length run.now.cells.now }
+    requires count { length run.now.turns.desk.tasks.items ≡ length
+        (H.holds held).privates.items }
+    ensures made { IfOk result.1 (λ _. PartsAfter run.now.turns.setting.now
+        run.now.turns.plan.turn.steps run.now.done (length run.now.cells.now) (H.holds held)
         (H.holds result.0)) }
-    ensures partly { IfErr result.1
-        (λ n. (n < length cells.now)
-        × PartsAfter setting.now plan.now.turn.steps done n (H.holds held) (H.holds result.0)) }
+    ensures partly { IfErr result.1 (λ n. (n < length run.now.cells.now)
+        × PartsAfter run.now.turns.setting.now run.now.turns.plan.turn.steps run.now.done n
+        (H.holds held) (H.holds result.0)) }
     ensures count { length (H.holds result.0).privates.items ≡ length
         (H.holds held).privates.items }
 {
@@ -175,35 +173,32 @@ fn make_rounds_kept<
         thread::scope_env(),
         rt,
         move |scope| -> (H, Result<(), usize>)
-            requires { (0 < length cells.now)
-                × (length desk.now.tasks.items ≡ length (H.holds held).privates.items)
-                × AreNamed C.cell cells.now × AreTimes C.moment setting.now done
-                × (done + length cells.now < 2 ^ 64)
-                × IsCourseOf C.turned C.input C.most setting.now plan.now.turn.steps }
-            ensures made { IfOk result.1
-                (λ _. PartsAfter setting.entry.now plan.entry.now.turn.steps done
-                (length cells.entry.now) (H.holds held) (H.holds result.0)) }
-            ensures partly { IfErr result.1
-                (λ n. (n < length cells.entry.now)
-                × PartsAfter setting.entry.now plan.entry.now.turn.steps done n (H.holds held)
-                (H.holds result.0)) }
+            requires { (0 < length run.now.cells.now)
+                × (length run.now.turns.desk.tasks.items ≡ length
+                (H.holds held).privates.items) }
+            ensures made { IfOk result.1 (λ _. PartsAfter run.entry.now.turns.setting.now
+                run.entry.now.turns.plan.turn.steps run.entry.now.done
+                (length run.entry.now.cells.now) (H.holds held) (H.holds result.0)) }
+            ensures partly { IfErr result.1 (λ n. (n < length run.entry.now.cells.now)
+                × PartsAfter run.entry.now.turns.setting.now run.entry.now.turns.plan.turn.steps
+                run.entry.now.done n (H.holds held) (H.holds result.0)) }
             ensures count { length (H.holds result.0).privates.items ≡ length
                 (H.holds held).privates.items }
         {
             let parts = held.into_parts();
-            let (parts, made) = make_rounds_at(
-                rt, scope, desk, cells, setting, done, plan, gate, parts,
-            );
+            let (parts, made) = make_rounds_at(rt, scope, run, parts);
             (H::of(parts), made)
         },
     )
 }
 
-// Makes a round for each cell, at a desk made for these rounds.
+// Makes a round for each cell, at a desk and by threads for these rounds.
 fn make_rounds_by_threads<C: Course + Send + Sync, R: Threads + Wait + Sync, G: TurnGate>(
     rt: &R,
     alloc: Global,
     cells: &[OnceLock<Start>],
+    sheets: &[OnceLock<Sheet>],
+    waves: usize,
     setting: &Setting,
     done: u64,
     plan: &Plan,
@@ -212,6 +207,8 @@ fn make_rounds_by_threads<C: Course + Send + Sync, R: Threads + Wait + Sync, G: 
 ) -> (Parts, Result<(), usize>)
     requires some { 0 < length cells.now }
     requires cells { AreNamed C.cell cells.now }
+    requires sheets { AreNamed C.sheet sheets.now }
+    requires room { length cells.now * waves < length sheets.now }
     requires times { AreTimes C.moment setting.now done }
     requires few { done + length cells.now < 2 ^ 64 }
     requires course { IsCourseOf C.turned C.input C.most setting.now plan.now.turn.steps }
@@ -222,21 +219,57 @@ fn make_rounds_by_threads<C: Course + Send + Sync, R: Threads + Wait + Sync, G: 
         × PartsAfter setting.now plan.now.turn.steps done n parts result.0) }
     ensures count { length result.0.privates.items ≡ length parts.privates.items }
 {
-    let Ok(desk) = Desk::<C>::new(alloc, parts.privates.len()) else {
+    let processes = parts.privates.len();
+    let threads = plan.threads(processes);
+    let Ok(desk) = Desk::<C>::new(alloc, processes) else {
         return (parts, Err(0));
     };
-    make_rounds_kept(rt, &desk, cells, setting, done, plan, gate, parts)
+    let Ok(rack) = Rack::<C>::new(alloc, threads.saturating_sub(1)) else {
+        return (parts, Err(0));
+    };
+    let run = Run {
+        alloc,
+        turns: DeskTurns {
+            desk,
+            setting,
+            plan: *plan,
+            gate,
+            waves,
+        },
+        rack,
+        done,
+        cells,
+        sheets,
+    };
+    make_rounds_kept(rt, &run, parts)
 }
 
-// Returns a cell for each round, none of them written.
-fn empty_cells(alloc: Global, rounds: usize) -> Result<Vec<OnceLock<Start>>, AllocError>
-    ensures { IfOk result (λ cells. length cells.items ≡ rounds) }
+// Returns this many cells, none of them written.
+fn empty_cells<T: Drop>(alloc: Global, count: usize) -> Result<Vec<OnceLock<T>>, AllocError>
+    ensures { IfOk result (λ cells. length cells.items ≡ count) }
 {
-    let mut cells = Vec::with_capacity(alloc, rounds)?;
-    for _round in 0..rounds {
+    let mut cells = Vec::with_capacity(alloc, count)?;
+    for _cell in 0..count {
         cells.push(OnceLock::new())?;
     }
     Ok(cells)
+}
+
+// Returns a cell for the sheet of each wave, and one more.
+fn empty_sheets(
+    alloc: Global,
+    rounds: usize,
+    waves: usize,
+) -> Result<Vec<OnceLock<Sheet>>, AllocError>
+    ensures { IfOk result (λ sheets. rounds * waves < length sheets.items) }
+{
+    let Some(all) = rounds.checked_mul(waves) else {
+        return Err(AllocError);
+    };
+    let Some(count) = all.checked_add(1) else {
+        return Err(AllocError);
+    };
+    empty_cells(alloc, count)
 }
 
 /// Makes `rounds` more rounds after the first `done`, by the threads of a plan, which are started
@@ -263,8 +296,14 @@ pub fn make_rounds_of<R: Threads + Wait + Sync, G: TurnGate>(
         (λ n. (n < rounds) × PartsAfter setting.now plan.now.turn.steps done n parts result.0) }
     ensures count { length result.0.privates.items ≡ length parts.privates.items }
 {
+    let waves = plan.waves(parts.privates.len());
     let Ok(cells) = empty_cells(alloc, rounds) else {
         return (parts, Err(0));
     };
-    make_rounds_by_threads::<Brand, R, G>(rt, alloc, &cells, setting, done, plan, gate, parts)
+    let Ok(sheets) = empty_sheets(alloc, rounds, waves) else {
+        return (parts, Err(0));
+    };
+    make_rounds_by_threads::<Brand, R, G>(
+        rt, alloc, &cells, &sheets, waves, setting, done, plan, gate, parts,
+    )
 }

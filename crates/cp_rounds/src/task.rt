@@ -9,10 +9,10 @@ ghost use Rattle.cp_machine_model.specs.PrivateStates.{PrivateState};
 ghost use Rattle.cp_rounds.specs.Tasks.{ComesOf, HasRoomLeft, IsCourseOf, IsShort};
 ghost use Rattle.cp_rounds.specs.declared.moment.Moment as declared;
 
-use crate::gate::TurnGate;
 use crate::moment::Moment;
 use crate::setting::Setting;
 use crate::turns::turn_in_place;
+use cp_crew::Sheets;
 use cp_private::private::Private;
 use cp_private::turn::Turn;
 use std::marker::{Brand, PhantomData};
@@ -23,7 +23,7 @@ use std::sync::OnceToken;
 pub type Start = Snapshot<Vec<Private>>;
 
 /// What is the same in all rounds of a run. Whoever begins the run chooses it.
-pub trait Course {
+pub trait Course: Sheets {
     /// What a turn makes of the content of a private state, at the time of a round.
     ghost turned: { declared.Moment → PrivateState → PrivateState };
 
@@ -58,7 +58,7 @@ pub struct Task<'a, C: Course> {
     round: usize,
     process: usize,
     moment: Moment,
-    made: bool,
+    pub(crate) made: bool,
     private: Private,
     start: OnceToken<'a, Start>,
     of: PhantomData<C>,
@@ -97,15 +97,19 @@ impl<'a, C: Course> Task<'a, C> {
         }
     }
 
-    /// Makes the turn, unless it has been made.
-    pub fn make<G: TurnGate>(&mut self, setting: &Setting, turn: Turn, gate: &G)
+    /// Returns whether the turn has been made.
+    pub fn is_made(&self) -> bool
+        ensures { result ≡ self.now.made }
+    {
+        self.made
+    }
+
+    /// Makes the turn.
+    pub fn make(&mut self, setting: &Setting, turn: Turn)
         requires turn { IsCourseOf C.turned C.input C.most setting.now turn.steps }
+        requires first { self.old.made ≡ false }
         ensures made { self.new.made ≡ true }
     {
-        if self.made {
-            return;
-        }
-        gate.begin(self.process);
         turn_in_place(setting, &mut self.private, self.process, self.moment, turn);
         self.made = true;
     }

@@ -43,15 +43,15 @@ fn a_plan_has_no_idle_threads(rt: HostRuntime) -> Result<(), Fail> {
     Ok(())
 }
 
+// 20 processes in waves of 8, and the waves in chunks of 3.
 #[test]
-fn a_wave_ends_with_the_last_process(rt: HostRuntime) -> Result<(), Fail> {
+fn the_last_wave_has_the_processes_that_are_left(rt: HostRuntime) -> Result<(), Fail> {
     let plan = Plan::new(1, 4, 3, 8)?;
-    for (first, end) in [(0, 8), (8, 16), (16, 20)] {
-        let wave = plan.wave_from(first, 20);
-        assert_eq!(rt; wave.first, first);
-        assert_eq!(rt; wave.end, end);
-        assert_eq!(rt; wave.chunk, 3);
+    assert_eq!(rt; plan.waves(20), 3);
+    for (wave, chunks) in [(0, 3), (1, 3), (2, 2)] {
+        assert_eq!(rt; plan.chunks(wave, 20), chunks, "wave {wave}");
     }
+    assert_eq!(rt; plan.waves(0), 0);
     Ok(())
 }
 

@@ -13,7 +13,7 @@ loop-i-init g c =
       ready = c.requires.ready;
       numbers = λ i x e. let below = got_below c.args.privates.now.items i x e in absurd (omega (arith, below, none));
       taken = λ rounds time.
-          none_taken c.args.setting.now c.args.plan.now.turn.steps rounds c.args.start.now.value.value.items c.args.privates.now.items c.args.kernel.now none;
+          none_taken c.args.run.now.turns.setting.now c.args.run.now.turns.plan.turn.steps rounds c.args.start.now.value.value.items c.args.privates.now.items c.args.kernel.now none;
     }
 
 pub loop-i-preserved : goal.loop-i-preserved

@@ -35,7 +35,7 @@ kernel_turn-requires-clause-asking g c =
 pub kernel_turn-requires-clause-output : goal.kernel_turn-requires-clause-output
 kernel_turn-requires-clause-output g c =
     let room = c.take-private.ensures.room in
-    let bytes = c.requires.course.bytes in
+    let bytes = c.args.turns.now.course.bytes in
     omega (arith, room, bytes)
 
 pub kernel_turn-requires-clause-transcript : goal.kernel_turn-requires-clause-transcript
@@ -44,7 +44,7 @@ kernel_turn-requires-clause-transcript g c = λ v there.
     let xs = c.args.start.now.value.value.items in
     let within = c.requires.within in
     let count = c.requires.count in
-    let bytes = c.requires.course.bytes in
+    let bytes = c.args.turns.now.course.bytes in
     let here : c.len-process.result ≡ n = search rules in
     let back : (c.len-process.result + 1) - 1 ≡ n = omega (arith, here) in
     let x = got_at xs n (omega (arith, within, count)) in
@@ -57,10 +57,10 @@ kernel_turn-requires-clause-transcript g c = λ v there.
 
 pub returns-clause-taken : goal.returns-clause-taken
 returns-clause-taken g c = λ rounds k time was.
-    let setting = c.args.setting.now in
+    let setting = c.args.turns.now.setting.now in
     let program = view.program setting.program in
     let inputs = setting.inputs.items in
-    let t = c.args.turn.steps in
+    let t = c.args.turns.now.plan.turn.steps in
     let ys = c.args.privates.now.items in
     let xs = c.args.start.now.value.value.items in
     let k1 = c.args.kernel.now in
@@ -69,7 +69,7 @@ returns-clause-taken g c = λ rounds k time was.
     let z = c.kernel_turn.new.private in
     let within = c.requires.within in
     let count = c.requires.count in
-    let course = c.requires.course in
+    let course = c.args.turns.now.course in
     let here : c.len-process.result ≡ length ys = search rules in
     let back : (c.len-process.result + 1) - 1 ≡ length ys = omega (arith, here) in
     let next : c.len-process.result + 1 ≡ suc (length ys) = omega (arith, here) in

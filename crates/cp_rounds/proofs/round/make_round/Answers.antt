@@ -1,4 +1,4 @@
-use Rattle.std.proofs.Common.{rules, ◌≡◌, List, length, sym, ◌∙◌, subst, arith}
+use Rattle.std.proofs.Common.{rules, ◌≡◌, ◌+◌, List, length, sym, ◌∙◌, subst, arith}
 use Rattle.cp_private.specs.declared.private.Private.{Private}
 use Rattle.cp_rounds.specs.Runs.{TurnsTaken}
 use Rattle.cp_rounds.proofs.Made.{one_round_made}
@@ -15,9 +15,9 @@ invariant_of-parts-2 g c =
 
 pub returns-clause-made : goal.returns-clause-made
 returns-clause-made g c =
-    let setting = c.args.setting.now in
-    let t = c.args.plan.now.turn.steps in
-    let rounds = c.args.rounds in
+    let setting = c.args.run.now.turns.setting.now in
+    let t = c.args.run.now.turns.plan.turn.steps in
+    let rounds = c.args.run.now.done + c.args.round in
     let before = c.args.parts.now in
     let ys = c.reserve_room.new.privates.items in
     let k1 = c.reserve_room.new.kernel in

@@ -5,11 +5,14 @@ use Rattle.cp_rounds.specs.Runs.{name_of}
 use Rattle.cp_rounds.specs.Turned as plain
 use Rattle.cp_rounds.proofs.run.make_rounds_of.Given as goal
 
-abbrev pub ghosts-make_rounds_by_threads : goal.ghosts-make_rounds_by_threads
-ghosts-make_rounds_by_threads g a = record {
+abbrev pub ghosts-make_rounds_by_threads-C-Course : goal.ghosts-make_rounds_by_threads-C-Course
+ghosts-make_rounds_by_threads-C-Course g a = record {
   turned = plain.take_turn (view.program a.setting.now.program) a.plan.now.turn.steps;
   moment = λ i. plain.moment_of a.setting.now.tick.rounds (a.done + i);
   input = input_at a.setting.now.inputs.items;
   most = 11 * a.plan.now.turn.steps;
   cell = λ i. name_of (slice_get a.cells.now i);
 }
+
+abbrev pub ghosts-make_rounds_by_threads-C-Sheets : goal.ghosts-make_rounds_by_threads-C-Sheets
+ghosts-make_rounds_by_threads-C-Sheets g a = record { sheet = λ i. name_of (slice_get a.sheets.now i) }

@@ -1,6 +1,6 @@
 use Rattle.std.proofs.Common.{rules, ◌≡◌, ◌∷◌, [], List, Some, slice_get, sym, subst}
 use Rattle.cp_private.specs.declared.private.Private.{Private}
-use Rattle.cp_rounds.proofs.Results.{got_left}
+use Rattle.cp_rounds.proofs.Lists.{got_left}
 use Rattle.cp_rounds.proofs.desk.Desk.put_all.Goals as goal
 
 pub put-preserved : goal.put-preserved

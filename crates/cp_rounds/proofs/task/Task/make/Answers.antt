@@ -16,7 +16,7 @@ invariant_of-self g c =
     let most = g.C.Course.most in
     let at = task.process - 1 in
     let input = g.C.Course.input at in
-    let made : task.made ≡ false = c.if-self.false in
+    let made : task.made ≡ false = c.requires.first in
     let course = c.requires.turn in
     let bytes = course.bytes in
     record {

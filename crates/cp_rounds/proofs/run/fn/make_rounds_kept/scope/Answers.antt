@@ -6,10 +6,10 @@ use Rattle.cp_rounds.proofs.run.fn.make_rounds_kept.scope.Goals as goal
 
 pub returns : goal.returns
 returns g c =
-    let setting = c.captures.setting.now in
-    let t = c.captures.plan.now.turn.steps in
-    let done = c.captures.done in
-    let n = length c.captures.cells.now in
+    let setting = c.captures.run.now.turns.setting.now in
+    let t = c.captures.run.now.turns.plan.turn.steps in
+    let done = c.captures.run.now.done in
+    let n = length c.captures.run.now.cells.now in
     let held = g.H.Holder.holds c.captures.held in
     let parts = c.into_parts-parts.result in
     let r = c.make_rounds_at-parts.result.1 in

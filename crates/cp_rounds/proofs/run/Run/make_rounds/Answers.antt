@@ -1,30 +1,21 @@
-use Rattle.std.proofs.Common.{◌≡◌, ◌+◌, ℕ, Some, slice_get, length, refl, sym, ap, ◌∙◌, subst, arith}
-use Rattle.cp_rounds.specs.Runs.{PartsAfter, name_of}
-use Rattle.cp_rounds.proofs.Lists.{got_or}
+use Rattle.std.proofs.Common.{◌≡◌, ◌+◌, ℕ, length, refl, sym, ◌∙◌, subst, arith}
+use Rattle.cp_rounds.specs.Runs.{PartsAfter}
 use Rattle.cp_rounds.proofs.Made.{more_rounds_made, no_round_made}
 use Rattle.cp_rounds.proofs.Outcomes.{from_err, from_ok}
 use Rattle.cp_rounds.proofs.Rooms.{all_same}
-use Rattle.cp_rounds.proofs.run.make_rounds.Goals as goal
+use Rattle.cp_rounds.proofs.run.Run.make_rounds.Goals as goal
 
 pub loop-round-init : goal.loop-round-init
 loop-round-init g c =
     let parts = c.args.parts.now in
     record {
       count = refl;
-      made = no_round_made c.args.setting.now c.args.plan.now.turn.steps c.args.done parts.privates.items parts.kernel parts.privates.items parts.kernel
+      made = no_round_made c.args.self.now.turns.setting.now c.args.self.now.turns.plan.turn.steps c.args.self.now.done parts.privates.items parts.kernel parts.privates.items parts.kernel
           (all_same parts.privates.items parts.kernel parts.kernel refl refl);
     }
 
 pub make_round-requires-clause-count : goal.make_round-requires-clause-count
 make_round-requires-clause-count g c = λ lives outlive. c.requires.count ∙ sym c.loop-round.invariant.count
-
-pub make_round-requires-clause-cell : goal.make_round-requires-clause-cell
-make_round-requires-clause-cell g c = λ lives outlive.
-    let cells = c.args.cells.now in
-    let cell = c.index-cells-round.result in
-    let below = c.loop-round-test.true in
-    let here : slice_get cells c.loop-round.round ≡ Some cell = got_or cells c.loop-round.round cell below ∙ ap (λ z. Some z) (sym c.index-cells-round.is) in
-    sym (c.requires.cells c.loop-round.round ∙ ap name_of here)
 
 pub loop-round-preserved : goal.loop-round-preserved
 loop-round-preserved g c =
@@ -34,7 +25,7 @@ loop-round-preserved g c =
     let after = c.make_round.new.parts in
     record {
       count = c.make_round.ensures.count ∙ was.count;
-      made = more_rounds_made c.args.setting.now c.args.plan.now.turn.steps c.args.done c.loop-round.round 1
+      made = more_rounds_made c.args.self.now.turns.setting.now c.args.self.now.turns.plan.turn.steps c.args.self.now.done c.loop-round.round 1
           first.privates.items before.privates.items after.privates.items first.kernel before.kernel after.kernel was.count was.made
           (from_ok c.make_round.result (sym c.if-is_err.ensures.value) c.make_round.ensures.made);
     }
@@ -48,8 +39,8 @@ returns-then-is_err-clause-partly g c =
     let below = c.loop-round-test.true in
     let e : c.loop-round.round + 0 ≡ c.loop-round.round = omega arith in (
       below,
-      subst (λ (n : ℕ). PartsAfter c.args.setting.now c.args.plan.now.turn.steps c.args.done n first after) e
-          (more_rounds_made c.args.setting.now c.args.plan.now.turn.steps c.args.done c.loop-round.round 0
+      subst (λ (n : ℕ). PartsAfter c.args.self.now.turns.setting.now c.args.self.now.turns.plan.turn.steps c.args.self.now.done n first after) e
+          (more_rounds_made c.args.self.now.turns.setting.now c.args.self.now.turns.plan.turn.steps c.args.self.now.done c.loop-round.round 0
           first.privates.items before.privates.items after.privates.items first.kernel before.kernel after.kernel was.count was.made
           (from_err c.make_round.result (sym c.if-is_err.ensures.value) c.make_round.ensures.kept)),
     )
@@ -60,6 +51,6 @@ returns-clause-made g c =
     let last = c.loop-round.parts in
     let past = c.loop-round-test.false in
     let bound = c.loop-round.auto.round-end in
-    let all : c.loop-round.round ≡ length c.args.cells.now = omega (arith, past, bound) in
-    subst (λ (n : ℕ). PartsAfter c.args.setting.now c.args.plan.now.turn.steps c.args.done n first last) all
+    let all : c.loop-round.round ≡ length c.args.self.now.cells.now = omega (arith, past, bound) in
+    subst (λ (n : ℕ). PartsAfter c.args.self.now.turns.setting.now c.args.self.now.turns.plan.turn.steps c.args.self.now.done n first last) all
     c.loop-round.invariant.made
