@@ -3,3 +3,4 @@ pub mod FirstPiece
 pub mod Lines
 pub mod Numerals
 pub mod Parts
+pub mod Within

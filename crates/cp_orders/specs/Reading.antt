@@ -1,13 +1,18 @@
 -- Which order texts are refused, and what the steps of reading add.
-use Rattle.std.specs.Prelude.{◌≡◌, ℕ, List, ◌++◌, None, Option, Some, if◌then◌else◌, length, nat_le}
+use Rattle.std.specs.Prelude.{◌≡◌, ℕ, List, ◌++◌, None, Option, Some, if◌then◌else◌, length, nat_le, slice_get}
 use Rattle.cp_model.specs.OrderText.{NotALine, OrderText, order_text}
 use Rattle.cp_model.specs.Rounds.{Event}
+use Rattle.cp_machine_model.specs.Replays.{AreWithin}
 use Rattle.cp_orders.specs.declared.reading.OrderError.{OrderError}
 use Rattle.cp_orders.specs.declared.reading.OrderError.TheVariants as error
 
 -- A text for n processes, which is refused at the limit if it is longer.
 abbrev pub judged : ℕ → List ℕ → OrderText
 judged n text = if nat_le (length text) 1048576 then order_text n text else NotALine 1048576
+
+-- All rounds have only events of the processes 1 to n.
+abbrev pub AllWithin : ℕ → List (List Event) → Type 0
+AllWithin n rounds = (i : ℕ) (events : List Event) → slice_get rounds i ≡ Some events → AreWithin n events
 
 -- The error says why the text is refused, unless memory ran out.
 abbrev pub Refuses : ℕ → List ℕ → OrderError → Type 0

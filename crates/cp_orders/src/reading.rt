@@ -3,7 +3,7 @@
 ghost use Rattle.std.specs.Prelude.{◌≡◌, ◌<◌, ◌≤◌, ◌+◌, ◌∷◌, Some, IfErr, IfOk, length};
 ghost use Rattle.cp_model.specs.OrderText.{Orders as Told, line_events, lines_of};
 ghost use Rattle.cp_orders.specs.Events.{events_of};
-ghost use Rattle.cp_orders.specs.Reading.{FailsAt, Refuses, appended, judged};
+ghost use Rattle.cp_orders.specs.Reading.{AllWithin, FailsAt, Refuses, appended, judged};
 ghost use Rattle.cp_orders.specs.Rounds.{rounds_of};
 ghost use Rattle.cp_orders.specs.declared.reading.OrderError.TheVariants.{Memory};
 
@@ -129,10 +129,12 @@ fn read_lines(alloc: Global, text: &[u8], processes: usize) -> Result<Orders, Or
 /// is too long, whatever it contains. `Memory` only says that memory was refused.
 pub fn read_orders(alloc: Global, text: &[u8], processes: usize) -> Result<Orders, OrderError>
     ensures ok { IfOk result (λ orders. judged processes text.now ≡ Told (rounds_of orders)) }
+    ensures within { IfOk result (λ orders. AllWithin processes (rounds_of orders)) }
     ensures refused { IfErr result (Refuses processes text.now) }
 {
     if text.len() > LONGEST_ORDER {
         return Err(OrderError::Line { at: LONGEST_ORDER });
     }
-    read_lines(alloc, text, processes)
+    let orders = read_lines(alloc, text, processes)?;
+    Ok(orders)
 }

@@ -4,14 +4,16 @@ use Rattle.cp_program_model.specs.Programs as code
 use Rattle.cp_program_model.specs.Programs.{Program}
 use Rattle.cp_kernel.specs.KernelOf.{Bytes}
 use Rattle.cp_model.specs.Rounds as meaning
+use Rattle.cp_model.specs.Rounds.{Event}
 use Rattle.cp_model.specs.Start.{start}
 use Rattle.cp_model.specs.States.{Setup, State, numbers_from, process_count}
 use Rattle.cp_machine_model.specs.InState.{IsIn}
 use Rattle.cp_machine_model.specs.Machines as plain
 use Rattle.cp_machine_model.specs.Machines.{first_machine, first_part, first_parts}
 use Rattle.cp_machine_model.specs.PrivateStates.{PrivateState}
-use Rattle.cp_machine_model.specs.RoundLaws.{RoundIsRound, RoundsAreRun, StartIsIn}
-use Rattle.cp_rounds.specs.InStates.{IsStarted, MakesRounds}
+use Rattle.cp_machine_model.specs.RoundLaws.{LawfulReplayIsRound, ReplayIsReplay, RoundIsRound, RoundsAreRun, StartIsIn}
+use Rattle.cp_machine_model.specs.Replays.{AreWithin, replay}
+use Rattle.cp_rounds.specs.InStates.{IsStarted, MakesReplay, MakesRounds}
 use Rattle.cp_rounds.specs.MachineOf.{input_of}
 use Rattle.cp_rounds.specs.Views.{machine_of, processes_of}
 use Rattle.cp_rounds.specs.declared.machine.Machine.{Machine}
@@ -59,3 +61,13 @@ pub makes_rounds : (t n : ℕ) (old new : Machine) → RoundsAreRun → machine_
 makes_rounds t n old new law made setup s I =
     let same = made ∙ ap (λ k. plain.phased_rounds t (numbers_from 1 k) n (machine_of old)) (process_count_is old setup s I) in
     subst (λ o. IsIn o setup (meaning.run setup t n s)) (sym same) (law (machine_of old) setup s t n I)
+
+pub makes_replay : (t : ℕ) (events : List Event) (old new : Machine) → ReplayIsReplay → LawfulReplayIsRound → AreWithin (processes_of old) events
+    → machine_of new ≡ replay t events (machine_of old) → MakesReplay t events old new
+makes_replay t events old new any lawful within made = record {
+  replay = λ setup s I.
+      subst (λ o. IsIn o setup (meaning.replay_round setup t s events)) (sym made)
+      (any (machine_of old) setup s t events (subst (λ (n : ℕ). AreWithin n events) (process_count_is old setup s I) within) I);
+  lawful = λ setup s L I.
+      subst (λ o. IsIn o setup (meaning.sequential_round setup t s)) (sym made) (lawful (machine_of old) setup s t events L I);
+}

@@ -190,7 +190,7 @@ process_made g t rounds xs k0 ys x y z k k' here is number turn was =
 
 -- ---- Whole rounds
 
-same_machine : (a b : Machine) → a.program ≡ b.program → a.tick ≡ b.tick → a.kernel ≡ b.kernel → a.parts ≡ b.parts → a.transcripts ≡ b.transcripts
+pub same_machine : (a b : Machine) → a.program ≡ b.program → a.tick ≡ b.tick → a.kernel ≡ b.kernel → a.parts ≡ b.parts → a.transcripts ≡ b.transcripts
     → a.rounds ≡ b.rounds → a ≡ b
 same_machine a b p t k o ts r = λ i. record {
   program = p i;

@@ -39,7 +39,7 @@ mapped_twice {Z = Z} f g (x ∷ xs) = ap (λ (l : List Z). f (g x) ∷ l) (mappe
 
 -- ---- Private turns
 
-private_turn_is : (t : ℕ) (m : Machine) (p : ℕ) (o : PrivateState) → slice_get m.parts (p - 1) ≡ Some o
+pub private_turn_is : (t : ℕ) (m : Machine) (p : ℕ) (o : PrivateState) → slice_get m.parts (p - 1) ≡ Some o
     → private_turn t m p ≡ record m { parts = slice_set m.parts (p - 1) (private_steps m.program (clock m) t o) }
 private_turn_is t m p o e =
     ap (λ (r : Option PrivateState).

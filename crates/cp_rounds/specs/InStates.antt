@@ -3,9 +3,10 @@ use Rattle.std.specs.Prelude.{◌≡◌, ◌≤◌, ℕ, List, length}
 use Rattle.cp_program_model.specs.Programs.{Program}
 use Rattle.cp_program_model.specs.StandsFor.{StandsFor}
 use Rattle.cp_kernel.specs.KernelOf.{Bytes}
-use Rattle.cp_model.specs.Rounds.{phased_round, run}
+use Rattle.cp_model.specs.Orders.{IsLawful}
+use Rattle.cp_model.specs.Rounds.{Event, phased_round, replay_round, run, sequential_round}
 use Rattle.cp_model.specs.Start.{start}
-use Rattle.cp_model.specs.States.{Setup, State}
+use Rattle.cp_model.specs.States.{Setup, State, processes}
 use Rattle.cp_machine_model.specs.InState.{IsIn}
 use Rattle.cp_rounds.specs.MachineOf.{input_of}
 use Rattle.cp_rounds.specs.Views.{machine_of}
@@ -28,3 +29,11 @@ MakesRound t old new = (setup : Setup) (s : State) → IsIn (machine_of old) set
 -- Whatever state it was in, it is now in the state that one processor reaches by n rounds.
 abbrev pub MakesRounds : ℕ → ℕ → Machine → Machine → Type 0
 MakesRounds t n old new = (setup : Setup) (s : State) → IsIn (machine_of old) setup s → IsIn (machine_of new) setup (run setup t n s)
+
+-- Whatever state it was in, it is now in the state that these events lead to, with kernel turns of
+-- at most t steps. If their order is lawful, that is the state that one processor reaches by one
+-- round.
+pub record MakesReplay (t : ℕ) (events : List Event) (old new : Machine) : Type 0 where
+  pub replay : (setup : Setup) (s : State) → IsIn (machine_of old) setup s → IsIn (machine_of new) setup (replay_round setup t s events)
+  pub lawful : (setup : Setup) (s : State) → IsLawful t (processes setup) events → IsIn (machine_of old) setup s
+      → IsIn (machine_of new) setup (sequential_round setup t s)

@@ -14,12 +14,15 @@
 //!   board.
 //! - `desk`, `task`, `desk_turns`: private turns on their way between threads, and how the threads
 //!   make them.
+//! - `replay`, `copies`, `events`: one round in any order of events, on the calling thread.
 #![tactic(auto)]
 
 mod chain;
 mod closing;
+mod copies;
 mod desk;
 mod desk_turns;
+mod events;
 pub mod gate;
 mod law;
 pub mod machine;
@@ -27,6 +30,7 @@ mod moment;
 mod parts;
 pub mod plan;
 pub mod reading;
+pub mod replay;
 mod round;
 mod run;
 mod setting;

@@ -130,7 +130,7 @@ fn askers_are_served_first_come(rt: HostRuntime) -> Result<(), Fail> {
     Ok(())
 }
 
-const AHEAD: &str = "type m = monitor; var q: queue;
+pub(crate) const AHEAD: &str = "type m = monitor; var q: queue;
       procedure entry w; begin delay(q); display(1); display(1) end;
       procedure entry s; begin display(8); display(8); continue(q) end;
       procedure entry t; begin display(4) end; begin end;

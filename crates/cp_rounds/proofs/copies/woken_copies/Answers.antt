@@ -1,0 +1,37 @@
+use Rattle.std.proofs.Common.{◌≡◌, ◌≤◌, ℕ, List, [], Some, length, slice_get, sym, ap, ◌∙◌, subst, arith}
+use Rattle.cp_private.specs.declared.private.Private.{Private}
+use Rattle.cp_rounds.specs.Replayed.{EachWoken}
+use Rattle.cp_rounds.proofs.Lists.{got_or}
+use Rattle.cp_rounds.proofs.Replays.{none_woken, one_woken}
+use Rattle.cp_rounds.proofs.Rounds.{longer}
+use Rattle.cp_rounds.proofs.copies.woken_copies.Goals as goal
+
+pub loop-private-init : goal.loop-private-init
+loop-private-init c =
+    let none : c.in_ok-copies.copies.items ≡ [] = c.in_ok-copies.ensures.items in
+    record { count = ap length none; each = none_woken c.args.wakes c.args.privates.now c.in_ok-copies.copies.items none }
+
+pub loop-private-preserved : goal.loop-private-preserved
+loop-private-preserved c =
+    let wakes = c.args.wakes in
+    let xs = c.args.privates.now in
+    let ys = c.loop-private.copies.items in
+    let x = c.private-item.result in
+    let y = c.in_ok-woken_copy.field-0 in
+    let was = c.loop-private.invariant in
+    let count = was.count in
+    let items = c.in_ok-push.ensures.items in
+    let more = ap (λ (l : List Private). length l) items ∙ longer ys y in
+    let here : slice_get xs (length ys) ≡ Some x =
+    ap (λ (i : ℕ). slice_get xs i) count ∙ (got_or xs c.loop-private.private-index x c.loop-private-test.true ∙ ap (λ (z : Private). Some z) (sym c.private-item.is)) in
+    record {
+      count = omega (arith, more, count);
+      each = subst (λ (l : List Private). EachWoken wakes xs l) (sym items) (one_woken wakes xs ys x y here c.in_ok-woken_copy.ensures was.each);
+    }
+
+pub returns : goal.returns
+returns c =
+    let past = c.loop-private-test.false in
+    let bound = c.loop-private.auto.private-index-end in
+    let count = c.loop-private.invariant.count in
+    record { count = omega (arith, past, bound, count); each = c.loop-private.invariant.each }

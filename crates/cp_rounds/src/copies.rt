@@ -1,0 +1,40 @@
+//! Copies of private states, as a round begins with them.
+
+ghost use Rattle.std.specs.Prelude.{◌≡◌, ℕ, List, IfOk};
+ghost use Rattle.cp_private.specs.States.{private_of};
+ghost use Rattle.cp_rounds.specs.Replayed.{AreWoken};
+ghost use Rattle.cp_rounds.specs.Turned.{woken};
+
+use cp_private::private::Private;
+use std::alloc::{AllocError, Global};
+
+// Returns a copy of a private state. If `wakes`, a process that waits goes on in it.
+fn woken_copy(alloc: Global, private: &Private, wakes: bool) -> Result<Private, AllocError>
+    ensures { IfOk result
+        (λ x. (input : List ℕ) → private_of x input ≡ woken wakes (private_of private.now input)) }
+{
+    let mut copy = private.copy(alloc)?;
+    if wakes {
+        copy.wake();
+    }
+    Ok(copy)
+}
+
+/// Returns copies of private states. If `wakes`, the processes that wait go on in them.
+///
+/// # Errors
+///
+/// `AllocError` if memory runs out.
+pub fn woken_copies(
+    alloc: Global,
+    privates: &[Private],
+    wakes: bool,
+) -> Result<Vec<Private>, AllocError>
+    ensures { IfOk result (λ copies. AreWoken wakes privates.now copies.items) }
+{
+    let mut copies = Vec::with_capacity(alloc, privates.len())?;
+    for private in privates {
+        copies.push(woken_copy(alloc, private, wakes)?)?;
+    }
+    Ok(copies)
+}

@@ -1,0 +1,80 @@
+//! A round in any order of events, lawful or not, on the calling thread.
+
+ghost use Rattle.std.specs.Prelude.{◌≡◌, ◌<◌, ◌+◌, ◌-◌, ◌^◌, IfErr, IfOk, length};
+ghost use Rattle.cp_machine_model.specs.Replays as plain;
+ghost use Rattle.cp_machine_model.specs.Replays.{AreWithin};
+ghost use Rattle.cp_orders.specs.Events.{events_of};
+ghost use Rattle.cp_rounds.specs.InStates.{MakesReplay};
+ghost use Rattle.cp_rounds.specs.MachineOf.{machine_with};
+ghost use Rattle.cp_rounds.specs.Views.{machine_of, processes_of};
+
+use crate::closing::close_round;
+use crate::copies::woken_copies;
+use crate::events::make_events;
+use crate::machine::Machine;
+use crate::parts::Parts;
+use crate::setting::Setting;
+use cp_machine_model::law;
+use cp_orders::event::Event;
+use cp_private::turn::Turn;
+use std::alloc::{AllocError, Global};
+
+// Returns what the round after the first `rounds` rounds makes of the parts of a machine, if it
+// consists of these events.
+fn replayed(
+    alloc: Global,
+    setting: &Setting,
+    rounds: u64,
+    parts: &Parts,
+    events: &[Event],
+    turn: Turn,
+) -> Result<Parts, AllocError>
+    requires count { rounds < 2 ^ 64 - 1 }
+    requires within { AreWithin (length parts.now.privates.items) (events_of events.now) }
+    ensures made { IfOk result
+        (λ next. machine_with setting.now (rounds + 1) next.privates.items next.kernel
+        ≡ plain.replay turn.steps (events_of events.now)
+        (machine_with setting.now rounds parts.now.privates.items parts.now.kernel)) }
+    ensures count { IfOk result
+        (λ next. length next.privates.items ≡ length parts.now.privates.items) }
+{
+    let moment = setting.moment(rounds);
+    let mut privates = woken_copies(alloc, &parts.privates, moment.wakes)?;
+    let mut kernel = parts.kernel.copy(alloc)?;
+    make_events(setting, moment, turn, events, &mut privates, &mut kernel)?;
+    close_round(setting, &mut privates, &mut kernel);
+    Ok(Parts { privates, kernel })
+}
+
+impl Machine {
+    /// Makes one round of these events, in their order, whether it is lawful or not: at first the
+    /// processes that wait go on if it is time, and at the end those that were started begin. No
+    /// gate is called.
+    ///
+    /// # Errors
+    ///
+    /// `AllocError` if memory runs out. The machine is then as it was.
+    pub fn replay(&mut self, events: &[Event], turn: Turn) -> Result<(), AllocError>
+        requires count { self.old.rounds < 2 ^ 64 - 1 }
+        requires numbers { AreWithin (processes_of self.old) (events_of events.now) }
+        ensures made { IfOk result (λ _. machine_of self.new ≡ plain.replay turn.steps
+            (events_of events.now) (machine_of self.old)) }
+        ensures state { IfOk result
+            (λ _. MakesReplay turn.steps (events_of events.now) self.old self.new) }
+        ensures kept { IfErr result (λ _. self.new ≡ self.old) }
+        ensures processes { processes_of self.new ≡ processes_of self.old }
+    {
+        law::replays();
+        let parts = replayed(
+            self.alloc,
+            &self.setting,
+            self.rounds,
+            &self.parts,
+            events,
+            turn,
+        )?;
+        self.parts = parts;
+        self.rounds += 1;
+        Ok(())
+    }
+}
