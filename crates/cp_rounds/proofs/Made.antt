@@ -71,11 +71,6 @@ module _ (t : ℕ) (m : Machine) (inputs : List Bytes) where
   pub none_made : (k : Kernel) → kernel_of k ≡ m.kernel → transcripts_of k ≡ m.transcripts → TurnsMade t m inputs 0 [] k
   none_made k e f = record { kernel = e; transcripts = f; parts = λ i y g. absurd (none_some y g) }
 
-  -- Another kernel with the same content.
-  pub kept_made : (i : ℕ) (ys : List Private) (k k' : Kernel) → kernel_of k' ≡ kernel_of k → transcripts_of k' ≡ transcripts_of k
-      → TurnsMade t m inputs i ys k → TurnsMade t m inputs i ys k'
-  kept_made i ys k k' e f was = record { kernel = e ∙ was.kernel; transcripts = f ∙ was.transcripts; parts = was.parts }
-
   -- With more private turns made.
   pub more_made : (i : ℕ) (ys zs : List Private) (k : Kernel)
       → ((j : ℕ) (z : Private) → slice_get zs j ≡ Some z

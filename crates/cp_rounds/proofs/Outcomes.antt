@@ -3,10 +3,6 @@ use Rattle.std.specs.Prelude.{◌≡◌, true, false}
 use Rattle.std.proofs.Common.{arith, Result, Ok, Err, IfErr, IfOk}
 use Rattle.std.specs.Result.{is_err}
 
-pub if_err : {T E : Type 0} {Q : Type 0} (r : Result T E) → Q → IfErr r (λ x. Q)
-if_err (Ok x) q = tt
-if_err (Err e) q = q
-
 pub from_err : {T E : Type 0} {Q : Type 0} (r : Result T E) → is_err r ≡ true → IfErr r (λ x. Q) → Q
 from_err (Ok x) e h = absurd (Prim.grind (arith, e))
 from_err (Err x) e h = h

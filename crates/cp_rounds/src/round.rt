@@ -189,9 +189,12 @@ fn finish_all<'a, C: Course, R: Wait, G: TurnGate>(
 // How many steps make it worth waking a thread.
 const STEPS_A_THREAD: u64 = 5_000;
 
-// Returns how many threads, besides the calling one, are worth waking: none if no process has a
-// step to make, and otherwise at least one.
-fn helpers(privates: &[Private], turn: Turn) -> usize {
+// Returns how many threads, besides the calling one, are worth waking: all of them if the gate has
+// to be called for each process, none if no process has a step to make, and otherwise at least one.
+fn helpers<G: TurnGate>(privates: &[Private], turn: Turn, gate: &G) -> usize {
+    if !gate.does_nothing() {
+        return usize::MAX;
+    }
     let running = privates
         .iter()
         .filter(|private| private.activity() == Activity::Running)
@@ -262,7 +265,7 @@ pub fn make_round<'a, C: Course, R: Wait, G: TurnGate>(
     } = &run.turns;
     reserve_room(&mut parts.privates, &mut parts.kernel, plan.turn)?;
     let moment = setting.moment(run.done + round as u64);
-    let helpers = helpers(&parts.privates, plan.turn).min(run.rack.places());
+    let helpers = helpers(&parts.privates, plan.turn, run.turns.gate).min(run.rack.places());
     let waves = waves_of(rt, run, round, helpers + 1)?;
     // Only this round writes its cell, but no contract says so.
     let Ok(start) = cell_at(run.cells, round).set(rt, Snapshot::of(&parts.privates)) else {

@@ -6,12 +6,11 @@ use crate::rounds::SEVENS;
 use crate::ways::Way;
 use std::test::Fail;
 
-// Processes that always have a step to make, because threads sleep while no process has one.
-const TWO: &str =
-    "type p = process; begin cycle begin end end end; var a, b: p; begin init a, b end.";
+// From round 4 on all processes have ended, and the gate is still called for each of them.
+const TWO: &str = "type p = process; begin display(7) end; var a, b: p; begin init a, b end.";
 
-const FOUR: &str = "type p = process; begin cycle begin end end end;
-    var a, b, c, d: p; begin init a, b, c, d end.";
+const FOUR: &str =
+    "type p = process; begin display(7) end; var a, b, c, d: p; begin init a, b, c, d end.";
 
 #[test]
 fn two_private_turns_are_made_at_once(rt: HostRuntime) -> Result<(), Fail> {
