@@ -17,8 +17,6 @@ mod processes;
 #[cfg(test)]
 mod refusals;
 #[cfg(test)]
-mod replays;
-#[cfg(test)]
 mod rounds;
 #[cfg(test)]
 mod texts;
