@@ -18,8 +18,8 @@ use Rattle.cp_grammar.proofs.TextComplete.{tree_is_unique}
 use Rattle.cp_syntax.specs.Refusals.{HasNoTree}
 use Rattle.cp_execute.specs.declared.refusal.Refusal.{Refusal}
 use Rattle.cp_execute.specs.declared.refusal.Refusal.TheVariants as refusal
-use Rattle.cp_execute.specs.Executed.{IsFault, IsFaultOfAccepted, IsFaultOrOfInput, RefusesInput, RefusesText, front}
-use Rattle.cp_execute.specs.Cutting.{judge_input}
+use Rattle.cp_execute.specs.Executed.{IsFault, IsFaultOfAccepted, IsFaultOrOfInput, RefusesText}
+use Rattle.cp_execute.specs.Takings.{front}
 use Rattle.cp_execute.specs.Texts.{IsAccepted, IsTextOf, Refuses}
 use Rattle.cp_execute.proofs.TextRefusals.{of_known}
 
@@ -62,9 +62,9 @@ is_fault xs t refusal.Memory is h = tt
 is_fault xs t refusal.Read is h = tt
 is_fault xs t refusal.Write is h = tt
 is_fault xs t (refusal.Scan c at) is h = not_scanned xs is.text.tokens c at is.text.within is.text.spelled h
-is_fault xs t (refusal.Unexpected at) is h = not_parsed xs t h.0 is.text h.1 h.2.0
-is_fault xs t (refusal.Unfinished at) is h = not_parsed xs t h.0 is.text h.1 h.2.0
-is_fault xs t (refusal.TooDeep at) is h = not_parsed xs t h.0 is.text h.1 h.2.0
+is_fault xs t (refusal.Unexpected at) is h = not_parsed xs t h.1 is.text h.2 h.3.0
+is_fault xs t (refusal.Unfinished at) is h = not_parsed xs t h.1 is.text h.2 h.3.0
+is_fault xs t (refusal.TooDeep at) is h = not_parsed xs t h.1 is.text h.2 h.3.0
 is_fault xs t (refusal.Check rule at) is h =
     not_told t (record { rule = rule; at = at }) is.accepted (subst (λ (u : s.Tree). first_violation u ≡ Some (record { rule = rule; at = at })) (one_tree xs h.0 t h.1 is.text) h.2)
 is_fault xs t (refusal.InputByte at) is h = h
@@ -90,30 +90,13 @@ text_fault xs t (refusal.Check rule at) is h = front_fault xs t (refusal.Check r
 text_fault xs t (refusal.InputByte at) is h = h
 text_fault xs t refusal.InputSize is h = h
 
--- ---- refusals of an input
-
-input_fault : (ys : List ℕ) (e : Refusal) → RefusesInput ys e → IsFault e ⊎ (judge_input (front ys) ≡ Err e)
-input_fault ys refusal.Read h = inl tt
-input_fault ys refusal.Memory h = inl tt
-input_fault ys (refusal.Scan c at) h = inr h
-input_fault ys (refusal.Unexpected at) h = inr h
-input_fault ys (refusal.Unfinished at) h = inr h
-input_fault ys (refusal.TooDeep at) h = inr h
-input_fault ys (refusal.Check rule at) h = inr h
-input_fault ys (refusal.InputByte at) h = inr h
-input_fault ys refusal.InputSize h = inr h
-input_fault ys refusal.Write h = inr h
-
 -- ---- known texts and inputs
 
 pub known_fault : (known : Option (List ℕ)) (e : Refusal) → IfSome known (λ xs. RefusesText xs e) → IsFaultOfAccepted known e
 known_fault known e h xs t same is = text_fault xs t e is (of_known (λ zs. RefusesText zs e) known xs h same)
 
 pub known_text_fault : (text input : Option (List ℕ)) (e : Refusal) → IfSome text (λ xs. RefusesText xs e) → IsFaultOrOfInput text input e
-known_text_fault text input e h xs ys t same known is = inl (known_fault text e h xs t same is)
-
-pub known_input_fault : (text input : Option (List ℕ)) (e : Refusal) → IfSome input (λ ys. RefusesInput ys e) → IsFaultOrOfInput text input e
-known_input_fault text input e h xs ys t same known is = input_fault ys e (of_known (λ zs. RefusesInput zs e) input ys h known)
+known_text_fault text input e h xs t same is = inl (known_fault text e h xs t same is)
 
 pub write_fault : (e : Refusal) → e ≡ refusal.Write → IsFault e
 write_fault e w = subst (λ (r : Refusal). IsFault r) (sym w) tt

@@ -2,4 +2,5 @@ pub mod Bytes
 pub mod Parts
 pub mod Starts
 pub mod TextRefusals
+pub mod Takings
 pub mod Faults

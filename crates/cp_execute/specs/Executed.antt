@@ -1,6 +1,6 @@
 -- What the commands promise about the bytes that they read and write.
-use Rattle.std.specs.Prelude.{◌≡◌, ◌≤◌, ◌⊎◌, ℕ, List, [], ◌∷◌, ◌++◌, Option, Some, Ok, Err, IfSome, codes, false, length, take}
-use Rattle.std.specs.Io.KnownBytes.{Appends}
+use Rattle.std.specs.Prelude.{◌≡◌, ◌≤◌, ◌⊎◌, ℕ, List, [], ◌∷◌, ◌++◌, Option, Some, Result, Ok, Err, IfSome, codes, length, take}
+use Rattle.std.specs.Io.KnownBytes.{Appends, Keeps}
 use Rattle.cp_model.specs.Syntax as s
 use Rattle.cp_model.specs.Erase as erase
 use Rattle.cp_model.specs.Input.{cut}
@@ -16,20 +16,18 @@ use Rattle.cp_execute.specs.declared.execute.Job.TheVariants as job
 use Rattle.cp_execute.specs.Cutting.{judge_input}
 use Rattle.cp_execute.specs.Texts.{IsAccepted}
 use Rattle.cp_execute.specs.Texts as texts
+use Rattle.cp_execute.specs.Takings.{AppendsSome, IsAboutInput, TakesInput, concern, front}
 
 abbrev pub setup_of : s.Tree → List ℕ → ℕ → Setup
 setup_of t input tick = record { tree = erase.abstract t; inputs = cut input; tick = tick }
 
--- The report of the state that a single processor reaches after `run.rounds` rounds from the start.
--- In each round the processes take their whole turns, private and kernel, one after another.
-abbrev pub due : Run → s.Tree → List ℕ → List ℕ
-due run t input =
+-- The bytes are the report of the state that a single processor reaches after `run.rounds` rounds
+-- from the start. In each round the processes take their whole turns, private and kernel, one after
+-- another.
+abbrev pub IsDue : Run → s.Tree → List ℕ → List ℕ → Type 0
+IsDue run t input bytes =
     let setup = setup_of t input run.tick.rounds in
-    report setup (r.run setup run.plan.turn.steps run.rounds (start setup))
-
--- The part of a text or an input that is read.
-abbrev pub front : List ℕ → List ℕ
-front xs = take 1048577 xs
+    bytes ≡ report setup (r.run setup run.plan.turn.steps run.rounds (start setup))
 
 abbrev pub acceptance : List ℕ
 acceptance = codes "accepted" ++ 10 ∷ []
@@ -38,24 +36,23 @@ acceptance = codes "accepted" ++ 10 ∷ []
 abbrev pub Accepts : Option (List ℕ) → Option (List ℕ) → Option (List ℕ) → Type 0
 Accepts text old new = (xs : List ℕ) → text ≡ Some xs → (t : s.Tree) × IsAccepted xs t × Appends old new acceptance
 
--- If the text and the input are known, then the text is accepted, and the report that is due was
--- written.
+-- If the text is known, then it is accepted. If the input is known too, it isn't refused, and the
+-- report that is due was written.
 abbrev pub Reports : Run → Option (List ℕ) → Option (List ℕ) → Option (List ℕ) → Option (List ℕ) → Type 0
 Reports run text input old new =
-    (xs ys : List ℕ) → text ≡ Some xs → input ≡ Some ys → (t : s.Tree) × IsAccepted xs t × Appends old new (due run t ys)
+    (xs : List ℕ) → text ≡ Some xs
+    → (t : s.Tree) × IsAccepted xs t
+    × ((ys : List ℕ) → input ≡ Some ys → (judge_input ys ≡ Ok tt) × (bytes : List ℕ) × IsDue run t ys bytes × Appends old new bytes)
 
--- After a write that failed: if the text is known, it is accepted, and a prefix of the line was
--- written.
+-- After a write that failed: the same, and a prefix of the line or of the report was written.
 abbrev pub BeginsAcceptance : Option (List ℕ) → Option (List ℕ) → Option (List ℕ) → Type 0
-BeginsAcceptance text old new =
-    (xs : List ℕ) → text ≡ Some xs → (t : s.Tree) × IsAccepted xs t × (n : ℕ) × (n ≤ length acceptance) × Appends old new (take n acceptance)
+BeginsAcceptance text old new = (xs : List ℕ) → text ≡ Some xs → (t : s.Tree) × IsAccepted xs t × AppendsSome old new acceptance
 
--- After a write that failed: if the text and the input are known, the text is accepted, and a
--- prefix of the report that is due was written.
 abbrev pub BeginsReport : Run → Option (List ℕ) → Option (List ℕ) → Option (List ℕ) → Option (List ℕ) → Type 0
 BeginsReport run text input old new =
-    (xs ys : List ℕ) → text ≡ Some xs → input ≡ Some ys
-    → (t : s.Tree) × IsAccepted xs t × (n : ℕ) × (n ≤ length (due run t ys)) × Appends old new (take n (due run t ys))
+    (xs : List ℕ) → text ≡ Some xs
+    → (t : s.Tree) × IsAccepted xs t
+    × ((ys : List ℕ) → input ≡ Some ys → (judge_input ys ≡ Ok tt) × (bytes : List ℕ) × IsDue run t ys bytes × AppendsSome old new bytes)
 
 -- ---- refusals
 
@@ -69,10 +66,14 @@ RefusesInput ys refusal.Read = Unit {0}
 RefusesInput ys refusal.Memory = Unit {0}
 RefusesInput ys e = judge_input (front ys) ≡ Err e
 
--- A run is refused because of the text or, if that is accepted, because of the input. Running out
--- of memory says nothing.
-abbrev pub RefusesRun : List ℕ → List ℕ → Refusal → Type 0
-RefusesRun xs ys e = RefusesText xs e ⊎ (((t : s.Tree) × IsAccepted xs t) × RefusesInput ys e)
+-- Why an input is refused, if it is known.
+abbrev pub RefusesInputOf : Option (List ℕ) → Refusal → Type 0
+RefusesInputOf input e = IsAboutInput (concern e) × IfSome input (λ ys. RefusesInput ys e)
+
+-- The run of a text is refused because of the text or, if that is accepted, because of the input.
+-- Running out of memory says nothing.
+abbrev pub RefusesRun : List ℕ → Option (List ℕ) → Refusal → Type 0
+RefusesRun xs input e = RefusesText xs e ⊎ (((t : s.Tree) × IsAccepted xs t) × RefusesInputOf input e)
 
 -- Running out of memory, and a read or a write that failed. These say nothing about the text.
 abbrev pub IsFault : Refusal → Type 0
@@ -87,8 +88,7 @@ IsFaultOfAccepted text e = (xs : List ℕ) (t : s.Tree) → text ≡ Some xs →
 
 -- The run of a known text that is accepted is refused only with a fault or because of the input.
 abbrev pub IsFaultOrOfInput : Option (List ℕ) → Option (List ℕ) → Refusal → Type 0
-IsFaultOrOfInput text input e =
-    (xs ys : List ℕ) (t : s.Tree) → text ≡ Some xs → input ≡ Some ys → IsAccepted xs t → IsFault e ⊎ (judge_input (front ys) ≡ Err e)
+IsFaultOrOfInput text input e = (xs : List ℕ) (t : s.Tree) → text ≡ Some xs → IsAccepted xs t → IsFault e ⊎ RefusesInputOf input e
 
 -- ---- jobs
 
@@ -102,12 +102,17 @@ abbrev pub Begins : Job → Option (List ℕ) → Option (List ℕ) → Option (
 Begins job.Check text input old new = BeginsAcceptance text old new
 Begins (job.Run run) text input old new = BeginsReport run text input old new
 
--- Why a job was refused, if the text is known and, for a run, the input too.
+-- Why a job was refused, if the text is known.
 abbrev pub Refuses : Job → Option (List ℕ) → Option (List ℕ) → Refusal → Type 0
 Refuses job.Check text input e = IfSome text (λ xs. RefusesText xs e)
-Refuses (job.Run run) text input e = (xs ys : List ℕ) → text ≡ Some xs → input ≡ Some ys → RefusesRun xs ys e
+Refuses (job.Run run) text input e = IfSome text (λ xs. RefusesRun xs input e)
 
 -- An accepted text is refused only with a fault, and its run also because of the input.
 abbrev pub RefusesAccepted : Job → Option (List ℕ) → Option (List ℕ) → Refusal → Type 0
 RefusesAccepted job.Check text input e = IsFaultOfAccepted text e
 RefusesAccepted (job.Run run) text input e = IsFaultOrOfInput text input e
+
+-- What was read of the input: a check leaves it as it was.
+abbrev pub TakesInputFor : Job → Result (Unit {0}) Refusal → Option (List ℕ) → Option (List ℕ) → Type 0
+TakesInputFor job.Check r old new = Keeps old new
+TakesInputFor (job.Run run) r old new = TakesInput r old new

@@ -26,7 +26,7 @@ pub record IsAccepted (bytes : List ℕ) (t : s.Tree) : Type 0 where
   pub accepted : Accepted t
 
 abbrev pub RefusesTokens : List ℕ → SyntaxError → Type 0
-RefusesTokens text e = (tokens : List Token) × Spells text tokens × Refused tokens (length text) e
+RefusesTokens text e = (length text ≤ longest_text) × (tokens : List Token) × Spells text tokens × Refused tokens (length text) e
 
 -- Why a text isn't accepted. Running out of memory says nothing about the text.
 abbrev pub Refuses : List ℕ → Refusal → Type 0

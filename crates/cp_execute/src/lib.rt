@@ -1,7 +1,8 @@
 //! From the bytes of a text and of an input to the bytes of the report, or to a refusal.
 //!
 //! - `execute`: the jobs, from the bytes of readers to those of a writer.
-//! - `reading`: reads a text or an input. `checking`: parses a text and judges its tree.
+//! - `sources`: reads a text that is accepted, and an input that is fit. `reading`: reads bytes.
+//! - `checking`: parses a text and judges its tree.
 //! - `cutting`: checks an input and cuts it into the inputs of the processes.
 //! - `running`: builds and runs the program of an accepted text, and makes the report.
 //! - `writing`: writes the result. `refusal`: why a command has no result.
@@ -16,4 +17,5 @@ pub mod execute;
 pub mod reading;
 pub mod refusal;
 pub mod running;
+mod sources;
 pub mod writing;

@@ -1,7 +1,8 @@
 //! Reading a text or an input, up to one byte more than either may have.
 
-ghost use Rattle.std.specs.Prelude.{◌≡◌, ◌+◌, ◌++◌, ◌<◌, ◌≤◌, ℕ, IfErr, IfOk, IfSome, List, OnErr, length, take, vec_len};
+ghost use Rattle.std.specs.Prelude.{◌≡◌, ◌+◌, ◌++◌, ◌<◌, ◌≤◌, ℕ, IfErr, IfOk, IfSome, List, OnErr, OnOk, length, take, vec_len};
 ghost use Rattle.std.specs.Io.KnownBytes.{Consumes, IsAtEnd, Keeps};
+ghost use Rattle.cp_execute.specs.Takings.{TakesFront, TakesUpTo, front};
 ghost use Rattle.cp_execute.specs.declared.reading.ReadError.TheVariants as error;
 
 use std::alloc::{AllocError, Global};
@@ -57,6 +58,8 @@ fn read_part<R: Read>(reader: &mut R, text: &mut Vec<u8>) -> Result<usize, ReadE
     ensures end { IfOk result (λ n. n ≡ 0 → IsAtEnd (R.remaining reader.new)) }
     ensures failed { IfErr result
         (λ e. e ≡ error.Read → Keeps (R.remaining reader.old) (R.remaining reader.new)) }
+    ensures taken { OnErr result ((bs : List ℕ) × (vec_len text.old + length bs ≤ 1048577)
+        × Consumes (R.remaining reader.old) (R.remaining reader.new) bs) }
 {
     let mut buffer = [0u8; LONGEST_PART];
     let room = (MOST_READ - text.len()).min(LONGEST_PART);
@@ -74,12 +77,12 @@ fn read_part<R: Read>(reader: &mut R, text: &mut Vec<u8>) -> Result<usize, ReadE
 /// `Read` if a read fails, `Memory` if memory runs out.
 pub fn read_text<R: Read>(alloc: Global, reader: &mut R) -> Result<Vec<u8>, ReadError>
     ensures bytes { IfOk result
-        (λ text. IfSome (R.remaining reader.old) (λ xs. text.items ≡ take 1048577 xs)) }
-    ensures consumed { IfOk result
-        (λ text. Consumes (R.remaining reader.old) (R.remaining reader.new) text.items) }
+        (λ text. IfSome (R.remaining reader.old) (λ xs. text.items ≡ front xs)) }
+    ensures front { OnOk result (TakesFront (R.remaining reader.old) (R.remaining reader.new)) }
     ensures most { IfOk result (λ text. vec_len text ≤ 1048577) }
     ensures failed { IfErr result (λ e. e ≡ error.Read → (bs : List ℕ) × (length bs < 1048577)
         × Consumes (R.remaining reader.old) (R.remaining reader.new) bs) }
+    ensures taken { OnErr result (TakesUpTo (R.remaining reader.old) (R.remaining reader.new)) }
 {
     let mut text = Vec::new(alloc);
     while text.len() < MOST_READ {

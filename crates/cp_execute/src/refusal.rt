@@ -1,9 +1,11 @@
 //! Why a command has no result: the line that it writes then, and its exit status.
 
 ghost use Rattle.std.specs.Prelude.{◌≡◌};
-ghost use Rattle.cp_execute.specs.Refusals.{exit_status, of_scan};
+ghost use Rattle.cp_execute.specs.Refusals.{exit_status, of_read, of_scan};
 ghost use Rattle.cp_execute.specs.declared.refusal.Refusal.TheVariants as refusal;
 
+use crate::reading::ReadError;
+use crate::writing::WriteFailed;
 use cp_model::rules::{Rule, Violation};
 use cp_scan::{Cause, ScanError};
 use cp_scope::CompileError;
@@ -85,6 +87,25 @@ impl<T: Drop> From<AllocFailed<T>> for Refusal {
 
     fn from(_error: AllocFailed<T>) -> Refusal {
         Refusal::Memory
+    }
+}
+
+impl From<ReadError> for Refusal {
+    ghost from_gives = { λ error r. r ≡ of_read error };
+
+    fn from(error: ReadError) -> Refusal {
+        match error {
+            ReadError::Read => Refusal::Read,
+            ReadError::Memory => Refusal::Memory,
+        }
+    }
+}
+
+impl From<WriteFailed> for Refusal {
+    ghost from_gives = { λ _ r. r ≡ refusal.Write };
+
+    fn from(_error: WriteFailed) -> Refusal {
+        Refusal::Write
     }
 }
 

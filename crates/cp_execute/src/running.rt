@@ -3,7 +3,7 @@
 ghost use Rattle.std.specs.Prelude.{◌≡◌, false, IfErr, IfOk};
 ghost use Rattle.cp_model.specs.Rules.{Accepted};
 ghost use Rattle.cp_model.specs.View as view;
-ghost use Rattle.cp_execute.specs.Executed.{due};
+ghost use Rattle.cp_execute.specs.Executed.{IsDue};
 ghost use Rattle.cp_execute.specs.declared.refusal.Refusal.TheVariants as refusal;
 
 use crate::cutting::cut_input;
@@ -44,7 +44,7 @@ pub(crate) fn report_of<H: Threads + Wait + Sync, G: TurnGate>(
 ) -> Result<Vec<u8>, Refusal>
     requires accepted { Accepted (view.tree tree.now) }
     ensures report { IfOk result
-        (λ bytes. bytes.items ≡ due run.now (view.tree tree.now) input.now) }
+        (λ bytes. IsDue run.now (view.tree tree.now) input.now bytes.items) }
     ensures memory { IfErr result (λ e. e ≡ refusal.Memory) }
 {
     reports();

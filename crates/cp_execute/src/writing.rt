@@ -1,8 +1,11 @@
 //! Writing all bytes of a slice, where each write may take only some of them.
 
-ghost use Rattle.std.specs.Prelude.{◌≡◌, ◌<◌, ◌≤◌, ℕ, IfOk, OnErr, OnOk, length, take};
+ghost use Rattle.std.specs.Prelude.{◌≡◌, ◌<◌, ◌≤◌, IfErr, IfOk, OnErr, OnOk, length, take};
 ghost use Rattle.std.specs.Io.KnownBytes.{Appends, Keeps};
+ghost use Rattle.cp_execute.specs.Takings.{AppendsSome};
+ghost use Rattle.cp_execute.specs.declared.refusal.Refusal.TheVariants as refusal;
 
+use crate::refusal::Refusal;
 use std::io::Write;
 
 /// A write failed, or took nothing.
@@ -32,12 +35,27 @@ fn write_part<W: Write>(out: &mut W, part: &[u8]) -> Result<usize, WriteFailed>
 /// has then been written.
 pub fn write_all<W: Write>(out: &mut W, bytes: &[u8]) -> Result<(), WriteFailed>
     ensures whole { OnOk result (Appends (W.contents out.old) (W.contents out.new) bytes.now) }
-    ensures beginning { OnErr result ((n : ℕ) × (n ≤ length bytes.now)
-        × Appends (W.contents out.old) (W.contents out.new) (take n bytes.now)) }
+    ensures beginning { OnErr result
+        (AppendsSome (W.contents out.old) (W.contents out.new) bytes.now) }
 {
     let mut written = 0;
     while written < bytes.len() {
         written += write_part(out, &bytes[written..])?;
     }
+    Ok(())
+}
+
+/// Writes the result of a command.
+///
+/// # Errors
+///
+/// I2 if a write fails. A prefix of the result has then been written.
+pub(crate) fn write_result<W: Write>(out: &mut W, bytes: &[u8]) -> Result<(), Refusal>
+    ensures whole { OnOk result (Appends (W.contents out.old) (W.contents out.new) bytes.now) }
+    ensures beginning { OnErr result
+        (AppendsSome (W.contents out.old) (W.contents out.new) bytes.now) }
+    ensures write { IfErr result (λ e. e ≡ refusal.Write) }
+{
+    write_all(out, bytes)?;
     Ok(())
 }

@@ -5,7 +5,7 @@ use Rattle.std.specs.Io.KnownBytes.{Appends}
 use Rattle.cp_model.specs.Syntax as s
 use Rattle.cp_model.specs.Decimal.{natural}
 use Rattle.cp_model.specs.RulesJudged.{number_of}
-use Rattle.cp_execute.specs.Executed.{front}
+use Rattle.cp_execute.specs.Takings.{front}
 use Rattle.cp_execute.specs.Refusals.{scan_number}
 use Rattle.cp_execute.specs.Texts.{IsAccepted, Refuses}
 use Rattle.cp_execute.specs.declared.refusal.Refusal.{Refusal}

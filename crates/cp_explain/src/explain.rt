@@ -4,7 +4,8 @@
 ghost use Rattle.std.specs.Prelude.{◌≡◌, ◌++◌, IfErr, IfOk, IfSome, None, OnErr, OnOk, Some};
 ghost use Rattle.std.specs.Io.KnownBytes.{Keeps};
 ghost use Rattle.cp_model.specs.View as view;
-ghost use Rattle.cp_execute.specs.Executed.{IsFault, front};
+ghost use Rattle.cp_execute.specs.Executed.{IsFault};
+ghost use Rattle.cp_execute.specs.Takings.{front};
 ghost use Rattle.cp_execute.specs.Texts.{IsTextOf, Refuses};
 ghost use Rattle.cp_execute.specs.declared.refusal.Refusal.TheVariants as refusal;
 ghost use Rattle.cp_explain.specs.Explained.{Begins, Explains, Wrote, code_of, heading, place_of};

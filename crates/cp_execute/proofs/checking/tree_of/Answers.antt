@@ -9,4 +9,4 @@ returns-clause-refused c =
     let spelled = c.in-Ok.ensures.spelled in
     let refused = rw c.deref.ensures.value at c.in-Err-parse.ensures.refused in
     subst (λ (e : Refusal). Refuses c.args.text.now e) (sym c.syntax_refusal.ensures)
-    (refuses_tokens c.args.text.now c.in-Ok.tokens.items c.in-Err-parse.error spelled refused)
+    (refuses_tokens c.args.text.now c.in-Ok.tokens.items c.in-Err-parse.error c.in-Ok.ensures.within spelled refused)
