@@ -54,7 +54,7 @@ def literal(text):
 
 def code():
     sections = re.split(r'^#+ ', (DOCS / 'rules.md').read_text(), flags=re.M)
-    found = [re.match(r'([CSYFI]\d+|M): ([^\n]*)\n(.*)', section, re.S) for section in sections]
+    found = [re.match(r'([CSYFIO]\d+|M): ([^\n]*)\n(.*)', section, re.S) for section in sections]
     pages = [(match.group(1), page(*match.groups())) for match in found if match]
     rows = ''.join(f'    RulePage {{\n        rule: "{rule}",\n        text: {literal(text)},\n    }},\n' for rule, text in pages)
     return f'{HEAD}\n/// One page for each rule, in the order of docs/rules.md.\npub const PAGES: [RulePage; {len(pages)}] = [\n{rows}];\n'

@@ -37,9 +37,21 @@ def try_examples():
     """Runs each text that has a report beside it, with the command in its comment."""
     count = 0
     for report in sorted(EXAMPLES.glob('*.report')):
-        text = report.with_suffix('.cp').read_text()
-        words = re.search(r'^ +cpm (run .*)$', text, re.MULTILINE).group(1).split()
-        expect(report.name, run(words), (0, report.read_bytes(), b''))
+        if not report.with_suffix('.order').exists():
+            text = report.with_suffix('.cp').read_text()
+            words = re.search(r'^ +cpm (run .*)$', text, re.MULTILINE).group(1).split()
+            expect(report.name, run(words), (0, report.read_bytes(), b''))
+            count += 1
+    return count
+
+
+def try_orders():
+    """Replays each text in the orders that stand beside it, with the commands in its comment."""
+    count = 0
+    for order in sorted(EXAMPLES.glob('*.order')):
+        text = (EXAMPLES / order.name.split('.')[0]).with_suffix('.cp').read_text()
+        words = re.search(rf'^ +cpm (replay \S+ {re.escape(order.name)}.*)$', text, re.MULTILINE).group(1).split()
+        expect(order.name, run(words), (0, order.with_suffix('.report').read_bytes(), b''))
         count += 1
     return count
 
@@ -66,17 +78,18 @@ def try_explanations():
     return count
 
 
-def words_of(case, text, given):
-    """The arguments with which the program gives the answer of a worked text, or None. Writes its input to a file."""
-    if case['command'] == 'check':
+def words_of(case, text, given, order):
+    """The arguments with which the program gives the answer of a worked text, or None. Writes its input and its order to files."""
+    command = case['command']
+    if command == 'check':
         return ['check', text]
-    if case['command'] != 'run' or case['chains']:
+    if command == 'consumed':
         return None
-    words = ['run', text]
-    for option in ('rounds', 'turn', 'tick'):
-        words += [f'--{option}', str(case[option])]
     given.write_bytes(case['input'].encode('latin-1'))
-    return [*words, '--input', given]
+    order.write_bytes(case['order'].encode('latin-1'))
+    words = ['run', text, '--rounds', str(case['rounds'])] if command == 'run' else ['replay', text, order]
+    words += ['--turn', str(case['turn']), '--tick', str(case['tick']), '--input', given]
+    return [*words, '--chains'] if case['chains'] else words
 
 
 def try_worked():
@@ -84,10 +97,10 @@ def try_worked():
     listed = subprocess.run([sys.executable, ROOT / 'worked' / 'make_rows.py', '--list'], capture_output=True, check=True).stdout
     count = 0
     with tempfile.TemporaryDirectory() as folder:
-        text, given = pathlib.Path(folder) / 'text.cp', pathlib.Path(folder) / 'input'
+        text, given, order = (pathlib.Path(folder) / name for name in ('text.cp', 'input', 'order'))
         for case in json.loads(listed):
             text.write_bytes(case['text'].encode('latin-1'))
-            words = words_of(case, text, given)
+            words = words_of(case, text, given, order)
             if words:
                 answer = case['answer'].encode('latin-1')
                 refused = answer.startswith(b'refused ')
@@ -106,6 +119,8 @@ def try_exits():
     expect('an argument that is not UTF-8', (status, out), (2, b''))
     expect('no file', run(['check', 'nowhere.cp']), (4, b'', b'fault I1\n'))
     expect('a folder', run(['check', '.']), (4, b'', b'fault I1\n'))
+    expect('no order', run(['replay', 'seven.cp', 'nowhere']), (4, b'', b'fault I1\n'))
+    expect('an order on standard input', run(['replay', 'seven.cp', '-'])[0], 0)
     expect('no input', run(['run', 'seven.cp', '--rounds', '1', '--input', 'nowhere']), (4, b'', b'fault I1\n'))
     status, out, error = run(['explain', 'nowhere.cp'])
     expect('no file to explain', (status, out, error.startswith(b"nowhere.cp can't be opened: ")), (4, b'', True))
@@ -151,7 +166,7 @@ def try_explained(library, words, due):
 
 
 def try_refusals(library, words):
-    """Refuses each allocation, read and write of a run. Each write takes only one byte, so that there are many. Returns how many there are of each."""
+    """Refuses each allocation, read and write of a run or a replay. Each write takes only one byte, so that there are many. Returns how many there are of each."""
     short = {'SHORT_WRITES': '1'}
     preloaded = {'LD_PRELOAD': str(library), **short}
     due, (memory, _, reads, writes) = count_calls(library, words, short)
@@ -173,13 +188,14 @@ def try_threads(library, words):
 
 
 def main():
-    examples, rules, explained, worked = try_examples(), try_rules(), try_explanations(), try_worked()
+    examples, orders, rules, explained, worked = try_examples(), try_orders(), try_rules(), try_explanations(), try_worked()
     try_exits()
     with tempfile.TemporaryDirectory() as folder:
         library = pathlib.Path(folder) / 'refusing.so'
         subprocess.run(['cc', '-shared', '-fPIC', '-O1', '-o', library, REFUSING], check=True)
         words = ['run', 'buffer.cp', '--rounds', '6', '--input', 'seven.cp']
         memory, reads, writes = try_refusals(library, words)
+        replayed = try_refusals(library, ['replay', 'writers.cp', 'writers.mixed.order', '--turn', '4', '--input', 'seven.cp'])
         due = (EXAMPLES / 'rules' / 'c4_recursion.explanation').read_bytes().replace(b'c4_recursion', b'rules/c4_recursion', 1)
         told = try_explained(library, ['explain', 'rules/c4_recursion.cp'], due)
         words = ['run', 'squarers.cp', '--rounds', '5', '--turn', '4', '--workers', '4']
@@ -187,9 +203,10 @@ def main():
         shared, threads = map(sum, zip(*waves))
     for line in wrong:
         print(line)
-    print(f'{examples} examples, {rules} refused texts, {explained} explanations, {worked} worked texts; '
+    print(f'{examples} examples, {orders} orders, {rules} refused texts, {explained} explanations, {worked} worked texts; '
           f'of an explanation {told[0]} allocations, {told[1]} reads and {told[2]} writes refused in turn; of a run '
-          f'{memory} allocations, {reads} reads and {writes} writes refused in turn; '
+          f'{memory} allocations, {reads} reads and {writes} writes refused in turn; of a replay {replayed[0]} allocations, '
+          f'{replayed[1]} reads and {replayed[2]} writes; '
           f'with 4 workers {shared} allocations and {threads} thread starts; {len(wrong)} wrong')
     return 1 if wrong else 0
 

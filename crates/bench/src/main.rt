@@ -1,13 +1,15 @@
 //! Does a part of cpm's work over and over, for the scripts of `bench/` to measure: `bench PART N`
-//! scans or compiles the text on standard input N times, once by default. PART is `scan` or
-//! `compile`, which doesn't judge the text.
+//! works N times, once by default, on the text on standard input. PART is `scan`, `compile`, which
+//! doesn't judge the text, or `run` or `replay`, which make many steps of its initial process.
 #![tactic(auto)]
 
 mod compiling;
 mod scanning;
+mod turning;
 
 use compiling::compile_often;
 use scanning::scan_often;
+use turning::turn_often;
 use std::env;
 use std::io::{self, Read};
 
@@ -19,17 +21,22 @@ fn times(words: &[String]) -> u32 {
         .unwrap_or(1)
 }
 
-fn compiles(words: &[String]) -> bool {
-    words.get(1).is_some_and(|word| word.as_str() == "compile")
+fn part(words: &[String]) -> &str {
+    match words.get(1) {
+        Some(word) => word.as_str(),
+        None => "scan",
+    }
 }
 
 fn main(rt: HostRuntime) -> io::Result<()> {
     let words: Vec<String> = env::args(&rt)?.collect(rt.alloc())?;
     let mut text = Vec::new(rt.alloc());
     rt.reader().read_to_end(&mut text)?;
-    if compiles(&words) {
-        compile_often(&rt, &text, times(&words))
-    } else {
-        scan_often(&rt, &text, times(&words))
+    let times = times(&words);
+    match part(&words) {
+        "compile" => compile_often(&rt, &text, times),
+        "run" => turn_often(&rt, &text, times, false),
+        "replay" => turn_often(&rt, &text, times, true),
+        _ => scan_often(&rt, &text, times),
     }
 }

@@ -1,5 +1,5 @@
 -- The commands: the numbers of a run, and the error if there is no command.
-use Rattle.std.specs.Prelude.{◌≡◌, ◌≢◌, ◌≤◌, ℕ, None}
+use Rattle.std.specs.Prelude.{◌≡◌, ◌≢◌, ◌≤◌, ℕ, Bool, false, None}
 use Rattle.clap.specs.Words.{kind_of}
 use Rattle.clap.specs.declared.error.Error.{Error}
 use Rattle.clap.specs.declared.error.kind.ErrorKind.TheVariants as kind
@@ -7,12 +7,18 @@ use Rattle.cp_command.specs.declared.command.CommandError.{CommandError}
 use Rattle.cp_command.specs.declared.command.CommandError.TheVariants as error
 use Rattle.cp_command.specs.declared.command.Command.{Command}
 use Rattle.cp_command.specs.declared.command.Command.TheVariants as command
+use Rattle.cp_execute.specs.declared.replaying.Replay.{Replay}
 use Rattle.cp_execute.specs.declared.running.Run.{Run}
 
--- The run has these numbers: rounds, turn, workers, chunk, wave, tick.
-abbrev pub Has : ℕ → ℕ → ℕ → ℕ → ℕ → ℕ → Run → Type 0
-Has rounds turn workers chunk wave tick run =
+-- The run has these numbers: rounds, turn, workers, chunk, wave, tick, and chains or not.
+abbrev pub Has : ℕ → ℕ → ℕ → ℕ → ℕ → ℕ → Bool → Run → Type 0
+Has rounds turn workers chunk wave tick chains run =
     (run.rounds ≡ rounds) × (run.plan.turn.steps ≡ turn) × (run.plan.workers ≡ workers) × (run.plan.chunk ≡ chunk) × (run.plan.wave ≡ wave) × (run.tick.rounds ≡ tick)
+    × (run.chains ≡ chains)
+
+-- The replay has these numbers: turn, tick, and chains or not.
+abbrev pub HasReplay : ℕ → ℕ → Bool → Replay → Type 0
+HasReplay turn tick chains replay = (replay.turn.steps ≡ turn) × (replay.tick.rounds ≡ tick) × (replay.chains ≡ chains)
 
 -- A run has at most 1,000,000 rounds.
 abbrev pub HasRounds : Command → Type 0
@@ -20,13 +26,15 @@ HasRounds (command.Check file) = Unit {0}
 HasRounds (command.Explain file form) = Unit {0}
 HasRounds (command.ExplainRule page) = Unit {0}
 HasRounds (command.Run file run input) = run.rounds ≤ 1000000
+HasRounds (command.Replay file order replay input) = Unit {0}
 
 -- The command if there are no words after the program's name.
 abbrev pub IsWithoutWords : Command → Type 0
 IsWithoutWords (command.Check file) = ⊥
 IsWithoutWords (command.Explain file form) = ⊥
 IsWithoutWords (command.ExplainRule page) = ⊥
-IsWithoutWords (command.Run file run input) = (file ≡ None) × Has 2 100 2 1 255 1 run × (input ≡ None)
+IsWithoutWords (command.Run file run input) = (file ≡ None) × Has 2 100 2 1 255 1 false run × (input ≡ None)
+IsWithoutWords (command.Replay file order replay input) = ⊥
 
 -- The kind of clap's error shows whether memory ran out.
 pub record ComesFrom (of : Error) (e : CommandError) : Type 0 where

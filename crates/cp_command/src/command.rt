@@ -2,20 +2,25 @@
 
 ghost use Rattle.std.specs.Prelude.{◌≡◌, ◌≤◌, IfOk, IsOk, length};
 ghost use Rattle.cp_rounds.specs.Plans.{AreInRange};
-ghost use Rattle.cp_command.specs.Commands.{ComesFrom, Has, HasRounds, IsWithoutWords};
+ghost use Rattle.cp_command.specs.Commands.{ComesFrom, Has, HasReplay, HasRounds, IsWithoutWords};
 ghost use Rattle.cp_command.specs.declared.command.CommandError.TheVariants as error;
 
 use crate::numbers::number;
 use clap::error::ErrorKind;
 use clap::{Arg, ArgAction, ArgMatches};
+use cp_execute::replaying::Replay;
 use cp_execute::running::Run;
 use cp_explain::graph::Form;
 use cp_explain::rules::rule_page;
+use cp_private::turn::Turn;
 use cp_rounds::plan::Plan;
 use cp_rounds::tick::Tick;
 use std::alloc::{AllocError, Global};
 use std::convert::AsStr;
 use thiserror::Error;
+
+/// The word that stands for standard input in place of a file name.
+pub(crate) const STANDARD_INPUT: &str = "-";
 
 /// What cpm is asked to do.
 #[derive(Clone, Copy, Debug)]
@@ -39,6 +44,14 @@ pub enum Command<'a> {
     Run {
         file: Option<&'a str>,
         run: Run,
+        input: Option<&'a str>,
+    },
+    /// `replay FILE ORDER`: replays the text of a file in the order of another. The input comes from
+    /// a file, or is empty.
+    Replay {
+        file: &'a str,
+        order: &'a str,
+        replay: Replay,
         input: Option<&'a str>,
     },
 }
@@ -83,13 +96,38 @@ struct OutOfRange {
 }
 
 // The run with these numbers.
-fn run_of(rounds: u32, turn: u32, workers: u32, chunk: u32, wave: u32, tick: u32) -> Run
+fn run_of(
+    rounds: u32,
+    turn: u32,
+    workers: u32,
+    chunk: u32,
+    wave: u32,
+    tick: u32,
+    chains: bool,
+) -> Run
     requires plan { AreInRange turn workers chunk wave }
     requires tick { (1 ≤ tick) × (tick ≤ 1000000) }
-    ensures { Has rounds turn workers chunk wave tick result }
+    ensures { Has rounds turn workers chunk wave tick chains result }
 {
     match (Plan::new(turn, workers, chunk, wave), Tick::new(tick)) {
-        (Ok(plan), Ok(tick)) => Run { rounds, plan, tick },
+        (Ok(plan), Ok(tick)) => Run {
+            rounds,
+            plan,
+            tick,
+            chains,
+        },
+        _ => unreachable!(),
+    }
+}
+
+// The replay with these numbers.
+fn replay_of(turn: u32, tick: u32, chains: bool) -> Replay
+    requires turn { (1 ≤ turn) × (turn ≤ 10000) }
+    requires tick { (1 ≤ tick) × (tick ≤ 1000000) }
+    ensures { HasReplay turn tick chains result }
+{
+    match (Turn::new(turn), Tick::new(tick)) {
+        (Ok(turn), Ok(tick)) => Replay { turn, tick, chains },
         _ => unreachable!(),
     }
 }
@@ -126,12 +164,30 @@ fn explain_words<'a>(alloc: Global) -> Result<clap::Command<'a>, AllocError> {
         .arg(dot)
 }
 
-fn run_words<'a>(alloc: Global) -> Result<clap::Command<'a>, AllocError> {
-    let rounds = option(alloc, "rounds", "how many rounds to run, up to 1000000");
-    let input = Arg::new(alloc, "input")
+fn input<'a>(alloc: Global) -> Arg<'a> {
+    Arg::new(alloc, "input")
         .long("input")
         .value_name("FILE")
-        .help("the inputs of the processes");
+        .help("the inputs of the processes")
+}
+
+fn tick<'a>(alloc: Global) -> Arg<'a> {
+    option(
+        alloc,
+        "tick",
+        "rounds between two ticks of the clock, 1 to 1000000 (default 1)",
+    )
+}
+
+fn chains<'a>(alloc: Global) -> Arg<'a> {
+    Arg::new(alloc, "chains")
+        .long("chains")
+        .action(ArgAction::SetTrue)
+        .help("adds who waits for whom: a line for each process that asks for a gate")
+}
+
+fn run_words<'a>(alloc: Global) -> Result<clap::Command<'a>, AllocError> {
+    let rounds = option(alloc, "rounds", "how many rounds to run, up to 1000000");
     clap::Command::new(alloc, "run")
         .about("Runs a text and reports its state")
         .arg(file(alloc))?
@@ -148,12 +204,27 @@ fn run_words<'a>(alloc: Global) -> Result<clap::Command<'a>, AllocError> {
             "processes that a worker takes at once, 1 to 255 (default 1)",
         ))?
         .arg(option(alloc, "wave", "processes in a wave, 1 to 255 (default 255)"))?
+        .arg(tick(alloc))?
+        .arg(input(alloc))?
+        .arg(chains(alloc))
+}
+
+fn replay_words<'a>(alloc: Global) -> Result<clap::Command<'a>, AllocError> {
+    let order = Arg::new(alloc, "ORDER")
+        .required(true)
+        .help("the order: the events of each round, a line a round; - for standard input");
+    clap::Command::new(alloc, "replay")
+        .about("Replays a text in the order of steps that a file tells, and reports its state")
+        .arg(file(alloc))?
+        .arg(order)?
         .arg(option(
             alloc,
-            "tick",
-            "rounds between two ticks of the clock, 1 to 1000000 (default 1)",
+            "turn",
+            "steps in a kernel turn, 1 to 10000 (default 100)",
         ))?
-        .arg(input)
+        .arg(tick(alloc))?
+        .arg(input(alloc))?
+        .arg(chains(alloc))
 }
 
 fn grammar<'a>(alloc: Global) -> Result<clap::Command<'a>, AllocError> {
@@ -162,7 +233,8 @@ fn grammar<'a>(alloc: Global) -> Result<clap::Command<'a>, AllocError> {
         .subcommand_required(true)
         .subcommand(check_words(alloc)?)?
         .subcommand(explain_words(alloc)?)?
-        .subcommand(run_words(alloc)?)
+        .subcommand(run_words(alloc)?)?
+        .subcommand(replay_words(alloc)?)
 }
 
 // The number of an option, or `otherwise` if it isn't given.
@@ -195,7 +267,14 @@ fn read_run(matches: &ArgMatches<'_>) -> Result<Run, OutOfRange>
     let chunk = count(matches, "chunk", 1, 255, 1)?;
     let wave = count(matches, "wave", 1, 255, 255)?;
     let tick = count(matches, "tick", 1, 1_000_000, 1)?;
-    Ok(run_of(rounds, turn, workers, chunk, wave, tick))
+    let chains = matches.get_flag("chains");
+    Ok(run_of(rounds, turn, workers, chunk, wave, tick, chains))
+}
+
+fn read_replay(matches: &ArgMatches<'_>) -> Result<Replay, OutOfRange> {
+    let turn = count(matches, "turn", 1, 10_000, 100)?;
+    let tick = count(matches, "tick", 1, 1_000_000, 1)?;
+    Ok(replay_of(turn, tick, matches.get_flag("chains")))
 }
 
 fn usage_error(grammar: &mut clap::Command<'_>, kind: ErrorKind, text: &str) -> CommandError {
@@ -229,7 +308,7 @@ pub fn read_command<'a, S: AsStr>(
     if words.len() <= 1 {
         return Ok(Command::Run {
             file: None,
-            run: run_of(2, 100, 2, 1, 255, 1),
+            run: run_of(2, 100, 2, 1, 255, 1, false),
             input: None,
         });
     }
@@ -248,6 +327,48 @@ fn explain<'a>(file: &'a str, dot: bool) -> Command<'a>
             file,
             form: if dot { Form::Dot } else { Form::Lines },
         },
+    }
+}
+
+// The command `run` of parsed arguments.
+fn run<'a>(file: &'a str, matches: &ArgMatches<'a>) -> Result<Command<'a>, OutOfRange>
+    ensures { IfOk result HasRounds }
+{
+    Ok(Command::Run {
+        file: Some(file),
+        run: read_run(matches)?,
+        input: matches.get_str("input"),
+    })
+}
+
+// The command `replay` of parsed arguments.
+fn replay<'a>(
+    file: &'a str,
+    order: &'a str,
+    matches: &ArgMatches<'a>,
+) -> Result<Command<'a>, OutOfRange>
+    ensures { IfOk result HasRounds }
+{
+    Ok(Command::Replay {
+        file,
+        order,
+        replay: read_replay(matches)?,
+        input: matches.get_str("input"),
+    })
+}
+
+// The command, unless a number is out of range.
+fn within_range<'a>(
+    alloc: Global,
+    grammar: &mut clap::Command<'a>,
+    command: Result<Command<'a>, OutOfRange>,
+) -> Result<Command<'a>, CommandError>
+    requires { IfOk command HasRounds }
+    ensures { IfOk result HasRounds }
+{
+    match command {
+        Ok(command) => Ok(command),
+        Err(range) => Err(out_of_range(alloc, grammar, range)),
     }
 }
 
@@ -272,12 +393,18 @@ fn read_matches<'a>(
     if name == "explain" {
         return Ok(explain(file, matches.get_flag("dot")));
     }
-    match read_run(matches) {
-        Ok(run) => Ok(Command::Run {
-            file: Some(file),
-            run,
-            input: matches.get_str("input"),
-        }),
-        Err(range) => Err(out_of_range(alloc, grammar, range)),
+    if name == "replay" {
+        let Some(order) = matches.get_str("ORDER") else {
+            return Err(usage_error(grammar, ErrorKind::MissingRequiredArgument, "no order"));
+        };
+        if file == STANDARD_INPUT && order == STANDARD_INPUT {
+            return Err(usage_error(
+                grammar,
+                ErrorKind::ValueValidation,
+                "only one of FILE and ORDER can be standard input",
+            ));
+        }
+        return within_range(alloc, grammar, replay(file, order, matches));
     }
+    within_range(alloc, grammar, run(file, matches))
 }

@@ -3,9 +3,11 @@
 ghost use Rattle.std.specs.Prelude.{◌≡◌};
 ghost use Rattle.cp_command.specs.declared.files.Failure.TheVariants as failure;
 
-use crate::command::Command;
+use crate::command::{Command, STANDARD_INPUT};
 use cp_execute::execute::{Job, execute};
+use cp_execute::execute_order::execute_order;
 use cp_execute::refusal::{Refusal, exit_of};
+use cp_execute::replaying::Replay;
 use cp_execute::running::Run;
 use cp_explain::explain::explain_text;
 use cp_explain::graph::Form;
@@ -16,9 +18,6 @@ use std::io::{self, ErrorKind, Read, Write};
 use std::sync::Wait;
 use std::thread::Threads;
 use thiserror::Error;
-
-/// The word that stands for standard input in place of a file name.
-const STANDARD_INPUT: &str = "-";
 
 /// The exit status if a file can't be opened or read.
 const FAULT: u8 = 4;
@@ -77,6 +76,14 @@ fn open_text<'a, H: Files>(rt: &H, file: &'a str) -> Result<H::File, Failure<'a>
     }
 }
 
+// Hands over what the writer may hold back.
+fn flush<W: Write>(out: &mut W) -> Result<(), Refusal> {
+    match out.flush() {
+        Ok(()) => Ok(()),
+        Err(_) => Err(Refusal::Write),
+    }
+}
+
 // Does a job, and prints its result.
 fn print<H: Print + Threads + Wait + Sync, R: Read, S: Read>(
     rt: &H,
@@ -86,7 +93,8 @@ fn print<H: Print + Threads + Wait + Sync, R: Read, S: Read>(
     job: &Job,
 ) -> Result<(), Refusal> {
     let mut out = io::writer(rt);
-    execute(rt, alloc, text, input, job, &Open, &mut out)
+    execute(rt, alloc, text, input, job, &Open, &mut out)?;
+    flush(&mut out)
 }
 
 fn check<H: Files + Input + Print + Threads + Wait + Sync>(
@@ -129,6 +137,64 @@ fn run_file<H: Files + Input + Print + Threads + Wait + Sync>(
     }
 }
 
+// Replays a text and prints the report.
+fn print_replay<H: Print, R: Read, S: Read, O: Read>(
+    rt: &H,
+    alloc: Global,
+    text: &mut R,
+    input: &mut S,
+    order: &mut O,
+    replay: &Replay,
+) -> Result<(), Refusal> {
+    let mut out = io::writer(rt);
+    execute_order(alloc, text, input, order, replay, &mut out)?;
+    flush(&mut out)
+}
+
+// Replays a text in the order of a file.
+fn replay_in_order<H: Files + Input + Print, R: Read, S: Read>(
+    rt: &H,
+    alloc: Global,
+    text: &mut R,
+    input: &mut S,
+    order: &str,
+    replay: &Replay,
+) -> Result<(), Refusal> {
+    match order {
+        STANDARD_INPUT => print_replay(rt, alloc, text, input, &mut rt.reader(), replay),
+        name => print_replay(rt, alloc, text, input, &mut open(rt, name)?, replay),
+    }
+}
+
+// Replays a text on the input in a file, or on no input.
+fn replay_on_input<H: Files + Input + Print, R: Read>(
+    rt: &H,
+    alloc: Global,
+    text: &mut R,
+    input: Option<&str>,
+    order: &str,
+    replay: &Replay,
+) -> Result<(), Refusal> {
+    match input {
+        Some(name) => replay_in_order(rt, alloc, text, &mut open(rt, name)?, order, replay),
+        None => replay_in_order(rt, alloc, text, &mut b"".as_slice(), order, replay),
+    }
+}
+
+fn replay_file<H: Files + Input + Print>(
+    rt: &H,
+    alloc: Global,
+    file: &str,
+    input: Option<&str>,
+    order: &str,
+    replay: &Replay,
+) -> Result<(), Refusal> {
+    match file {
+        STANDARD_INPUT => replay_on_input(rt, alloc, &mut rt.reader(), input, order, replay),
+        _ => replay_on_input(rt, alloc, &mut open(rt, file)?, input, order, replay),
+    }
+}
+
 // Explains the text of a reader, and returns the exit status.
 fn explain_from<'a, H: Print, R: Read>(
     rt: &H,
@@ -138,12 +204,13 @@ fn explain_from<'a, H: Print, R: Read>(
     form: Form,
 ) -> Result<u8, Failure<'a>> {
     let mut out = io::writer(rt);
-    match explain_text(alloc, file.as_bytes(), text, form, &mut out) {
-        Ok(None) => Ok(0),
-        Ok(Some(refusal)) => Ok(exit_of(&refusal)),
-        Err(Refusal::Read) => Err(Failure::Unread { file }),
-        Err(refusal) => Err(Failure::Refused(refusal)),
-    }
+    let explained = match explain_text(alloc, file.as_bytes(), text, form, &mut out) {
+        Ok(explained) => explained,
+        Err(Refusal::Read) => return Err(Failure::Unread { file }),
+        Err(refusal) => return Err(Failure::Refused(refusal)),
+    };
+    flush(&mut out)?;
+    Ok(explained.as_ref().map_or(0, exit_of))
 }
 
 fn explain_file<'a, H: Files + Input + Print>(
@@ -160,20 +227,20 @@ fn explain_file<'a, H: Files + Input + Print>(
 
 fn print_page<H: Print>(rt: &H, page: &str) -> Result<(), Refusal> {
     let mut out = io::writer(rt);
-    match out.write_all(page.as_bytes()) {
-        Ok(()) => Ok(()),
-        Err(_) => Err(Refusal::Write),
+    if out.write_all(page.as_bytes()).is_err() {
+        return Err(Refusal::Write);
     }
+    flush(&mut out)
 }
 
 /// Carries out a command, and returns the exit status: 0, or that of a refusal that was explained.
-/// Opens the text and then the input before it reads either, and prints the result to standard
-/// output.
+/// Opens the text, then the input and then the order before it reads any of them, and prints the result to standard
+/// output, which it flushes.
 ///
 /// # Errors
 ///
 /// I1 if a file can't be opened, `Unopened` or `Unread` for the file of `explain`, and the refusals
-/// of [`execute`] and [`explain_text`].
+/// of [`execute`], [`execute_order`] and [`explain_text`].
 pub fn perform<'a, H: Files + Input + Print + Threads + Wait + Sync>(
     rt: &H,
     alloc: Global,
@@ -184,6 +251,12 @@ pub fn perform<'a, H: Files + Input + Print + Threads + Wait + Sync>(
         Command::Explain { file, form } => return explain_file(rt, alloc, file, form),
         Command::ExplainRule { page } => print_page(rt, page)?,
         Command::Run { file, run, input } => run_file(rt, alloc, file, input, run)?,
+        Command::Replay {
+            file,
+            order,
+            replay,
+            input,
+        } => replay_file(rt, alloc, file, input, order, &replay)?,
     }
     Ok(0)
 }

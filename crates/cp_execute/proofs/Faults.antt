@@ -68,6 +68,7 @@ is_fault xs t (refusal.TooDeep at) is h = not_parsed xs t h.1 is.text h.2 h.3.0
 is_fault xs t (refusal.Check rule at) is h =
     not_told t (record { rule = rule; at = at }) is.accepted (subst (λ (u : s.Tree). first_violation u ≡ Some (record { rule = rule; at = at })) (one_tree xs h.0 t h.1 is.text) h.2)
 is_fault xs t (refusal.InputByte at) is h = h
+is_fault xs t (refusal.Order at) is h = h
 is_fault xs t refusal.InputSize is h = h
 
 -- The part that is read of a text within the limit is the whole text.
@@ -88,6 +89,7 @@ text_fault xs t (refusal.Unfinished at) is h = front_fault xs t (refusal.Unfinis
 text_fault xs t (refusal.TooDeep at) is h = front_fault xs t (refusal.TooDeep at) is h
 text_fault xs t (refusal.Check rule at) is h = front_fault xs t (refusal.Check rule at) is h
 text_fault xs t (refusal.InputByte at) is h = h
+text_fault xs t (refusal.Order at) is h = h
 text_fault xs t refusal.InputSize is h = h
 
 -- ---- known texts and inputs

@@ -4,3 +4,5 @@ pub mod Starts
 pub mod TextRefusals
 pub mod Takings
 pub mod Faults
+pub mod Replays
+pub mod OrderRefusals

@@ -1,23 +1,26 @@
--- The machine at the start, with the inputs that were cut, and its report after a run.
-use Rattle.std.proofs.Common.{◌≡◌, ◌+◌, ◌-◌, ◌≤◌, ℕ, zero, suc, List, Some, length, ap, sym, ◌∙◌, refl, arith}
+-- The inputs that were cut, and what is reported of a machine.
+use Rattle.std.proofs.Common.{◌≡◌, ◌-◌, ◌≤◌, ℕ, zero, suc, Bool, true, false, List, Some, length, ap, sym, subst, ◌∙◌, arith}
 use Rattle.std.specs.Prelude.{slice_get}
 use Rattle.cp_program_model.specs.Programs.{Program}
-use Rattle.cp_program_model.specs.StandsFor.{StandsFor}
+use Rattle.cp_model.specs.Declarations.{globals}
+use Rattle.cp_model.specs.Erase as erase
 use Rattle.cp_model.specs.Input.{cut}
-use Rattle.cp_model.specs.Report.{report}
-use Rattle.cp_model.specs.Rounds as meaning
-use Rattle.cp_model.specs.Start.{start}
-use Rattle.cp_model.specs.States.{Setup, numbers_from, process_count}
-use Rattle.cp_machine_model.specs.Machines.{first_machine, phased_rounds}
-use Rattle.cp_machine_model.specs.Reports.{machine_report}
-use Rattle.cp_machine_model.specs.RoundLaws.{RunIsReported}
-use Rattle.cp_rounds.specs.InStates.{HaveInputs, IsStarted}
+use Rattle.cp_model.specs.Report.{IsReportWithChains, Text}
+use Rattle.cp_model.specs.States.{Setup, State}
+use Rattle.cp_model.specs.View as view
+use Rattle.cp_model.specs.declared.tree.Tree as tree
+use Rattle.cp_machine_model.specs.Chains.{ReportHasChains}
+use Rattle.cp_machine_model.specs.InState.{IsIn, NoneFresh}
+use Rattle.cp_machine_model.specs.Machines.{Machine}
+use Rattle.cp_machine_model.specs.RoundLaws.{ReportIsReport}
+use Rattle.cp_rounds.specs.InStates.{HaveInputs}
 use Rattle.cp_rounds.specs.MachineOf.{bytes_or_none, input_of}
-use Rattle.cp_rounds.specs.Views.{machine_of, processes_of}
-use Rattle.cp_rounds.specs.declared.machine.Machine.{Machine}
-use Rattle.cp_rounds.proofs.InStates.{process_count_is, same_start}
 use Rattle.cp_rounds.proofs.Lists.{got_at}
+use Rattle.cp_scope.specs.Texts.{TablesStand}
+use Rattle.cp_scope.specs.declared.tables.Tables.{Tables}
 use Rattle.cp_execute.specs.Cutting.{AreParts, Bytes}
+use Rattle.cp_execute.specs.Executed.{IsReportOf}
+use Rattle.cp_execute.specs.MachineReports.{IsReport}
 
 -- ---- The inputs that were cut
 
@@ -35,15 +38,12 @@ pub have_inputs : (program : Program) (setup : Setup) (input : List ℕ) (all : 
 have_inputs program setup input all parts given p first last =
     input_is input (length program.processes) all parts p first last ∙ ap (λ (f : ℕ → List ℕ). f p) given
 
--- ---- The report after a run
+-- ---- The report
 
--- A machine that starts like this has, after `rounds` rounds, the report of a single processor.
-pub report_is : (before after : Machine) (program : Program) (setup : Setup) (inputs : List Bytes) (n rounds : ℕ) → RunIsReported → StandsFor program setup
-    → HaveInputs program inputs setup → machine_of before ≡ first_machine program setup.tick (input_of inputs) → IsStarted program setup.tick inputs before
-    → machine_of after ≡ phased_rounds n (numbers_from 1 (processes_of before)) rounds (machine_of before)
-    → machine_report setup (machine_of after) ≡ report setup (meaning.run setup n rounds (start setup))
-report_is before after program setup inputs n rounds law stands given first started ended =
-    let count : processes_of before ≡ process_count setup = process_count_is before setup (start setup) (started setup stands refl given) in
-    let begun = first ∙ same_start program setup.tick (input_of inputs) setup.inputs given in
-    ap (machine_report setup) (ended ∙ (λ i. phased_rounds n (numbers_from 1 (count i)) rounds (begun i)))
-    ∙ law program setup n rounds stands
+-- What is reported of a machine between rounds is the report of the state that it is in.
+pub reported : (chains : Bool) (tables : Tables) (m : Machine) (setup : Setup) (text : tree.Tree) (s : State) (bytes : Text) → ReportIsReport → ReportHasChains
+    → IsIn m setup s → NoneFresh s → setup.tree ≡ erase.abstract (view.tree text) → TablesStand (globals setup.tree) tables text → IsReport chains tables m bytes
+    → IsReportOf chains setup s bytes
+reported false tables m setup text s bytes read has I calm same stand is = is setup text same stand ∙ read m setup s I calm
+reported true tables m setup text s bytes read has I calm same stand is =
+    subst (IsReportWithChains setup s) (sym (is setup text same stand)) (has m setup s I calm).1

@@ -1,4 +1,4 @@
--- What is read of a text or an input, whatever the answer is then.
+-- What is read of a text, an input or an order, whatever the answer is then.
 use Rattle.std.proofs.Common.{◌≡◌, ◌≤◌, ◌+◌, ℕ, List, [], ◌++◌, length, Option, None, Some, Result, Ok, Err, IfErr, IfSome, sym, subst, arith, length-append, length-take}
 use Rattle.std.proofs.KnownBytes.{Consumes-kept, Consumes-nil, Consumes-trans}
 use Rattle.std.specs.Io.KnownBytes.{Consumes, Keeps}
@@ -7,7 +7,7 @@ use Rattle.cp_execute.specs.declared.reading.ReadError.TheVariants as read
 use Rattle.cp_execute.specs.declared.refusal.Refusal.{Refusal}
 use Rattle.cp_execute.specs.declared.refusal.Refusal.TheVariants as refusal
 use Rattle.cp_execute.specs.Refusals.{of_read}
-use Rattle.cp_execute.specs.Takings.{Concern, Fault, Input, IsAboutInput, IsAboutText, TakesFront, TakesInput, TakesInputAt, TakesText, TakesTextAt, TakesUpTo, Text, Writer, concern, front}
+use Rattle.cp_execute.specs.Takings.{Concern, Fault, Input, IsAboutInput, IsAboutOrder, IsAboutText, Order, TakesFront, TakesInput, TakesInputAt, TakesOrderAt, TakesText, TakesTextAt, TakesUpTo, Text, Writer, concern, front}
 
 -- ---- one reader
 
@@ -30,6 +30,7 @@ more_up_to a b c xs bs p few q = (xs ++ bs, Prim.omega (arith, length-append xs 
 pub text_at : (old new : Option (List ℕ)) (of : Concern) → TakesFront old new → TakesTextAt old new of
 text_at old new Text h = h
 text_at old new Input h = h
+text_at old new Order h = h
 text_at old new Writer h = h
 text_at old new Fault h = front_up_to old new h
 
@@ -47,6 +48,7 @@ text_failed old new read.Memory h = h
 pub input_at : (old new : Option (List ℕ)) (of : Concern) → IsAboutInput of → TakesFront old new → TakesInputAt old new of
 input_at old new Text is h = absurd is
 input_at old new Input is h = h
+input_at old new Order is h = absurd is
 input_at old new Writer is h = absurd is
 input_at old new Fault is h = front_up_to old new h
 
@@ -54,12 +56,49 @@ input_at old new Fault is h = front_up_to old new h
 pub input_kept : (old new : Option (List ℕ)) (of : Concern) → IsAboutText of → Keeps old new → TakesInputAt old new of
 input_kept old new Text is h = h
 input_kept old new Input is h = absurd is
+input_kept old new Order is h = absurd is
 input_kept old new Writer is h = absurd is
 input_kept old new Fault is h = keeps_up_to old new h
 
 pub input_failed : (old new : Option (List ℕ)) (e : ReadError) → TakesUpTo old new → TakesInputAt old new (concern (of_read e))
 input_failed old new read.Read h = h
 input_failed old new read.Memory h = h
+
+-- What is read of the input where the order is refused: all of it.
+pub input_before : (old new : Option (List ℕ)) (of : Concern) → IsAboutOrder of → TakesFront old new → TakesInputAt old new of
+input_before old new Text is h = absurd is
+input_before old new Input is h = h
+input_before old new Order is h = h
+input_before old new Writer is h = h
+input_before old new Fault is h = front_up_to old new h
+
+-- ---- orders
+
+-- An order that wasn't touched, after a refusal of the text or of the input.
+pub order_after_text : (old new : Option (List ℕ)) (of : Concern) → IsAboutText of → Keeps old new → TakesOrderAt old new of
+order_after_text old new Text is h = h
+order_after_text old new Input is h = h
+order_after_text old new Order is h = absurd is
+order_after_text old new Writer is h = absurd is
+order_after_text old new Fault is h = keeps_up_to old new h
+
+pub order_after_input : (old new : Option (List ℕ)) (of : Concern) → IsAboutInput of → Keeps old new → TakesOrderAt old new of
+order_after_input old new Text is h = h
+order_after_input old new Input is h = h
+order_after_input old new Order is h = absurd is
+order_after_input old new Writer is h = absurd is
+order_after_input old new Fault is h = keeps_up_to old new h
+
+pub order_at : (old new : Option (List ℕ)) (of : Concern) → IsAboutOrder of → TakesFront old new → TakesOrderAt old new of
+order_at old new Text is h = absurd is
+order_at old new Input is h = absurd is
+order_at old new Order is h = h
+order_at old new Writer is h = h
+order_at old new Fault is h = front_up_to old new h
+
+pub order_failed : (old new : Option (List ℕ)) (e : ReadError) → TakesUpTo old new → TakesOrderAt old new (concern (of_read e))
+order_failed old new read.Read h = h
+order_failed old new read.Memory h = h
 
 -- ---- writes
 
@@ -70,9 +109,12 @@ input_written (Err e) old new h write = subst (λ (r : Refusal). TakesInputAt ol
 pub memory_at : (old new : Option (List ℕ)) (e : Refusal) → e ≡ refusal.Memory → TakesFront old new → TakesInputAt old new (concern e)
 memory_at old new e memory h = subst (λ (r : Refusal). TakesInputAt old new (concern r)) (sym memory) (front_up_to old new h)
 
--- Neither a text nor an input is refused because of a write.
+-- No text, input or order is refused because of a write.
 pub no_write_of_text : (e : Refusal) → IsAboutText (concern e) → e ≡ refusal.Write → ⊥
 no_write_of_text e is write = subst (λ (r : Refusal). IsAboutText (concern r)) write is
 
 pub no_write_of_input : (e : Refusal) → IsAboutInput (concern e) → e ≡ refusal.Write → ⊥
 no_write_of_input e is write = subst (λ (r : Refusal). IsAboutInput (concern r)) write is
+
+pub no_write_of_order : (e : Refusal) → IsAboutOrder (concern e) → e ≡ refusal.Write → ⊥
+no_write_of_order e is write = subst (λ (r : Refusal). IsAboutOrder (concern r)) write is

@@ -54,6 +54,7 @@ refuses_text xs (refusal.Unfinished at) h = h
 refuses_text xs (refusal.TooDeep at) h = h
 refuses_text xs (refusal.Check rule at) h = h
 refuses_text xs (refusal.InputByte at) h = h
+refuses_text xs (refusal.Order at) h = h
 refuses_text xs refusal.InputSize h = h
 refuses_text xs refusal.Memory h = h
 refuses_text xs refusal.Write h = h
@@ -116,6 +117,7 @@ refuses_input ys (refusal.Unfinished at) h = h
 refuses_input ys (refusal.TooDeep at) h = h
 refuses_input ys (refusal.Check rule at) h = h
 refuses_input ys (refusal.InputByte at) h = h
+refuses_input ys (refusal.Order at) h = h
 refuses_input ys refusal.InputSize h = h
 refuses_input ys refusal.Write h = h
 
@@ -136,6 +138,7 @@ refuses_is_about_text text (refusal.Unfinished at) h = tt
 refuses_is_about_text text (refusal.TooDeep at) h = tt
 refuses_is_about_text text (refusal.Check rule at) h = tt
 refuses_is_about_text text (refusal.InputByte at) h = h
+refuses_is_about_text text (refusal.Order at) h = h
 refuses_is_about_text text refusal.InputSize h = h
 
 pub refused_is_about_text : {A : Type 0} (r : Result A Refusal) (text : List ℕ) → IfErr r (Refuses text) → IfErr r (λ e. IsAboutText (concern e))

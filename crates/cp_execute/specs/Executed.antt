@@ -1,13 +1,13 @@
 -- What the commands promise about the bytes that they read and write.
-use Rattle.std.specs.Prelude.{◌≡◌, ◌≤◌, ◌⊎◌, ℕ, List, [], ◌∷◌, ◌++◌, Option, Some, Result, Ok, Err, IfSome, codes, length, take}
+use Rattle.std.specs.Prelude.{◌≡◌, ◌≤◌, ◌⊎◌, ℕ, Bool, true, false, List, [], ◌∷◌, ◌++◌, Option, Some, Result, Ok, Err, IfSome, codes, length, take}
 use Rattle.std.specs.Io.KnownBytes.{Appends, Keeps}
 use Rattle.cp_model.specs.Syntax as s
 use Rattle.cp_model.specs.Erase as erase
 use Rattle.cp_model.specs.Input.{cut}
-use Rattle.cp_model.specs.Report.{report}
+use Rattle.cp_model.specs.Report.{IsReportWithChains, report}
 use Rattle.cp_model.specs.Rounds as r
 use Rattle.cp_model.specs.Start.{start}
-use Rattle.cp_model.specs.States.{Setup}
+use Rattle.cp_model.specs.States.{Setup, State}
 use Rattle.cp_execute.specs.declared.refusal.Refusal.{Refusal}
 use Rattle.cp_execute.specs.declared.refusal.Refusal.TheVariants as refusal
 use Rattle.cp_execute.specs.declared.running.Run.{Run}
@@ -21,13 +21,18 @@ use Rattle.cp_execute.specs.Takings.{AppendsSome, IsAboutInput, TakesInput, conc
 abbrev pub setup_of : s.Tree → List ℕ → ℕ → Setup
 setup_of t input tick = record { tree = erase.abstract t; inputs = cut input; tick = tick }
 
+-- The bytes are the report of a state, with the chains of askers if they are asked for.
+abbrev pub IsReportOf : Bool → Setup → State → List ℕ → Type 0
+IsReportOf false setup s bytes = bytes ≡ report setup s
+IsReportOf true setup s bytes = IsReportWithChains setup s bytes
+
 -- The bytes are the report of the state that a single processor reaches after `run.rounds` rounds
 -- from the start. In each round the processes take their whole turns, private and kernel, one after
 -- another.
 abbrev pub IsDue : Run → s.Tree → List ℕ → List ℕ → Type 0
 IsDue run t input bytes =
     let setup = setup_of t input run.tick.rounds in
-    bytes ≡ report setup (r.run setup run.plan.turn.steps run.rounds (start setup))
+    IsReportOf run.chains setup (r.run setup run.plan.turn.steps run.rounds (start setup)) bytes
 
 abbrev pub acceptance : List ℕ
 acceptance = codes "accepted" ++ 10 ∷ []

@@ -8,6 +8,8 @@ use Rattle.cp_syntax.specs.declared.refusal.SyntaxError.{SyntaxError}
 use Rattle.cp_syntax.specs.declared.refusal.SyntaxError.TheVariants as syntax
 use Rattle.cp_rules.specs.declared.text.RuleError.TheVariants as rules
 use Rattle.cp_rules.specs.declared.text.RuleError.{RuleError}
+use Rattle.cp_orders.specs.declared.reading.OrderError.{OrderError}
+use Rattle.cp_orders.specs.declared.reading.OrderError.TheVariants as order
 use Rattle.cp_execute.specs.declared.reading.ReadError.{ReadError}
 use Rattle.cp_execute.specs.declared.reading.ReadError.TheVariants as read
 use Rattle.cp_execute.specs.declared.refusal.Refusal.{Refusal}
@@ -21,7 +23,7 @@ scan_number cause.Number = 4
 scan_number cause.Word = 5
 scan_number cause.Size = 6
 
--- 1 if the text or the input is refused, 3 if memory runs out, 4 if reading or writing fails.
+-- 1 if the text, the input or the order is refused, 3 if memory runs out, 4 if reading or writing fails.
 abbrev pub exit_status : Refusal → ℕ
 exit_status refusal.Memory = 3
 exit_status refusal.Read = 4
@@ -45,3 +47,7 @@ of_rules rules.Memory = refusal.Memory
 abbrev pub of_read : ReadError → Refusal
 of_read read.Read = refusal.Read
 of_read read.Memory = refusal.Memory
+
+abbrev pub of_order : OrderError → Refusal
+of_order (order.Line at) = refusal.Order at
+of_order order.Memory = refusal.Memory

@@ -7,7 +7,7 @@ ghost use Rattle.cp_execute.specs.Takings.{TakesInput, TakesText};
 ghost use Rattle.cp_execute.specs.declared.refusal.Refusal.TheVariants as refusal;
 
 use crate::refusal::Refusal;
-use crate::running::{Run, report_of};
+use crate::running::{Run, report_after_run};
 use crate::sources::{read_accepted, read_input};
 use crate::writing::write_result;
 use cp_rounds::gate::TurnGate;
@@ -72,7 +72,7 @@ fn run_text<H: Threads + Wait + Sync, R: Read, S: Read, W: Write, G: TurnGate>(
 {
     let tree = read_accepted(alloc, text)?;
     let bytes = read_input(alloc, input)?;
-    let report = report_of(rt, alloc, &tree, &bytes, run, gate)?;
+    let report = report_after_run(rt, alloc, &tree, &bytes, run, gate)?;
     write_result(out, &report)
 }
 

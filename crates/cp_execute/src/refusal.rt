@@ -1,12 +1,13 @@
 //! Why a command has no result: the line that it writes then, and its exit status.
 
 ghost use Rattle.std.specs.Prelude.{◌≡◌};
-ghost use Rattle.cp_execute.specs.Refusals.{exit_status, of_read, of_scan};
+ghost use Rattle.cp_execute.specs.Refusals.{exit_status, of_order, of_read, of_scan};
 ghost use Rattle.cp_execute.specs.declared.refusal.Refusal.TheVariants as refusal;
 
 use crate::reading::ReadError;
 use crate::writing::WriteFailed;
 use cp_model::rules::{Rule, Violation};
+use cp_orders::reading::OrderError;
 use cp_scan::{Cause, ScanError};
 use cp_scope::CompileError;
 use std::alloc::{AllocError, AllocFailed};
@@ -37,6 +38,9 @@ pub enum Refusal {
     /// I4: the input is longer than 1,048,576 bytes.
     #[error("refused I4 at 1048576")]
     InputSize,
+    /// O1: a line of the order isn't one, or the order is longer than 1,048,576 bytes.
+    #[error("refused O1 at {at}")]
+    Order { at: usize },
     /// M: memory was refused.
     #[error("fault M")]
     Memory,
@@ -97,6 +101,17 @@ impl From<ReadError> for Refusal {
         match error {
             ReadError::Read => Refusal::Read,
             ReadError::Memory => Refusal::Memory,
+        }
+    }
+}
+
+impl From<OrderError> for Refusal {
+    ghost from_gives = { λ error r. r ≡ of_order error };
+
+    fn from(error: OrderError) -> Refusal {
+        match error {
+            OrderError::Line { at } => Refusal::Order { at },
+            OrderError::Memory => Refusal::Memory,
         }
     }
 }

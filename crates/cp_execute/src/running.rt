@@ -3,30 +3,55 @@
 ghost use Rattle.std.specs.Prelude.{◌≡◌, false, IfErr, IfOk};
 ghost use Rattle.cp_model.specs.Rules.{Accepted};
 ghost use Rattle.cp_model.specs.View as view;
+ghost use Rattle.cp_rounds.specs.Views.{machine_of};
 ghost use Rattle.cp_execute.specs.Executed.{IsDue};
+ghost use Rattle.cp_execute.specs.MachineReports.{IsReport};
 ghost use Rattle.cp_execute.specs.declared.refusal.Refusal.TheVariants as refusal;
 
 use crate::cutting::cut_input;
 use crate::refusal::Refusal;
 use cp_check::checking::program;
-use cp_machine_model::law::reports;
+use cp_machine_model::law::{reports, waits};
 use cp_model::tree::Tree;
-use cp_report::report::report;
+use cp_report::report::{report, report_with_chains};
 use cp_rounds::gate::TurnGate;
 use cp_rounds::machine::Machine;
 use cp_rounds::plan::Plan;
 use cp_rounds::tick::Tick;
 use cp_scope::Tables;
-use std::alloc::Global;
+use std::alloc::{AllocError, Global};
 use std::sync::Wait;
 use std::thread::Threads;
 
-/// The parameters of a run: the number of rounds, how each is made, and how often the clock ticks.
+/// The parameters of a run: the number of rounds, how each is made, how often the clock ticks, and
+/// whether the report has the chains of askers.
 #[derive(Clone, Copy, Debug)]
 pub struct Run {
     pub rounds: u32,
     pub plan: Plan,
     pub tick: Tick,
+    pub chains: bool,
+}
+
+/// Returns the report of a machine, with the chains of askers if they are asked for.
+///
+/// # Errors
+///
+/// `AllocError` if memory runs out.
+pub(crate) fn report_of(
+    alloc: Global,
+    tables: &Tables,
+    machine: &Machine,
+    chains: bool,
+) -> Result<Vec<u8>, AllocError>
+    ensures { IfOk result
+        (λ bytes. IsReport chains tables.now (machine_of machine.now) bytes.items) }
+{
+    if chains {
+        report_with_chains(alloc, tables, machine)
+    } else {
+        report(alloc, tables, machine)
+    }
 }
 
 /// Runs the program of an accepted text and returns the report.
@@ -34,7 +59,7 @@ pub struct Run {
 /// # Errors
 ///
 /// M if memory runs out.
-pub(crate) fn report_of<H: Threads + Wait + Sync, G: TurnGate>(
+pub(crate) fn report_after_run<H: Threads + Wait + Sync, G: TurnGate>(
     rt: &H,
     alloc: Global,
     tree: &Tree,
@@ -48,6 +73,7 @@ pub(crate) fn report_of<H: Threads + Wait + Sync, G: TurnGate>(
     ensures memory { IfErr result (λ e. e ≡ refusal.Memory) }
 {
     reports();
+    waits();
     let program = program(alloc, tree)?;
     let tables = Tables::of_tree(alloc, tree)?;
     let inputs = cut_input(alloc, input, program.processes())?;
@@ -55,6 +81,6 @@ pub(crate) fn report_of<H: Threads + Wait + Sync, G: TurnGate>(
     if machine.run(rt, run.rounds, &run.plan, gate).is_err() {
         return Err(Refusal::Memory);
     }
-    let bytes = report(alloc, &tables, &machine)?;
+    let bytes = report_of(alloc, &tables, &machine, run.chains)?;
     Ok(bytes)
 }

@@ -8,7 +8,7 @@ pub struct RulePage {
 }
 
 /// One page for each rule, in the order of docs/rules.md.
-pub const PAGES: [RulePage; 27] = [
+pub const PAGES: [RulePage; 28] = [
     RulePage {
         rule: "C1",
         text: "C1: a name is declared before it is used, and once\n\nWhy: an undeclared name is a slip, and a name that hides another misleads the\nreader; so names are declared first, and none hides another.\nMend: spell the name as it is declared, or declare it. If it is declared\ntwice, rename one of the two.\n\nThis text is refused C1 at 89: the cycle assigns `totl`, which nobody\ndeclared.\n\n  \"A counter that misspells its variable.\"\n  var total: integer;\n  begin\n    total := 0;\n    cycle totl := total + 1 end\n  end.\n\nMended:\n\n  \"A counter.\"\n  var total: integer;\n  begin\n    total := 0;\n    cycle total := total + 1 end\n  end.\n",
@@ -112,6 +112,10 @@ pub const PAGES: [RulePage; 27] = [
     RulePage {
         rule: "I4",
         text: "I4: an input has at most 1,048,576 bytes\n\nWhy: what a run needs is bounded before it begins.\nMend: shorten it.\n",
+    },
+    RulePage {
+        rule: "O1",
+        text: "O1: each line of an order is a row of events\n\nWhy: a line is a round, and says which steps it has: no events, or events with\none space between them, each `P` or `K` and the number of a process, without\nleading zeros. The place is the first byte of the line, or 1048576 where the\norder is longer than that.\nMend: look for a second space, a small letter, or a number above that of the\nlast process.\n",
     },
     RulePage {
         rule: "M",

@@ -173,10 +173,9 @@ rounds_are_run m setup s n rounds I =
 
 -- ---- reports
 
-run_calm : (setup : Setup) (n rounds : ℕ) (s : State) → NoneFresh s → NoneFresh (meaning.run setup n rounds s)
-run_calm setup n zero s h = h
-run_calm setup n (suc rounds) s h =
-    run_calm setup n rounds (meaning.sequential_round setup n s) (λ p. closed ((meaning.all_turns setup n (meaning.wake setup s) (processes setup)).status p))
+-- Nobody is fresh after the end of a round.
+pub closed_calm : (s : State) → NoneFresh (meaning.close_round s)
+closed_calm s p = closed (s.status p)
   where
     tells : Status → Type 0
     tells stage.Fresh = Unit {0}
@@ -195,7 +194,12 @@ run_calm setup n (suc rounds) s h =
     closed : (x : Status) → after_closing x ≡ stage.Fresh → ⊥
     closed x is = after x (subst tells (sym is) tt)
 
-start_calm : (setup : Setup) → NoneFresh (start setup)
+pub run_calm : (setup : Setup) (n rounds : ℕ) (s : State) → NoneFresh s → NoneFresh (meaning.run setup n rounds s)
+run_calm setup n zero s h = h
+run_calm setup n (suc rounds) s h =
+    run_calm setup n rounds (meaning.sequential_round setup n s) (closed_calm (meaning.all_turns setup n (meaning.wake setup s) (processes setup)))
+
+pub start_calm : (setup : Setup) → NoneFresh (start setup)
 start_calm setup p is = by (nat_eq 1 p) (subst tells (sym is) tt)
   where
     tells : Status → Type 0

@@ -61,6 +61,7 @@ impl Machine {
             (events_of events.now) (machine_of self.old)) }
         ensures state { IfOk result
             (λ _. MakesReplay turn.steps (events_of events.now) self.old self.new) }
+        ensures rounds { IfOk result (λ _. self.new.rounds ≡ self.old.rounds + 1) }
         ensures kept { IfErr result (λ _. self.new ≡ self.old) }
         ensures processes { processes_of self.new ≡ processes_of self.old }
     {

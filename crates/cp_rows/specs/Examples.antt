@@ -78,5 +78,17 @@ sieve_2 = run_answer 8 100 1 false [] sieve_1_text ≡ (codes "rounds 8\nprocess
 abbrev pub sieve_3 : Type 0
 sieve_3 = run_answer 12 100 1 false [] sieve_1_text ≡ (codes "rounds 12\nprocess 1 initial ended\nout ''\nprocess 2 s ended\nout ''\nvar n = 7\nprocess 3 two delayed a receiver\nout '2'\nvar prime = 2\nvar n = 7\nprocess 4 three delayed b receiver\nout '3'\nvar prime = 3\nvar n = 7\nprocess 5 rest delayed c receiver\nout '57'\nvar n = 7\nmonitor a free askers -\nvar slot = 7\nvar full = 0\nqueue sender = -\nqueue receiver = 3\nmonitor b free askers -\nvar slot = 7\nvar full = 0\nqueue sender = -\nqueue receiver = 4\nmonitor c free askers -\nvar slot = 7\nvar full = 0\nqueue sender = -\nqueue receiver = 5\n")
 
+abbrev pub writers_1_text : Text
+writers_1_text = (codes "\"Two writers and a cell: what the order of a round decides, and what it doesn't.\n\n   cpm replay writers.cp writers.sequential.order --turn 4\n   cpm replay writers.cp writers.mixed.order --turn 4\n   cpm replay writers.cp writers.unlawful.order --turn 4\n\n In the first order each process has its four private steps and then its kernel turn\n before the next one begins, as on one processor. The second mixes the private steps of\n all processes, as several threads do. Both are lawful, and the report is the same one:\n b writes last, so `last` is 2. In the third order the kernel turn of process 3, which\n is b, comes before that of process 2, which no run does: a writes last, and `last` is 1.\"\ntype cell = monitor;\n  var last: integer;\n\n  procedure entry put(n: integer);\n  begin last := n end;\n\n  begin end;\n\nwriter = process(c: cell; n: integer);\n  var value: integer;\n  begin value := n; c.put(value) end;\n\nvar c: cell; a, b: writer;\nbegin init c, a(c, 1), b(c, 2) end.\n")
+
+abbrev pub writers_1 : Type 0
+writers_1 = replay_answer 4 1 false [] (codes "P1 P1 P1 P1 K1 P2 P2 P2 P2 K2 P3 P3 P3 P3 K3\nP1 P1 P1 P1 K1 P2 P2 P2 P2 K2 P3 P3 P3 P3 K3\n") writers_1_text ≡ (codes "rounds 2\nprocess 1 initial ended\nout ''\nprocess 2 a ready\nout ''\nvar n = 1\nvar value = 1\nprocess 3 b ready\nout ''\nvar n = 2\nvar value = 2\nmonitor c free askers -\nvar last = 2\n")
+
+abbrev pub writers_2 : Type 0
+writers_2 = replay_answer 4 1 false [] (codes "P3 P2 P1 P3 P2 P1 P3 P2 P1 P3 P2 P1 K1 K2 K3\nP2 P3 P3 P1 P1 P1 P2 P1 K1 P3 P2 P2 K2 P3 K3\n") writers_1_text ≡ (codes "rounds 2\nprocess 1 initial ended\nout ''\nprocess 2 a ready\nout ''\nvar n = 1\nvar value = 1\nprocess 3 b ready\nout ''\nvar n = 2\nvar value = 2\nmonitor c free askers -\nvar last = 2\n")
+
+abbrev pub writers_3 : Type 0
+writers_3 = replay_answer 4 1 false [] (codes "P1 P1 P1 P1 K1 P2 P2 P2 P2 K2 P3 P3 P3 P3 K3\nP1 P1 P1 P1 K1 P3 P3 P3 P3 K3 P2 P2 P2 P2 K2\n") writers_1_text ≡ (codes "rounds 2\nprocess 1 initial ended\nout ''\nprocess 2 a ready\nout ''\nvar n = 1\nvar value = 1\nprocess 3 b ready\nout ''\nvar n = 2\nvar value = 2\nmonitor c free askers -\nvar last = 1\n")
+
 abbrev pub Examples : Type 0
-Examples = buffer_1 × buffer_2 × buffer_3 × nested_1 × nested_mended_1 × nested_mended_2 × philosophers_1 × philosophers_2 × philosophers_3 × readers_1 × readers_2 × readers_3 × readers_4 × scheduler_1 × scheduler_2 × scheduler_3 × sieve_1 × sieve_2 × sieve_3
+Examples = buffer_1 × buffer_2 × buffer_3 × nested_1 × nested_mended_1 × nested_mended_2 × philosophers_1 × philosophers_2 × philosophers_3 × readers_1 × readers_2 × readers_3 × readers_4 × scheduler_1 × scheduler_2 × scheduler_3 × sieve_1 × sieve_2 × sieve_3 × writers_1 × writers_2 × writers_3

@@ -15,6 +15,7 @@ pub struct Case {
     pub turn: u32,
     pub tick: u32,
     pub input: String,
+    pub order: String,
     pub chains: bool,
 }
 

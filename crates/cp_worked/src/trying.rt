@@ -2,7 +2,11 @@
 
 use crate::cases::{Case, bytes_of};
 use cp_execute::execute::{Job, execute};
+use cp_execute::execute_order::execute_order;
+use cp_execute::refusal::Refusal;
+use cp_execute::replaying::Replay;
 use cp_execute::running::Run;
+use cp_private::turn::Turn;
 use cp_rounds::gate::Open;
 use cp_rounds::plan::Plan;
 use cp_rounds::tick::Tick;
@@ -32,20 +36,53 @@ fn answer_of<H: Threads + Wait + Sync>(
     let input = bytes_of(alloc, &case.input)?;
     let mut out = Vec::new(alloc);
     let (mut from, mut given) = (text.as_slice(), input.as_slice());
+    let answer = execute(rt, alloc, &mut from, &mut given, job, &Open, &mut out);
+    outcome_of(alloc, case, answer, &out)
+}
+
+// Whether what was returned and written is the answer that is due.
+fn outcome_of(
+    alloc: Global,
+    case: &Case,
+    answer: Result<(), Refusal>,
+    out: &[u8],
+) -> Result<Outcome, AllocError> {
     let due = case.answer.as_bytes();
-    match execute(rt, alloc, &mut from, &mut given, job, &Open, &mut out) {
-        Ok(()) if out.as_slice() == due => Ok(Outcome::Right),
-        Ok(()) => Ok(Outcome::Wrong),
+    let right = match answer {
+        Ok(()) => out == due,
         Err(refusal) => {
             let line = format!(in alloc; "{refusal}\n")?;
-            let right = out.is_empty() && line.as_bytes() == due;
-            Ok(if right {
-                Outcome::Right
-            } else {
-                Outcome::Wrong
-            })
+            out.is_empty() && line.as_bytes() == due
         }
-    }
+    };
+    Ok(if right {
+        Outcome::Right
+    } else {
+        Outcome::Wrong
+    })
+}
+
+fn replay(alloc: Global, case: &Case) -> Result<Outcome, AllocError> {
+    let (Ok(turn), Ok(tick)) = (Turn::new(case.turn), Tick::new(case.tick)) else {
+        return Ok(Outcome::Wrong);
+    };
+    let text = bytes_of(alloc, &case.text)?;
+    let input = bytes_of(alloc, &case.input)?;
+    let order = bytes_of(alloc, &case.order)?;
+    let mut out = Vec::new(alloc);
+    let answer = execute_order(
+        alloc,
+        &mut text.as_slice(),
+        &mut input.as_slice(),
+        &mut order.as_slice(),
+        &Replay {
+            turn,
+            tick,
+            chains: case.chains,
+        },
+        &mut out,
+    );
+    outcome_of(alloc, case, answer, &out)
 }
 
 fn run_by<H: Threads + Wait + Sync>(
@@ -64,6 +101,7 @@ fn run_by<H: Threads + Wait + Sync>(
                 rounds: case.rounds,
                 plan,
                 tick,
+                chains: case.chains,
             });
             answer_of(rt, alloc, case, &job)
         }
@@ -80,8 +118,11 @@ pub fn try_case<H: Threads + Wait + Sync>(
     if case.command.as_str() == "check" {
         return answer_of(rt, alloc, case, &Job::Check);
     }
-    if case.command.as_str() != "run" || case.chains {
+    if case.command.as_str() == "consumed" {
         return Ok(Outcome::LeftOut);
+    }
+    if case.command.as_str() == "replay" {
+        return replay(alloc, case);
     }
     for plan in PLANS {
         let outcome = run_by(rt, alloc, case, plan)?;

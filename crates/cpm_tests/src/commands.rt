@@ -99,10 +99,11 @@ fn run_takes_numbers(rt: HostRuntime) {
         "5",
         "--input",
         "in.txt",
+        "--chains",
     ];
     match read_command(rt.alloc(), words.as_slice()) {
         Ok(Command::Run { file, run, input }) => {
-            assert!(rt; file == Some("a.cp") && input == Some("in.txt"));
+            assert!(rt; file == Some("a.cp") && input == Some("in.txt") && run.chains);
             assert!(rt; numbers(run) == [1_000_000, 7, 64, 3, 4, 5]);
         }
         _ => panic!(rt; "a run"),
@@ -113,9 +114,34 @@ fn run_takes_numbers(rt: HostRuntime) {
 fn run_has_defaults(rt: HostRuntime) {
     match read_command(rt.alloc(), &["cpm", "run", "a.cp", "--rounds", "9"]) {
         Ok(Command::Run { run, input, .. }) => {
-            assert!(rt; numbers(run) == [9, 100, 2, 1, 255, 1] && input == None);
+            assert!(rt; numbers(run) == [9, 100, 2, 1, 255, 1] && input == None && !run.chains);
         }
         _ => panic!(rt; "a run"),
+    }
+}
+
+#[test]
+fn replay_takes_two_files(rt: HostRuntime) {
+    let words = [
+        "cpm", "replay", "a.cp", "a.order", "--turn", "7", "--tick", "5", "--input", "in.txt",
+    ];
+    match read_command(rt.alloc(), words.as_slice()) {
+        Ok(Command::Replay {
+            file,
+            order,
+            replay,
+            input,
+        }) => {
+            assert!(rt; file == "a.cp" && order == "a.order" && input == Some("in.txt"));
+            assert!(rt; replay.turn.steps == 7 && replay.tick.rounds == 5);
+        }
+        _ => panic!(rt; "a replay"),
+    }
+    match read_command(rt.alloc(), &["cpm", "replay", "a.cp", "-"]) {
+        Ok(Command::Replay { replay, input, .. }) => {
+            assert!(rt; replay.turn.steps == 100 && replay.tick.rounds == 1 && input == None);
+        }
+        _ => panic!(rt; "a replay"),
     }
 }
 
@@ -128,6 +154,11 @@ fn other_words_are_refused(rt: HostRuntime) {
         &["cpm", "check", "a.cp", "b.cp"],
         &["cpm", "check", "a.cp", "--rounds", "1"],
         &["cpm", "run", "a.cp"],
+        &["cpm", "replay", "a.cp"],
+        &["cpm", "replay", "-", "-"],
+        &["cpm", "replay", "a.cp", "a.order", "--turn", "0"],
+        &["cpm", "replay", "a.cp", "a.order", "--rounds", "1"],
+        &["cpm", "replay", "a.cp", "a.order", "--workers", "1"],
         &["cpm", "run", "--rounds", "1"],
         &["cpm", "run", "a.cp", "--rounds", "1000001"],
         &["cpm", "run", "a.cp", "--rounds", "-1"],
@@ -171,6 +202,10 @@ fn files_are_opened_before_they_are_read(rt: HostRuntime) {
                 "--input",
                 "nowhere.txt",
             ],
+            Refusal::Read,
+        ),
+        (
+            &["cpm", "replay", "/dev/null", "nowhere.order"],
             Refusal::Read,
         ),
         (

@@ -249,7 +249,7 @@ in sender: l -> s
 
 #[test]
 fn rules_have_pages(rt: HostRuntime) {
-    for rule in ["C1", "C13", "S6", "Y3", "I4", "M"] {
+    for rule in ["C1", "C13", "S6", "Y3", "I4", "O1", "M"] {
         match rule_page(rule) {
             Some(page) => assert!(rt; page.starts_with(rule)),
             None => panic!(rt; "a page"),

@@ -12,8 +12,22 @@ use std::thread::Threads;
 
 // A run of `rounds` rounds with turns of `turn` steps.
 pub(crate) fn job(rounds: u32, turn: u32) -> Result<Job, AllocError> {
+    run_of(rounds, turn, false)
+}
+
+// The same, with chains in its report.
+pub(crate) fn chains_job(rounds: u32, turn: u32) -> Result<Job, AllocError> {
+    run_of(rounds, turn, true)
+}
+
+fn run_of(rounds: u32, turn: u32, chains: bool) -> Result<Job, AllocError> {
     match (Plan::new(turn, 2, 1, 255), Tick::new(1)) {
-        (Ok(plan), Ok(tick)) => Ok(Job::Run(Run { rounds, plan, tick })),
+        (Ok(plan), Ok(tick)) => Ok(Job::Run(Run {
+            rounds,
+            plan,
+            tick,
+            chains,
+        })),
         _ => Err(AllocError),
     }
 }

@@ -3,6 +3,8 @@
 #![tactic(auto)]
 
 #[cfg(test)]
+mod chains;
+#[cfg(test)]
 mod commands;
 #[cfg(test)]
 mod explained;
@@ -16,6 +18,8 @@ mod messages;
 mod refusals;
 #[cfg(test)]
 mod refused;
+#[cfg(test)]
+mod replays;
 #[cfg(test)]
 mod streams;
 #[cfg(test)]

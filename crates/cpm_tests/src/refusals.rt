@@ -23,6 +23,7 @@ fn each_refusal_has_its_line(rt: HostRuntime) -> Result<(), Fail> {
         (Refusal::from(violation), "refused C13 at 19", 1),
         (Refusal::InputByte { at: 5 }, "refused I3 at 5", 1),
         (Refusal::InputSize, "refused I4 at 1048576", 1),
+        (Refusal::Order { at: 4 }, "refused O1 at 4", 1),
         (Refusal::from(ScanError::Memory), "fault M", 3),
         (Refusal::Read, "fault I1", 4),
         (Refusal::Write, "fault I2", 4),

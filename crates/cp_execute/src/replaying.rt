@@ -1,0 +1,76 @@
+//! Replaying a program: from its input and the bytes of an order to its report.
+
+ghost use Rattle.std.specs.Prelude.{◌≡◌, IfErr, IfOk};
+ghost use Rattle.cp_model.specs.Rules.{Accepted};
+ghost use Rattle.cp_model.specs.View as view;
+ghost use Rattle.cp_orders.specs.Reading.{AllWithin};
+ghost use Rattle.cp_orders.specs.Rounds.{rounds_of};
+ghost use Rattle.cp_rounds.specs.Views.{processes_of};
+ghost use Rattle.cp_execute.specs.Replayed.{IsReplayed, MakesReplays, RefusesOrder};
+
+use crate::cutting::cut_input;
+use crate::refusal::Refusal;
+use crate::running::report_of;
+use cp_check::checking::program;
+use cp_machine_model::law::{reports, waits};
+use cp_model::tree::Tree;
+use cp_orders::orders::Orders;
+use cp_orders::reading::read_orders;
+use cp_private::turn::Turn;
+use cp_rounds::machine::Machine;
+use cp_rounds::tick::Tick;
+use cp_scope::Tables;
+use std::alloc::{AllocError, Global};
+
+/// The parameters of a replay: how many steps a kernel turn has at most, how often the clock ticks,
+/// and whether the report has the chains of askers.
+#[derive(Clone, Copy, Debug)]
+pub struct Replay {
+    pub turn: Turn,
+    pub tick: Tick,
+    pub chains: bool,
+}
+
+// Makes the rounds of an order on a machine that has made none.
+fn replay_rounds(machine: &mut Machine, orders: &Orders, turn: Turn) -> Result<(), AllocError>
+    requires first { machine.old.rounds ≡ 0 }
+    requires within { AllWithin (processes_of machine.old) (rounds_of orders.now) }
+    ensures { IfOk result (λ _. MakesReplays turn.steps (rounds_of orders.now)
+        machine.old machine.new) }
+{
+    for k in 0..orders.len() {
+        if let Some(events) = orders.round(k) {
+            machine.replay(events, turn)?;
+        }
+    }
+    Ok(())
+}
+
+/// Replays the program of an accepted text and returns the report.
+///
+/// # Errors
+///
+/// O1 if the bytes aren't an order of its processes, M if memory runs out.
+pub(crate) fn report_after_replay(
+    alloc: Global,
+    tree: &Tree,
+    input: &[u8],
+    order: &[u8],
+    replay: &Replay,
+) -> Result<Vec<u8>, Refusal>
+    requires accepted { Accepted (view.tree tree.now) }
+    ensures report { IfOk result
+        (λ bytes. IsReplayed replay.now (view.tree tree.now) input.now order.now bytes.items) }
+    ensures refused { IfErr result (RefusesOrder (view.tree tree.now) order.now) }
+{
+    reports();
+    waits();
+    let program = program(alloc, tree)?;
+    let tables = Tables::of_tree(alloc, tree)?;
+    let orders = read_orders(alloc, order, program.processes())?;
+    let inputs = cut_input(alloc, input, program.processes())?;
+    let mut machine = Machine::new(alloc, program, inputs, replay.tick)?;
+    replay_rounds(&mut machine, &orders, replay.turn)?;
+    let bytes = report_of(alloc, &tables, &machine, replay.chains)?;
+    Ok(bytes)
+}
