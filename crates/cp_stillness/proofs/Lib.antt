@@ -1,0 +1,4 @@
+pub mod Resting
+pub mod Rounds
+pub mod Reports
+mod Example

@@ -1,0 +1,2 @@
+pub mod Stillness
+pub mod Laws
