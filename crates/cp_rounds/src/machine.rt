@@ -103,6 +103,8 @@ impl Machine {
         ensures made { IfOk result (λ _. machine_of self.new ≡ plain.phased_round
             plan.now.turn.steps (numbers_from 1 (processes_of self.old)) (machine_of self.old)) }
         ensures state { IfOk result (λ _. MakesRound plan.now.turn.steps self.old self.new) }
+        ensures single { IfOk result
+            (λ _. MakesRounds plan.now.turn.steps 1 self.old self.new) }
         ensures kept { IfErr result (λ _. machine_of self.new ≡ machine_of self.old) }
         ensures processes { processes_of self.new ≡ processes_of self.old }
     {
