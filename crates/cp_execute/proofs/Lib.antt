@@ -6,3 +6,4 @@ pub mod Takings
 pub mod Faults
 pub mod Replays
 pub mod OrderRefusals
+pub mod OrdersDue

@@ -1,8 +1,7 @@
 -- Why a replay is refused.
 use Rattle.std.proofs.Common.{◌≡◌, ap, List, Option, None, Some, IfSome, ℕ, inl, inr, subst, sym}
-use Rattle.cp_model.specs.OrderText.{NotALine}
 use Rattle.cp_model.specs.Syntax as s
-use Rattle.cp_orders.specs.Reading.{Refuses, judged}
+use Rattle.cp_orders.specs.Reading.{Refuses}
 use Rattle.cp_orders.specs.declared.reading.OrderError.{OrderError}
 use Rattle.cp_orders.specs.declared.reading.OrderError.TheVariants as order
 use Rattle.cp_execute.specs.declared.reading.ReadError.{ReadError}
@@ -11,7 +10,7 @@ use Rattle.cp_execute.specs.declared.refusal.Refusal.{Refusal}
 use Rattle.cp_execute.specs.declared.refusal.Refusal.TheVariants as refusal
 use Rattle.cp_execute.specs.Executed.{IsFault, RefusesInputOf, RefusesText}
 use Rattle.cp_execute.specs.Refusals.{of_order, of_read}
-use Rattle.cp_execute.specs.Replayed.{IsFit, IsNotText, RefusesNoAccepted, RefusesOrder, RefusesOrderOf, RefusesReplay, processes_in, rounds_told}
+use Rattle.cp_execute.specs.Replayed.{IsFit, IsNotText, RefusesNoAccepted, RefusesOrder, RefusesOrderFor, RefusesOrderOf, RefusesReplay, rounds_told}
 use Rattle.cp_execute.specs.Takings.{Concern, Fault, Input, IsAboutInput, IsAboutOrder, Order, Text, Writer, concern, front}
 use Rattle.cp_execute.specs.Texts.{IsAccepted}
 use Rattle.cp_execute.proofs.Faults.{known_fault}
@@ -51,11 +50,10 @@ pub refuses_order_of : (known : Option (List ℕ)) (t : s.Tree) (bytes : List �
 refuses_order_of None t bytes e k h = (is_about_order t bytes e h, tt)
 refuses_order_of (Some zs) t bytes e k h = (is_about_order t bytes e h, subst (λ (bs : List ℕ). RefusesOrder t bs e) k h)
 
--- What the reader of orders refuses is refused of the text with so many processes.
-pub order_refused_as : (t : s.Tree) (n : ℕ) (bytes : List ℕ) (e : OrderError) → n ≡ processes_in t → Refuses n bytes e → RefusesOrder t bytes (of_order e)
-order_refused_as t n bytes (order.Line at) count h =
-    ap rounds_told (subst (λ (k : ℕ). judged k bytes ≡ NotALine at) count h)
-order_refused_as t n bytes order.Memory count h = tt
+-- What the reader of orders refuses is refused as an order of so many processes.
+pub order_refused_for : (n : ℕ) (bytes : List ℕ) (e : OrderError) → Refuses n bytes e → RefusesOrderFor n bytes (of_order e)
+order_refused_for n bytes (order.Line at) h = ap rounds_told h
+order_refused_for n bytes order.Memory h = tt
 
 pub order_unread : (known : Option (List ℕ)) (t : s.Tree) (e : ReadError) → RefusesOrderOf t known (of_read e)
 order_unread None t read.Read = (tt, tt)

@@ -7,7 +7,7 @@ use Rattle.cp_execute.specs.declared.reading.ReadError.TheVariants as read
 use Rattle.cp_execute.specs.declared.refusal.Refusal.{Refusal}
 use Rattle.cp_execute.specs.declared.refusal.Refusal.TheVariants as refusal
 use Rattle.cp_execute.specs.Refusals.{of_read}
-use Rattle.cp_execute.specs.Takings.{Concern, Fault, Input, IsAboutInput, IsAboutOrder, IsAboutText, Order, TakesFront, TakesInput, TakesInputAt, TakesOrderAt, TakesText, TakesTextAt, TakesUpTo, Text, Writer, concern, front}
+use Rattle.cp_execute.specs.Takings.{Concern, Fault, Input, IsAboutInput, IsAboutOrder, IsAboutText, Order, TakesFront, TakesInput, TakesInputAt, TakesOrder, TakesOrderAt, TakesText, TakesTextAt, TakesUpTo, Text, Writer, concern, front}
 
 -- ---- one reader
 
@@ -105,6 +105,10 @@ order_failed old new read.Memory h = h
 pub input_written : {T : Type 0} (r : Result T Refusal) (old new : Option (List ℕ)) → TakesFront old new → IfErr r (λ e. e ≡ refusal.Write) → TakesInput r old new
 input_written (Ok x) old new h write = h
 input_written (Err e) old new h write = subst (λ (r : Refusal). TakesInputAt old new (concern r)) (sym write) h
+
+pub order_written : {T : Type 0} (r : Result T Refusal) (old new : Option (List ℕ)) → TakesFront old new → IfErr r (λ e. e ≡ refusal.Write) → TakesOrder r old new
+order_written (Ok x) old new h write = h
+order_written (Err e) old new h write = subst (λ (r : Refusal). TakesOrderAt old new (concern r)) (sym write) h
 
 pub memory_at : (old new : Option (List ℕ)) (e : Refusal) → e ≡ refusal.Memory → TakesFront old new → TakesInputAt old new (concern e)
 memory_at old new e memory h = subst (λ (r : Refusal). TakesInputAt old new (concern r)) (sym memory) (front_up_to old new h)

@@ -43,7 +43,7 @@ of_known P (Some ys) xs h e = subst P (some_is ys xs e) h
     some_is a b e = Prim.grind (arith, e)
 
 -- What was read of a text within the limit is the text.
-whole : (bytes xs : List ℕ) → bytes ≡ front xs → length bytes ≤ 1048576 → bytes ≡ xs
+pub whole : (bytes xs : List ℕ) → bytes ≡ front xs → length bytes ≤ 1048576 → bytes ≡ xs
 whole bytes xs e h = e ∙ take_all 1048576 xs (subst (λ (ys : List ℕ). length ys ≤ 1048576) e h)
 
 refuses_text : (xs : List ℕ) (e : Refusal) → Refuses (front xs) e → RefusesText xs e

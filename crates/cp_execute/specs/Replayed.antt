@@ -30,8 +30,12 @@ abbrev pub rounds_told : OrderText → Result (List (List Event)) Refusal
 rounds_told (Orders rounds) = Ok rounds
 rounds_told (NotALine at) = Err (refusal.Order at)
 
+-- The rounds of an order for so many processes.
+abbrev pub judge_order_of : ℕ → List ℕ → Result (List (List Event)) Refusal
+judge_order_of n order = rounds_told (judged n order)
+
 abbrev pub judge_order : s.Tree → List ℕ → Result (List (List Event)) Refusal
-judge_order t order = rounds_told (judged (processes_in t) order)
+judge_order t order = judge_order_of (processes_in t) order
 
 -- ---- Rounds
 
@@ -80,11 +84,14 @@ BeginsReplay how text input order old new = Due how text input order (AppendsSom
 
 -- ---- refusals
 
--- Why the bytes that were read aren't an order of the text. A failed read and running out of memory
+-- Why the bytes that were read aren't an order of so many processes. A failed read and running out of memory
 -- say nothing about them.
+abbrev pub RefusesOrderFor : ℕ → List ℕ → Refusal → Type 0
+RefusesOrderFor n bytes (refusal.Order at) = judge_order_of n bytes ≡ Err (refusal.Order at)
+RefusesOrderFor n bytes e = IsAboutOrder (concern e)
+
 abbrev pub RefusesOrder : s.Tree → List ℕ → Refusal → Type 0
-RefusesOrder t bytes (refusal.Order at) = judge_order t bytes ≡ Err (refusal.Order at)
-RefusesOrder t bytes e = IsAboutOrder (concern e)
+RefusesOrder t = RefusesOrderFor (processes_in t)
 
 abbrev pub RefusesOrderOf : s.Tree → Option (List ℕ) → Refusal → Type 0
 RefusesOrderOf t order e = IsAboutOrder (concern e) × IfSome order (λ zs. RefusesOrder t (front zs) e)

@@ -1,12 +1,14 @@
 //! Replaying a program: from its input and the bytes of an order to its report.
 
-ghost use Rattle.std.specs.Prelude.{◌≡◌, IfErr, IfOk};
+ghost use Rattle.std.specs.Prelude.{◌≡◌, IfErr, IfOk, Ok, length};
+ghost use Rattle.cp_check.specs.Checked.{IsProgramOf};
 ghost use Rattle.cp_model.specs.Rules.{Accepted};
 ghost use Rattle.cp_model.specs.View as view;
 ghost use Rattle.cp_orders.specs.Reading.{AllWithin};
 ghost use Rattle.cp_orders.specs.Rounds.{rounds_of};
+ghost use Rattle.cp_program.specs.View as program_view;
 ghost use Rattle.cp_rounds.specs.Views.{processes_of};
-ghost use Rattle.cp_execute.specs.Replayed.{IsReplayed, MakesReplays, RefusesOrder};
+ghost use Rattle.cp_execute.specs.Replayed.{IsDueAfter, IsReplayed, MakesReplays, RefusesOrder, RefusesOrderFor, judge_order_of};
 
 use crate::cutting::cut_input;
 use crate::refusal::Refusal;
@@ -17,6 +19,7 @@ use cp_model::tree::Tree;
 use cp_orders::orders::Orders;
 use cp_orders::reading::read_orders;
 use cp_private::turn::Turn;
+use cp_program::program::Program;
 use cp_rounds::machine::Machine;
 use cp_rounds::tick::Tick;
 use cp_scope::Tables;
@@ -46,6 +49,42 @@ fn replay_rounds(machine: &mut Machine, orders: &Orders, turn: Turn) -> Result<(
     Ok(())
 }
 
+// Reads the order of the text's processes.
+fn orders_of(alloc: Global, order: &[u8], processes: usize) -> Result<Orders, Refusal>
+    ensures order { IfOk result
+        (λ orders. judge_order_of processes order.now ≡ Ok (rounds_of orders)) }
+    ensures within { IfOk result (λ orders. AllWithin processes (rounds_of orders)) }
+    ensures refused { IfErr result (RefusesOrderFor processes order.now) }
+{
+    let orders = read_orders(alloc, order, processes)?;
+    Ok(orders)
+}
+
+// Replays a text's program in a known order and returns the report.
+fn replay_of(
+    alloc: Global,
+    tree: &Tree,
+    program: Program,
+    input: &[u8],
+    orders: &Orders,
+    replay: &Replay,
+) -> Result<Vec<u8>, AllocError>
+    requires program { IsProgramOf (view.tree tree.now) program }
+    requires within { AllWithin (length (program_view.program program).processes)
+        (rounds_of orders.now) }
+    ensures { IfOk result (λ bytes. IsDueAfter replay.now (view.tree tree.now) input.now
+        (rounds_of orders.now) bytes.items) }
+{
+    reports();
+    waits();
+    let tables = Tables::of_tree(alloc, tree)?;
+    let inputs = cut_input(alloc, input, program.processes())?;
+    let mut machine = Machine::new(alloc, program, inputs, replay.tick)?;
+    replay_rounds(&mut machine, orders, replay.turn)?;
+    let bytes = report_of(alloc, &tables, &machine, replay.chains)?;
+    Ok(bytes)
+}
+
 /// Replays the program of an accepted text and returns the report.
 ///
 /// # Errors
@@ -63,14 +102,8 @@ pub(crate) fn report_after_replay(
         (λ bytes. IsReplayed replay.now (view.tree tree.now) input.now order.now bytes.items) }
     ensures refused { IfErr result (RefusesOrder (view.tree tree.now) order.now) }
 {
-    reports();
-    waits();
     let program = program(alloc, tree)?;
-    let tables = Tables::of_tree(alloc, tree)?;
-    let orders = read_orders(alloc, order, program.processes())?;
-    let inputs = cut_input(alloc, input, program.processes())?;
-    let mut machine = Machine::new(alloc, program, inputs, replay.tick)?;
-    replay_rounds(&mut machine, &orders, replay.turn)?;
-    let bytes = report_of(alloc, &tables, &machine, replay.chains)?;
+    let orders = orders_of(alloc, order, program.processes())?;
+    let bytes = replay_of(alloc, tree, program, input, &orders, replay)?;
     Ok(bytes)
 }

@@ -83,6 +83,7 @@ fn replay(
 }
 
 // A row of numbers that looks like chance, the same in each run.
+#[derive(Drop)]
 struct Chance {
     state: u32,
 }
@@ -97,6 +98,7 @@ impl Chance {
 
 // The events that a lawful order may have next: a private step of a process that has some left, and
 // the kernel turn of the first process without one, once its private steps are made.
+#[derive(Drop)]
 struct Round {
     left: [u32; PROCESSES],
     kernel: usize,
