@@ -167,14 +167,12 @@ impl Machine {
         gate: &G,
     ) -> Result<(), MemoryAt>
         requires count { self.old.rounds + rounds < 2 ^ 64 }
-        ensures done { IfOk result (λ _. machine_of self.new ≡ plain.phased_rounds
-            plan.now.turn.steps (numbers_from 1 (processes_of self.old)) rounds
-            (machine_of self.old)) }
+        ensures made { IfOk result
+            (λ _. IsAfter plan.now.turn.steps rounds self.old self.new) }
         ensures state { IfOk result
             (λ _. MakesRounds plan.now.turn.steps rounds self.old self.new) }
         ensures partly { IfErr result (λ e. (1 ≤ e.0) × (e.0 ≤ rounds)
-            × (machine_of self.new ≡ plain.phased_rounds plan.now.turn.steps
-            (numbers_from 1 (processes_of self.old)) (e.0 - 1) (machine_of self.old))) }
+            × IsAfter plan.now.turn.steps (e.0 - 1) self.old self.new) }
         ensures processes { processes_of self.new ≡ processes_of self.old }
     {
         law::rounds();
