@@ -29,6 +29,10 @@ RestsAt m i =
     (x : Private) → slice_get m.parts.privates.items i ≡ Some x
     → moves (stage_of (kernel_of m.parts.kernel).stages (suc i)) (activity x.activity) ≡ false
 
+-- The first n processes can't.
+abbrev pub RestBelow : Machine → ℕ → Type 0
+RestBelow m n = (i : ℕ) → i < n → RestsAt m i
+
 -- Each state that the machine is in is still, or none is.
 abbrev pub TellsStill : Machine → Bool → Type 0
 TellsStill m b = (setup : Setup) (s : State) → IsIn (machine_of m) setup s → is_still setup s ≡ b

@@ -25,9 +25,9 @@ impl Machine {
     pub fn is_still(&self) -> bool
         ensures { TellsStill self.now result }
     {
-        for i in 0..self.parts.privates.len() {
-            let stage = self.parts.kernel.stage(i as u32 + 1);
-            if can_move(stage, self.parts.privates[i].activity()) {
+        for private in &self.parts.privates {
+            let stage = self.parts.kernel.stage(private.number() as u32);
+            if can_move(stage, private.activity()) {
                 return false;
             }
         }

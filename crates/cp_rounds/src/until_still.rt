@@ -91,7 +91,7 @@ impl Machine {
         let Ok(before) = self.parts.copy(self.alloc) else {
             return Err(MemoryAt(1));
         };
-        self.run(rt, rounds, plan, gate)?;
+        self.make_all(rt, rounds, plan, gate)?;
         if rounds > 1 && self.is_still() {
             self.parts = before;
             self.rounds -= u64::from(rounds);

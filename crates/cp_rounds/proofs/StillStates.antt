@@ -2,11 +2,12 @@
 -- still, none before it was.
 use Rattle.std.proofs.Common.{◌≡◌, ◌≢◌, ◌≤◌, ◌<◌, ◌+◌, ◌-◌, ℕ, zero, suc, Bool, true, false, List, Some, length, refl, ap, sym, ◌∙◌, subst, arith}
 use Rattle.std.proofs.lemmas.Bool.{true≢false}
-use Rattle.std.specs.Prelude.{if◌then◌else◌, slice_get}
+use Rattle.std.proofs.lemmas.Bool.Decides.{nat_tests}
+use Rattle.std.specs.Prelude.{if◌then◌else◌, nat_lt, slice_get}
 use Rattle.cp_kernel.specs.KernelOf.{kernel_of}
 use Rattle.cp_machine_model.specs.Addresses.{Ground}
 use Rattle.cp_machine_model.specs.InState.{IsIn}
-use Rattle.cp_machine_model.specs.KernelOf.{StageMeans}
+use Rattle.cp_machine_model.specs.KernelOf.{StageMeans, kernel_ground}
 use Rattle.cp_machine_model.specs.KernelSteps as kernel
 use Rattle.cp_machine_model.specs.KernelSteps.{Stage, stage_of}
 use Rattle.cp_machine_model.specs.PartOf.{status_of}
@@ -25,12 +26,12 @@ use Rattle.cp_stillness.specs.Laws.{StillAfterMoreRounds}
 use Rattle.cp_stillness.specs.Stillness.{can_move, is_still, none_can_move}
 use Rattle.cp_rounds.specs.MachineOf.{input_at, input_of, machine_with}
 use Rattle.cp_rounds.specs.Runs.{AreSame}
-use Rattle.cp_rounds.specs.Stillness.{Advances, NoneStillBefore, RestsAt, TellsStill, goes_on, moves}
-use Rattle.cp_rounds.specs.Views.{IsAfter, machine_of}
+use Rattle.cp_rounds.specs.Stillness.{Advances, NoneStillBefore, RestBelow, RestsAt, TellsStill, goes_on, moves}
+use Rattle.cp_rounds.specs.Views.{IsAfter, machine_of, processes_of}
 use Rattle.cp_rounds.specs.declared.machine.Machine.{Machine}
 use Rattle.cp_rounds.proofs.After.{after_more}
 use Rattle.cp_rounds.proofs.InStates.{makes_rounds}
-use Rattle.cp_rounds.proofs.Lists.{got_at, got_below}
+use Rattle.cp_rounds.proofs.Lists.{got_at, got_below, some_is}
 use Rattle.cp_rounds.proofs.Made.{part_at, parts_count, same_machine_with}
 
 -- ---- One process
@@ -84,16 +85,17 @@ all_rest s p (suc n) h =
 
 one_moves : (s : State) (p n q : ℕ) → p ≤ q → q < p + n → can_move (s.status q) ≡ true → none_can_move s (numbers_from p n) ≡ false
 one_moves s p zero q first last h = absurd (Prim.omega (arith, first, last))
-one_moves s p (suc n) q first last h = by (can_move (s.status p)) refl
+one_moves s p (suc n) q first last h = by (can_move (s.status p)) refl (λ later. one_moves s (suc p) n q later (Prim.omega (arith, last)) h)
   where
-    by : (b : Bool) → can_move (s.status p) ≡ b → (if b then false else none_can_move s (numbers_from (suc p) n)) ≡ false
-    by true e = refl
-    by false e =
+    by : (b : Bool) → can_move (s.status p) ≡ b → (suc p ≤ q → none_can_move s (numbers_from (suc p) n) ≡ false)
+        → (if b then false else none_can_move s (numbers_from (suc p) n)) ≡ false
+    by true e after = refl
+    by false e after =
         let other : p ≢ q = λ same. true≢false (sym h ∙ (ap (λ k. can_move (s.status k)) (sym same) ∙ e)) in
-        one_moves s (suc p) n q (Prim.omega (arith, first, other)) (Prim.omega (arith, last)) h
+        after (Prim.omega (arith, first, other))
 
 module _ (m : Machine) (setup : Setup) (s : State) (I : IsIn (machine_of m) setup s) where
-  xs : List Private
+  abbrev xs : List Private
   xs = m.parts.privates.items
 
   count : length xs ≡ process_count setup
@@ -108,10 +110,10 @@ module _ (m : Machine) (setup : Setup) (s : State) (I : IsIn (machine_of m) setu
       let stages = I.kernel.gates_stand.stage_count in
       let own = I.parts (suc i) (private_of x (input_at m.setting.inputs.items i)) (Prim.omega arith)
       (subst (λ k. slice_get (machine_of m).parts k ≡ Some (private_of x (input_at m.setting.inputs.items i))) place (part_at m.setting.inputs.items i xs x here)) in
-      status_moves _ (s.status (suc i)) (stage_of (kernel_of m.parts.kernel).stages (suc i)) (activity x.activity)
+      status_moves (kernel_ground (machine_of m).program I.stands.texts setup) (s.status (suc i)) (stage_of (kernel_of m.parts.kernel).stages (suc i)) (activity x.activity)
       (I.kernel.gates_stand.stages (suc i) (Prim.omega arith) (Prim.omega (arith, below, all, stages))) own.part.status
 
-  still_if : ((i : ℕ) → i < length xs → RestsAt m i) → is_still setup s ≡ true
+  still_if : RestBelow m (length xs) → is_still setup s ≡ true
   still_if rest = all_rest s 1 (process_count setup) each
     where
       each : (q : ℕ) → 1 ≤ q → q < 1 + process_count setup → can_move (s.status q) ≡ false
@@ -129,12 +131,29 @@ module _ (m : Machine) (setup : Setup) (s : State) (I : IsIn (machine_of m) setu
       let all = count in
       one_moves s 1 (process_count setup) (suc i) (Prim.omega arith) (Prim.omega (arith, below, all)) (moves_as i x here ∙ h)
 
-pub tell_still : (m : Machine) → ((i : ℕ) → i < length m.parts.privates.items → RestsAt m i) → TellsStill m true
+pub tell_still : (m : Machine) → RestBelow m (processes_of m) → TellsStill m true
 tell_still m rest setup s I = still_if m setup s I rest
 
-pub tell_moving : (m : Machine) (i : ℕ) (x : Private) → slice_get m.parts.privates.items i ≡ Some x
-    → moves (stage_of (kernel_of m.parts.kernel).stages (suc i)) (activity x.activity) ≡ true → TellsStill m false
-tell_moving m i x here h setup s I = moving_if m setup s I i x here h
+-- ---- The process that is tested next
+
+module _ (m : Machine) (i : ℕ) (x : Private) (here : slice_get m.parts.privates.items i ≡ Some x) where
+  numbered : moves (stage_of (kernel_of m.parts.kernel).stages x.number) (activity x.activity)
+      ≡ moves (stage_of (kernel_of m.parts.kernel).stages (suc i)) (activity x.activity)
+  numbered = ap (λ n. moves (stage_of (kernel_of m.parts.kernel).stages n) (activity x.activity)) (m.parts.numbers i x here)
+
+  pub tell_moving : moves (stage_of (kernel_of m.parts.kernel).stages x.number) (activity x.activity) ≡ true → TellsStill m false
+  tell_moving h setup s I = moving_if m setup s I i x here (sym numbered ∙ h)
+
+  pub rests_more : moves (stage_of (kernel_of m.parts.kernel).stages x.number) (activity x.activity) ≡ false → RestBelow m i → RestBelow m (i + 1)
+  rests_more h rest k below = by (nat_lt k i) refl
+    where
+      by : (b : Bool) → nat_lt k i ≡ b → RestsAt m k
+      by true f = rest k (Prim.grind (arith, nat_tests, f))
+      by false f = λ y there.
+          let same : k ≡ i = Prim.grind (arith, nat_tests, f, below) in
+          let is = some_is x y (sym here ∙ (ap (slice_get m.parts.privates.items) (sym same) ∙ there)) in
+          subst (λ n. moves (stage_of (kernel_of m.parts.kernel).stages (suc n)) (activity y.activity) ≡ false) (sym same)
+          (subst (λ (z : Private). moves (stage_of (kernel_of m.parts.kernel).stages (suc i)) (activity z.activity) ≡ false) is (sym numbered ∙ h))
 
 -- ---- Rounds
 

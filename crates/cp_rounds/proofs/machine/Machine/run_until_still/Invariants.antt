@@ -2,7 +2,7 @@ use Rattle.std.proofs.Common.{◌≤◌, ◌+◌, ◌-◌}
 use Rattle.std.specs.Prelude.{if◌then◌else◌}
 use Rattle.cp_rounds.specs.Stillness.{NoneStillBefore}
 use Rattle.cp_rounds.specs.Views.{IsAfter}
-use Rattle.cp_rounds.proofs.until_still.Machine.run_until_still.Given as goal
+use Rattle.cp_rounds.proofs.machine.Machine.run_until_still.Given as goal
 
 abbrev pub invariant-rounds : goal.invariant-rounds
 invariant-rounds g l = record {
