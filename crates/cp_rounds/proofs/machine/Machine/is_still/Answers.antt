@@ -1,4 +1,4 @@
-use Rattle.std.proofs.Common.{◌≡◌, ◌≤◌, ◌<◌, ℕ, [], List, Some, ap, arith, length, slice_get, subst, sym, ◌∙◌}
+use Rattle.std.proofs.Common.{◌≡◌, ◌≤◌, [], List, Some, ap, arith, length, slice_get, subst, sym, ◌∙◌}
 use Rattle.cp_kernel.specs.KernelOf.{kernel_of}
 use Rattle.cp_machine_model.specs.KernelSteps.{stage_of}
 use Rattle.cp_private.specs.States.{activity}

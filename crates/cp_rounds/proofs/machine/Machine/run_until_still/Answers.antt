@@ -1,4 +1,4 @@
-use Rattle.std.proofs.Common.{rules, ◌≡◌, ◌<◌, ◌≤◌, ◌+◌, ◌-◌, ℕ, Bool, false, true, arith, subst}
+use Rattle.std.proofs.Common.{rules, ◌≡◌, ◌<◌, ◌+◌, ◌-◌, ℕ, Bool, false, true, arith, subst}
 use Rattle.cp_rounds.specs.Stillness.{Advances, TellsStill}
 use Rattle.cp_rounds.specs.Views.{IsAfter}
 use Rattle.cp_rounds.proofs.After.{after_more}

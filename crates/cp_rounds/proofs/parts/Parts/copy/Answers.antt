@@ -1,4 +1,4 @@
-use Rattle.std.proofs.Common.{◌≡◌, false, List, length, subst, sym, ◌∙◌}
+use Rattle.std.proofs.Common.{false, List, subst, sym, ◌∙◌}
 use Rattle.cp_private.specs.declared.private.Private.{Private}
 use Rattle.cp_rounds.specs.Replayed.{AreWoken}
 use Rattle.cp_rounds.proofs.Replays.{copies_same}
