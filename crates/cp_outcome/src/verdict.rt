@@ -1,0 +1,75 @@
+//! What became of the processes of a machine.
+
+ghost use Rattle.std.specs.Prelude.{◌≡◌};
+ghost use Rattle.cp_private.specs.States.{activity as activity_view};
+ghost use Rattle.cp_outcome.specs.Verdicts.{IsVerdictOn, TellsAll, ended, has_ended, has_no_fault, sound};
+
+use cp_private::private::Activity;
+use cp_rounds::machine::Machine;
+
+/// What became of the processes of a machine.
+#[derive(Clone, Copy, Debug, PartialEq, Eq)]
+pub enum Verdict {
+    /// All have ended.
+    Ended,
+    /// None can move, and none has faulted, but not all have ended.
+    Stuck,
+    /// None can move, and some have faulted.
+    Fault,
+    /// Some can move.
+    Running,
+}
+
+fn is_sound(activity: Activity) -> bool
+    ensures { result ≡ sound (activity_view activity) }
+{
+    !matches!(activity, Activity::Faulted(_))
+}
+
+fn is_ended(activity: Activity) -> bool
+    ensures { result ≡ ended (activity_view activity) }
+{
+    matches!(activity, Activity::Ended)
+}
+
+fn none_has_faulted(machine: &Machine) -> bool
+    ensures { TellsAll has_no_fault machine.now result }
+{
+    for i in 0..machine.processes() {
+        if let Some(private) = machine.private(i + 1) {
+            if !is_sound(private.activity()) {
+                return false;
+            }
+        }
+    }
+    true
+}
+
+fn all_have_ended(machine: &Machine) -> bool
+    ensures { TellsAll has_ended machine.now result }
+{
+    for i in 0..machine.processes() {
+        if let Some(private) = machine.private(i + 1) {
+            if !is_ended(private.activity()) {
+                return false;
+            }
+        }
+    }
+    true
+}
+
+/// Returns the verdict on a machine: whether its processes can move, and if none can, whether one
+/// has faulted or all have ended.
+pub fn verdict_on(machine: &Machine) -> Verdict
+    ensures { IsVerdictOn machine.now result }
+{
+    if !machine.is_still() {
+        Verdict::Running
+    } else if !none_has_faulted(machine) {
+        Verdict::Fault
+    } else if all_have_ended(machine) {
+        Verdict::Ended
+    } else {
+        Verdict::Stuck
+    }
+}
