@@ -6,3 +6,4 @@ pub mod Statuses
 pub mod Lines
 pub mod Subjects
 pub mod WholeReports
+pub mod Outcomes

@@ -10,6 +10,7 @@
 //! - `subject`, `processes`, `monitors`: what a report describes, and the lines of its processes
 //!   and monitors.
 //! - `report`: the whole report.
+//! - `outcome`, `reasons`: the verdict on a machine, and why processes are where they are.
 #![tactic(auto)]
 
 mod chains;
@@ -19,7 +20,9 @@ mod heads;
 mod lines;
 mod listing;
 mod monitors;
+pub mod outcome;
 mod processes;
+mod reasons;
 pub mod report;
 mod status;
 mod subject;

@@ -29,8 +29,8 @@ pub(crate) fn monitor_start(program: &Program, number: usize) -> usize
     }
 }
 
-// Adds the path of the queue at an address of the shared words.
-fn push_queue(
+/// Adds the path of the queue at an address of the shared words.
+pub(crate) fn push_queue(
     walk: &mut Walk,
     tables: &Tables,
     program: &Program,
@@ -56,8 +56,12 @@ fn monitor_at<'m, 't>(monitors: &'m [Field<'t>], number: u32) -> Option<&'m Fiel
     monitors.get((number as usize).saturating_sub(1))
 }
 
-// Adds the name of the monitor with this number, from 1. The number 0 is read as 1.
-fn push_monitor(out: &mut Vec<u8>, monitors: &[Field], number: u32) -> Result<(), AllocError>
+/// Adds the name of the monitor with this number, from 1. The number 0 is read as 1.
+pub(crate) fn push_monitor(
+    out: &mut Vec<u8>,
+    monitors: &[Field],
+    number: u32,
+) -> Result<(), AllocError>
     ensures { OnOk result (NamesMonitor (map entry monitors.now) number
         out.old.items out.new.items) }
 {
