@@ -7,3 +7,4 @@ pub mod Faults
 pub mod Replays
 pub mod OrderRefusals
 pub mod OrdersDue
+pub mod OutcomesDue

@@ -8,6 +8,9 @@ use Rattle.cp_model.specs.Report.{IsReportWithChains, report}
 use Rattle.cp_model.specs.Rounds as r
 use Rattle.cp_model.specs.Start.{start}
 use Rattle.cp_model.specs.States.{Setup, State}
+use Rattle.cp_machine_model.specs.InState.{IsIn}
+use Rattle.cp_rounds.specs.Views.{machine_of}
+use Rattle.cp_rounds.specs.declared.machine.Machine.{Machine}
 use Rattle.cp_execute.specs.declared.refusal.Refusal.{Refusal}
 use Rattle.cp_execute.specs.declared.refusal.Refusal.TheVariants as refusal
 use Rattle.cp_execute.specs.declared.running.Run.{Run}
@@ -20,6 +23,10 @@ use Rattle.cp_execute.specs.Takings.{AppendsSome, IsAboutInput, TakesInput, conc
 
 abbrev pub setup_of : s.Tree → List ℕ → ℕ → Setup
 setup_of t input tick = record { tree = erase.abstract t; inputs = cut input; tick = tick }
+
+-- The machine is in the state in which the system starts.
+abbrev pub IsAtStart : Setup → Machine → Type 0
+IsAtStart setup machine = IsIn (machine_of machine) setup (start setup)
 
 -- The bytes are the report of a state, with the chains of askers if they are asked for.
 abbrev pub IsReportOf : Bool → Setup → State → List ℕ → Type 0

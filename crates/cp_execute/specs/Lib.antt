@@ -5,3 +5,4 @@ pub mod Takings
 pub mod MachineReports
 pub mod Executed
 pub mod Replayed
+pub mod Outcomes

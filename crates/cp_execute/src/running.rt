@@ -4,7 +4,7 @@ ghost use Rattle.std.specs.Prelude.{◌≡◌, false, IfErr, IfOk};
 ghost use Rattle.cp_model.specs.Rules.{Accepted};
 ghost use Rattle.cp_model.specs.View as view;
 ghost use Rattle.cp_rounds.specs.Views.{machine_of};
-ghost use Rattle.cp_execute.specs.Executed.{IsDue};
+ghost use Rattle.cp_execute.specs.Executed.{IsAtStart, IsDue, setup_of};
 ghost use Rattle.cp_execute.specs.MachineReports.{IsReport};
 ghost use Rattle.cp_execute.specs.declared.refusal.Refusal.TheVariants as refusal;
 
@@ -54,6 +54,28 @@ pub(crate) fn report_of(
     }
 }
 
+/// Returns the machine of an accepted text at its start.
+///
+/// # Errors
+///
+/// `AllocError` if memory runs out.
+pub(crate) fn machine_at_start(
+    alloc: Global,
+    tree: &Tree,
+    input: &[u8],
+    tick: Tick,
+) -> Result<Machine, AllocError>
+    requires accepted { Accepted (view.tree tree.now) }
+    ensures state { IfOk result
+        (λ machine. IsAtStart (setup_of (view.tree tree.now) input.now tick.rounds) machine) }
+    ensures rounds { IfOk result (λ machine. machine.rounds ≡ 0) }
+{
+    let program = program(alloc, tree)?;
+    let inputs = cut_input(alloc, input, program.processes())?;
+    let machine = Machine::new(alloc, program, inputs, tick)?;
+    Ok(machine)
+}
+
 /// Runs the program of an accepted text and returns the report.
 ///
 /// # Errors
@@ -74,10 +96,8 @@ pub(crate) fn report_after_run<H: Threads + Wait + Sync, G: TurnGate>(
 {
     reports();
     waits();
-    let program = program(alloc, tree)?;
+    let mut machine = machine_at_start(alloc, tree, input, run.tick)?;
     let tables = Tables::of_tree(alloc, tree)?;
-    let inputs = cut_input(alloc, input, program.processes())?;
-    let mut machine = Machine::new(alloc, program, inputs, run.tick)?;
     if machine.run(rt, run.rounds, &run.plan, gate).is_err() {
         return Err(Refusal::Memory);
     }

@@ -1,0 +1,64 @@
+//! Running a program until nothing can move: from its input to the outcome.
+
+ghost use Rattle.std.specs.Prelude.{◌≡◌, IfErr, IfOk};
+ghost use Rattle.cp_model.specs.Rules.{Accepted};
+ghost use Rattle.cp_model.specs.View as view;
+ghost use Rattle.cp_execute.specs.Outcomes.{IsOutcome};
+ghost use Rattle.cp_execute.specs.declared.refusal.Refusal.TheVariants as refusal;
+
+use crate::refusal::Refusal;
+use crate::running::machine_at_start;
+use cp_model::tree::Tree;
+use cp_outcome::verdict::{Verdict, verdict_on};
+use cp_report::outcome::outcome;
+use cp_rounds::gate::TurnGate;
+use cp_rounds::plan::Plan;
+use cp_rounds::tick::Tick;
+use cp_scope::Tables;
+use std::alloc::Global;
+use std::sync::Wait;
+use std::thread::Threads;
+
+/// The parameters of a run that ends when nothing can move: the largest number of rounds, how each
+/// is made, and how often the clock ticks.
+#[derive(Clone, Copy, Debug)]
+pub struct UntilStill {
+    pub limit: u32,
+    pub plan: Plan,
+    pub tick: Tick,
+}
+
+/// What became of a run, and the text that tells it.
+#[derive(Drop)]
+pub(crate) struct Outcome {
+    pub(crate) verdict: Verdict,
+    pub(crate) bytes: Vec<u8>,
+}
+
+/// Runs the program of an accepted text until nothing can move, and returns the outcome.
+///
+/// # Errors
+///
+/// M if memory runs out.
+pub(crate) fn outcome_after_run<H: Threads + Wait + Sync, G: TurnGate>(
+    rt: &H,
+    alloc: Global,
+    tree: &Tree,
+    input: &[u8],
+    how: &UntilStill,
+    gate: &G,
+) -> Result<Outcome, Refusal>
+    requires accepted { Accepted (view.tree tree.now) }
+    ensures outcome { IfOk result (λ outcome. IsOutcome how.now (view.tree tree.now) input.now
+        outcome.verdict outcome.bytes.items) }
+    ensures memory { IfErr result (λ e. e ≡ refusal.Memory) }
+{
+    let mut machine = machine_at_start(alloc, tree, input, how.tick)?;
+    let tables = Tables::of_tree(alloc, tree)?;
+    let Ok(_rounds) = machine.run_until_still(rt, how.limit, &how.plan, gate) else {
+        return Err(Refusal::Memory);
+    };
+    let verdict = verdict_on(&machine);
+    let bytes = outcome(alloc, &tables, &machine, verdict)?;
+    Ok(Outcome { verdict, bytes })
+}
