@@ -6,7 +6,7 @@ use Rattle.cp_execute.specs.Outcomes.{IsOutcome}
 use Rattle.cp_execute.specs.Takings.{concern}
 use Rattle.cp_execute.proofs.Faults.{known_text_fault, memory_fault, write_fault}
 use Rattle.cp_execute.proofs.OutcomesDue.{outcome_due}
-use Rattle.cp_execute.proofs.Takings.{input_kept, input_written, memory_at, no_write_of_input, no_write_of_text, text_at, written_input, written_text}
+use Rattle.cp_execute.proofs.Takings.{input_kept, input_written, memory_at, no_write_of_input, no_write_of_text, text_at}
 use Rattle.cp_execute.proofs.TextRefusals.{run_refused_input, run_refused_text}
 use Rattle.cp_execute.proofs.execute_outcome.execute_outcome.Goals as goal
 
@@ -87,11 +87,15 @@ returns-in_err-outcome-clause-input g c =
 
 pub returns-in_err-write_result-clause-beginning : goal.returns-in_err-write_result-clause-beginning
 returns-in_err-write_result-clause-beginning g c =
+    let p = err_from_is_err_and c.from_residual-in_err-write_result.result c.from_residual-in_err-write_result.ensures.1 in
     let made : IsOutcome c.args.how.now (view.tree c.in_ok-tree.tree) c.in_ok-bytes.bytes.items c.in_ok-outcome.outcome.verdict c.in_ok-outcome.outcome.bytes.items =
     rw c.deref.ensures.value at c.in_ok-outcome.ensures.outcome in
-    λ write. (c.in_ok-outcome.outcome.verdict, outcome_due c.args.how.now c.in_ok-outcome.outcome.verdict (g.R.Read.remaining c.args.text.now) (g.S.Read.remaining c.args.input.now) (view.tree c.in_ok-tree.tree) c.in_ok-bytes.bytes.items
-    c.in_ok-outcome.outcome.bytes.items _ c.in_ok-tree.ensures.text c.in_ok-bytes.ensures.input c.in_ok-bytes.ensures.judged made
-    (rw c.deref-2.ensures.value at c.in_err-write_result.ensures.beginning))
+    rw (p.1, p.2) (λ write. (
+      c.in_ok-outcome.outcome.verdict,
+      outcome_due c.args.how.now c.in_ok-outcome.outcome.verdict (g.R.Read.remaining c.args.text.now) (g.S.Read.remaining c.args.input.now) (view.tree c.in_ok-tree.tree) c.in_ok-bytes.bytes.items
+          c.in_ok-outcome.outcome.bytes.items _ c.in_ok-tree.ensures.text c.in_ok-bytes.ensures.input c.in_ok-bytes.ensures.judged made
+          (rw c.deref-2.ensures.value at c.in_err-write_result.ensures.beginning),
+    ))
 
 -- ---- the outcome is written
 
