@@ -1,0 +1,68 @@
+#!/usr/bin/env python3
+"""Runs the commands that README.md and the tutorial show, and compares their answers with the pages.
+
+    docs/commands.py [PROGRAM]      PROGRAM, or the variable CPM, is the built program; else it is crates/cpm/out/cpm
+
+In a fenced block of `console` each line `$ cpm ..` is a command, and the lines up to the next `$` are all that it prints. A line `...`
+stands for any lines. In a fenced block of `pascal` of the tutorial stands a piece of one of its texts. The script prints what differs, and fails
+then, or if it found fewer commands than COMMANDS.
+"""
+import os
+import pathlib
+import re
+import shlex
+import subprocess
+import sys
+
+DOCS = pathlib.Path(__file__).resolve().parent
+TUTORIAL = DOCS / 'tutorial'
+# A page is read where its texts lie.
+PAGES = [(DOCS.parent / 'README.md', DOCS / 'examples'), *((page, TUTORIAL) for page in sorted(TUTORIAL.glob('*.md')))]
+COMMANDS = 30
+
+
+def blocks(page, language):
+    """The contents of the page's fenced blocks of a language."""
+    return re.findall(rf'^```{language}\n(.*?)^```$', page.read_text(), re.M | re.S)
+
+
+def commands(page):
+    """The words of each command that the page shows, without `cpm`, and its answer."""
+    for block in blocks(page, 'console'):
+        for line, answer in re.findall(r'^\$ (.*)\n((?:(?!\$ ).*\n)*)', block, re.M):
+            words = shlex.split(line)
+            if words[0] == 'cpm':
+                yield words[1:], answer
+
+
+def is_answer(wanted, found):
+    """Whether a page's answer is the one that was given."""
+    parts = re.split(r'^\.\.\.\n', wanted, flags=re.M)
+    return re.fullmatch('(?:.*\n)*?'.join(map(re.escape, parts)), found) is not None
+
+
+def answer_of(program, words, folder):
+    ended = subprocess.run([program, *words], stdin=subprocess.DEVNULL, stdout=subprocess.PIPE, stderr=subprocess.STDOUT, cwd=folder, timeout=60)
+    return ended.stdout.decode('latin-1')
+
+
+def main():
+    default = os.environ.get('CPM', DOCS.parent / 'crates' / 'cpm' / 'out' / 'cpm')
+    program = pathlib.Path(sys.argv[1] if len(sys.argv) > 1 else default).resolve()
+    count, wrong = 0, []
+    for page, folder in PAGES:
+        for words, wanted in commands(page):
+            count += 1
+            found = answer_of(program, words, folder)
+            if not is_answer(wanted, found):
+                wrong.append(f'{page.name}: cpm {shlex.join(words)}: the page shows\n{wanted}and cpm prints\n{found}')
+    texts = [path.read_text() for path in sorted(TUTORIAL.glob('**/*.cp'))]
+    for page, _ in PAGES[1:]:
+        wrong += [f'{page.name}: in no text stands\n{piece}' for piece in blocks(page, 'pascal') if not any(piece in text for text in texts)]
+    if count < COMMANDS:
+        wrong.append(f'{count} commands were found, fewer than {COMMANDS}')
+    sys.exit('\n'.join(wrong) if wrong else 0)
+
+
+if __name__ == '__main__':
+    main()
