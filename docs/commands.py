@@ -4,7 +4,7 @@
     docs/commands.py [PROGRAM]      PROGRAM, or the variable CPM, is the built program; else it is crates/cpm/out/cpm
 
 In a fenced block of `console` each line `$ cpm ..` is a command, and the lines up to the next `$` are all that it prints. A line `...`
-stands for any lines. In a fenced block of `pascal` of the tutorial stands a piece of one of its texts. The script prints what differs, and fails
+stands for any lines. In a fenced block of `pascal` in other pages than README.md stands a piece of a text of the tutorial. The script prints what differs, and fails
 then, or if it found fewer commands than COMMANDS.
 """
 import os
@@ -16,8 +16,8 @@ import sys
 
 DOCS = pathlib.Path(__file__).resolve().parent
 TUTORIAL = DOCS / 'tutorial'
-# A page is read where its texts lie.
-PAGES = [(DOCS.parent / 'README.md', DOCS / 'examples'), *((page, TUTORIAL) for page in sorted(TUTORIAL.glob('*.md')))]
+# A page and the folder in which its commands are run.
+PAGES = [(DOCS.parent / 'README.md', DOCS / 'examples'), *((page, TUTORIAL) for page in [DOCS / 'book.md', *sorted(TUTORIAL.glob('*.md'))])]
 COMMANDS = 30
 
 
