@@ -18,7 +18,7 @@ DOCS = pathlib.Path(__file__).resolve().parent
 TUTORIAL = DOCS / 'tutorial'
 # A page and the folder in which its commands are run.
 PAGES = [(DOCS.parent / 'README.md', DOCS / 'examples'), *((page, TUTORIAL) for page in [DOCS / 'book.md', *sorted(TUTORIAL.glob('*.md'))])]
-COMMANDS = 30
+COMMANDS = 44
 
 
 def blocks(page, language):
