@@ -3,9 +3,9 @@
 
     docs/commands.py [PROGRAM]      PROGRAM, or the variable CPM, is the built program; else it is crates/cpm/out/cpm
 
-In a fenced block of `console` each line `$ cpm ..` is a command, and the lines up to the next `$` are all that it prints. A line `...`
-stands for any lines. In a fenced block of `pascal` in other pages than README.md stands a piece of a text of the tutorial. The script prints what differs, and fails
-then, or if it found fewer commands than COMMANDS.
+In a fenced block of `console` each line `$ cpm ..` is a command, and the lines up to the next `$` are all that it prints, where a
+line `...` stands for any lines. A fenced block of `pascal` is a piece of a text in the folder where the page's commands are run. The
+script prints what differs, and fails then, or if it found fewer commands than COMMANDS.
 """
 import os
 import pathlib
@@ -17,7 +17,8 @@ import sys
 DOCS = pathlib.Path(__file__).resolve().parent
 TUTORIAL = DOCS / 'tutorial'
 # A page and the folder in which its commands are run.
-PAGES = [(DOCS.parent / 'README.md', DOCS / 'examples'), *((page, TUTORIAL) for page in [DOCS / 'book.md', *sorted(TUTORIAL.glob('*.md'))])]
+PAGES = [(DOCS.parent / 'README.md', DOCS / 'examples'), (DOCS / 'book.md', TUTORIAL),
+         *((page, TUTORIAL) for page in sorted(TUTORIAL.glob('*.md')))]
 COMMANDS = 44
 
 
@@ -51,14 +52,13 @@ def main():
     program = pathlib.Path(sys.argv[1] if len(sys.argv) > 1 else default).resolve()
     count, wrong = 0, []
     for page, folder in PAGES:
+        texts = [path.read_text() for path in sorted(folder.glob('**/*.cp'))]
+        wrong += [f'{page.name}: in no text stands\n{piece}' for piece in blocks(page, 'pascal') if not any(piece in text for text in texts)]
         for words, wanted in commands(page):
             count += 1
             found = answer_of(program, words, folder)
             if not is_answer(wanted, found):
                 wrong.append(f'{page.name}: cpm {shlex.join(words)}: the page shows\n{wanted}and cpm prints\n{found}')
-    texts = [path.read_text() for path in sorted(TUTORIAL.glob('**/*.cp'))]
-    for page, _ in PAGES[1:]:
-        wrong += [f'{page.name}: in no text stands\n{piece}' for piece in blocks(page, 'pascal') if not any(piece in text for text in texts)]
     if count < COMMANDS:
         wrong.append(f'{count} commands were found, fewer than {COMMANDS}')
     sys.exit('\n'.join(wrong) if wrong else 0)
