@@ -3,7 +3,7 @@
 
     docs/commands.py [PROGRAM]      PROGRAM, or the variable CPM, is the built program; else it is crates/cpm/out/cpm
 
-In a fenced block of `console` each line `$ cpm ..` is a command, and the lines up to the next `$` are all that it prints, where a
+In a fenced block of `console` each line `$ cpm ..` or `$ printf ..` is a command, and the lines up to the next `$` are all that it prints, where a
 line `...` stands for any lines. A fenced block of `pascal` is a piece of a text in the folder where the page's commands are run. The
 script prints what differs, and fails then, or if it found fewer commands than COMMANDS.
 """
@@ -19,7 +19,7 @@ TUTORIAL = DOCS / 'tutorial'
 # A page and the folder in which its commands are run.
 PAGES = [(DOCS.parent / 'README.md', DOCS / 'examples'), (DOCS / 'book.md', TUTORIAL),
          *((page, TUTORIAL) for page in sorted(TUTORIAL.glob('*.md')))]
-COMMANDS = 44
+COMMANDS = 48
 
 
 def blocks(page, language):
@@ -28,12 +28,10 @@ def blocks(page, language):
 
 
 def commands(page):
-    """The words of each command that the page shows, without `cpm`, and its answer."""
+    """The words of each command that the page shows, and its answer."""
     for block in blocks(page, 'console'):
         for line, answer in re.findall(r'^\$ (.*)\n((?:(?!\$ ).*\n)*)', block, re.M):
-            words = shlex.split(line)
-            if words[0] == 'cpm':
-                yield words[1:], answer
+            yield shlex.split(line), answer
 
 
 def is_answer(wanted, found):
@@ -43,7 +41,11 @@ def is_answer(wanted, found):
 
 
 def answer_of(program, words, folder):
-    ended = subprocess.run([program, *words], stdin=subprocess.DEVNULL, stdout=subprocess.PIPE, stderr=subprocess.STDOUT, cwd=folder, timeout=60)
+    """What a command prints. One that writes a file, as in `printf 'TEXT' > FILE`, isn't run: the file is there, and is compared."""
+    if words[0] == 'printf':
+        _, text, _, file = words
+        return '' if (folder / file).read_text() == text.encode().decode('unicode_escape') else f'{file} has another text\n'
+    ended = subprocess.run([program, *words[1:]], stdin=subprocess.DEVNULL, stdout=subprocess.PIPE, stderr=subprocess.STDOUT, cwd=folder, timeout=60)
     return ended.stdout.decode('latin-1')
 
 
@@ -58,7 +60,7 @@ def main():
             count += 1
             found = answer_of(program, words, folder)
             if not is_answer(wanted, found):
-                wrong.append(f'{page.name}: cpm {shlex.join(words)}: the page shows\n{wanted}and cpm prints\n{found}')
+                wrong.append(f'{page.name}: {shlex.join(words)}: the page shows\n{wanted}and cpm prints\n{found}')
     if count < COMMANDS:
         wrong.append(f'{count} commands were found, fewer than {COMMANDS}')
     sys.exit('\n'.join(wrong) if wrong else 0)
