@@ -18,7 +18,7 @@ DOCS = pathlib.Path(__file__).resolve().parent
 TUTORIAL = DOCS / 'tutorial'
 # A page and the folder in which its commands are run.
 PAGES = [(DOCS.parent / 'README.md', DOCS / 'examples'), (DOCS / 'book.md', TUTORIAL),
-         *((page, TUTORIAL) for page in sorted(TUTORIAL.glob('*.md')))]
+         *((page, TUTORIAL) for page in sorted(TUTORIAL.glob('**/*.md')))]
 COMMANDS = 48
 
 
