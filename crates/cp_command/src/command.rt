@@ -5,11 +5,13 @@ ghost use Rattle.cp_rounds.specs.Plans.{AreInRange};
 ghost use Rattle.cp_command.specs.Commands.{ComesFrom, Has, HasReplay, HasRounds, IsWithoutWords};
 ghost use Rattle.cp_command.specs.declared.command.CommandError.TheVariants as error;
 
+use crate::grammar::grammar;
 use crate::numbers::number;
+use clap::ArgMatches;
 use clap::error::ErrorKind;
-use clap::{Arg, ArgAction, ArgMatches};
 use cp_execute::replaying::Replay;
 use cp_execute::running::Run;
+use cp_execute::until_still::UntilStill;
 use cp_explain::graph::Form;
 use cp_explain::rules::rule_page;
 use cp_private::turn::Turn;
@@ -44,6 +46,13 @@ pub enum Command<'a> {
     Run {
         file: Option<&'a str>,
         run: Run,
+        input: Option<&'a str>,
+    },
+    /// `outcome FILE`: runs the text of a file until nothing can move. The input comes from a file,
+    /// or is empty.
+    Outcome {
+        file: &'a str,
+        how: UntilStill,
         input: Option<&'a str>,
     },
     /// `replay FILE ORDER`: replays the text of a file in the order of another. The input comes from
@@ -132,111 +141,6 @@ fn replay_of(turn: u32, tick: u32, chains: bool) -> Replay
     }
 }
 
-fn option<'a>(alloc: Global, name: &'a str, about: &'a str) -> Arg<'a> {
-    Arg::new(alloc, name).long(name).value_name("N").help(about)
-}
-
-fn file<'a>(alloc: Global) -> Arg<'a> {
-    Arg::new(alloc, "FILE")
-        .required(true)
-        .help("the text; - for standard input")
-}
-
-fn check_words<'a>(alloc: Global) -> Result<clap::Command<'a>, AllocError> {
-    clap::Command::new(alloc, "check")
-        .about("Checks a text against the rules of the language")
-        .arg(file(alloc))
-}
-
-fn explain_words<'a>(alloc: Global) -> Result<clap::Command<'a>, AllocError> {
-    let what = Arg::new(alloc, "FILE")
-        .required(true)
-        .help("the text, - for standard input, or a rule such as C4");
-    let dot = Arg::new(alloc, "dot")
-        .long("dot")
-        .action(ArgAction::SetTrue)
-        .help("writes the access graph of an accepted text for Graphviz");
-    clap::Command::new(alloc, "explain")
-        .about(
-            "Explains what is wrong with a text, who has which right in an accepted text, or a rule",
-        )
-        .arg(what)?
-        .arg(dot)
-}
-
-fn input<'a>(alloc: Global) -> Arg<'a> {
-    Arg::new(alloc, "input")
-        .long("input")
-        .value_name("FILE")
-        .help("the inputs of the processes")
-}
-
-fn tick<'a>(alloc: Global) -> Arg<'a> {
-    option(
-        alloc,
-        "tick",
-        "rounds between two ticks of the clock, 1 to 1000000 (default 1)",
-    )
-}
-
-fn chains<'a>(alloc: Global) -> Arg<'a> {
-    Arg::new(alloc, "chains")
-        .long("chains")
-        .action(ArgAction::SetTrue)
-        .help("adds who waits for whom: a line for each process that asks for a gate")
-}
-
-fn run_words<'a>(alloc: Global) -> Result<clap::Command<'a>, AllocError> {
-    let rounds = option(alloc, "rounds", "how many rounds to run, up to 1000000");
-    clap::Command::new(alloc, "run")
-        .about("Runs a text and reports its state")
-        .arg(file(alloc))?
-        .arg(rounds.required(true))?
-        .arg(option(alloc, "turn", "steps in a turn, 1 to 10000 (default 100)"))?
-        .arg(option(
-            alloc,
-            "workers",
-            "threads that make private turns, 1 to 64 (default 2)",
-        ))?
-        .arg(option(
-            alloc,
-            "chunk",
-            "processes that a worker takes at once, 1 to 255 (default 1)",
-        ))?
-        .arg(option(alloc, "wave", "processes in a wave, 1 to 255 (default 255)"))?
-        .arg(tick(alloc))?
-        .arg(input(alloc))?
-        .arg(chains(alloc))
-}
-
-fn replay_words<'a>(alloc: Global) -> Result<clap::Command<'a>, AllocError> {
-    let order = Arg::new(alloc, "ORDER")
-        .required(true)
-        .help("the order: the events of each round, a line a round; - for standard input");
-    clap::Command::new(alloc, "replay")
-        .about("Replays a text in the order of steps that a file tells, and reports its state")
-        .arg(file(alloc))?
-        .arg(order)?
-        .arg(option(
-            alloc,
-            "turn",
-            "steps in a kernel turn, 1 to 10000 (default 100)",
-        ))?
-        .arg(tick(alloc))?
-        .arg(input(alloc))?
-        .arg(chains(alloc))
-}
-
-fn grammar<'a>(alloc: Global) -> Result<clap::Command<'a>, AllocError> {
-    clap::Command::new(alloc, "cpm")
-        .about("Checks and runs texts of Concurrent Pascal")
-        .subcommand_required(true)
-        .subcommand(check_words(alloc)?)?
-        .subcommand(explain_words(alloc)?)?
-        .subcommand(run_words(alloc)?)?
-        .subcommand(replay_words(alloc)?)
-}
-
 // The number of an option, or `otherwise` if it isn't given.
 fn count(
     matches: &ArgMatches<'_>,
@@ -258,17 +162,24 @@ fn count(
     }
 }
 
-fn read_run(matches: &ArgMatches<'_>) -> Result<Run, OutOfRange>
-    ensures { IfOk result (λ run. run.rounds ≤ 1000000) }
+// The run of so many rounds with the numbers of the other options.
+fn read_run(matches: &ArgMatches<'_>, rounds: u32, chains: bool) -> Result<Run, OutOfRange>
+    ensures { IfOk result (λ run. run.rounds ≡ rounds) }
 {
-    let rounds = count(matches, "rounds", 0, 1_000_000, 2)?;
     let turn = count(matches, "turn", 1, 10_000, 100)?;
     let workers = count(matches, "workers", 1, 64, 2)?;
     let chunk = count(matches, "chunk", 1, 255, 1)?;
     let wave = count(matches, "wave", 1, 255, 255)?;
     let tick = count(matches, "tick", 1, 1_000_000, 1)?;
-    let chains = matches.get_flag("chains");
     Ok(run_of(rounds, turn, workers, chunk, wave, tick, chains))
+}
+
+fn read_outcome(matches: &ArgMatches<'_>) -> Result<UntilStill, OutOfRange>
+    ensures { IfOk result (λ how. how.limit ≤ 1000000) }
+{
+    let limit = count(matches, "limit", 0, 1_000_000, 10_000)?;
+    let Run { plan, tick, .. } = read_run(matches, limit, false)?;
+    Ok(UntilStill { limit, plan, tick })
 }
 
 fn read_replay(matches: &ArgMatches<'_>) -> Result<Replay, OutOfRange> {
@@ -334,9 +245,21 @@ fn explain<'a>(file: &'a str, dot: bool) -> Command<'a>
 fn run<'a>(file: &'a str, matches: &ArgMatches<'a>) -> Result<Command<'a>, OutOfRange>
     ensures { IfOk result HasRounds }
 {
+    let rounds = count(matches, "rounds", 0, 1_000_000, 2)?;
     Ok(Command::Run {
         file: Some(file),
-        run: read_run(matches)?,
+        run: read_run(matches, rounds, matches.get_flag("chains"))?,
+        input: matches.get_str("input"),
+    })
+}
+
+// The command `outcome` of parsed arguments.
+fn outcome<'a>(file: &'a str, matches: &ArgMatches<'a>) -> Result<Command<'a>, OutOfRange>
+    ensures { IfOk result HasRounds }
+{
+    Ok(Command::Outcome {
+        file,
+        how: read_outcome(matches)?,
         input: matches.get_str("input"),
     })
 }
@@ -392,6 +315,9 @@ fn read_matches<'a>(
     }
     if name == "explain" {
         return Ok(explain(file, matches.get_flag("dot")));
+    }
+    if name == "outcome" {
+        return within_range(alloc, grammar, outcome(file, matches));
     }
     if name == "replay" {
         let Some(order) = matches.get_str("ORDER") else {

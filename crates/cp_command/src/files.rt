@@ -1,16 +1,20 @@
 //! Carrying out a command with files and the standard streams.
 
 ghost use Rattle.std.specs.Prelude.{◌≡◌};
+ghost use Rattle.cp_command.specs.Commands.{status};
 ghost use Rattle.cp_command.specs.declared.files.Failure.TheVariants as failure;
 
 use crate::command::{Command, STANDARD_INPUT};
 use cp_execute::execute::{Job, execute};
 use cp_execute::execute_order::execute_order;
+use cp_execute::execute_outcome::execute_outcome;
 use cp_execute::refusal::{Refusal, exit_of};
 use cp_execute::replaying::Replay;
 use cp_execute::running::Run;
+use cp_execute::until_still::UntilStill;
 use cp_explain::explain::explain_text;
 use cp_explain::graph::Form;
+use cp_outcome::verdict::Verdict;
 use cp_rounds::gate::Open;
 use std::alloc::Global;
 use std::fs::{self, Files};
@@ -44,6 +48,19 @@ impl<'a> Failure<'a> {
             Failure::Refused(refusal) => exit_of(refusal),
             _ => FAULT,
         }
+    }
+}
+
+/// Returns the exit status of a verdict: 0 if all processes have ended, 5 if they are stuck, 6 if one
+/// has faulted, 7 if they still move.
+pub fn status_of(verdict: Verdict) -> u8
+    ensures { result ≡ status verdict }
+{
+    match verdict {
+        Verdict::Ended => 0,
+        Verdict::Stuck => 5,
+        Verdict::Fault => 6,
+        Verdict::Running => 7,
     }
 }
 
@@ -134,6 +151,47 @@ fn run_file<H: Files + Input + Print + Threads + Wait + Sync>(
     match file {
         None | Some(STANDARD_INPUT) => run_on_input(rt, alloc, &mut rt.reader(), input, run),
         Some(file) => run_on_input(rt, alloc, &mut open(rt, file)?, input, run),
+    }
+}
+
+// Runs a text until nothing can move, and prints the outcome.
+fn print_outcome<H: Print + Threads + Wait + Sync, R: Read, S: Read>(
+    rt: &H,
+    alloc: Global,
+    text: &mut R,
+    input: &mut S,
+    how: &UntilStill,
+) -> Result<Verdict, Refusal> {
+    let mut out = io::writer(rt);
+    let verdict = execute_outcome(rt, alloc, text, input, how, &Open, &mut out)?;
+    flush(&mut out)?;
+    Ok(verdict)
+}
+
+// The outcome of a text on the input in a file, or on no input.
+fn outcome_on_input<H: Files + Print + Threads + Wait + Sync, R: Read>(
+    rt: &H,
+    alloc: Global,
+    text: &mut R,
+    input: Option<&str>,
+    how: &UntilStill,
+) -> Result<Verdict, Refusal> {
+    match input {
+        Some(name) => print_outcome(rt, alloc, text, &mut open(rt, name)?, how),
+        None => print_outcome(rt, alloc, text, &mut b"".as_slice(), how),
+    }
+}
+
+fn outcome_of_file<H: Files + Input + Print + Threads + Wait + Sync>(
+    rt: &H,
+    alloc: Global,
+    file: &str,
+    input: Option<&str>,
+    how: &UntilStill,
+) -> Result<Verdict, Refusal> {
+    match file {
+        STANDARD_INPUT => outcome_on_input(rt, alloc, &mut rt.reader(), input, how),
+        _ => outcome_on_input(rt, alloc, &mut open(rt, file)?, input, how),
     }
 }
 
@@ -233,14 +291,15 @@ fn print_page<H: Print>(rt: &H, page: &str) -> Result<(), Refusal> {
     flush(&mut out)
 }
 
-/// Carries out a command, and returns the exit status: 0, or that of a refusal that was explained.
+/// Carries out a command, and returns the exit status: 0, or that of a refusal that was explained
+/// or of a verdict.
 /// Opens the text, then the input and then the order before it reads any of them, and prints the result to standard
 /// output, which it flushes.
 ///
 /// # Errors
 ///
 /// I1 if a file can't be opened, `Unopened` or `Unread` for the file of `explain`, and the refusals
-/// of [`execute`], [`execute_order`] and [`explain_text`].
+/// of [`execute`], [`execute_outcome`], [`execute_order`] and [`explain_text`].
 pub fn perform<'a, H: Files + Input + Print + Threads + Wait + Sync>(
     rt: &H,
     alloc: Global,
@@ -251,6 +310,9 @@ pub fn perform<'a, H: Files + Input + Print + Threads + Wait + Sync>(
         Command::Explain { file, form } => return explain_file(rt, alloc, file, form),
         Command::ExplainRule { page } => print_page(rt, page)?,
         Command::Run { file, run, input } => run_file(rt, alloc, file, input, run)?,
+        Command::Outcome { file, how, input } => {
+            return Ok(status_of(outcome_of_file(rt, alloc, file, input, &how)?));
+        }
         Command::Replay {
             file,
             order,
