@@ -15,6 +15,8 @@ mod jobs;
 #[cfg(test)]
 mod messages;
 #[cfg(test)]
+mod outcomes;
+#[cfg(test)]
 mod refusals;
 #[cfg(test)]
 mod refused;
