@@ -14,6 +14,7 @@ use std::test::Fail;
 use std::thread::Threads;
 
 // A text, the limit, the tick, and the outcome. Turns have 100 steps.
+#[derive(Drop)]
 struct Case {
     text: &'static [u8],
     limit: u32,
@@ -22,13 +23,7 @@ struct Case {
     told: &'static [u8],
 }
 
-const fn case(
-    text: &'static [u8],
-    limit: u32,
-    tick: u32,
-    verdict: Verdict,
-    told: &'static [u8],
-) -> Case {
+fn due(text: &'static [u8], limit: u32, tick: u32, verdict: Verdict, told: &'static [u8]) -> Case {
     Case {
         text,
         limit,
@@ -130,103 +125,105 @@ var s: slot; c: consumer; p: producer;
 begin init s, c(s), p(s) end.
 ";
 
-const CASES: [Case; 13] = [
-    case(SEVEN, 10_000, 1, Verdict::Ended, b"ended after round 2\n"),
-    case(
-        SEVEN,
-        1,
-        1,
-        Verdict::Running,
-        b"running after round 1\nprocess 1 initial: ready\nprocess 2 a: ready\n",
-    ),
-    case(
-        NEVER_STARTED,
-        10_000,
-        1,
-        Verdict::Stuck,
-        b"stuck after round 1\nprocess 2 a: never started\n",
-    ),
-    case(
-        CYCLE,
-        10,
-        1,
-        Verdict::Running,
-        b"running after round 10\nprocess 2 a: ready\n",
-    ),
-    case(
-        WAITS,
-        4,
-        3,
-        Verdict::Running,
-        b"running after round 4\nprocess 2 a: waits for the clock\n",
-    ),
-    case(
-        OVERFLOW,
-        1_000_000,
-        1,
-        Verdict::Fault,
-        b"fault after round 2\nprocess 2 a: fault 3: arithmetic beyond -32768..32767\n",
-    ),
-    case(
-        FAULT_INSIDE,
-        10_000,
-        1,
-        Verdict::Fault,
-        b"fault after round 2
+fn cases() -> [Case; 13] {
+    [
+        due(SEVEN, 10_000, 1, Verdict::Ended, b"ended after round 2\n"),
+        due(
+            SEVEN,
+            1,
+            1,
+            Verdict::Running,
+            b"running after round 1\nprocess 1 initial: ready\nprocess 2 a: ready\n",
+        ),
+        due(
+            NEVER_STARTED,
+            10_000,
+            1,
+            Verdict::Stuck,
+            b"stuck after round 1\nprocess 2 a: never started\n",
+        ),
+        due(
+            CYCLE,
+            10,
+            1,
+            Verdict::Running,
+            b"running after round 10\nprocess 2 a: ready\n",
+        ),
+        due(
+            WAITS,
+            4,
+            3,
+            Verdict::Running,
+            b"running after round 4\nprocess 2 a: waits for the clock\n",
+        ),
+        due(
+            OVERFLOW,
+            1_000_000,
+            1,
+            Verdict::Fault,
+            b"fault after round 2\nprocess 2 a: fault 3: arithmetic beyond -32768..32767\n",
+        ),
+        due(
+            FAULT_INSIDE,
+            10_000,
+            1,
+            Verdict::Fault,
+            b"fault after round 2
 process 2 a: fault 3: arithmetic beyond -32768..32767
 process 3 b: asks for k, held by a, which has faulted
 ",
-    ),
-    case(
-        PHILOSOPHERS,
-        10_000,
-        1,
-        Verdict::Stuck,
-        b"stuck after round 3\nprocess 2 a: delayed in g.q\nprocess 3 b: delayed in f.q\n",
-    ),
-    case(
-        NESTED,
-        10_000,
-        1,
-        Verdict::Stuck,
-        b"stuck after round 2
+        ),
+        due(
+            PHILOSOPHERS,
+            10_000,
+            1,
+            Verdict::Stuck,
+            b"stuck after round 3\nprocess 2 a: delayed in g.q\nprocess 3 b: delayed in f.q\n",
+        ),
+        due(
+            NESTED,
+            10_000,
+            1,
+            Verdict::Stuck,
+            b"stuck after round 2
 process 2 a: delayed in i.q
 process 3 b: asks for o, held by a, which is delayed in i.q
 ",
-    ),
-    case(
-        ROW_OF_ASKERS,
-        1_000_000,
-        1,
-        Verdict::Stuck,
-        b"stuck after round 2
+        ),
+        due(
+            ROW_OF_ASKERS,
+            1_000_000,
+            1,
+            Verdict::Stuck,
+            b"stuck after round 2
 process 2 a: delayed in i.q
 process 3 b: asks for o, held by a, which is delayed in i.q
 process 4 c: asks for t, held by b, which asks for o
 ",
-    ),
-    case(
-        QUEUE_IN_ARRAY,
-        10_000,
-        1,
-        Verdict::Stuck,
-        b"stuck after round 2\nprocess 2 a: delayed in k.qs[2]\n",
-    ),
-    case(
-        ONE_ITEM,
-        10_000,
-        1,
-        Verdict::Ended,
-        b"ended after round 4\n",
-    ),
-    case(
-        ONE_ITEM,
-        2,
-        1,
-        Verdict::Running,
-        b"running after round 2\nprocess 2 c: ready\nprocess 3 p: ready\n",
-    ),
-];
+        ),
+        due(
+            QUEUE_IN_ARRAY,
+            10_000,
+            1,
+            Verdict::Stuck,
+            b"stuck after round 2\nprocess 2 a: delayed in k.qs[2]\n",
+        ),
+        due(
+            ONE_ITEM,
+            10_000,
+            1,
+            Verdict::Ended,
+            b"ended after round 4\n",
+        ),
+        due(
+            ONE_ITEM,
+            2,
+            1,
+            Verdict::Running,
+            b"running after round 2\nprocess 2 c: ready\nprocess 3 p: ready\n",
+        ),
+    ]
+}
 
 fn until_still(limit: u32, tick: u32, workers: u32) -> Result<UntilStill, AllocError> {
     match (Plan::new(100, workers, 1, 255), Tick::new(tick)) {
@@ -252,7 +249,7 @@ fn outcome_of<H: Threads + Wait + Sync>(
 
 #[test]
 fn texts_have_their_outcomes(rt: HostRuntime) -> Result<(), Fail> {
-    for case in &CASES {
+    for case in &cases() {
         for workers in [1, 3] {
             let how = until_still(case.limit, case.tick, workers)?;
             let (answer, out) = outcome_of(&rt, rt.alloc(), case.text, b"", &how);
@@ -292,6 +289,6 @@ fn the_beginning_of_an_outcome_is_written(rt: HostRuntime) -> Result<(), Fail> {
         &mut out,
     );
     assert!(rt; answer == Err(Refusal::Write));
-    assert!(rt; out.taken.as_slice() == b"ended af");
+    assert!(rt; out.taken.as_slice() == b"ended af".as_slice());
     Ok(())
 }
