@@ -126,12 +126,14 @@ fn replay_takes_two_files(rt: HostRuntime) {
         "cpm", "replay", "a.cp", "a.order", "--turn", "7", "--tick", "5", "--input", "in.txt",
     ];
     match read_command(rt.alloc(), words.as_slice()) {
-        Ok(Command::Replay {
-            file,
-            order,
-            replay,
-            input,
-        }) => {
+        Ok(
+            Command::Replay {
+                file,
+                order,
+                replay,
+                input,
+            },
+        ) => {
             assert!(rt; file == "a.cp" && order == "a.order" && input == Some("in.txt"));
             assert!(rt; replay.turn.steps == 7 && replay.tick.rounds == 5);
         }

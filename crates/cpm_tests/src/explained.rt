@@ -25,7 +25,7 @@ fn explain(alloc: Global, text: &[u8], form: Form) -> (Result<Option<Refusal>, R
 }
 
 // The text of a row, and the place that it marks.
-fn text_and_place(alloc: Global, row: Row) -> Result<(Vec<u8>, usize), AllocError> {
+pub(crate) fn text_and_place(alloc: Global, row: Row) -> Result<(Vec<u8>, usize), AllocError> {
     let mut text = Vec::new(alloc);
     let mut at = 0;
     for byte in row.text.as_bytes() {
