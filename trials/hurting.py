@@ -126,16 +126,15 @@ class Hurting:
         self.expect('none for the order', ['replay', self.text, '/dev/null'], UNREAD, preexec_fn=few)
 
     def try_memory(self):
-        """Less and less address space, from where all is well to where the C library no longer starts the program."""
+        """Less and less address space, from where all is well to almost where the C library no longer starts the program."""
         counts = {0: 0, 3: 0}
         (self.folder / 'blanks.cp').write_text(LONG.ljust(1_048_576))
         for words in [self.words, ['run', self.folder / 'blanks.cp', '--rounds', '1'], ['run', 'sieve.cp', '--rounds', '3', '--workers', '64']]:
             due = run(words)[1]
             for size in [*range(40_000, 8_000, -1_000), *range(8_000, 0, -50)]:
-                limit = limiting(resource.RLIMIT_AS, size * 1024)
-                if self.answer(['check', '/dev/null'], preexec_fn=limit)[0] != 1:
+                if self.answer(['check', '/dev/null'], preexec_fn=limiting(resource.RLIMIT_AS, (size - 200) * 1024))[0] != 1:
                     break
-                found = self.answer(words, preexec_fn=limit)
+                found = self.answer(words, preexec_fn=limiting(resource.RLIMIT_AS, size * 1024))
                 expect_one_of(f'{size} KiB, {words}', found, [(0, due, b''), MEMORY])
                 counts[found[0]] = counts.get(found[0], 0) + 1
         expect_at_least('runs with little memory that succeed', counts[0], 50)
