@@ -84,6 +84,8 @@ class Hurting:
                 ('a pipe without end', (SPACES for _ in range(10_000)), TOO_LONG)]:
             writer = self.feed(parts)
             self.expect(what, ['run', self.pipe, '--rounds', '1'], wanted)
+            # A writer whose pipe the program hasn't opened waits until somebody does.
+            os.close(os.open(self.pipe, os.O_RDONLY | os.O_NONBLOCK))
             writer.join()
 
     def try_growing(self):
