@@ -1,6 +1,6 @@
 //! Texts and inputs that are refused: the cause, its place, and that nothing is written.
 
-use super::explained::text_and_place;
+use super::explained::{declare_names, text_and_place};
 use super::jobs::{execute_job, job, repeat};
 use super::messages::ROWS;
 use super::replays::RESUMED;
@@ -8,7 +8,6 @@ use cp_execute::execute::Job;
 use cp_execute::refusal::Refusal;
 use cp_model::rules::Rule;
 use cp_scan::Cause;
-use std::alloc::{AllocError, Global};
 use std::test::Fail;
 
 const fn scan(cause: Cause, at: usize) -> Refusal {
@@ -101,30 +100,19 @@ fn a_name_too_long_is_refused(rt: HostRuntime) -> Result<(), Fail> {
     Ok(())
 }
 
-// A text with `count` processes besides the initial one: v2, v3 ..
-fn processes(alloc: Global, count: usize) -> Result<Vec<u8>, AllocError> {
-    let mut text = Vec::new(alloc);
-    text.extend_from_slice(b"type p = process; begin end; var ")?;
-    for i in 0..count {
-        let n = i.saturating_add(2);
-        let name = format!(in alloc; "v{n}")?;
-        if i != 0 {
-            text.extend_from_slice(b", ")?;
-        }
-        text.extend_from_slice(name.as_bytes())?;
-    }
-    text.extend_from_slice(b": p; begin end.")?;
-    Ok(text)
-}
-
 #[test]
-fn a_process_too_many_is_refused(rt: HostRuntime) -> Result<(), Fail> {
-    let text = processes(rt.alloc(), 254)?;
-    let (answer, _) = execute_job(&rt, rt.alloc(), &text, b"", &Job::Check);
-    assert!(rt; answer == Ok(()));
-    let text = processes(rt.alloc(), 255)?;
-    let (answer, _) = execute_job(&rt, rt.alloc(), &text, b"", &Job::Check);
-    assert!(rt; answer == Err(check(Rule::C13, 1451)));
+fn a_component_too_many_is_refused(rt: HostRuntime) -> Result<(), Fail> {
+    for (front, most) in [
+        ("type t = process; begin end; var ", 254),
+        ("type t = monitor; begin end; var ", 255),
+    ] {
+        let (text, _) = declare_names(rt.alloc(), front, most)?;
+        let (answer, _) = execute_job(&rt, rt.alloc(), &text, b"", &Job::Check);
+        assert!(rt; answer == Ok(()));
+        let (text, at) = declare_names(rt.alloc(), front, most.saturating_add(1))?;
+        let (answer, _) = execute_job(&rt, rt.alloc(), &text, b"", &Job::Check);
+        assert!(rt; answer == Err(check(Rule::C13, at)));
+    }
     Ok(())
 }
 
