@@ -2,7 +2,7 @@
 """Tests the built program cpm from outside: the examples, its exits, each call refused in turn, and files that are made to hurt.
 
 `rt ci`, and `rt run < stdin` in crates/cpm, leave the program as crates/cpm/out/cpm; CPM names another. It needs a C compiler (`cc`).
-It prints what is wrong and how much was tried, and ends with status 0 if nothing was wrong.
+It prints what is wrong and how much was tried, with --quiet only what is wrong, and ends with status 0 if nothing was wrong.
 """
 import json
 import pathlib
@@ -131,8 +131,9 @@ def main():
     hurt = try_to_hurt()
     for line in wrong:
         print(line)
-    print(f'{examples} examples, {orders} orders, {rules} refused texts, {explained} explanations, {answers} worked texts; '
-          f'refused in turn: {refused}; {hurt} runs on what is made to hurt; {len(wrong)} wrong')
+    if wrong or '--quiet' not in sys.argv:
+        print(f'{examples} examples, {orders} orders, {rules} refused texts, {explained} explanations, {answers} worked texts; '
+              f'refused in turn: {refused}; {hurt} runs on what is made to hurt; {len(wrong)} wrong')
     return 1 if wrong else 0
 
 
