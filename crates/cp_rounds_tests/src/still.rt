@@ -6,6 +6,8 @@ use crate::ways::is_young;
 use cp_rounds::gate::Open;
 use cp_rounds::machine::Machine;
 use cp_rounds::plan::Plan;
+use std::alloc::Global;
+use std::process::Abort;
 use std::sync::Wait;
 use std::test::Fail;
 use std::thread::Threads;
@@ -37,10 +39,16 @@ fn until_still<R: Threads + Wait + Sync>(
 }
 
 // Expects a text to be still after so many rounds and no fewer, whatever the limit and the workers.
-fn expect_still(rt: &HostRuntime, text: &str, turn: u32, due: u32) -> Result<(), Fail> {
+fn expect_still<R: Abort + Threads + Wait + Sync>(
+    rt: &R,
+    alloc: Global,
+    text: &str,
+    turn: u32,
+    due: u32,
+) -> Result<(), Fail> {
     for (workers, limit) in [(1, due), (1, due + 1), (3, 1_000_000)] {
         let plan = Plan::new(turn, workers, 1, 255)?;
-        let mut machine = machine_with(rt.alloc(), text, 5, &[])?;
+        let mut machine = machine_with(alloc, text, 5, &[])?;
         assert!(rt; !machine.is_still(), "{text}");
         assert_eq!(rt;
             until_still(rt, &mut machine, limit, &plan)?,
@@ -60,10 +68,10 @@ fn expect_still(rt: &HostRuntime, text: &str, turn: u32, due: u32) -> Result<(),
 
 #[test]
 fn the_first_still_state_is_found(rt: HostRuntime) -> Result<(), Fail> {
-    expect_still(&rt, SEVENS, 10, 2)?;
-    expect_still(&rt, WAITS, 10, 5)?;
-    expect_still(&rt, STUCK, 10, 2)?;
-    expect_still(&rt, COUNTS_TO_1000, 2, 1001)
+    expect_still(&rt, rt.alloc(), SEVENS, 10, 2)?;
+    expect_still(&rt, rt.alloc(), WAITS, 10, 5)?;
+    expect_still(&rt, rt.alloc(), STUCK, 10, 2)?;
+    expect_still(&rt, rt.alloc(), COUNTS_TO_1000, 2, 1001)
 }
 
 #[test]

@@ -11,7 +11,7 @@ use std::alloc::{AllocError, Global};
 use std::test::Fail;
 
 // Process 2 resumes process 3, which goes on in the same round, ahead of process 4, which asks.
-const RESUMED: &[u8] = b"type m = monitor; var q: queue;
+pub(crate) const RESUMED: &[u8] = b"type m = monitor; var q: queue;
   procedure entry w; begin delay(q); display(1); display(1) end;
   procedure entry s; begin display(8); display(8); continue(q) end;
   procedure entry t; begin display(4) end; begin end;
