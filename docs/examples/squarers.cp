@@ -6,9 +6,6 @@
 
 type squarer = process;
   var x: integer;
-  begin
-    x := 2;
-    cycle display(x); x := x * x end
-  end;
+  begin x := 2; cycle display(x); x := x * x end end;
 var a, b: squarer;
 begin init a, b end.

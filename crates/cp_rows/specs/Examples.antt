@@ -88,7 +88,7 @@ abbrev pub sieve_3 : Type 0
 sieve_3 = run_answer 12 100 1 false [] sieve_1_text ≡ (codes "rounds 12\nprocess 1 initial ended\nout ''\nprocess 2 s ended\nout ''\nvar n = 7\nprocess 3 two delayed a receiver\nout '2'\nvar prime = 2\nvar n = 7\nprocess 4 three delayed b receiver\nout '3'\nvar prime = 3\nvar n = 7\nprocess 5 rest delayed c receiver\nout '57'\nvar n = 7\nmonitor a free askers -\nvar slot = 7\nvar full = 0\nqueue sender = -\nqueue receiver = 3\nmonitor b free askers -\nvar slot = 7\nvar full = 0\nqueue sender = -\nqueue receiver = 4\nmonitor c free askers -\nvar slot = 7\nvar full = 0\nqueue sender = -\nqueue receiver = 5\n")
 
 abbrev pub squarers_1 : Type 0
-squarers_1 = run_answer 5 4 1 false [] (codes "\"Two processes of one type square a number of their own.\n\n   cpm run squarers.cp --rounds 5 --turn 4\n\n 256 times 256 is more than an integer holds: that is fault 3.\"\n\ntype squarer = process;\n  var x: integer;\n  begin\n    x := 2;\n    cycle display(x); x := x * x end\n  end;\nvar a, b: squarer;\nbegin init a, b end.\n") ≡ (codes "rounds 5\nprocess 1 initial ended\nout ''\nprocess 2 a fault 3\nout '2416256'\nvar x = 256\nprocess 3 b fault 3\nout '2416256'\nvar x = 256\n")
+squarers_1 = run_answer 5 4 1 false [] (codes "\"Two processes of one type square a number of their own.\n\n   cpm run squarers.cp --rounds 5 --turn 4\n\n 256 times 256 is more than an integer holds: that is fault 3.\"\n\ntype squarer = process;\n  var x: integer;\n  begin x := 2; cycle display(x); x := x * x end end;\nvar a, b: squarer;\nbegin init a, b end.\n") ≡ (codes "rounds 5\nprocess 1 initial ended\nout ''\nprocess 2 a fault 3\nout '2416256'\nvar x = 256\nprocess 3 b fault 3\nout '2416256'\nvar x = 256\n")
 
 abbrev pub squares_1 : Type 0
 squares_1 = run_answer 5 4 1 false [] (codes "\"Two processes of one type, each with a variable of its own, which no other can see.\n\n   cpm run squares.cp --rounds 5 --turn 4\n\n A turn has at most four steps: each statement is a step, and so is each time that a\n cycle begins anew. The square of 256 is above 32767: that is fault 3, and it ends\n the process alone. To start a second time a process that was started is fault 7.\"\n\ntype squarer = process;\n  var x: integer;\n  begin\n    x := 2;\n    cycle display(x); x := x * x end\n  end;\n\nvar a, b: squarer;\n\nbegin\n  init a, b;\n  init a\nend.\n") ≡ (codes "rounds 5\nprocess 1 initial fault 7\nout ''\nprocess 2 a fault 3\nout '2416256'\nvar x = 256\nprocess 3 b fault 3\nout '2416256'\nvar x = 256\n")
