@@ -1,11 +1,12 @@
 //! Command lines.
 
 use cp_command::command::{Command, CommandError, read_command};
-use cp_command::files::{Failure, perform};
+use cp_command::files::{Failure, perform, status_of};
 use cp_command::numbers::number;
 use cp_execute::refusal::Refusal;
 use cp_execute::running::Run;
 use cp_explain::graph::Form;
+use cp_outcome::verdict::Verdict;
 use std::test::*;
 
 // The numbers of a run in the order rounds, turn, workers, chunk, wave, tick.
@@ -118,6 +119,49 @@ fn run_has_defaults(rt: HostRuntime) {
         }
         _ => panic!(rt; "a run"),
     }
+}
+
+#[test]
+fn outcome_has_a_limit(rt: HostRuntime) {
+    let words = [
+        "cpm",
+        "outcome",
+        "a.cp",
+        "--limit",
+        "7",
+        "--workers=3",
+        "--tick",
+        "5",
+    ];
+    match read_command(rt.alloc(), words.as_slice()) {
+        Ok(Command::Outcome { file, how, input }) => {
+            assert!(rt; file == "a.cp" && input == None);
+            assert!(rt; how.limit == 7 && how.plan.workers == 3 && how.tick.rounds == 5);
+        }
+        _ => panic!(rt; "an outcome"),
+    }
+    match read_command(rt.alloc(), &["cpm", "outcome", "a.cp", "--input", "in.txt"]) {
+        Ok(Command::Outcome { how, input, .. }) => {
+            assert!(rt; input == Some("in.txt") && how.limit == 10_000);
+            assert!(rt; how.plan.turn.steps == 100 && how.plan.workers == 2);
+        }
+        _ => panic!(rt; "an outcome"),
+    }
+    match read_command(
+        rt.alloc(),
+        &["cpm", "outcome", "a.cp", "--limit", "1000001"],
+    ) {
+        Err(CommandError::Usage(_)) => {}
+        _ => panic!(rt; "an error"),
+    }
+}
+
+#[test]
+fn verdicts_have_their_statuses(rt: HostRuntime) {
+    assert!(rt; status_of(Verdict::Ended) == 0);
+    assert!(rt; status_of(Verdict::Stuck) == 5);
+    assert!(rt; status_of(Verdict::Fault) == 6);
+    assert!(rt; status_of(Verdict::Running) == 7);
 }
 
 #[test]
