@@ -158,7 +158,11 @@ fn lawful_order(alloc: Global, chance: &mut Chance) -> Result<Vec<u8>, AllocErro
     let mut order = Vec::new(alloc);
     for _round in 0..5 {
         let mut round = Round::new();
-        while !round.is_over() {
+        // A round has twelve events, and at least one try in five writes one.
+        for _try in 0..1_000 {
+            if round.is_over() {
+                break;
+            }
             round.write(chance.below(PROCESSES + 1), &mut order)?;
         }
         order.push(b'\n')?;
