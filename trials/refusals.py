@@ -1,20 +1,24 @@
 """Refuses each allocation, thread start, read and write of the program in turn, on whichever thread it is made.
 
 Each call is refused alone, and then with all that come after it. A run that is refused says so, and has written nothing but perhaps
-a beginning of its report; a run that takes what it asked for elsewhere has its whole report. refusing.c does the refusing.
+a beginning of its report; a run that takes what it asked for elsewhere has its whole report. The tests of cp_rounds_tests that look at a
+machine after a refusal see some in the same way. refusing.c does the refusing.
 """
 import contextlib
 import pathlib
 import subprocess
 import tempfile
 
-from running import ROOT, expect, expect_at_least, expect_one_of, run
+from running import PROGRAM, ROOT, ROUNDS, expect, expect_at_least, expect_one_of, run, wrong
 
 MEMORY = (3, b'', b'fault M\n')
 # What is refused, and the fewest refusals of each that a run and a replay have to reach.
 KINDS = ('ALLOCATION', 'THREAD', 'READ', 'WRITE')
 LEAST_OF_RUN = {'ALLOCATION': 500, 'THREAD': 1, 'READ': 400, 'WRITE': 150}
 LEAST_OF_REPLAY = {'ALLOCATION': 300, 'THREAD': 0, 'READ': 600, 'WRITE': 150}
+
+# The tests of cp_rounds_tests that look at a machine after a refusal, and the fewest times that they have to see one.
+TESTS = {'a_refused_machine_is_made_again': 10, 'a_refused_round_leaves_the_machine_as_it_was': 400, 'a_refused_run_has_made_the_rounds_before': 200}
 
 
 class Refusing:
@@ -24,12 +28,12 @@ class Refusing:
         self.library, self.calls = folder / 'refusing.so', folder / 'calls'
         subprocess.run(['cc', '-shared', '-fPIC', '-O1', '-o', self.library, ROOT / 'trials' / 'refusing.c'], check=True)
 
-    def run(self, words, **refused):
+    def run(self, words, program=PROGRAM, **refused):
         """The answer of a run, how many of its calls were refused, and how many allocations were made beside the first thread."""
         with contextlib.suppress(FileNotFoundError):
             self.calls.unlink()
         settings = {name: str(value) for name, value in refused.items()}
-        found = run(words, {'LD_PRELOAD': str(self.library), 'CALLS': str(self.calls), 'ONE_BYTE': '1', **settings})
+        found = run(words, {'LD_PRELOAD': str(self.library), 'CALLS': str(self.calls), 'ONE_BYTE': '1', **settings}, program=program)
         # A run that a signal ends leaves no counts.
         counts = self.calls.read_text().split() if self.calls.exists() else ['0'] * 7
         return found, int(counts[4]), int(counts[6])
@@ -75,6 +79,25 @@ def refuse_all(refusing, what, words, least, answered=0):
     return counts
 
 
+def refuse_rounds(refusing, test):
+    """Refuses the allocations and thread starts of a test in turn. Returns how many of them the machine met.
+
+    The test passes, or fails for want of memory before it has a machine.
+    """
+    met = 0
+    for kind in ('ALLOCATION', 'THREAD'):
+        for number in range(1, 100_000):
+            (status, out, error), refused, _ = refusing.run([f'refusals::{test}'], ROUNDS, **{f'REFUSE_{kind}': number})
+            seen, unmade = b'is refused' in out, b'its result gives status 1' in out + error
+            if not (status == 0 or status == 101 and unmade and not seen):
+                wrong.append(f'{test}, {kind} {number}: {status} {out} {error}')
+            met += seen
+            if not refused:
+                break
+    expect_at_least(test, met, TESTS[test])
+    return met
+
+
 def told(what, counts):
     return (f'of {what} {counts["ALLOCATION"]} allocations, {counts["THREAD"]} thread starts, {counts["READ"]} reads '
             f'and {counts["WRITE"]} writes')
@@ -95,4 +118,5 @@ def refuse_in_turn(resumed):
         explained = refuse_all(refusing, 'explanation', ['explain', 'rules/c4_recursion.cp'], dict.fromkeys(KINDS, 0), answered=1)
         waves = [refuse_each(refusing, 'THREAD', ['run', 'squarers.cp', '--rounds', '5', '--workers', '4', '--wave', wave], 0) for wave in '12']
         expect_at_least('thread starts of 4 workers', sum(waves), 3)
-    return '; '.join([told('a run', ran), told('a replay', made), told('an explanation', explained)])
+        met = sum(refuse_rounds(refusing, test) for test in TESTS)
+    return '; '.join([told('a run', ran), told('a replay', made), told('an explanation', explained), f'of machines in tests {met} calls'])

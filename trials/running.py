@@ -5,15 +5,17 @@ import subprocess
 
 ROOT = pathlib.Path(__file__).resolve().parent.parent
 PROGRAM = pathlib.Path(os.environ.get('CPM', ROOT / 'crates' / 'cpm' / 'out' / 'cpm'))
+# The tests of rounds, as rt ci builds them.
+ROUNDS = pathlib.Path(os.environ.get('CPM_ROUNDS', ROOT / 'crates' / 'cp_rounds_tests' / 'out' / 'cp_rounds_tests_tests'))
 EXAMPLES = ROOT / 'docs' / 'examples'
 
 wrong = []
 
 
-def run(words, environment=None, folder=EXAMPLES, **how):
-    """The exit status, standard output and standard error of cpm with these arguments. A signal's status is below 0."""
+def run(words, environment=None, folder=EXAMPLES, program=PROGRAM, **how):
+    """The exit status, standard output and standard error of cpm, or of the tests, with these arguments. A signal's status is below 0."""
     how = {'stdin': subprocess.DEVNULL, 'stdout': subprocess.PIPE, 'stderr': subprocess.PIPE, **how}
-    ended = subprocess.run([PROGRAM, *words], cwd=folder, timeout=60, env={**os.environ, **(environment or {})}, **how)
+    ended = subprocess.run([program, *words], cwd=folder, timeout=60, env={**os.environ, **(environment or {})}, **how)
     return ended.returncode, ended.stdout, ended.stderr
 
 

@@ -46,7 +46,7 @@ fn expect_still<R: Abort + Threads + Wait + Sync>(
     turn: u32,
     due: u32,
 ) -> Result<(), Fail> {
-    for (workers, limit) in [(1, due), (1, due + 1), (3, 1_000_000)] {
+    for (workers, limit) in [(1, due), (1, due.saturating_add(1)), (3, 1_000_000)] {
         let plan = Plan::new(turn, workers, 1, 255)?;
         let mut machine = machine_with(alloc, text, 5, &[])?;
         assert!(rt; !machine.is_still(), "{text}");
