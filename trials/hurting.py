@@ -127,6 +127,16 @@ class Hurting:
         self.expect('none for the input', [*self.words, '--input', self.text], UNREAD, preexec_fn=few)
         self.expect('none for the order', ['replay', self.text, '/dev/null'], UNREAD, preexec_fn=few)
 
+    def try_many(self):
+        """As many processes and threads as there can be, which draw single processes in every round."""
+        names = ', '.join(f'v{k}' for k in range(254))
+        (self.folder / 'many.cp').write_text('type p = process; var x: integer; begin cycle x := (x + 1) mod 100 end end; '
+                                             f'var {names}: p; begin init {names} end.')
+        words = ['run', self.folder / 'many.cp', '--rounds', '10000', '--turn', '1']
+        due = run([*words, '--workers', '1'])
+        for wave in ['1', '255']:
+            self.expect(f'64 workers, waves of {wave}', [*words, '--workers', '64', '--wave', wave], due)
+
     def try_memory(self):
         """Less and less address space, from where all is well to almost where the C library no longer starts the program."""
         counts = {0: 0, 3: 0}
@@ -153,5 +163,6 @@ def try_to_hurt():
         hurting.try_growing()
         hurting.try_closed()
         hurting.try_descriptors()
+        hurting.try_many()
         hurting.try_memory()
         return hurting.count
