@@ -11,14 +11,15 @@ ghost use Rattle.cp_execute.specs.declared.refusal.Refusal.TheVariants as refusa
 ghost use Rattle.cp_explain.specs.Explained.{Begins, Explains, Wrote, code_of, heading, place_of};
 
 use crate::graph::{Form, graph};
-use crate::page::Page;
-use crate::position::Position;
-use crate::told::{of_no_tree, of_violation};
+use crate::told::of_no_tree;
+use cp_diagnosis::of_violation;
 use cp_execute::checking::tree_of;
 use cp_execute::reading::{ReadError, read_text};
 use cp_execute::refusal::{Refusal, scan_number};
 use cp_execute::writing::write_all;
 use cp_model::tree::Tree;
+use cp_page::page::Page;
+use cp_page::position::Position;
 use cp_rules::text::{RuleError, judge};
 use std::alloc::{AllocError, Global};
 use std::io::{Read, Write};

@@ -7,7 +7,7 @@ use super::streams::{Narrow, Slow};
 use cp_execute::refusal::Refusal;
 use cp_explain::explain::explain_text;
 use cp_explain::graph::Form;
-use cp_explain::position::Position;
+use cp_page::position::Position;
 use cp_explain::rules::rule_page;
 use cp_model::rules::Rule;
 use std::alloc::{AllocError, Global};
