@@ -11,7 +11,7 @@ use clap::{Arg, ArgAction, ArgMatches};
 use cp_execute::replaying::Replay;
 use cp_execute::running::Run;
 use cp_explain::graph::Form;
-use cp_explain::rules::rule_page;
+use cp_explain::rules::{ALL, is_like_rule, rule_page};
 use cp_private::turn::Turn;
 use cp_rounds::plan::Plan;
 use cp_rounds::tick::Tick;
@@ -151,7 +151,7 @@ fn check_words<'a>(alloc: Global) -> Result<clap::Command<'a>, AllocError> {
 fn explain_words<'a>(alloc: Global) -> Result<clap::Command<'a>, AllocError> {
     let what = Arg::new(alloc, "FILE")
         .required(true)
-        .help("the text, - for standard input, or a rule such as C4");
+        .help("the text, - for standard input, or a rule or fault such as C4 or F3");
     let dot = Arg::new(alloc, "dot")
         .long("dot")
         .action(ArgAction::SetTrue)
@@ -291,6 +291,14 @@ fn out_of_range(alloc: Global, grammar: &mut clap::Command<'_>, range: OutOfRang
     }
 }
 
+// The error for a word that looks like the name of a rule, and is none.
+fn no_rule(alloc: Global, grammar: &mut clap::Command<'_>, word: &str) -> CommandError {
+    match format!(in alloc; "there is no rule {word}: {ALL}") {
+        Ok(text) => usage_error(grammar, ErrorKind::ValueValidation, text.as_str()),
+        Err(_) => CommandError::Memory,
+    }
+}
+
 /// Parses the words of a command line, the first of which is the program's name. If there are no
 /// others, the command is to run the text of standard input for 2 rounds.
 ///
@@ -391,6 +399,9 @@ fn read_matches<'a>(
         return Ok(Command::Check { file });
     }
     if name == "explain" {
+        if rule_page(file).is_none() && is_like_rule(file) {
+            return Err(no_rule(alloc, grammar, file));
+        }
         return Ok(explain(file, matches.get_flag("dot")));
     }
     if name == "replay" {

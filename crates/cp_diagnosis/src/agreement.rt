@@ -36,7 +36,7 @@ pub fn first_field(d: &Designator) -> Option<&Identifier> {
     None
 }
 
-fn side<'t>(called: &'static str, of: Type<'t>) -> Side<'t> {
+fn make_side<'t>(called: &'static str, of: Type<'t>) -> Side<'t> {
     Side { called, of }
 }
 
@@ -91,7 +91,7 @@ impl<'t> Site<'t> {
             ),
             Pair::Label(e, c) => (scope.type_of_expression(e)?, scope.type_of_constant(c)?),
         };
-        Some((side(first, left), side(second, right)))
+        Some((make_side(first, left), make_side(second, right)))
     }
 
     // The type of an index of the array before the selector with this number.
@@ -110,23 +110,23 @@ impl<'t> Site<'t> {
         match self.purpose? {
             Purpose::Argument(d, number) => {
                 let group = self.parameter(d, number)?;
-                Some(side("parameter", scope.type_of_name(&group.of)?))
+                Some(make_side("parameter", scope.type_of_name(&group.of)?))
             }
             Purpose::InitArgument(x, number) => {
                 let group = self.init_parameter(x, number)?;
-                Some(side("parameter", scope.type_of_name(&group.of)?))
+                Some(make_side("parameter", scope.type_of_name(&group.of)?))
             }
             Purpose::Index(d, selector, number) => {
-                Some(side("index type", self.index_type(d, selector, number)?))
+                Some(make_side("index type", self.index_type(d, selector, number)?))
             }
-            Purpose::Bound(x) => Some(side("variable", scope.type_of_root(x)?)),
+            Purpose::Bound(x) => Some(make_side("variable", scope.type_of_root(x)?)),
             Purpose::Condition | Purpose::Selector => None,
         }
     }
 
     // The expression at the place.
     fn given(&self, called: &'static str) -> Option<Side<'t>> {
-        Some(side(called, self.scope.type_of_expression(self.expression?)?))
+        Some(make_side(called, self.scope.type_of_expression(self.expression?)?))
     }
 
     /// The types of the two things at the place that should agree.

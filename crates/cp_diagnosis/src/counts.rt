@@ -2,7 +2,7 @@
 
 use crate::scope::{Declaration, Kind};
 use crate::site::{Call, NameRole, Purpose, Site};
-use crate::standard::{Standard, standard};
+use crate::standard::{Standard, find_standard};
 use cp_model::tree::{Identifier, Parameters, Routine, Sort, System};
 use cp_page::page::Page;
 use std::alloc::AllocError;
@@ -89,8 +89,7 @@ fn push_count(
     } else {
         " arguments, not "
     })?;
-    page.number(given)?;
-    page.bytes(b": ")
+    page.number(given)
 }
 
 impl<'t> Site<'t> {
@@ -119,7 +118,7 @@ impl<'t> Site<'t> {
     pub fn standard(&self) -> Option<Standard> {
         match self.name? {
             (_, NameRole::Member(..)) => None,
-            (x, _) if self.declaration().is_none() => standard(x.name.as_bytes()),
+            (x, _) if self.declaration().is_none() => find_standard(x.name.as_bytes()),
             _ => None,
         }
     }
@@ -136,6 +135,7 @@ impl<'t> Site<'t> {
             return Ok(());
         }
         push_count(page, x, takes, given)?;
+        page.bytes(b": ")?;
         push_system(page, system)?;
         page.bytes(b".\n")
     }
@@ -154,6 +154,7 @@ impl<'t> Site<'t> {
             return Ok(());
         }
         push_count(page, declared.name, takes, given)?;
+        page.bytes(b": ")?;
         push_routine(page, routine)?;
         page.bytes(b".\n")
     }
@@ -170,7 +171,6 @@ impl<'t> Site<'t> {
         match standard.count() {
             Some(takes) if takes != given => {
                 push_count(page, x, takes, given)?;
-                standard.push_heading(page)?;
                 page.bytes(b".\n")
             }
             _ => Ok(()),
@@ -195,7 +195,7 @@ impl<'t> Site<'t> {
     fn standard_callee(&self) -> Option<Standard> {
         match self.purpose? {
             Purpose::Argument(d, _) if self.callee(d).is_none() && d.selectors.is_empty() => {
-                standard(d.root.name.as_bytes())
+                find_standard(d.root.name.as_bytes())
             }
             _ => None,
         }

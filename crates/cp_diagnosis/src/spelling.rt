@@ -72,7 +72,7 @@ const VARIABLE: Fit = Fit {
 };
 
 // What names may have a role.
-fn fit(role: NameRole<'_>) -> Fit {
+fn names_for(role: NameRole<'_>) -> Fit {
     match role {
         NameRole::Type(_) => Fit {
             types: true,
@@ -234,7 +234,7 @@ impl<'t> Site<'t> {
     fn offer_all(&self, alloc: Global, nearest: &mut Nearest<'t>) -> Result<(), AllocError> {
         match self.name {
             Some((_, NameRole::Member(..))) => self.offer_members(alloc, nearest),
-            Some((_, role)) => nearest.offer_visible(alloc, self.scope, fit(role)),
+            Some((_, role)) => nearest.offer_visible(alloc, self.scope, names_for(role)),
             None => Ok(()),
         }
     }

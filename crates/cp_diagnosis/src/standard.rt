@@ -171,7 +171,7 @@ pub const STANDARD: [Standard; 18] = [
 ];
 
 /// The standard name that is spelled like this.
-pub fn standard(name: &[u8]) -> Option<Standard> {
+pub fn find_standard(name: &[u8]) -> Option<Standard> {
     for standard in STANDARD.as_slice() {
         if standard.name.as_bytes() == name {
             return Some(*standard);
@@ -209,8 +209,8 @@ impl Standard {
         }
     }
 
-    /// Adds the heading of a routine.
-    pub fn push_heading(&self, page: &mut Page) -> Result<(), AllocError> {
+    // Adds the heading of a routine.
+    fn push_heading(&self, page: &mut Page) -> Result<(), AllocError> {
         page.bytes(b"`")?;
         page.text(self.kind_words())?;
         page.bytes(b" ")?;

@@ -161,6 +161,41 @@ fn read<R: Read>(alloc: Global, text: &mut R) -> Result<Vec<u8>, Refusal>
     }
 }
 
+/// Draws the access graph of the text of a reader, or explains why it is refused. The graph goes to
+/// `out`, as a graph for Graphviz, and an explanation to `errors`. Returns why the text is refused,
+/// unless it is accepted.
+///
+/// # Errors
+///
+/// I1 if a read fails, M if memory runs out, and I2 if a write fails.
+pub fn draw_text<R: Read, W: Write, E: Write>(
+    alloc: Global,
+    file: &[u8],
+    text: &mut R,
+    out: &mut W,
+    errors: &mut E,
+) -> Result<Option<Refusal>, Refusal>
+    ensures drawn { IfOk result
+        (λ e. (e ≡ None)
+        → Wrote file.now (R.remaining text.old) e (W.contents out.old) (W.contents out.new)) }
+    ensures explained { IfOk result
+        (λ e. (e ≡ None → ⊥)
+        → Wrote file.now (R.remaining text.old) e (E.contents errors.old)
+        (E.contents errors.new)) }
+    ensures fault { IfErr result IsFault }
+{
+    let bytes = read(alloc, text)?;
+    let Explanation { page, refusal } = explain(alloc, file, &bytes, Form::Dot)?;
+    let written = match refusal {
+        None => write_all(out, page.as_bytes()),
+        Some(_) => write_all(errors, page.as_bytes()),
+    };
+    match written {
+        Ok(()) => Ok(refusal),
+        Err(_) => Err(Refusal::Write),
+    }
+}
+
 /// Explains the text of a reader, and returns why it is refused, unless it is accepted.
 ///
 /// # Errors

@@ -2,7 +2,7 @@
 
 ghost use Rattle.std.specs.Prelude.{◌≤◌, length};
 
-use crate::glyph::{Glyph, glyph, is_continuation};
+use crate::glyph::{Glyph, first_glyph, is_continuation};
 use crate::page::Page;
 use crate::position::Position;
 use cp_report::text::hex;
@@ -43,7 +43,7 @@ fn show_all(page: &mut Page, bytes: &[u8], is_blank: bool) -> Result<(), AllocEr
     let mut shown: usize = 0;
     for i in 0..bytes.len() {
         if shown <= i {
-            let glyph = glyph(&bytes[i..]);
+            let glyph = first_glyph(&bytes[i..]);
             if is_blank {
                 show_blank(page, glyph)?;
             } else {

@@ -54,7 +54,7 @@ fn wide(bytes: &[u8], first: u8) -> usize {
 }
 
 /// How what begins these bytes is shown.
-pub fn glyph(bytes: &[u8]) -> Glyph {
+pub fn first_glyph(bytes: &[u8]) -> Glyph {
     match bytes {
         [] => Glyph::Hidden(0),
         [b'\t', ..] => Glyph::Tab,
