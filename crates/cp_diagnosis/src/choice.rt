@@ -1,23 +1,15 @@
 //! Which message fits a broken rule, depending on what stands at the place.
 
-use crate::counts::count;
 use crate::messages as m;
 use crate::scope::{Declaration, Kind, Wanted};
-use crate::site::{Call, Declaring, Mark, NameRole, Pair, Purpose, Site, TypePlace};
+use crate::site::{Declaring, Mark, NameRole, Pair, Purpose, Site, TypePlace};
 use crate::types::BOOLEAN;
 use cp_model::rules::Rule;
-use cp_model::tree::{Designator, Expression, Identifier, Operator, Routine, Sort, System};
+use cp_model::tree::{Designator, Expression, Identifier, Operator, Sort, System};
 use cp_page::message::Message;
 
 /// The largest number of processes, counting the initial one, and of monitors.
 const MOST: usize = 255;
-
-fn is_taken(routine: Option<&Routine>, arguments: usize) -> bool {
-    match routine {
-        Some(routine) => count(&routine.parameters) == arguments,
-        None => false,
-    }
-}
 
 impl<'t> Site<'t> {
     /// The name at the place.
@@ -26,7 +18,7 @@ impl<'t> Site<'t> {
         Some(x)
     }
 
-    fn role(&self) -> Option<NameRole<'t>> {
+    pub(crate) fn role(&self) -> Option<NameRole<'t>> {
         let (_, role) = self.name?;
         Some(role)
     }
@@ -56,23 +48,23 @@ impl<'t> Site<'t> {
         }
     }
 
-    fn kind(&self) -> Option<Kind> {
+    pub(crate) fn kind(&self) -> Option<Kind> {
         Some(self.declaration()?.kind)
     }
 
-    fn is_constant(&self) -> bool {
+    pub(crate) fn is_constant(&self) -> bool {
         matches!(self.kind(), Some(Kind::Constant | Kind::EnumerationValue))
     }
 
     // Whether the name is that of a variable or a parameter, which may be a component.
-    fn is_variable(&self) -> bool {
+    pub(crate) fn is_variable(&self) -> bool {
         matches!(
             self.kind(),
             Some(Kind::Variable | Kind::ValueParameter | Kind::VarParameter)
         )
     }
 
-    fn is_component(&self) -> bool {
+    pub(crate) fn is_component(&self) -> bool {
         match self.identifier() {
             Some(x) => self.is_variable() && self.scope.system_of(x).is_some(),
             None => false,
@@ -165,112 +157,6 @@ impl<'t> Site<'t> {
             (Some(NameRole::Member(..)), Some(x), Some(system)) => self.no_member(x, system),
             (Some(NameRole::Member(..)), _, _) => m::UNKNOWN_MEMBER,
             _ => m::UNKNOWN,
-        }
-    }
-
-    fn c2(&self) -> Message {
-        match self.mark {
-            Some(mark) => self.c2_mark(mark),
-            None => match self.role() {
-                Some(role) => self.c2_name(role),
-                None => self.disagreement(),
-            },
-        }
-    }
-
-    fn c2_mark(&self, mark: Mark) -> Message {
-        match mark {
-            Mark::Operator => m::OPERANDS,
-            Mark::Point => m::NO_PARTS,
-            Mark::Index => m::NO_ELEMENTS,
-            Mark::Becomes => m::SIDES,
-            Mark::Type(_) => m::INDEX_TYPE,
-            _ if self.name.is_some() && !self.is_constant() => m::NO_CONSTANT,
-            Mark::Label => m::LABEL,
-            _ => m::BASES,
-        }
-    }
-
-    fn c2_name(&self, role: NameRole<'t>) -> Message {
-        match role {
-            NameRole::Type(TypePlace::Index) if matches!(self.kind(), Some(Kind::Type) | None) => {
-                m::INDEX_TYPE
-            }
-            NameRole::Type(_) => m::NO_TYPE,
-            NameRole::Constant => m::NO_CONSTANT,
-            NameRole::Counter if self.is_variable() => m::COUNTER,
-            NameRole::Value => self.c2_value(),
-            NameRole::Function(arguments) => self.c2_function(arguments),
-            NameRole::Procedure(arguments) => self.c2_procedure(arguments),
-            NameRole::Member(_, call) => self.c2_member(call),
-            NameRole::Counter | NameRole::Target => m::NO_VARIABLE,
-            _ => m::NO_VALUE,
-        }
-    }
-
-    // A name that stands alone where a value is wanted.
-    fn c2_value(&self) -> Message {
-        match self.kind() {
-            Some(Kind::Function) => self.call_message(0),
-            None => m::ARGUMENTS,
-            _ if self.is_component() => m::NO_VALUE,
-            _ if self.is_variable() || self.is_constant() => self.disagreement(),
-            _ => m::NO_VALUE,
-        }
-    }
-
-    fn c2_function(&self, arguments: usize) -> Message {
-        match self.kind() {
-            Some(Kind::Function) => self.call_message(arguments),
-            None => self.standard_call(),
-            _ => m::NO_FUNCTION,
-        }
-    }
-
-    fn c2_procedure(&self, arguments: usize) -> Message {
-        match self.kind() {
-            Some(Kind::Procedure) => self.call_message(arguments),
-            None => self.standard_call(),
-            _ => m::NO_PROCEDURE,
-        }
-    }
-
-    fn c2_member(&self, call: Call) -> Message {
-        match (self.kind(), call) {
-            (Some(Kind::Procedure), Call::Procedure(arguments))
-            | (Some(Kind::Function), Call::Function(arguments)) => self.call_message(arguments),
-            (_, Call::Procedure(_)) => m::NO_PROCEDURE,
-            _ => m::NO_VALUE,
-        }
-    }
-
-    // The message for a call of a declared routine with `arguments` arguments: their number is
-    // wrong, or else the value doesn't fit.
-    fn call_message(&self, arguments: usize) -> Message {
-        match self.declaration() {
-            Some(declared) if is_taken(declared.routine, arguments) => self.disagreement(),
-            _ => m::ARGUMENTS,
-        }
-    }
-
-    // The message for a call of a standard routine: its value doesn't fit, or else the number of
-    // its arguments is wrong.
-    fn standard_call(&self) -> Message {
-        match self.purpose {
-            Some(_) => self.disagreement(),
-            None => m::ARGUMENTS,
-        }
-    }
-
-    fn disagreement(&self) -> Message {
-        match self.purpose {
-            Some(Purpose::Condition) => m::CONDITION,
-            Some(Purpose::Selector) => m::SELECTOR,
-            Some(Purpose::Bound(_)) => m::BOUND,
-            Some(Purpose::Index(..)) => m::INDEX,
-            Some(Purpose::InitArgument(..)) => m::INIT_ARGUMENT,
-            Some(Purpose::Argument(..)) => m::ARGUMENT,
-            None => m::NO_VALUE,
         }
     }
 

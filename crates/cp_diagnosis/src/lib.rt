@@ -1,7 +1,7 @@
 //! Diagnoses: which explanation a broken rule gets.
 //!
-//! `finder` and the walks find what stands at the place (`site`), `choice` picks the message for
-//! that (`messages`), and `scope` looks up what a name is declared as. `types` has the types of
+//! `finder` and the walks find what stands at the place (`site`), `choice` and `choice_types`
+//! pick the message for that (`messages`), and `scope` looks up what a name is declared as. `types` has the types of
 //! expressions, and `agreement` those that don't agree; `counts` the arguments that a call takes;
 //! `members` what can stand after a `.`; `standard` what the standard names mean; `spelling` and
 //! `nearest` what a name may have meant. `diagnosis` puts these together. `components` lists the
@@ -12,6 +12,7 @@
 
 mod agreement;
 mod choice;
+mod choice_types;
 pub mod components;
 mod counts;
 mod diagnosis;

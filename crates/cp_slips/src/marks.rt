@@ -61,6 +61,8 @@ fn assign(front: &Front<'_>, expected: &Expected) -> Option<Message> {
         Some(m::DEFINITION)
     } else if front.follows_sooner(Symbol::Assign, &AROUND_STATEMENTS) {
         Some(m::ONE_ASSIGNMENT)
+    } else if expected.has(Symbol::CloseBracket) {
+        None
     } else if expected.has(Symbol::Equal) || has_relation(expected) {
         Some(m::EQUALITY)
     } else if expected.has(Symbol::Colon) {

@@ -55,7 +55,7 @@ pub const PERCENT: Message = Message {
 };
 
 pub const BAR: Message = Message {
-    head: "this character can't appear here: the other way round is written `or`",
+    head: "this character can't appear here: the choice of two Booleans is written `or`",
     advice: "Write `a or b`, and put relations into parentheses: `(a = 1) or (b = 2)`.",
 };
 
