@@ -251,7 +251,7 @@ const MISSING: [Row; 14] = [
         line: "  Each `[` needs its `]`.",
     },
     Row {
-        text: "var v: array [1..2@ of integer; begin end.",
+        text: "var v: array [1..2 @of integer; begin end.",
         head: "Y1: unexpected `of`: a `]` is missing before it",
         line: "  Each `[` needs its `]`.",
     },
