@@ -78,6 +78,17 @@ def try_explanations():
     return count
 
 
+def try_faults():
+    """Runs each text that a fault stops, by the command of its section in docs/faults.md."""
+    count = 0
+    for report in sorted((EXAMPLES / 'faults').glob('*.report')):
+        text = report.with_suffix('.cp').name
+        words = re.search(rf'^`{re.escape(text)}`, `run (.*?)`', (ROOT / 'docs' / 'faults.md').read_text(), re.MULTILINE).group(1).split()
+        expect(report.name, run(['run', text, *words], folder=EXAMPLES / 'faults'), (0, report.read_bytes(), b''))
+        count += 1
+    return count
+
+
 def words_of(case, text, given, order):
     """The arguments with which the program gives the answer of a worked text, or None. Writes its input and its order to files."""
     command = case['command']
@@ -127,7 +138,11 @@ def try_exits():
     expect('a folder to explain', run(['explain', '.']), (4, b'', b". can't be read\n"))
     status, page, error = run(['explain', 'C4'])
     expect('a rule', (status, page.startswith(b'C4: '), error), (0, True, b''))
-    expect('no such rule is a file', run(['explain', 'C14'])[0], 4)
+    expect('a rule in small letters', run(['explain', 'c4']), (0, page, b''))
+    status, out, error = run(['explain', 'C14'])
+    expect('no such rule', (status, out, b'there is no rule C14: the rules are S1 to S6' in error), (2, b'', True))
+    due = (EXAMPLES / 'rules' / 'c4_recursion.explanation').read_bytes()
+    expect('no graph', run(['explain', 'c4_recursion.cp', '--dot'], folder=EXAMPLES / 'rules'), (1, b'', due))
     expect('standard input', run(['check', '-']), (1, b'', b'refused Y2 at 0\n'))
 
 
@@ -189,6 +204,7 @@ def try_threads(library, words):
 
 def main():
     examples, orders, rules, explained, worked = try_examples(), try_orders(), try_rules(), try_explanations(), try_worked()
+    faults = try_faults()
     try_exits()
     with tempfile.TemporaryDirectory() as folder:
         library = pathlib.Path(folder) / 'refusing.so'
@@ -203,7 +219,7 @@ def main():
         shared, threads = map(sum, zip(*waves))
     for line in wrong:
         print(line)
-    print(f'{examples} examples, {orders} orders, {rules} refused texts, {explained} explanations, {worked} worked texts; '
+    print(f'{examples} examples, {orders} orders, {rules} refused texts, {explained} explanations, {faults} faults, {worked} worked texts; '
           f'of an explanation {told[0]} allocations, {told[1]} reads and {told[2]} writes refused in turn; of a run '
           f'{memory} allocations, {reads} reads and {writes} writes refused in turn; of a replay {replayed[0]} allocations, '
           f'{replayed[1]} reads and {replayed[2]} writes; '

@@ -149,9 +149,9 @@ fn check_words<'a>(alloc: Global) -> Result<clap::Command<'a>, AllocError> {
 }
 
 fn explain_words<'a>(alloc: Global) -> Result<clap::Command<'a>, AllocError> {
-    let what = Arg::new(alloc, "FILE")
-        .required(true)
-        .help("the text, - for standard input, or a rule or fault such as C4 or F3");
+    let what = Arg::new(alloc, "FILE").required(true).help(
+        "the text, - for standard input, or a rule or fault such as C4 or F3",
+    );
     let dot = Arg::new(alloc, "dot")
         .long("dot")
         .action(ArgAction::SetTrue)
@@ -210,9 +210,9 @@ fn run_words<'a>(alloc: Global) -> Result<clap::Command<'a>, AllocError> {
 }
 
 fn replay_words<'a>(alloc: Global) -> Result<clap::Command<'a>, AllocError> {
-    let order = Arg::new(alloc, "ORDER")
-        .required(true)
-        .help("the order: the events of each round, a line a round; - for standard input");
+    let order = Arg::new(alloc, "ORDER").required(true).help(
+        "the order: the events of each round, a line a round; - for standard input",
+    );
     clap::Command::new(alloc, "replay")
         .about("Replays a text in the order of steps that a file tells, and reports its state")
         .arg(file(alloc))?

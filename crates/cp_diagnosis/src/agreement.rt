@@ -1,8 +1,8 @@
 //! The types that don't agree at a place.
 
-use crate::scope::{Declaration, Wanted};
 use crate::site::{NameRole, Pair, Purpose, Site};
-use crate::types::{Type, type_of_operation};
+use cp_declared::scope::{Declaration, Wanted};
+use cp_declared::types::{Type, type_of_operation};
 use cp_model::tree::{Designator, Expression, Identifier, Parameters, Selector, TypeExpression};
 use cp_page::page::Page;
 use std::alloc::AllocError;

@@ -1,9 +1,9 @@
 //! Which message fits a broken rule, depending on what stands at the place.
 
 use crate::messages as m;
-use crate::scope::{Declaration, Kind, Wanted};
 use crate::site::{Declaring, Mark, NameRole, Pair, Purpose, Site, TypePlace};
-use crate::types::BOOLEAN;
+use cp_declared::scope::{Declaration, Kind, Wanted};
+use cp_declared::types::BOOLEAN;
 use cp_model::rules::Rule;
 use cp_model::tree::{Designator, Expression, Identifier, Operator, Sort, System};
 use cp_page::message::Message;

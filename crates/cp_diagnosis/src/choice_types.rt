@@ -2,9 +2,9 @@
 
 use crate::counts::count;
 use crate::messages as m;
-use crate::scope::Kind;
 use crate::site::{Call, Mark, NameRole, Purpose, Site, TypePlace};
-use crate::standard::StandardKind;
+use cp_declared::scope::Kind;
+use cp_declared::standard::StandardKind;
 use cp_model::tree::Routine;
 use cp_page::message::Message;
 

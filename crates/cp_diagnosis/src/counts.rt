@@ -1,8 +1,8 @@
 //! The number of arguments that a call has, and that it should have.
 
-use crate::scope::{Declaration, Kind};
 use crate::site::{Call, NameRole, Purpose, Site};
-use crate::standard::{Standard, find_standard};
+use cp_declared::scope::{Declaration, Kind};
+use cp_declared::standard::{Standard, find_standard};
 use cp_model::tree::{Identifier, Parameters, Routine, Sort, System};
 use cp_page::page::Page;
 use std::alloc::AllocError;

@@ -2,10 +2,10 @@
 //! helps: the types that don't agree, the arguments that a call takes, what a name may have meant,
 //! and where it is declared.
 
-use crate::components::{Components, Systems};
 use crate::finder::Finder;
-use crate::scope::{Declaration, Kind};
 use crate::site::{NameRole, Site};
+use cp_declared::components::{Components, Systems};
+use cp_declared::scope::{Declaration, Kind};
 use cp_model::rules::{Rule, Violation};
 use cp_model::tree::{Identifier, Sort, Tree};
 use cp_page::message::About;
@@ -88,7 +88,11 @@ fn letters<'t>(x: Option<&'t Identifier>) -> Option<&'t [u8]> {
 impl<'t> Site<'t> {
     // Adds where the name at the place is declared, or what it means as a standard name.
     fn push_declared(&self, page: &mut Page, text: &[u8], at: usize) -> Result<(), AllocError> {
-        match (self.declaration(), self.hidden_declaration(), self.standard()) {
+        match (
+            self.declaration(),
+            self.hidden_declaration(),
+            self.standard(),
+        ) {
             (Some(declared), _, _) => push_declaration(page, text, at, declared),
             (None, Some(declared), _) => push_hidden(page, text, declared),
             (None, None, Some(standard)) => standard.push(page),

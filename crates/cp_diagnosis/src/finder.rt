@@ -1,7 +1,7 @@
 //! Finds what stands at a place of a text, by walking over its tree.
 
-use crate::scope::Scope;
 use crate::site::{Mark, NameRole, Pair, Purpose, Site};
+use cp_declared::scope::Scope;
 use cp_model::tree::{Expression, Identifier, Tree};
 
 /// Walks over a tree, and records what stands at one place of it.

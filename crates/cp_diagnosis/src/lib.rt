@@ -1,11 +1,9 @@
 //! Diagnoses: which explanation a broken rule gets.
 //!
-//! `finder` and the walks find what stands at the place (`site`), `choice` and `choice_types`
-//! pick the message for that (`messages`), and `scope` looks up what a name is declared as. `types` has the types of
-//! expressions, and `agreement` those that don't agree; `counts` the arguments that a call takes;
-//! `members` what can stand after a `.`; `standard` what the standard names mean; `spelling` and
-//! `nearest` what a name may have meant. `diagnosis` puts these together. `components` lists the
-//! components that a text declares.
+//! `finder` and the walks find what stands at the place (`site`), and `choice` and `choice_types`
+//! pick the message for that (`messages`). `agreement` tells the types that don't agree, `counts`
+//! the arguments that a call takes, `members` what can stand after a `.`, and `spelling` what a name
+//! may have meant. `diagnosis` puts these together. What names are declared as is cp_declared's.
 //!
 //! All of this is words, and tested.
 #![tactic(auto)]
@@ -13,18 +11,13 @@
 mod agreement;
 mod choice;
 mod choice_types;
-pub mod components;
 mod counts;
 mod diagnosis;
 mod finder;
 mod members;
 mod messages;
-mod nearest;
-mod scope;
 mod site;
 mod spelling;
-mod standard;
-mod types;
 mod walk_declarations;
 mod walk_expressions;
 mod walk_statements;

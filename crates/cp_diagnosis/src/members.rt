@@ -1,8 +1,8 @@
 //! What can stand after a `.`: the entries of a component's type, or the fields of a record.
 
-use crate::nearest::Nearest;
 use crate::site::{NameRole, Site};
-use crate::types::Type;
+use cp_declared::nearest::Nearest;
+use cp_declared::types::Type;
 use cp_model::tree::{Designator, Fields, Identifier, Routine, Selector, Sort, TypeExpression};
 use cp_page::page::Page;
 use std::alloc::{AllocError, Global};
@@ -21,11 +21,7 @@ fn push_item(page: &mut Page, lead: &str, x: &Identifier) -> Result<(), AllocErr
     page.name(x)
 }
 
-fn push_entries(
-    page: &mut Page,
-    of: &Identifier,
-    routines: &[Routine],
-) -> Result<(), AllocError> {
+fn push_entries(page: &mut Page, of: &Identifier, routines: &[Routine]) -> Result<(), AllocError> {
     let mut lead = ": ";
     page.text("  The entries of ")?;
     page.name(of)?;

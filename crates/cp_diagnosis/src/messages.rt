@@ -47,11 +47,14 @@ pub const VAR_EXPRESSION: Message = Message {
 
 // ---- Advice by types
 
-pub const ENUMERATION: &str = "No conversion makes a `%`: use the name of one of its values, or `succ` and `pred` of another.";
+pub const ENUMERATION: &str =
+    "No conversion makes a `%`: use the name of one of its values, or `succ` and `pred` of another.";
 
-pub const ENUMERATION_OPERAND: &str = "There is no arithmetic with a `%`, and no conversion makes one: use the name of one of its values, or `succ` and `pred` of another.";
+pub const ENUMERATION_OPERAND: &str =
+    "There is no arithmetic with a `%`, and no conversion makes one: use the name of one of its values, or `succ` and `pred` of another.";
 
-pub const BOOLEAN_OPERANDS: &str = "`&` and `or` take Booleans, and bind more tightly than relations: put each relation into parentheses, as in `(a = b) & c`.";
+pub const BOOLEAN_OPERANDS: &str =
+    "`&` and `or` take Booleans, and bind more tightly than relations: put each relation into parentheses, as in `(a = b) & c`.";
 
 pub const BOOLEAN_VALUE: &str = "A Boolean is `true`, `false`, or a relation such as `n > 0`.";
 

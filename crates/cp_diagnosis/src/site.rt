@@ -1,6 +1,6 @@
 //! What stands at a place of a text: the role of a name there, or the purpose of an expression.
 
-use crate::scope::Scope;
+use cp_declared::scope::Scope;
 use cp_model::tree::{Constant, Designator, Expression, Identifier, Operation, Operator, Sort};
 
 /// What a name is declared as.

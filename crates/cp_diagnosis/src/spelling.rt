@@ -1,11 +1,9 @@
 //! What is meant by a name that isn't declared: a name that is spelled like it and fits there, or
 //! one that is known from other languages.
 
-use crate::nearest::Nearest;
-use crate::scope::Scope;
 use crate::site::{NameRole, Site};
-use crate::standard::{STANDARD, StandardKind};
-use cp_model::tree::{Defined, Parameters, Routine, Section, TypeDefinition};
+use cp_declared::nearest::Nearest;
+use cp_declared::visible::{Fit, NO_NAME};
 use cp_page::page::Page;
 use std::alloc::{AllocError, Global};
 
@@ -27,49 +25,43 @@ const FOREIGN: [(&str, &str); 28] = [
     ("null", POINTER),
     ("new", POINTER),
     ("int", "The type of integers is called `integer`."),
-    ("bool", "The type of `false` and `true` is called `boolean`."),
+    (
+        "bool",
+        "The type of `false` and `true` is called `boolean`.",
+    ),
     ("character", "The type of characters is called `char`."),
     ("inc", "Write `n := n + 1`."),
     ("dec", "Write `n := n - 1`."),
     ("sqrt", "There is no such function: declare one."),
     ("odd", "Write `n mod 2 <> 0`."),
-    ("return", "A function's result is what is assigned to its name last: `f := 1`."),
+    (
+        "return",
+        "A function's result is what is assigned to its name last: `f := 1`.",
+    ),
     ("exit", LEAVE),
     ("halt", LEAVE),
     ("break", LEAVE),
-    ("signal", "`continue(q)` lets the process in the queue `q` go on."),
-    ("sleep", "A process waits for the next tick of the clock by `wait`."),
+    (
+        "signal",
+        "`continue(q)` lets the process in the queue `q` go on.",
+    ),
+    (
+        "sleep",
+        "A process waits for the next tick of the clock by `wait`.",
+    ),
 ];
 
 const WRITE: &str = "One value is written by `display(x)`; there is no other output.";
+
 const READ: &str = "A character is read by `accept(c)`; there is no other input.";
+
 const REAL: &str = "There are no reals: numbers are integers from -32768 to 32767.";
+
 const STRING: &str = "There are no strings: use an array of char.";
+
 const POINTER: &str = "There are no pointers: use an array, and an index into it.";
+
 const LEAVE: &str = "Nothing leaves a loop but its condition: test a Boolean variable.";
-
-// What names may stand at a place.
-#[derive(Clone, Copy)]
-struct Fit {
-    constants: bool,
-    variables: bool,
-    types: bool,
-    functions: bool,
-    procedures: bool,
-}
-
-const NO_NAME: Fit = Fit {
-    constants: false,
-    variables: false,
-    types: false,
-    functions: false,
-    procedures: false,
-};
-
-const VARIABLE: Fit = Fit {
-    variables: true,
-    ..NO_NAME
-};
 
 // What names may have a role.
 fn names_for(role: NameRole<'_>) -> Fit {
@@ -97,126 +89,12 @@ fn names_for(role: NameRole<'_>) -> Fit {
             ..NO_NAME
         },
         NameRole::Target | NameRole::Root(_) | NameRole::Counter | NameRole::Component(_) => {
-            VARIABLE
+            Fit {
+                variables: true,
+                ..NO_NAME
+            }
         }
         NameRole::Declared(_) | NameRole::Member(..) => NO_NAME,
-    }
-}
-
-impl Fit {
-    fn is_standard(self, kind: StandardKind) -> bool {
-        match kind {
-            StandardKind::Type => self.types,
-            StandardKind::Constant => self.constants,
-            StandardKind::Function(_) => self.functions,
-            StandardKind::Procedure(_) => self.procedures,
-        }
-    }
-}
-
-impl<'t> Nearest<'t> {
-    fn offer_standard(&mut self, alloc: Global, fit: Fit) -> Result<(), AllocError> {
-        for standard in STANDARD.as_slice() {
-            if fit.is_standard(standard.kind) {
-                self.offer(alloc, standard.name.as_bytes())?;
-            }
-        }
-        Ok(())
-    }
-
-    fn offer_parameters(
-        &mut self,
-        alloc: Global,
-        groups: &'t [Parameters],
-    ) -> Result<(), AllocError> {
-        for group in groups {
-            self.offer_names(alloc, &group.names)?;
-        }
-        Ok(())
-    }
-
-    fn offer_routines(
-        &mut self,
-        alloc: Global,
-        fit: Fit,
-        routines: &'t [Routine],
-    ) -> Result<(), AllocError> {
-        for routine in routines {
-            let fits = match routine.result_type {
-                Some(_) => fit.functions,
-                None => fit.procedures,
-            };
-            if fits {
-                self.offer(alloc, routine.name.name.as_bytes())?;
-            }
-        }
-        Ok(())
-    }
-
-    fn offer_type(
-        &mut self,
-        alloc: Global,
-        fit: Fit,
-        definition: &'t TypeDefinition,
-    ) -> Result<(), AllocError> {
-        if fit.types {
-            self.offer(alloc, definition.name.name.as_bytes())?;
-        }
-        match &definition.defined {
-            Defined::Enumeration(values) if fit.constants => self.offer_names(alloc, values),
-            _ => Ok(()),
-        }
-    }
-
-    fn offer_section(
-        &mut self,
-        alloc: Global,
-        fit: Fit,
-        section: &'t Section,
-    ) -> Result<(), AllocError> {
-        match section {
-            Section::Types(definitions) => {
-                for definition in definitions {
-                    self.offer_type(alloc, fit, definition)?;
-                }
-            }
-            Section::Constants(definitions) => {
-                for definition in definitions {
-                    if fit.constants {
-                        self.offer(alloc, definition.name.name.as_bytes())?;
-                    }
-                }
-            }
-        }
-        Ok(())
-    }
-
-    fn offer_variables(&mut self, alloc: Global, scope: Scope<'t>) -> Result<(), AllocError> {
-        if let Some(routine) = scope.routine {
-            self.offer_parameters(alloc, &routine.parameters)?;
-            self.offer_groups(alloc, &routine.variables)?;
-        }
-        if let Some(system) = scope.system {
-            self.offer_parameters(alloc, &system.parameters)?;
-        }
-        self.offer_groups(alloc, scope.variables())
-    }
-
-    // Offers the names that are visible and fit.
-    fn offer_visible(
-        &mut self,
-        alloc: Global,
-        scope: Scope<'t>,
-        fit: Fit,
-    ) -> Result<(), AllocError> {
-        if fit.variables {
-            self.offer_variables(alloc, scope)?;
-        }
-        self.offer_routines(alloc, fit, scope.routines())?;
-        for section in &scope.tree.sections {
-            self.offer_section(alloc, fit, section)?;
-        }
-        self.offer_standard(alloc, fit)
     }
 }
 

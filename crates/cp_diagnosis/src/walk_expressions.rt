@@ -20,7 +20,6 @@ fn first_token(e: &Expression) -> usize {
 
 impl<'t> Finder<'t> {
     /// Walks over an expression that is wanted for `purpose`.
-    #[cycle(expressions)]
     pub(crate) fn expression_for(&mut self, e: &'t Expression, purpose: Purpose<'t>) {
         self.purpose(first_token(e), e, purpose);
         self.expression(e);

@@ -1,7 +1,7 @@
 //! The access graph of an accepted text: its components, and which of them has a right to which, as
 //! `init` hands the rights over.
 
-use cp_diagnosis::components::{Component, Components, Systems};
+use cp_declared::components::{Component, Components, Systems};
 use cp_model::tree::{
     Arm, Defined, Expression, Identifier, InitItem, Section, Sort, Statement, System, Tree,
     TypeDefinition,

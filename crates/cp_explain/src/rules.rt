@@ -6,7 +6,8 @@ use crate::pages::PAGES;
 const LETTERS: &[u8] = b"SYCIOF";
 
 /// The words that list the rules.
-pub const ALL: &str = "the rules are S1 to S6, Y1 to Y3, C1 to C13, I1 to I4, O1 and M, and the faults F1 to F9";
+pub const ALL: &str =
+    "the rules are S1 to S6, Y1 to Y3, C1 to C13, I1 to I4, O1 and M, and the faults F1 to F9";
 
 fn upper(byte: u8) -> u8 {
     match byte {

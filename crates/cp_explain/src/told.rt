@@ -14,7 +14,11 @@ pub fn of_no_tree(
 ) -> Result<Page, AllocError> {
     let (mut page, letter, number) = match refusal {
         Refusal::Scan { cause, .. } => {
-            (of_spelling(alloc, text, at, cause)?, "S", scan_number(cause))
+            (
+                of_spelling(alloc, text, at, cause)?,
+                "S",
+                scan_number(cause),
+            )
         }
         Refusal::Unfinished { .. } => (of_unfinished(alloc, text, at)?, "Y", 2),
         Refusal::TooDeep { .. } => (of_depth(alloc, text, at)?, "Y", 3),

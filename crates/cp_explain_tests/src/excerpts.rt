@@ -69,7 +69,12 @@ fn long_lines_are_cut(rt: HostRuntime) -> Result<(), Fail> {
     // The end is cut: of the line 100 bytes are left.
     let text = padded(rt.alloc(), b"begin x := 1", 200, b"end.")?;
     let out = explanation(rt.alloc(), &text);
-    let due = padded(rt.alloc(), b"\n  1 | begin x := 1", 88, b"...\n    |       ^\n")?;
+    let due = padded(
+        rt.alloc(),
+        b"\n  1 | begin x := 1",
+        88,
+        b"...\n    |       ^\n",
+    )?;
     assert!(rt; excerpt(&out).starts_with(&due));
     Ok(())
 }

@@ -375,7 +375,9 @@ fn long_texts_have_their_expected_tokens(rt: HostRuntime) -> Result<(), Fail> {
     for _ in 0..1_000 {
         text.extend_from_slice(b"display(2); ")?;
     }
-    text.extend_from_slice(b"case 1 of 1: cycle display(3); end; 2: if true then begin display(4) end not")?;
+    text.extend_from_slice(
+        b"case 1 of 1: cycle display(3); end; 2: if true then begin display(4) end not",
+    )?;
     let out = explanation(rt.alloc(), &text);
     assert!(rt; has_line(&out, b"  Expected one of: `;`, `end`, `else`."));
     Ok(())

@@ -3,7 +3,12 @@
 use super::telling::{Row, explanation, has_line, told};
 use std::test::Fail;
 
-const ROWS: [Row; 16] = [
+const ROWS: [Row; 17] = [
+    Row {
+        text: "begin display(@\"hello) end.",
+        head: "S2: this comment is never closed: there are no strings",
+        line: "  Quotes begin and end a comment. A character is written 'a'; display each by a call of its own.",
+    },
     Row {
         text: "@{ a comment } begin end.",
         head: "S1: this character can't appear here: braces have no meaning",
@@ -99,10 +104,12 @@ fn slips_of_spelling_are_told(rt: HostRuntime) -> Result<(), Fail> {
 #[test]
 fn bytes_beyond_ascii_are_told(rt: HostRuntime) {
     let out = explanation(rt.alloc(), b"\xef\xbb\xbfbegin end.");
-    assert!(rt; out.as_slice().starts_with(b"t:1:1: S1: the text begins with a byte order mark\n"));
-    let out = explanation(rt.alloc(), b"begin \xe2\x80\x98a' end.");
     assert!(rt;
         out.as_slice()
-            .starts_with(b"t:1:7: S1: this character can't appear here: it isn't ASCII\n")
+            .starts_with(b"t:1:1: S1: the text begins with a byte order mark\n")
+    );
+    let out = explanation(rt.alloc(), b"begin \xe2\x80\x98a' end.");
+    assert!(rt;
+        out.as_slice().starts_with(b"t:1:7: S1: this character can't appear here: it isn't ASCII\n")
     );
 }

@@ -17,6 +17,7 @@ mod messages;
 mod repair;
 mod shorten;
 mod spelling;
+mod spelling_messages;
 mod syntax;
 mod words;
 

@@ -86,7 +86,8 @@ fn relation(front: &Front<'_>, expected: &Expected) -> Option<Message> {
 
 // `n++`, `n += 1`, and `a * -1`.
 fn sign(front: &Front<'_>, expected: &Expected) -> Option<Message> {
-    let doubled = is_symbol(front.after(1), Symbol::Plus) || is_symbol(front.after(1), Symbol::Minus);
+    let doubled = is_symbol(front.after(1), Symbol::Plus)
+        || is_symbol(front.after(1), Symbol::Minus);
     if is_name(front.before(1)) && (doubled || front.is_next(Symbol::Equal)) {
         Some(m::INCREMENT)
     } else if expected.has_value() {

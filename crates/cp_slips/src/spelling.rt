@@ -1,7 +1,7 @@
 //! Why a text has no tokens, by the bytes at the place where the scanner stops.
 
 use crate::front::part;
-use crate::messages as m;
+use crate::spelling_messages as m;
 use cp_page::message::{About, Message};
 use cp_page::page::Page;
 use cp_scan::Cause;
@@ -50,16 +50,22 @@ fn character(bytes: &[u8]) -> Message {
     }
 }
 
-// Whether a `-` stands before a place, with nothing but blanks between.
-fn is_signed(text: &[u8], at: usize) -> bool {
+// The last byte before a place that isn't a blank, or 0 if there is none.
+fn last_before(text: &[u8], at: usize) -> u8 {
     for byte in part(text, 0, at).iter().rev() {
-        match *byte {
-            b'-' => return true,
-            9 | 10 | 13 | 32 => {}
-            _ => return false,
+        if !matches!(*byte, 9 | 10 | 13 | 32) {
+            return *byte;
         }
     }
-    false
+    0
+}
+
+// A comment that begins where a value is expected, or another one.
+fn comment(text: &[u8], at: usize) -> Message {
+    match last_before(text, at) {
+        b'(' | b',' | b'=' => m::STRING_COMMENT,
+        _ => m::COMMENT,
+    }
 }
 
 // The number -32768, or another one that is too large.
@@ -68,7 +74,7 @@ fn number(text: &[u8], at: usize) -> Message {
         part(text, at, at.saturating_add(6)),
         [b'3', b'2', b'7', b'6', b'8'] | [b'3', b'2', b'7', b'6', b'8', 0..=47 | 58..=255]
     );
-    if is_least && is_signed(text, at) {
+    if is_least && last_before(text, at) == b'-' {
         m::SIGNED
     } else {
         m::NUMBER
@@ -79,7 +85,7 @@ fn of_cause(text: &[u8], at: usize, cause: Cause) -> Message {
     let rest = part(text, at, text.len());
     match cause {
         Cause::Byte => byte(rest, at),
-        Cause::Comment => m::COMMENT,
+        Cause::Comment => comment(text, at),
         Cause::Character => character(rest),
         Cause::Number => number(text, at),
         Cause::Word => m::WORD,

@@ -116,7 +116,14 @@ pub fn habit_of_word(front: &Front<'_>, expected: &Expected, symbol: Symbol) -> 
 
 // Whether a word names a type in the habit of C, or declares a variable.
 fn declares(word: &[u8]) -> bool {
-    for habit in [b"local".as_slice(), b"integer", b"int", b"char", b"boolean", b"bool"] {
+    for habit in [
+        b"local".as_slice(),
+        b"integer",
+        b"int",
+        b"char",
+        b"boolean",
+        b"bool",
+    ] {
         if habit == word {
             return true;
         }

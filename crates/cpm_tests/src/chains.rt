@@ -21,7 +21,8 @@ t1 = monitor; procedure entry e; begin cycle end end; begin end;
     for k in 2..=ROW {
         let before = k.saturating_sub(1);
         let line = format!(in alloc;
-            "t{k} = monitor(i: t{before}); procedure entry e; begin i.e end; begin end;\n")?;
+            "t{k} = monitor(i: t{before}); procedure entry e; begin i.e end; begin end;\n"
+        )?;
         text.extend_from_slice(line.as_bytes())?;
     }
     for k in 1..=ROW {
@@ -84,6 +85,10 @@ fn a_chain_is_as_long_as_the_row_of_processes(rt: HostRuntime) -> Result<(), Fai
     assert!(rt; answer == Ok(()));
     assert!(rt; out.as_slice().ends_with(&lines));
     let before = out.len().saturating_sub(lines.len());
-    assert!(rt; !out.as_slice()[..before].windows(6).any(|word| word == b"\nchain".as_slice()));
+    assert!(rt;
+        !out.as_slice()[..before]
+            .windows(6)
+            .any(|word| word == b"\nchain".as_slice())
+    );
     Ok(())
 }

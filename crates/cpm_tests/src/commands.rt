@@ -71,7 +71,9 @@ fn explain_takes_a_file_or_a_rule(rt: HostRuntime) -> Result<(), Fail> {
         match read_command(rt.alloc(), &["cpm", "explain", word]) {
             Err(CommandError::Usage(error)) => {
                 let text = format!(in rt.alloc(); "{error}")?;
-                let told = format!(in rt.alloc(); "there is no rule {word}: the rules are S1 to S6")?;
+                let told = format!(in rt.alloc();
+                    "there is no rule {word}: the rules are S1 to S6"
+                )?;
                 assert!(rt; text.contains(told.as_str()));
             }
             _ => panic!(rt; "no rule"),
@@ -141,12 +143,14 @@ fn replay_takes_two_files(rt: HostRuntime) {
         "cpm", "replay", "a.cp", "a.order", "--turn", "7", "--tick", "5", "--input", "in.txt",
     ];
     match read_command(rt.alloc(), words.as_slice()) {
-        Ok(Command::Replay {
-            file,
-            order,
-            replay,
-            input,
-        }) => {
+        Ok(
+            Command::Replay {
+                file,
+                order,
+                replay,
+                input,
+            },
+        ) => {
             assert!(rt; file == "a.cp" && order == "a.order" && input == Some("in.txt"));
             assert!(rt; replay.turn.steps == 7 && replay.tick.rounds == 5);
         }

@@ -7,9 +7,9 @@ use super::streams::{Narrow, Slow};
 use cp_execute::refusal::Refusal;
 use cp_explain::explain::explain_text;
 use cp_explain::graph::Form;
-use cp_page::position::Position;
 use cp_explain::rules::rule_page;
 use cp_model::rules::Rule;
+use cp_page::position::Position;
 use std::alloc::{AllocError, Global};
 use std::test::Fail;
 
@@ -235,7 +235,9 @@ fn rules_have_pages(rt: HostRuntime) {
             None => panic!(rt; "a page"),
         }
     }
-    assert!(rt; rule_page("C14").is_none() && rule_page("F10").is_none() && rule_page("").is_none());
+    assert!(rt;
+        rule_page("C14").is_none() && rule_page("F10").is_none() && rule_page("").is_none()
+    );
 }
 
 #[test]

@@ -53,6 +53,7 @@ out '7'
 const NOWHERE: usize = 1_000_000;
 
 const TURN: u32 = 2;
+
 const PROCESSES: usize = 4;
 
 fn replay_with(turn: u32) -> Result<Replay, AllocError> {
@@ -91,7 +92,10 @@ struct Chance {
 impl Chance {
     // Returns a number below `count`.
     fn below(&mut self, count: usize) -> usize {
-        self.state = self.state.wrapping_mul(1_664_525).wrapping_add(1_013_904_223);
+        self.state = self
+            .state
+            .wrapping_mul(1_664_525)
+            .wrapping_add(1_013_904_223);
         usize::try_from(self.state >> 16).unwrap_or(0) % count.max(1)
     }
 }
@@ -206,7 +210,11 @@ fn orders_are_replayed_or_refused(rt: HostRuntime) -> Result<(), Fail> {
         (b"P01", Err(Refusal::Order { at: 0 }), b""),
         (b"K1\r\n", Err(Refusal::Order { at: 0 }), b""),
         (b"K1\n\n \n", Err(Refusal::Order { at: 4 }), b""),
-        (b"P99999999999999999999999", Err(Refusal::Order { at: 0 }), b""),
+        (
+            b"P99999999999999999999999",
+            Err(Refusal::Order { at: 0 }),
+            b"",
+        ),
     ];
     for (order, wanted, report) in cases {
         let (answer, out) = replay(rt.alloc(), SEVEN, order, 10)?;
@@ -238,7 +246,10 @@ fn slow(text: &[u8], fails_at: usize) -> Slow<'_> {
     }
 }
 
-fn replay_slowly(alloc: Global, fails: Fails) -> Result<(Result<(), Refusal>, Vec<u8>), AllocError> {
+fn replay_slowly(
+    alloc: Global,
+    fails: Fails,
+) -> Result<(Result<(), Refusal>, Vec<u8>), AllocError> {
     let replay = replay_with(10)?;
     let mut text = slow(SEVEN, fails.text);
     let mut order = slow(b"K1\nP2 P1 P1", fails.order);

@@ -1,7 +1,7 @@
 //! The names that are visible everywhere: what each stands for, and what it means.
 
-use std::alloc::AllocError;
 use cp_page::page::Page;
+use std::alloc::AllocError;
 
 /// A type that no text declares.
 #[derive(Clone, Copy, Debug, PartialEq, Eq)]

@@ -4,8 +4,8 @@
 //! declaration counts.
 
 use cp_model::tree::{
-    Constant, ConstantDefinition, Defined, Fields, Identifier, Parameters, Routine, Section, Sort, System,
-    Tree, TypeDefinition, TypeExpression,
+    Constant, ConstantDefinition, Defined, Fields, Identifier, Parameters, Routine, Section, Sort,
+    System, Tree, TypeDefinition, TypeExpression,
 };
 
 /// What a name is declared as.

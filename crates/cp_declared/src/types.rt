@@ -38,10 +38,9 @@ impl<'t> Type<'t> {
     pub fn name(self) -> Option<&'t [u8]> {
         match self {
             Type::Standard(of) => Some(of.name()),
-            Type::Enumeration(x) | Type::Structured(Some(x), _) | Type::System(x, _) => {
-                Some(x.name.as_bytes())
-            }
-            Type::Structured(None, _) => None,
+            Type::Enumeration(x) => Some(x.name.as_bytes()),
+            Type::Structured(x, _) => Some(x?.name.as_bytes()),
+            Type::System(x, _) => Some(x.name.as_bytes()),
         }
     }
 
@@ -164,7 +163,9 @@ impl<'t> Scope<'t> {
                 Type::Structured(
                     _,
                     TypeExpression::Array {
-                        indices, element, ..
+                        indices,
+                        element,
+                        ..
                     },
                 ),
                 Selector::Indexed(list),
@@ -193,7 +194,8 @@ impl<'t> Scope<'t> {
             Expression::Number { .. } | Expression::Signed { .. } => Some(INTEGER),
             Expression::Character { .. } => Some(CHARACTER),
             Expression::Not { .. } => Some(BOOLEAN),
-            Expression::Designated(d) | Expression::Call(d, _) => self.type_of_designator(d),
+            Expression::Designated(d) => self.type_of_designator(d),
+            Expression::Call(d, _) => self.type_of_designator(d),
             Expression::Chain { rest, .. } => Some(type_of_operation(rest.last()?.operator)),
             Expression::Parenthesized { .. } => None,
         }
