@@ -60,7 +60,7 @@ impl<'t> Nearest<'t> {
         Ok(())
     }
 
-    /// Offers each of these names that stands before a place.
+    /// Offers each of these names. Fails only if memory runs out.
     pub fn offer_names(
         &mut self,
         alloc: Global,
@@ -72,7 +72,7 @@ impl<'t> Nearest<'t> {
         Ok(())
     }
 
-    /// Offers the names that these groups declare.
+    /// Offers the names that these groups declare. Fails only if memory runs out.
     pub fn offer_groups(&mut self, alloc: Global, groups: &'t [Fields]) -> Result<(), AllocError> {
         for group in groups {
             self.offer_names(alloc, &group.names)?;

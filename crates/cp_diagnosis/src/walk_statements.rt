@@ -72,7 +72,8 @@ impl<'t> Finder<'t> {
             }
             Statement::Case { selector, arms } => {
                 self.expression_for(selector, Purpose::Selector);
-                self.arms(selector, arms);
+                self.selected(selector, arms);
+                self.arms(arms);
             }
             Statement::While { condition, body } => {
                 self.expression_for(condition, Purpose::Condition);
@@ -87,17 +88,29 @@ impl<'t> Finder<'t> {
     }
 
     #[cycle(statements)]
-    fn arms(&mut self, selector: &'t Expression, arms: &'t [Arm]) {
+    fn arms(&mut self, arms: &'t [Arm]) {
         for arm in arms {
-            self.labels(selector, &arm.labels);
+            self.labels(&arm.labels);
             self.statement(&arm.body);
         }
     }
 
-    fn labels(&mut self, selector: &'t Expression, labels: &'t [Constant]) {
+    fn labels(&mut self, labels: &'t [Constant]) {
+        for label in labels {
+            self.constant(label, Mark::Label);
+        }
+    }
+
+    // Records by what the labels of a `case` are selected.
+    fn selected(&mut self, selector: &'t Expression, arms: &'t [Arm]) {
+        for arm in arms {
+            self.selected_labels(selector, &arm.labels);
+        }
+    }
+
+    fn selected_labels(&mut self, selector: &'t Expression, labels: &'t [Constant]) {
         for label in labels {
             self.pair(constant_place(label), Pair::Label(selector, label));
-            self.constant(label, Mark::Label);
         }
     }
 

@@ -4,6 +4,8 @@
 #[cfg(test)]
 mod excerpts;
 #[cfg(test)]
+mod graphs;
+#[cfg(test)]
 mod names;
 #[cfg(test)]
 mod rules;
