@@ -15,3 +15,5 @@ mod slips;
 mod spellings;
 #[cfg(test)]
 mod telling;
+#[cfg(test)]
+mod words;

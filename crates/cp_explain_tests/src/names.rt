@@ -1,6 +1,6 @@
 //! Types, numbers of arguments, and names.
 
-use super::telling::{Row, has_line, told};
+use super::telling::{Row, is_told};
 use std::test::Fail;
 
 const TYPES: [Row; 15] = [
@@ -197,16 +197,10 @@ const NAMES: [Row; 16] = [
     },
 ];
 
-// Whether a row is told as it should be.
-fn is_told(rt: &HostRuntime, row: Row) -> Result<bool, Fail> {
-    let (out, first) = told(rt.alloc(), row)?;
-    Ok(out.as_slice().starts_with(first.as_bytes()) && has_line(&out, row.line.as_bytes()))
-}
-
 #[test]
 fn types_that_differ_are_named(rt: HostRuntime) -> Result<(), Fail> {
     for row in TYPES.as_slice() {
-        assert!(rt; is_told(&rt, *row)?);
+        assert!(rt; is_told(rt.alloc(), *row)?);
     }
     Ok(())
 }
@@ -214,7 +208,7 @@ fn types_that_differ_are_named(rt: HostRuntime) -> Result<(), Fail> {
 #[test]
 fn numbers_of_arguments_are_told(rt: HostRuntime) -> Result<(), Fail> {
     for row in NUMBERS.as_slice() {
-        assert!(rt; is_told(&rt, *row)?);
+        assert!(rt; is_told(rt.alloc(), *row)?);
     }
     Ok(())
 }
@@ -222,7 +216,7 @@ fn numbers_of_arguments_are_told(rt: HostRuntime) -> Result<(), Fail> {
 #[test]
 fn names_that_are_not_declared_are_explained(rt: HostRuntime) -> Result<(), Fail> {
     for row in NAMES.as_slice() {
-        assert!(rt; is_told(&rt, *row)?);
+        assert!(rt; is_told(rt.alloc(), *row)?);
     }
     Ok(())
 }

@@ -34,8 +34,8 @@ pub fn has_line(text: &[u8], line: &[u8]) -> bool {
     false
 }
 
-/// What is told of the text of a row, and the first line that is due.
-pub fn told(alloc: Global, row: Row) -> Result<(Vec<u8>, String), AllocError> {
+/// Whether a row is told as it should be.
+pub fn is_told(alloc: Global, row: Row) -> Result<bool, AllocError> {
     let mut text = Vec::new(alloc);
     let mut at: usize = 0;
     for byte in row.text.as_bytes() {
@@ -46,5 +46,6 @@ pub fn told(alloc: Global, row: Row) -> Result<(Vec<u8>, String), AllocError> {
     }
     let (column, head) = (at.saturating_add(1), row.head);
     let first = format!(in alloc; "t:1:{column}: {head}\n")?;
-    Ok((explanation(alloc, &text), first))
+    let out = explanation(alloc, &text);
+    Ok(out.as_slice().starts_with(first.as_bytes()) && has_line(&out, row.line.as_bytes()))
 }

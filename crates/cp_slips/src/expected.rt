@@ -19,7 +19,7 @@ pub enum Candidate {
 }
 
 // The candidates, and what each is called, the likely ones first.
-const CANDIDATES: [(Candidate, &str); 53] = [
+const CANDIDATES: [(Candidate, &str); 54] = [
     (Candidate::Symbol(Symbol::Semicolon), "`;`"),
     (Candidate::Symbol(Symbol::End), "`end`"),
     (Candidate::Symbol(Symbol::CloseParenthesis), "`)`"),
@@ -38,6 +38,7 @@ const CANDIDATES: [(Candidate, &str); 53] = [
     (Candidate::Symbol(Symbol::Begin), "`begin`"),
     (Candidate::Symbol(Symbol::Comma), "`,`"),
     (Candidate::Symbol(Symbol::Dot), "`.`"),
+    (Candidate::Symbol(Symbol::DotDot), "`..`"),
     (Candidate::Symbol(Symbol::OpenParenthesis), "`(`"),
     (Candidate::Symbol(Symbol::OpenBracket), "`[`"),
     (Candidate::Symbol(Symbol::Equal), "`=`"),

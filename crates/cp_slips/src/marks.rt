@@ -59,6 +59,8 @@ fn equal(front: &Front<'_>, expected: &Expected) -> Option<Message> {
 fn assign(front: &Front<'_>, expected: &Expected) -> Option<Message> {
     if expected.is_only(Symbol::Equal) {
         Some(m::DEFINITION)
+    } else if front.follows(Symbol::CloseParenthesis) && expected.has(Symbol::Semicolon) {
+        Some(m::BRACKETS)
     } else if front.follows_sooner(Symbol::Assign, &AROUND_STATEMENTS) {
         Some(m::ONE_ASSIGNMENT)
     } else if expected.has(Symbol::CloseBracket) {
@@ -90,6 +92,8 @@ fn sign(front: &Front<'_>, expected: &Expected) -> Option<Message> {
         || is_symbol(front.after(1), Symbol::Minus);
     if is_name(front.before(1)) && (doubled || front.is_next(Symbol::Equal)) {
         Some(m::INCREMENT)
+    } else if front.is_here(Symbol::Minus) && front.is_next(Symbol::Greater) {
+        Some(m::ARROW)
     } else if expected.has_value() {
         Some(m::SIGN)
     } else {
@@ -97,11 +101,40 @@ fn sign(front: &Front<'_>, expected: &Expected) -> Option<Message> {
     }
 }
 
-fn close(front: &Front<'_>) -> Option<Message> {
+fn close(front: &Front<'_>, expected: &Expected) -> Option<Message> {
     if front.follows(Symbol::OpenParenthesis) {
         Some(m::NO_ARGUMENTS)
     } else if front.follows(Symbol::Semicolon) {
         Some(m::LAST_SEMICOLON)
+    } else if expected.has(Symbol::Colon) {
+        Some(m::PARAMETER_TYPE)
+    } else {
+        None
+    }
+}
+
+fn open(front: &Front<'_>) -> Option<Message> {
+    if front.follows(Symbol::Init) {
+        Some(m::INIT_LIST)
+    } else {
+        None
+    }
+}
+
+// A `,` between values of an enumeration, groups of parameters, or definitions.
+fn comma(front: &Front<'_>, expected: &Expected) -> Option<Message> {
+    if is_symbol(front.before(2), Symbol::Equal) && is_name(front.before(1)) {
+        Some(m::ENUMERATION)
+    } else if expected.has(Symbol::Semicolon) {
+        Some(m::SEPARATOR)
+    } else {
+        None
+    }
+}
+
+fn close_index(expected: &Expected) -> Option<Message> {
+    if expected.is_only(Symbol::DotDot) {
+        Some(m::INDEX_RANGE)
     } else {
         None
     }
@@ -116,9 +149,11 @@ fn index(front: &Front<'_>) -> Option<Message> {
     }
 }
 
-fn dot(front: &Front<'_>) -> Option<Message> {
+fn dot(front: &Front<'_>, expected: &Expected) -> Option<Message> {
     if is_number(front.before(1)) && is_number(front.after(1)) {
         Some(m::REAL)
+    } else if front.follows(Symbol::End) && expected.is_only(Symbol::Semicolon) {
+        Some(m::INNER_DOT)
     } else {
         None
     }
@@ -138,9 +173,12 @@ pub fn habit_of_mark(front: &Front<'_>, expected: &Expected, symbol: Symbol) -> 
         Symbol::Assign => assign(front, expected),
         Symbol::Equal => equal(front, expected),
         Symbol::Plus | Symbol::Minus => sign(front, expected),
-        Symbol::CloseParenthesis => close(front),
+        Symbol::OpenParenthesis => open(front),
+        Symbol::CloseParenthesis => close(front, expected),
         Symbol::OpenBracket => index(front),
-        Symbol::Dot => dot(front),
+        Symbol::CloseBracket => close_index(expected),
+        Symbol::Comma => comma(front, expected),
+        Symbol::Dot => dot(front, expected),
         Symbol::Semicolon => semicolon(expected),
         Symbol::Ampersand if front.follows(Symbol::Ampersand) => Some(m::DOUBLE_AMPERSAND),
         _ if is_relation(front.after(0)) => relation(front, expected),

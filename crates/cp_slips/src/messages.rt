@@ -141,6 +141,46 @@ pub const RESULT: Message = Message {
     advice: "A function's result is what was assigned to its name last: `f := n + 1`.",
 };
 
+pub const BRACKETS: Message = Message {
+    head: "an element of an array is written with `[` and `]`",
+    advice: "Write `a[1] := 3`. Parentheses hold the arguments of a call.",
+};
+
+pub const ARROW: Message = Message {
+    head: "a part is named after a `.`",
+    advice: "Write `a.e` for the entry routine `e` of `a`, or the field `e` of a record.",
+};
+
+pub const PARAMETER_TYPE: Message = Message {
+    head: "a parameter is declared with `:` and its type",
+    advice: "Write `procedure p(a, b: integer; c: char)`.",
+};
+
+pub const INIT_LIST: Message = Message {
+    head: "`init` has no parentheses of its own",
+    advice: "Write `init a, b(a)`: the names of components, each followed by its arguments.",
+};
+
+pub const ENUMERATION: Message = Message {
+    head: "the values of an enumeration stand in parentheses",
+    advice: "Write `type color = (red, green)`.",
+};
+
+pub const SEPARATOR: Message = Message {
+    head: "a `;` stands here",
+    advice: "Definitions, declarations, groups of parameters and statements are separated by `;`; names, arguments and indices by `,`.",
+};
+
+pub const INDEX_RANGE: Message = Message {
+    head: "an index type has two bounds",
+    advice: "Write `array [1..10] of integer`, or name a subrange or an enumeration.",
+};
+
+pub const INNER_DOT: Message = Message {
+    head: "only the last `end` of a text is followed by `.`",
+    advice: "A routine and a component end with `end;`.",
+};
+
 // ---- Y1: words
 
 pub const AND: Message = Message {
@@ -180,7 +220,7 @@ pub const LATE_DEFINITION: Message = Message {
 
 pub const INNER_VARIABLE: Message = Message {
     head: "variables are declared before `begin`",
-    advice: "Move the `var` before the `begin` of this body.",
+    advice: "Move the `var` before the `begin` of this body. If the body should have ended before it, an `end` is missing.",
 };
 
 pub const SECOND_VAR: Message = Message {
@@ -196,6 +236,11 @@ pub const LATE_VARIABLE: Message = Message {
 pub const TYPE_FIRST: Message = Message {
     head: "a variable is declared by `var`, before `begin`",
     advice: "Write `var x: integer;` before the `begin` of the body.",
+};
+
+pub const CYCLE: Message = Message {
+    head: "an endless loop is written `cycle`",
+    advice: "Write `cycle s; t end`. `while`, `repeat` and `for` repeat under a condition.",
 };
 
 pub const NO_BODY: Message = Message {

@@ -137,6 +137,8 @@ pub fn habit_of_name(front: &Front<'_>, expected: &Expected) -> Option<Message> 
         Some(m::AND)
     } else if expected.has(Symbol::Assign) && declares(letters(front.before(1))) {
         Some(m::TYPE_FIRST)
+    } else if expected.has(Symbol::Assign) && letters(front.before(1)) == b"loop".as_slice() {
+        Some(m::CYCLE)
     } else if expected.has(Symbol::Procedure)
         && is_symbol(front.after(1), Symbol::Equal)
         && front.is_in_component()

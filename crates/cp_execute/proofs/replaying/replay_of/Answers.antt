@@ -34,8 +34,8 @@ replay_rounds-requires-clause-within c =
     let count = stands.process_rows ∙ sym (process_count_is machine setup (start setup) I) in
     subst (λ n. AllWithin n (rounds_of c.args.orders.now)) count c.requires.within
 
-pub returns-clause : goal.returns-clause
-returns-clause c =
+pub returns : goal.returns
+returns c =
     let how = c.args.replay.now in
     let input = c.args.input.now in
     let setup = setup_of (view.tree c.args.tree.now) input how.tick.rounds in
