@@ -1,36 +1,21 @@
 #!/usr/bin/env python3
-"""Tests the built program cpm from outside: the examples, its exits, and each allocation, thread
-start, read and write refused in turn.
+"""Tests the built program cpm from outside: the examples, its exits, each call refused in turn, and files that are made to hurt.
 
-Build the program first (`rt run < stdin` in crates/cpm leaves out/cpm), then call this script. It needs a C compiler (`cc`).
-It prints what is wrong and how much was tried, and ends with status 0 if nothing was wrong.
+`rt ci`, and `rt run < stdin` in crates/cpm, leave the program as crates/cpm/out/cpm; CPM names another. It needs a C compiler (`cc`).
+It prints what is wrong and how much was tried, with --quiet only what is wrong, and ends with status 0 if nothing was wrong.
 """
 import json
-import os
 import pathlib
 import re
 import subprocess
 import sys
 import tempfile
 
-ROOT = pathlib.Path(__file__).resolve().parent.parent
-PROGRAM = pathlib.Path(os.environ.get('CPM', ROOT / 'crates' / 'cpm' / 'out' / 'cpm'))
-EXAMPLES = ROOT / 'docs' / 'examples'
-REFUSING = ROOT / 'trials' / 'refusing.c'
+from hurting import try_to_hurt
+from refusals import refuse_in_turn
+from running import EXAMPLES, ROOT, expect, expect_at_least, run, wrong
 
-wrong = []
-
-
-def run(words, environment=None, folder=EXAMPLES):
-    """The exit status, standard output and standard error of cpm with these arguments."""
-    ended = subprocess.run([PROGRAM, *words], capture_output=True, stdin=subprocess.DEVNULL, cwd=folder, timeout=60,
-                           env={**os.environ, **(environment or {})})
-    return ended.returncode, ended.stdout, ended.stderr
-
-
-def expect(what, found, wanted):
-    if found != wanted:
-        wrong.append(f'{what}: {found} instead of {wanted}')
+RESUMED = 'monitors/the_resumed_process_goes_ahead_of_askers 1'
 
 
 def try_examples():
@@ -103,13 +88,17 @@ def words_of(case, text, given, order):
     return [*words, '--chains'] if case['chains'] else words
 
 
-def try_worked():
+def worked():
+    """The worked texts with their answers."""
+    return json.loads(subprocess.run([sys.executable, ROOT / 'worked' / 'make_rows.py', '--list'], capture_output=True, check=True).stdout)
+
+
+def try_worked(cases):
     """Compares the program with the answer of each worked text for which it has a command."""
-    listed = subprocess.run([sys.executable, ROOT / 'worked' / 'make_rows.py', '--list'], capture_output=True, check=True).stdout
     count = 0
     with tempfile.TemporaryDirectory() as folder:
         text, given, order = (pathlib.Path(folder) / name for name in ('text.cp', 'input', 'order'))
-        for case in json.loads(listed):
+        for case in cases:
             text.write_bytes(case['text'].encode('latin-1'))
             words = words_of(case, text, given, order)
             if words:
@@ -146,84 +135,21 @@ def try_exits():
     expect('standard input', run(['check', '-']), (1, b'', b'refused Y2 at 0\n'))
 
 
-def try_each(preloaded, name, count, words, right):
-    """Refuses each of `count` calls in turn."""
-    for n in range(1, count + 1):
-        found = run(words, {**preloaded, name: str(n)})
-        if not right(found):
-            wrong.append(f'{name} {n}: {found}')
-
-
-def is_refused_or(due):
-    """Whether a run is refused memory, or has this report: a collection that can't reserve the room it foresees takes less."""
-    return lambda found: found in [(3, b'', b'fault M\n'), (0, due, b'')]
-
-
-def count_calls(library, words, short):
-    """The output of a run, and its counts of allocations, thread starts, reads and writes."""
-    _, due, _ = run(words)
-    calls = library.with_name('calls')
-    expect('a run that is counted', run(words, {'LD_PRELOAD': str(library), 'CALLS': str(calls), **short}), (0, due, b''))
-    return due, map(int, calls.read_text().split())
-
-
-def try_explained(library, words, due):
-    """Refuses each allocation, read and write of an explanation, which ends with status 1. Returns how many there are of each."""
-    short = {'SHORT_WRITES': '1'}
-    preloaded, calls = {'LD_PRELOAD': str(library), **short}, library.with_name('calls')
-    expect('an explanation that is counted', run(words, {**preloaded, 'CALLS': str(calls)}), (1, due, b''))
-    memory, _, reads, writes = map(int, calls.read_text().split())
-    try_each(preloaded, 'REFUSE_ALLOCATION', memory, words, lambda found: found in [(3, b'', b'fault M\n'), (1, due, b'')])
-    try_each(preloaded, 'REFUSE_READ', reads, words, lambda found: (found[0], found[1]) == (4, b''))
-    try_each(preloaded, 'REFUSE_WRITE', writes, words,
-             lambda found: found[0] == 4 and len(found[1]) < len(due) and due.startswith(found[1]) and found[2] == b'fault I2\n')
-    return memory, reads, writes
-
-
-def try_refusals(library, words):
-    """Refuses each allocation, read and write of a run or a replay. Each write takes only one byte, so that there are many. Returns how many there are of each."""
-    short = {'SHORT_WRITES': '1'}
-    preloaded = {'LD_PRELOAD': str(library), **short}
-    due, (memory, _, reads, writes) = count_calls(library, words, short)
-    try_each(preloaded, 'REFUSE_ALLOCATION', memory, words, is_refused_or(due))
-    try_each(preloaded, 'REFUSE_READ', reads, words, lambda found: found == (4, b'', b'fault I1\n'))
-    try_each(preloaded, 'REFUSE_WRITE', writes, words,
-             lambda found: found[0] == 4 and len(found[1]) < len(due) and due.startswith(found[1]) and found[2] == b'fault I2\n')
-    return memory, reads, writes
-
-
-def try_threads(library, words):
-    """Refuses each allocation and each thread start of a run by several workers. Returns how many there are of each."""
-    preloaded = {'LD_PRELOAD': str(library)}
-    due, (memory, threads, _, _) = count_calls(library, words, {})
-    expect('threads are started', threads > 0, True)
-    try_each(preloaded, 'REFUSE_ALLOCATION', memory, words, is_refused_or(due))
-    try_each(preloaded, 'REFUSE_THREAD', threads, words, lambda found: found == (3, b'', b'fault M\n'))
-    return memory, threads
-
-
 def main():
-    examples, orders, rules, explained, worked = try_examples(), try_orders(), try_rules(), try_explanations(), try_worked()
+    cases = worked()
+    examples, orders, rules, explained, answers = try_examples(), try_orders(), try_rules(), try_explanations(), try_worked(cases)
     faults = try_faults()
+    for what, count, least in [('examples', examples, 11), ('orders', orders, 3), ('refused texts', rules, 21),
+                               ('explanations', explained, 20), ('faults', faults, 9), ('worked texts', answers, 500)]:
+        expect_at_least(what, count, least)
     try_exits()
-    with tempfile.TemporaryDirectory() as folder:
-        library = pathlib.Path(folder) / 'refusing.so'
-        subprocess.run(['cc', '-shared', '-fPIC', '-O1', '-o', library, REFUSING], check=True)
-        words = ['run', 'buffer.cp', '--rounds', '6', '--input', 'seven.cp']
-        memory, reads, writes = try_refusals(library, words)
-        replayed = try_refusals(library, ['replay', 'writers.cp', 'writers.mixed.order', '--turn', '4', '--input', 'seven.cp'])
-        due = (EXAMPLES / 'rules' / 'c4_recursion.explanation').read_bytes().replace(b'c4_recursion', b'rules/c4_recursion', 1)
-        told = try_explained(library, ['explain', 'rules/c4_recursion.cp'], due)
-        words = ['run', 'squarers.cp', '--rounds', '5', '--turn', '4', '--workers', '4']
-        waves = [try_threads(library, [*words, '--wave', wave]) for wave in ['1', '2', '255']]
-        shared, threads = map(sum, zip(*waves))
+    refused = refuse_in_turn(next(case['text'] for case in cases if case['name'] == RESUMED))
+    hurt = try_to_hurt()
     for line in wrong:
         print(line)
-    print(f'{examples} examples, {orders} orders, {rules} refused texts, {explained} explanations, {faults} faults, {worked} worked texts; '
-          f'of an explanation {told[0]} allocations, {told[1]} reads and {told[2]} writes refused in turn; of a run '
-          f'{memory} allocations, {reads} reads and {writes} writes refused in turn; of a replay {replayed[0]} allocations, '
-          f'{replayed[1]} reads and {replayed[2]} writes; '
-          f'with 4 workers {shared} allocations and {threads} thread starts; {len(wrong)} wrong')
+    if wrong or '--quiet' not in sys.argv:
+        print(f'{examples} examples, {orders} orders, {rules} refused texts, {explained} explanations, {faults} faults, {answers} worked texts; '
+              f'refused in turn: {refused}; {hurt} runs on what is made to hurt; {len(wrong)} wrong')
     return 1 if wrong else 0
 
 

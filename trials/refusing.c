@@ -1,9 +1,10 @@
-/* Loaded before the C library: refuses one allocation, one start of a thread, one read or one write of a program, or lets each
- * write take one byte.
+/* Loaded before the C library: refuses calls of one kind, or lets each read and write move one byte.
  *
- * REFUSE_ALLOCATION=N, REFUSE_THREAD=N, REFUSE_READ=N, REFUSE_WRITE=N: the Nth such call fails, counted from 1 over all threads;
- * reads and writes of files 0, 1 and 3 upwards count, those of standard error don't. SHORT_WRITES=1: each write takes one byte.
- * CALLS=FILE: at the end the counts of allocations, thread starts, reads and writes are written to the file.
+ * REFUSE_ALLOCATION=N, REFUSE_THREAD=N, REFUSE_READ=N, REFUSE_WRITE=N: the Nth such call fails, counted from 1 over all threads,
+ * and with FROM_THEN_ON=1 each later one too. Reads and writes of files 0, 1 and 3 upwards count, those of standard error don't.
+ * ONE_BYTE=1: each read and write moves one byte.
+ * CALLS=FILE: at the end the counts of allocations, thread starts, reads and writes are written to the file, and then how many calls
+ * were refused, how many of these on a thread that isn't the first, and how many allocations were made on such threads.
  */
 #define _GNU_SOURCE
 #include <dlfcn.h>
@@ -20,7 +21,7 @@ void *__libc_calloc(size_t count, size_t size);
 void *__libc_realloc(void *old, size_t size);
 void *__libc_memalign(size_t alignment, size_t size);
 
-static _Atomic long allocations, threads, reads, writes;
+static _Atomic long allocations, threads, reads, writes, refused, refused_beside, allocations_beside;
 
 static long wanted(const char *name)
 {
@@ -28,9 +29,25 @@ static long wanted(const char *name)
     return value ? strtol(value, 0, 10) : 0;
 }
 
+static int is_beside(void) { return gettid() != getpid(); }
+
+/* Whether the call with this number is refused. */
+static int is_refused(const char *name, long number)
+{
+    long first = wanted(name);
+    if (!first || number < first || (number > first && !wanted("FROM_THEN_ON")))
+        return 0;
+    ++refused;
+    if (is_beside())
+        ++refused_beside;
+    return 1;
+}
+
 static int refused_allocation(void)
 {
-    if (++allocations != wanted("REFUSE_ALLOCATION"))
+    if (is_beside())
+        ++allocations_beside;
+    if (!is_refused("REFUSE_ALLOCATION", ++allocations))
         return 0;
     errno = ENOMEM;
     return 1;
@@ -58,37 +75,40 @@ int posix_memalign(void **out, size_t alignment, size_t size)
 int pthread_create(pthread_t *thread, const pthread_attr_t *attributes, void *(*start)(void *), void *argument)
 {
     int (*create)(pthread_t *, const pthread_attr_t *, void *(*)(void *), void *) = dlsym(RTLD_NEXT, "pthread_create");
-    return ++threads == wanted("REFUSE_THREAD") ? EAGAIN : create(thread, attributes, start, argument);
+    return is_refused("REFUSE_THREAD", ++threads) ? EAGAIN : create(thread, attributes, start, argument);
 }
+
+static size_t moved(size_t size) { return wanted("ONE_BYTE") && size > 1 ? 1 : size; }
 
 ssize_t read(int file, void *buffer, size_t size)
 {
-    if (++reads == wanted("REFUSE_READ")) {
+    if (is_refused("REFUSE_READ", ++reads)) {
         errno = EIO;
         return -1;
     }
-    return syscall(SYS_read, file, buffer, size);
+    return syscall(SYS_read, file, buffer, moved(size));
 }
 
 ssize_t write(int file, const void *buffer, size_t size)
 {
     if (file == 2)
         return syscall(SYS_write, file, buffer, size);
-    if (++writes == wanted("REFUSE_WRITE")) {
+    if (is_refused("REFUSE_WRITE", ++writes)) {
         errno = EIO;
         return -1;
     }
-    return syscall(SYS_write, file, buffer, wanted("SHORT_WRITES") && size > 1 ? 1 : size);
+    return syscall(SYS_write, file, buffer, moved(size));
 }
 
 static void write_counts(void)
 {
     const char *name = getenv("CALLS");
-    char line[80];
+    char line[160];
     int file, length;
     if (!name)
         return;
-    length = snprintf(line, sizeof line, "%ld %ld %ld %ld\n", allocations, threads, reads, writes);
+    length = snprintf(line, sizeof line, "%ld %ld %ld %ld %ld %ld %ld\n", allocations, threads, reads, writes, refused, refused_beside,
+                      allocations_beside);
     file = open(name, O_WRONLY | O_CREAT | O_TRUNC, 0600);
     syscall(SYS_write, file, line, (size_t)length);
     close(file);

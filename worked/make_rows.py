@@ -10,6 +10,7 @@ Each folder is a module of statements, each file a text with its answers:
     == replay --order STRING [..]  strings are written as in Python
     == consumed --rounds N [..]    how much of its input each process has taken; no report shows it, and cpm has no such command
     the answer, up to the next line that begins with ==
+    == run --rounds N of FILE      the answer is what stands in the file; so for each command
 
 Lines before the first == say what the text shows. `make_rows.py` writes crates/cp_rows/specs, proofs and src/rows.rt; for the texts
 that COMPILED names, the statement that their compiled programs behave as the meaning does, in specs/Runs.antt and proofs of
@@ -43,8 +44,11 @@ def cases_of(path):
             text = body[:-1]
         elif head.startswith('text of '):
             text = eval(head[len('text of '):])
-        else:
+        elif body:
             cases.append((text, head, body))
+        else:
+            head, _, answer = head.rpartition(' of ')
+            cases.append((text, head, (HERE.parent / answer).read_text()))
     return cases
 
 

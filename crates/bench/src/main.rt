@@ -9,9 +9,9 @@ mod turning;
 
 use compiling::compile_often;
 use scanning::scan_often;
-use turning::turn_often;
 use std::env;
 use std::io::{self, Read};
+use turning::turn_often;
 
 // How many times to do the work.
 fn times(words: &[String]) -> u32 {
@@ -35,8 +35,8 @@ fn main(rt: HostRuntime) -> io::Result<()> {
     let times = times(&words);
     match part(&words) {
         "compile" => compile_often(&rt, &text, times),
-        "run" => turn_often(&rt, &text, times, false),
-        "replay" => turn_often(&rt, &text, times, true),
+        "run" => turn_often(&rt, rt.alloc(), &text, times, false),
+        "replay" => turn_often(&rt, rt.alloc(), &text, times, true),
         _ => scan_often(&rt, &text, times),
     }
 }

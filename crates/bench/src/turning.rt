@@ -1,5 +1,7 @@
 //! Runs or replays a text, over and over.
 
+ghost use Rattle.std.specs.Prelude.{◌≡◌, IfSome};
+
 use cp_check::checking::check;
 use cp_orders::event::Event;
 use cp_private::turn::Turn;
@@ -11,15 +13,21 @@ use cp_scan::scan;
 use cp_syntax::parse;
 use std::alloc::{AllocError, Global};
 use std::io;
+use std::sync::Wait;
+use std::thread::Threads;
 
 // A replayed round has this many private steps of the initial process, and a run as many in this
 // many turns.
 const EVENTS: usize = 100_000;
+
 const TURNS: u32 = 10;
+
 const STEPS: u32 = 10_000;
 
 // The machine of an accepted text, at its start and without input.
-fn machine_of(alloc: Global, text: &[u8]) -> Option<Machine> {
+fn machine_of(alloc: Global, text: &[u8]) -> Option<Machine>
+    ensures { IfSome result (λ machine. machine.rounds ≡ 0) }
+{
     let tokens = scan(alloc, text).ok()?;
     let tree = parse(alloc, &tokens, text.len()).ok()?;
     let program = check(alloc, &tree).ok()?;
@@ -27,10 +35,18 @@ fn machine_of(alloc: Global, text: &[u8]) -> Option<Machine> {
     for _p in 0..program.processes() {
         inputs.push(Vec::new(alloc)).ok()?;
     }
+    if inputs.len() != program.processes() {
+        return None;
+    }
     Machine::new(alloc, program, inputs, Tick::new(1).ok()?).ok()
 }
 
-fn replay(alloc: Global, machine: &mut Machine, times: u32) -> Result<(), AllocError> {
+fn replay(alloc: Global, machine: &mut Machine, times: u32) -> Result<(), AllocError>
+    requires first { machine.old.rounds ≡ 0 }
+{
+    if machine.processes() == 0 {
+        return Err(AllocError);
+    }
     let turn = Turn::new(STEPS).or(Err(AllocError))?;
     let events = Vec::from_elem(alloc, Event::P(1), EVENTS)?;
     for _round in 0..times {
@@ -39,7 +55,13 @@ fn replay(alloc: Global, machine: &mut Machine, times: u32) -> Result<(), AllocE
     Ok(())
 }
 
-fn run(rt: &HostRuntime, machine: &mut Machine, times: u32) -> Result<(), AllocError> {
+fn run<H: Threads + Wait + Sync>(
+    rt: &H,
+    machine: &mut Machine,
+    times: u32,
+) -> Result<(), AllocError>
+    requires first { machine.old.rounds ≡ 0 }
+{
     let plan = Plan::new(STEPS, 1, 1, 255).or(Err(AllocError))?;
     machine
         .run(rt, times.saturating_mul(TURNS), &plan, &Open)
@@ -48,12 +70,18 @@ fn run(rt: &HostRuntime, machine: &mut Machine, times: u32) -> Result<(), AllocE
 
 /// Makes `times` rounds of many private steps of the initial process, as replays or as runs of as
 /// many steps on one thread, and prints the number of rounds.
-pub fn turn_often(rt: &HostRuntime, text: &[u8], times: u32, replays: bool) -> io::Result<()> {
-    let Some(mut machine) = machine_of(rt.alloc(), text) else {
+pub fn turn_often<H: Print + Threads + Wait + Sync>(
+    rt: &H,
+    alloc: Global,
+    text: &[u8],
+    times: u32,
+    replays: bool,
+) -> io::Result<()> {
+    let Some(mut machine) = machine_of(alloc, text) else {
         return println!(rt; "no machine");
     };
     let made = if replays {
-        replay(rt.alloc(), &mut machine, times)
+        replay(alloc, &mut machine, times)
     } else {
         run(rt, &mut machine, times)
     };

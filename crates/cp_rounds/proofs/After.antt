@@ -8,7 +8,7 @@ use Rattle.cp_rounds.specs.declared.machine.Machine.{Machine}
 use Rattle.cp_rounds.proofs.Rounds.{rounds_after}
 
 pub after_none : (t : ℕ) (a : Machine) → IsAfter t 0 a a
-after_none t a = record { made = refl; processes = refl; rounds = Prim.omega arith }
+after_none t a = record { made = refl; processes = refl; rounds = Prim.omega arith; setting = refl }
 
 -- First m rounds, and then n more.
 pub after_more : (t m n : ℕ) (a b c : Machine) → IsAfter t m a b → IsAfter t n b c → IsAfter t (m + n) a c
@@ -17,4 +17,5 @@ after_more t m n a b c first then = record {
       ∙ ((λ i. phased_rounds t (numbers_from 1 (first.processes i)) n (first.made i)) ∙ sym (rounds_after t m n (numbers_from 1 (processes_of a)) (machine_of a)));
   processes = then.processes ∙ first.processes;
   rounds = let x = first.rounds in let y = then.rounds in Prim.omega (arith, x, y);
+  setting = then.setting ∙ first.setting;
 }

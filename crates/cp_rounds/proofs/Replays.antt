@@ -1,7 +1,7 @@
 -- The events of a round, as the code makes them, are those of the machine as plain data.
-use Rattle.std.specs.Prelude.{◌≡◌, ◌≤◌, ◌<◌, refl, ℕ, zero, suc, ◌+◌, ◌-◌, ◌/◌, ◌%◌, ◌++◌, Bool, true, false, List, [], ◌∷◌, length, map, nat_eq, Some, slice_get, slice_set}
+use Rattle.std.specs.Prelude.{◌≡◌, ◌≤◌, ◌<◌, refl, ℕ, zero, suc, ◌+◌, ◌-◌, ◌%◌, ◌++◌, Bool, true, false, List, [], ◌∷◌, length, map, nat_eq, Some, slice_get, slice_set}
 use Rattle.std.specs.List.{fold}
-use Rattle.std.proofs.Common.{sym, ◌∙◌, ap, subst, arith, cond, get_or, take, drop}
+use Rattle.std.proofs.Common.{sym, ◌∙◌, ap, arith, cond, get_or, take}
 use Rattle.std.proofs.lemmas.List.{map-id, take_all}
 use Rattle.std.proofs.lemmas.List.Sums.{fold_more}
 use Rattle.cp_model.specs.Rounds.{Event}
@@ -21,6 +21,7 @@ use Rattle.cp_rounds.specs.Ends.{RoundEnds}
 use Rattle.cp_rounds.specs.MachineOf.{input_at, input_of, machine_with}
 use Rattle.cp_rounds.specs.Numbers.{AreNumbered}
 use Rattle.cp_rounds.specs.Replayed.{AreWoken, EachWoken, Leads, StepsInto, TurnsInto}
+use Rattle.cp_rounds.specs.Runs.{AreSame}
 use Rattle.cp_rounds.specs.Turned.{moment_of, woken}
 use Rattle.cp_rounds.specs.declared.moment.Moment.{Moment}
 use Rattle.cp_rounds.specs.declared.setting.Setting.{Setting}
@@ -67,6 +68,17 @@ woken_numbers wakes xs ys all numbers i y e =
     let count = all.count in
     let x = got_at xs i (Prim.omega (arith, below, count)) in
     ap (λ (o : PrivateState). o.number) (all.each i y e x.0 x.1 []) ∙ (woken_number wakes (private_of x.0 []) ∙ numbers i x.0 x.1)
+
+-- Copies that aren't woken differ at most in their room.
+pub copies_same : (xs ys : List Private) (k k' : Kernel) → AreWoken false xs ys → kernel_of k' ≡ kernel_of k → transcripts_of k' ≡ transcripts_of k
+    → AreSame xs k ys k'
+copies_same xs ys k k' all kernel transcripts = record {
+  parts = λ inputs. woken_parts false inputs 1 xs ys all.count all.each ∙ map-id (parts_of inputs 1 xs);
+  kernel = kernel;
+  transcripts = transcripts;
+  numbers = woken_numbers false xs ys all;
+  count = all.count;
+}
 
 wake_is : (wakes : Bool) (m : Machine) → cond wakes (record m { parts = map wake_one m.parts }) m ≡ record m { parts = map (woken wakes) m.parts }
 wake_is true m = refl

@@ -17,6 +17,7 @@ pub record IsAfter (t n : ℕ) (before after : Machine) : Type 0 where
   pub made : machine_of after ≡ plain.phased_rounds t (numbers_from 1 (processes_of before)) n (machine_of before)
   pub processes : processes_of after ≡ processes_of before
   pub rounds : after.rounds ≡ before.rounds + n
+  pub setting : after.setting ≡ before.setting
 
 -- ---- What is read of a process. A missing process has no words and has written nothing.
 

@@ -1,10 +1,12 @@
-//! Copies of private states, as a round begins with them.
+//! Copies of private states, as a round begins with them, and of all that rounds change.
 
 ghost use Rattle.std.specs.Prelude.{◌≡◌, ℕ, List, IfOk};
 ghost use Rattle.cp_private.specs.States.{private_of};
 ghost use Rattle.cp_rounds.specs.Replayed.{AreWoken};
+ghost use Rattle.cp_rounds.specs.Runs.{AreSame};
 ghost use Rattle.cp_rounds.specs.Turned.{woken};
 
+use crate::parts::Parts;
 use cp_private::private::Private;
 use std::alloc::{AllocError, Global};
 
@@ -37,4 +39,20 @@ pub fn woken_copies(
         copies.push(woken_copy(alloc, private, wakes)?)?;
     }
     Ok(copies)
+}
+
+impl Parts {
+    /// Returns a copy.
+    ///
+    /// # Errors
+    ///
+    /// `AllocError` if memory runs out.
+    pub(crate) fn copy(&self, alloc: Global) -> Result<Parts, AllocError>
+        ensures { IfOk result (λ copy. AreSame self.now.privates.items self.now.kernel
+            copy.privates.items copy.kernel) }
+    {
+        let privates = woken_copies(alloc, &self.privates, false)?;
+        let kernel = self.kernel.copy(alloc)?;
+        Ok(Parts { privates, kernel })
+    }
 }

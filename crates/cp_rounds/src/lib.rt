@@ -5,7 +5,7 @@
 //! the laws of cp_machine_model, the machine is then in the next state of the meaning
 //! (`specs/InStates.antt`).
 //!
-//! - `machine`, `reading`, `chain`: the public calls. `starting`: how a machine starts.
+//! - `machine`, `reading`, `chain`, `stillness`, `until_still`: the public calls. `starting`: how a machine starts.
 //! - `setting`, `parts`, `moment`: what no round changes, what rounds change, and the time of a
 //!   round.
 //! - `plan`, `tick`, `gate`: how rounds are made, and what is called before each turn.
@@ -35,6 +35,8 @@ mod round;
 mod run;
 mod setting;
 mod starting;
+mod stillness;
 mod task;
 pub mod tick;
 mod turns;
+mod until_still;

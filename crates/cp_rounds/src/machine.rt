@@ -154,6 +154,31 @@ impl Machine {
         }
     }
 
+    // Makes `rounds` rounds, of which some share their threads.
+    pub(crate) fn make_all<R: Threads + Wait + Sync, G: TurnGate>(
+        &mut self,
+        rt: &R,
+        rounds: u32,
+        plan: &Plan,
+        gate: &G,
+    ) -> Result<(), MemoryAt>
+        requires count { self.old.rounds + rounds < 2 ^ 64 }
+        ensures made { IfOk result (λ _. IsAfter plan.now.turn.steps rounds self.old self.new) }
+        ensures partly { IfErr result (λ e. (1 ≤ e.0) × (e.0 ≤ rounds)
+            × IsAfter plan.now.turn.steps (e.0 - 1) self.old self.new) }
+    {
+        let mut done = 0;
+        'part: while done < rounds {
+            let at_once = rounds_at_once(plan.waves(self.parts.privates.len()));
+            let count = (rounds - done).min(at_once);
+            match self.make_rounds(rt, count as usize, plan, gate) {
+                Ok(()) => done += count,
+                Err(made) => return Err(MemoryAt(done + made as u32 + 1)),
+            }
+        }
+        Ok(())
+    }
+
     /// Makes `rounds` rounds.
     ///
     /// # Errors
@@ -178,15 +203,6 @@ impl Machine {
         ensures processes { processes_of self.new ≡ processes_of self.old }
     {
         law::rounds();
-        let mut done = 0;
-        'part: while done < rounds {
-            let at_once = rounds_at_once(plan.waves(self.parts.privates.len()));
-            let count = (rounds - done).min(at_once);
-            match self.make_rounds(rt, count as usize, plan, gate) {
-                Ok(()) => done += count,
-                Err(made) => return Err(MemoryAt(done + made as u32 + 1)),
-            }
-        }
-        Ok(())
+        self.make_all(rt, rounds, plan, gate)
     }
 }

@@ -10,6 +10,7 @@ mod NestingComputed
 mod OrdersComputed
 mod ProcessesComputed
 mod RefusalsComputed
+mod TutorialComputed
 mod TypesComputed
 mod VariablesComputed
 mod WantedComputed

@@ -1,6 +1,6 @@
 -- The answers of processes, computed. Written by worked/make_rows.py.
 use Rattle.std.proofs.Common.{refl}
-use Rattle.cp_rows.specs.Processes.{a_cycle_never_ends_1, a_cycle_never_ends_2, a_started_process_runs_one_round_later_1, a_started_process_runs_one_round_later_2, calls_come_before_the_expression_1, counting_processes_1, counting_processes_2, empty_program_1, empty_program_2, empty_program_3, faults_of_arithmetic_and_indices_1, input_and_transcript_1, many_processes_1, records_and_escapes_1, routines_types_and_loops_1, routines_types_and_loops_2, routines_types_and_loops_3, routines_types_and_loops_4}
+use Rattle.cp_rows.specs.Processes.{a_cycle_never_ends_1, a_cycle_never_ends_2, a_started_process_runs_one_round_later_1, a_started_process_runs_one_round_later_2, calls_come_before_the_expression_1, counting_processes_1, counting_processes_2, empty_program_1, empty_program_2, empty_program_3, faults_of_arithmetic_and_indices_1, input_and_transcript_1, many_processes_1, records_and_escapes_1, records_and_escapes_2, routines_types_and_loops_1, routines_types_and_loops_2, routines_types_and_loops_3, routines_types_and_loops_4}
 use Rattle.cp_scan.specs.Pieces.{word, number, comment, coded_character, character, longer_mark, mark, piece, pieces}
 use Rattle.cp_grammar.specs.Declarations.{constant_definition_of, parameter_group_of, some_parameters_of, parameters_of, result_type_of, heading_from, heading_of, variable_group_of, some_variables_of, variables_of, body_of, routine_of, routines_of, system_from, system_type, enumeration_of, written_type, defined_by, defined_of, type_definition_of, section_by, section_of}
 use Rattle.cp_grammar.specs.Expressions.{operation_of, chain_from, term_of, signed_term, simple_of, expression_of, expressions_from, index_of, indices_from, field_of, indexed_of, selector_by, selector_of, designator_of, arguments_of, optional_arguments_of, call_or_part, named_of, parenthesized_of, not_of, factor_by, factor_of, inner_at}
@@ -66,6 +66,10 @@ many_processes_1-holds = refl
 pub records_and_escapes_1-holds : records_and_escapes_1
 unfolding word number comment coded_character character longer_mark mark piece pieces constant_definition_of parameter_group_of some_parameters_of parameters_of result_type_of heading_from heading_of variable_group_of some_variables_of variables_of body_of routine_of routines_of system_from system_type enumeration_of written_type defined_by defined_of type_definition_of section_by section_of operation_of chain_from term_of signed_term simple_of expression_of expressions_from index_of indices_from field_of indexed_of selector_by selector_of designator_of arguments_of optional_arguments_of call_or_part named_of parenthesized_of not_of factor_by factor_of inner_at is_symbol identifier_of names_of constant_of constants_of expect optional_symbol repeat direction_of statements_from arm_of else_part block_of compound_of if_of case_of while_of repeat_of for_of cycle_of assign_or_perform designated_of init_item_of init_of statement_by statement_of deeper_at tree_of text_of subrange_from named_or_subrange group_of array_of record_of type_by type_of inner_type_at
 records_and_escapes_1-holds = refl
+
+pub records_and_escapes_2-holds : records_and_escapes_2
+unfolding word number comment coded_character character longer_mark mark piece pieces constant_definition_of parameter_group_of some_parameters_of parameters_of result_type_of heading_from heading_of variable_group_of some_variables_of variables_of body_of routine_of routines_of system_from system_type enumeration_of written_type defined_by defined_of type_definition_of section_by section_of operation_of chain_from term_of signed_term simple_of expression_of expressions_from index_of indices_from field_of indexed_of selector_by selector_of designator_of arguments_of optional_arguments_of call_or_part named_of parenthesized_of not_of factor_by factor_of inner_at is_symbol identifier_of names_of constant_of constants_of expect optional_symbol repeat direction_of statements_from arm_of else_part block_of compound_of if_of case_of while_of repeat_of for_of cycle_of assign_or_perform designated_of init_item_of init_of statement_by statement_of deeper_at tree_of text_of subrange_from named_or_subrange group_of array_of record_of type_by type_of inner_type_at
+records_and_escapes_2-holds = refl
 
 pub routines_types_and_loops_1-holds : routines_types_and_loops_1
 unfolding word number comment coded_character character longer_mark mark piece pieces constant_definition_of parameter_group_of some_parameters_of parameters_of result_type_of heading_from heading_of variable_group_of some_variables_of variables_of body_of routine_of routines_of system_from system_type enumeration_of written_type defined_by defined_of type_definition_of section_by section_of operation_of chain_from term_of signed_term simple_of expression_of expressions_from index_of indices_from field_of indexed_of selector_by selector_of designator_of arguments_of optional_arguments_of call_or_part named_of parenthesized_of not_of factor_by factor_of inner_at is_symbol identifier_of names_of constant_of constants_of expect optional_symbol repeat direction_of statements_from arm_of else_part block_of compound_of if_of case_of while_of repeat_of for_of cycle_of assign_or_perform designated_of init_item_of init_of statement_by statement_of deeper_at tree_of text_of subrange_from named_or_subrange group_of array_of record_of type_by type_of inner_type_at

@@ -15,6 +15,12 @@ buffer_2 = run_answer 6 100 1 false [] buffer_1_text ≡ (codes "rounds 6\nproce
 abbrev pub buffer_3 : Type 0
 buffer_3 = run_answer 11 100 1 false [] buffer_1_text ≡ (codes "rounds 11\nprocess 1 initial ended\nout ''\nprocess 2 p ended\nout ''\nvar me = 1\nvar first = 97\nvar last = 100\nvar c = 100\nprocess 3 r delayed b receiver\nout 'apbqcrds'\nvar c = 115\nprocess 4 q ended\nout ''\nvar me = 2\nvar first = 112\nvar last = 115\nvar c = 115\nmonitor b free askers -\nvar slots[0] = 100\nvar slots[1] = 115\nvar slots[2] = 114\nvar head = 2\nvar length = 0\nqueue senders[1] = -\nqueue senders[2] = -\nqueue receiver = 3\n")
 
+abbrev pub division_1 : Type 0
+division_1 = run_answer 1 100 1 false [] (codes "\"Quotients are cut towards zero, and a remainder has the sign of the dividend.\n\n   cpm run division.cp --rounds 1\n\n Every variable starts at 0. To divide by 0 is fault 4: the process keeps its\n variables as they are, and makes no more steps.\"\n\nvar quotient, remainder, divisor: integer;\n\nbegin\n  quotient := (-7) div 2;    \"-3, and not -4\"\n  remainder := (-7) mod 2;   \"-1, and not 1\"\n  display(quotient);\n  display(remainder);\n  display(7 div divisor)\nend.\n") ≡ (codes "rounds 1\nprocess 1 initial fault 4\nout '-3-1'\nvar quotient = -3\nvar remainder = -1\nvar divisor = 0\n")
+
+abbrev pub fibonacci_1 : Type 0
+fibonacci_1 = run_answer 2 100 1 false [] (codes "\"The Fibonacci numbers up to the last that an integer holds.\n\n   cpm run fibonacci.cp --rounds 2\n\n The 23rd is 28657. The next would be 46368, which is above 32767: fault 3.\n A turn has 100 steps if no other number is told, so the last numbers come in round 2.\"\n\nvar last, this, next: integer;\n\nbegin\n  this := 1;\n  cycle\n    display(this);\n    next := last + this;\n    last := this;\n    this := next\n  end\nend.\n") ≡ (codes "rounds 2\nprocess 1 initial fault 3\nout '11235813213455891442333776109871597258441816765109461771128657'\nvar last = 17711\nvar this = 28657\nvar next = 28657\n")
+
 abbrev pub nested_1 : Type 0
 nested_1 = check_answer (codes "\"Two monitors that call each other: the rules refuse them, for calls could go in a circle.\n\n   cpm check nested.cp\n\n A process that pays from `a` to `b` would hold the gate of a and ask for that of b, and\n another one that pays from `b` to `a` would hold that of b and ask for that of a. A\n process that calls from one monitor into another keeps the gate of the first, so neither\n could go on.\n\n The type of a monitor names the types of those that it may call, and a name is visible\n behind its definition only: `savings` isn't yet where `account` wants it (C1). If both\n were of one type, it would be named inside its own definition (C4). A monitor can't be\n given to another later either: a routine's parameter is no component (C7). So calls of\n monitors go back in the text, and never in a circle. (To wait for ever there are still\n other ways: nobody wakes a process that is delayed, or a fault stops one in a monitor.)\n\n nested.mended.cp pays both ways without a call from one monitor into another.\"\ntype account = monitor(other: savings);\n  var money: integer;\n\n  procedure entry receive(n: integer);\n  begin money := money + n end;\n\n  procedure entry pay(n: integer);\n  begin money := money - n; other.receive(n) end;\n\n  begin money := 10 end;\n\nsavings = monitor(other: account);\n  var money: integer;\n\n  procedure entry receive(n: integer);\n  begin money := money + n end;\n\n  procedure entry pay(n: integer);\n  begin money := money - n; other.receive(n) end;\n\n  begin money := 10 end;\n\npayer = process(from: account);\n  begin from.pay(1) end;\n\nsaver = process(from: savings);\n  begin from.pay(1) end;\n\nvar a: account; b: savings; p: payer; q: saver;\nbegin\n  init a(b), b(a), p(a), q(b)\nend.\n") ≡ (codes "refused C1 at 1035")
 
@@ -66,6 +72,9 @@ scheduler_2 = run_answer 5 100 1 false [] scheduler_1_text ≡ (codes "rounds 5\
 abbrev pub scheduler_3 : Type 0
 scheduler_3 = run_answer 8 100 1 false [] scheduler_1_text ≡ (codes "rounds 8\nprocess 1 initial ended\nout ''\nprocess 2 a ended\nout '12'\nvar time = 2\nprocess 3 b ended\nout '12'\nvar time = 2\nmonitor printer free askers -\nvar free = 1\nqueue waiting = -\n")
 
+abbrev pub seven_1 : Type 0
+seven_1 = run_answer 2 100 1 false [] (codes "\"A process is started in one round and has its first turn in the next.\n\n   cpm run seven.cp --rounds 2\n\n In round 1 the initial process asks for the start of a, which the kernel grants\n at the end of its turn. In round 2 a displays 7, and both processes end.\"\n\ntype seven = process;\n  begin display(7) end;\n\nvar a: seven;\n\nbegin init a end.\n") ≡ (codes "rounds 2\nprocess 1 initial ended\nout ''\nprocess 2 a ended\nout '7'\n")
+
 abbrev pub sieve_1_text : Text
 sieve_1_text = (codes "\"Sieves in a row that find primes, each a process, joined by buffers of one number.\n\n   cpm run sieve.cp --rounds 12\n\n A sieve keeps the first number that it gets, which is a prime, and hands on to the right\n those that its prime doesn't divide. Up to 24 all that comes through the sieves of 2 and 3\n is prime: the least number that comes through and isn't is 5 times 5.\n\n In the report `two` and `three` have displayed their primes, and `rest` what came through\n both. All three wait for ever for a next number, for s has ended after the 7. With 8\n rounds s has been woken, and its 7 isn't in a yet: `held 2` says that s has the monitor.\"\ntype buffer = monitor;\n  var slot: integer; full: boolean; sender, receiver: queue;\n\n  procedure entry put(n: integer);\n  begin\n    if full then delay(sender);\n    slot := n; full := true;\n    continue(receiver)\n  end;\n\n  procedure entry get(var n: integer);\n  begin\n    if not full then delay(receiver);\n    n := slot; full := false;\n    continue(sender)\n  end;\n\n  begin full := false end;\n\nsource = process(right: buffer);\n  var n: integer;\n  begin\n    for n := 2 to 7 do right.put(n)\n  end;\n\nsieve = process(left, right: buffer);\n  var prime, n: integer;\n  begin\n    left.get(prime);\n    display(prime);\n    cycle\n      left.get(n);\n      if n mod prime <> 0 then right.put(n)\n    end\n  end;\n\nsink = process(left: buffer);\n  var n: integer;\n  begin\n    cycle left.get(n); display(n) end\n  end;\n\nvar a, b, c: buffer; s: source; two, three: sieve; rest: sink;\nbegin\n  init a, b, c, s(a), two(a, b), three(b, c), rest(c)\nend.\n")
 
@@ -77,6 +86,12 @@ sieve_2 = run_answer 8 100 1 false [] sieve_1_text ≡ (codes "rounds 8\nprocess
 
 abbrev pub sieve_3 : Type 0
 sieve_3 = run_answer 12 100 1 false [] sieve_1_text ≡ (codes "rounds 12\nprocess 1 initial ended\nout ''\nprocess 2 s ended\nout ''\nvar n = 7\nprocess 3 two delayed a receiver\nout '2'\nvar prime = 2\nvar n = 7\nprocess 4 three delayed b receiver\nout '3'\nvar prime = 3\nvar n = 7\nprocess 5 rest delayed c receiver\nout '57'\nvar n = 7\nmonitor a free askers -\nvar slot = 7\nvar full = 0\nqueue sender = -\nqueue receiver = 3\nmonitor b free askers -\nvar slot = 7\nvar full = 0\nqueue sender = -\nqueue receiver = 4\nmonitor c free askers -\nvar slot = 7\nvar full = 0\nqueue sender = -\nqueue receiver = 5\n")
+
+abbrev pub squarers_1 : Type 0
+squarers_1 = run_answer 5 4 1 false [] (codes "\"Two processes of one type square a number of their own.\n\n   cpm run squarers.cp --rounds 5 --turn 4\n\n 256 times 256 is more than an integer holds: that is fault 3.\"\n\ntype squarer = process;\n  var x: integer;\n  begin\n    x := 2;\n    cycle display(x); x := x * x end\n  end;\nvar a, b: squarer;\nbegin init a, b end.\n") ≡ (codes "rounds 5\nprocess 1 initial ended\nout ''\nprocess 2 a fault 3\nout '2416256'\nvar x = 256\nprocess 3 b fault 3\nout '2416256'\nvar x = 256\n")
+
+abbrev pub squares_1 : Type 0
+squares_1 = run_answer 5 4 1 false [] (codes "\"Two processes of one type, each with a variable of its own, which no other can see.\n\n   cpm run squares.cp --rounds 5 --turn 4\n\n A turn has at most four steps: each statement is a step, and so is each time that a\n cycle begins anew. The square of 256 is above 32767: that is fault 3, and it ends\n the process alone. To start a second time a process that was started is fault 7.\"\n\ntype squarer = process;\n  var x: integer;\n  begin\n    x := 2;\n    cycle display(x); x := x * x end\n  end;\n\nvar a, b: squarer;\n\nbegin\n  init a, b;\n  init a\nend.\n") ≡ (codes "rounds 5\nprocess 1 initial fault 7\nout ''\nprocess 2 a fault 3\nout '2416256'\nvar x = 256\nprocess 3 b fault 3\nout '2416256'\nvar x = 256\n")
 
 abbrev pub writers_1_text : Text
 writers_1_text = (codes "\"Two writers and a cell: what the order of a round decides, and what it doesn't.\n\n   cpm replay writers.cp writers.sequential.order --turn 4\n   cpm replay writers.cp writers.mixed.order --turn 4\n   cpm replay writers.cp writers.unlawful.order --turn 4\n\n In the first order each process has its four private steps and then its kernel turn\n before the next one begins, as on one processor. The second mixes the private steps of\n all processes, as several threads do. Both are lawful, and the report is the same one:\n b writes last, so `last` is 2. In the third order the kernel turn of process 3, which\n is b, comes before that of process 2, which no run does: a writes last, and `last` is 1.\"\ntype cell = monitor;\n  var last: integer;\n\n  procedure entry put(n: integer);\n  begin last := n end;\n\n  begin end;\n\nwriter = process(c: cell; n: integer);\n  var value: integer;\n  begin value := n; c.put(value) end;\n\nvar c: cell; a, b: writer;\nbegin init c, a(c, 1), b(c, 2) end.\n")
@@ -91,4 +106,4 @@ abbrev pub writers_3 : Type 0
 writers_3 = replay_answer 4 1 false [] (codes "P1 P1 P1 P1 K1 P2 P2 P2 P2 K2 P3 P3 P3 P3 K3\nP1 P1 P1 P1 K1 P3 P3 P3 P3 K3 P2 P2 P2 P2 K2\n") writers_1_text ≡ (codes "rounds 2\nprocess 1 initial ended\nout ''\nprocess 2 a ready\nout ''\nvar n = 1\nvar value = 1\nprocess 3 b ready\nout ''\nvar n = 2\nvar value = 2\nmonitor c free askers -\nvar last = 1\n")
 
 abbrev pub Examples : Type 0
-Examples = buffer_1 × buffer_2 × buffer_3 × nested_1 × nested_mended_1 × nested_mended_2 × philosophers_1 × philosophers_2 × philosophers_3 × readers_1 × readers_2 × readers_3 × readers_4 × scheduler_1 × scheduler_2 × scheduler_3 × sieve_1 × sieve_2 × sieve_3 × writers_1 × writers_2 × writers_3
+Examples = buffer_1 × buffer_2 × buffer_3 × division_1 × fibonacci_1 × nested_1 × nested_mended_1 × nested_mended_2 × philosophers_1 × philosophers_2 × philosophers_3 × readers_1 × readers_2 × readers_3 × readers_4 × scheduler_1 × scheduler_2 × scheduler_3 × seven_1 × sieve_1 × sieve_2 × sieve_3 × squarers_1 × squares_1 × writers_1 × writers_2 × writers_3

@@ -11,6 +11,7 @@ pub mod Nesting
 pub mod Orders
 pub mod Processes
 pub mod Refusals
+pub mod Tutorial
 pub mod Types
 pub mod Variables
 pub mod Wanted

@@ -60,8 +60,20 @@ a_queue_holds_one_process_5 = run_answer 3 10 1 true [] a_queue_holds_one_proces
 abbrev pub a_queue_holds_one_process_6 : Type 0
 a_queue_holds_one_process_6 = run_answer 9 10 1 true [] a_queue_holds_one_process_1_text ≡ (codes "rounds 9\nprocess 1 initial ended\nout ''\nprocess 2 b delayed g q\nout ''\nprocess 3 c fault 5\nout ''\nprocess 4 d asking g\nout ''\nmonitor g held 3 askers 4\nqueue q = 2\nchain 4 3\n")
 
+abbrev pub a_var_parameter_of_a_delayed_caller_1_text : Text
+a_var_parameter_of_a_delayed_caller_1_text = (codes "type t = array [1..2] of integer;\nm = monitor; var q: queue;\n  procedure entry w(var x: integer); begin delay(q); x := 5 end;\n  procedure entry s; begin continue(q) end; begin end;\npw = process(a: m); var r: t; begin a.w(r[2]); display(r[2]) end;\nps = process(a: m); var v: integer;\n  begin v := 1; v := 2; v := 3; a.s end;\nvar g: m; b: pw; c: ps;\nbegin init g, b(g), c(g) end.")
+
 abbrev pub a_var_parameter_of_a_delayed_caller_1 : Type 0
-a_var_parameter_of_a_delayed_caller_1 = run_answer 6 2 1 false [] (codes "type t = array [1..2] of integer;\nm = monitor; var q: queue;\n  procedure entry w(var x: integer); begin delay(q); x := 5 end;\n  procedure entry s; begin continue(q) end; begin end;\npw = process(a: m); var r: t; begin a.w(r[2]); display(r[2]) end;\nps = process(a: m); var v: integer;\n  begin v := 1; v := 2; v := 3; a.s end;\nvar g: m; b: pw; c: ps;\nbegin init g, b(g), c(g) end.") ≡ (codes "rounds 6\nprocess 1 initial ended\nout ''\nprocess 2 b ended\nout '5'\nvar r[1] = 0\nvar r[2] = 5\nprocess 3 c ended\nout ''\nvar v = 3\nmonitor g free askers -\nqueue q = -\n")
+a_var_parameter_of_a_delayed_caller_1 = run_answer 3 2 1 false [] a_var_parameter_of_a_delayed_caller_1_text ≡ (codes "rounds 3\nprocess 1 initial ended\nout ''\nprocess 2 b delayed g q\nout ''\nvar r[1] = 0\nvar r[2] = 0\nprocess 3 c ready\nout ''\nvar v = 2\nmonitor g free askers -\nqueue q = 2\n")
+
+abbrev pub a_var_parameter_of_a_delayed_caller_2 : Type 0
+a_var_parameter_of_a_delayed_caller_2 = run_answer 4 2 1 false [] a_var_parameter_of_a_delayed_caller_1_text ≡ (codes "rounds 4\nprocess 1 initial ended\nout ''\nprocess 2 b ready\nout ''\nvar r[1] = 0\nvar r[2] = 0\nprocess 3 c ready\nout ''\nvar v = 3\nmonitor g held 2 askers -\nqueue q = -\n")
+
+abbrev pub a_var_parameter_of_a_delayed_caller_3 : Type 0
+a_var_parameter_of_a_delayed_caller_3 = run_answer 5 2 1 false [] a_var_parameter_of_a_delayed_caller_1_text ≡ (codes "rounds 5\nprocess 1 initial ended\nout ''\nprocess 2 b ready\nout ''\nvar r[1] = 0\nvar r[2] = 5\nprocess 3 c ended\nout ''\nvar v = 3\nmonitor g free askers -\nqueue q = -\n")
+
+abbrev pub a_var_parameter_of_a_delayed_caller_4 : Type 0
+a_var_parameter_of_a_delayed_caller_4 = run_answer 6 2 1 false [] a_var_parameter_of_a_delayed_caller_1_text ≡ (codes "rounds 6\nprocess 1 initial ended\nout ''\nprocess 2 b ended\nout '5'\nvar r[1] = 0\nvar r[2] = 5\nprocess 3 c ended\nout ''\nvar v = 3\nmonitor g free askers -\nqueue q = -\n")
 
 abbrev pub askers_are_served_first_come_1_text : Text
 askers_are_served_first_come_1_text = (codes "type m = monitor;\n  procedure entry e(k: integer);\n  begin display(k); display(k); display(k) end; begin end;\np = process(a: m; k: integer); begin a.e(k) end;\nvar g: m; b, c, d: p;\nbegin init g, b(g, 1), c(g, 2), d(g, 3) end.")
@@ -202,4 +214,4 @@ abbrev pub waiting_where_it_may_not_stand_15 : Type 0
 waiting_where_it_may_not_stand_15 = check_answer (codes "type p = process; begin wait end; procedure q; begin wait end; begin wait; q end.") ≡ (codes "accepted\n")
 
 abbrev pub Monitors : Type 0
-Monitors = a_chain_of_askers_1 × a_chain_of_askers_2 × a_continue_resumes_a_delayed_process_1 × a_continue_resumes_a_delayed_process_2 × a_continue_resumes_a_delayed_process_3 × a_monitor_before_its_init_1 × a_monitor_is_entered_1 × a_nested_delay_keeps_outer_gates_1 × a_nested_delay_keeps_outer_gates_2 × a_queue_holds_one_process_1 × a_queue_holds_one_process_2 × a_queue_holds_one_process_3 × a_queue_holds_one_process_4 × a_queue_holds_one_process_5 × a_queue_holds_one_process_6 × a_var_parameter_of_a_delayed_caller_1 × askers_are_served_first_come_1 × askers_are_served_first_come_2 × askers_are_served_first_come_3 × continue_in_a_function_1 × continue_in_a_function_2 × continue_in_a_function_without_a_result_1 × queues_where_they_may_not_stand_1 × queues_where_they_may_not_stand_2 × queues_where_they_may_not_stand_3 × queues_where_they_may_not_stand_4 × queues_where_they_may_not_stand_5 × queues_where_they_may_not_stand_6 × queues_where_they_may_not_stand_7 × queues_where_they_may_not_stand_8 × queues_where_they_may_not_stand_9 × queues_where_they_may_not_stand_10 × queues_where_they_may_not_stand_11 × queues_where_they_may_not_stand_12 × queues_where_they_may_not_stand_13 × queues_where_they_may_not_stand_14 × queues_where_they_may_not_stand_15 × queues_where_they_may_not_stand_16 × queues_where_they_may_not_stand_17 × queues_where_they_may_not_stand_18 × queues_where_they_may_not_stand_19 × queues_where_they_may_not_stand_20 × queues_where_they_may_not_stand_21 × queues_where_they_may_not_stand_22 × the_resumed_process_goes_ahead_of_askers_1 × waiting_where_it_may_not_stand_1 × waiting_where_it_may_not_stand_2 × waiting_where_it_may_not_stand_3 × waiting_where_it_may_not_stand_4 × waiting_where_it_may_not_stand_5 × waiting_where_it_may_not_stand_6 × waiting_where_it_may_not_stand_7 × waiting_where_it_may_not_stand_8 × waiting_where_it_may_not_stand_9 × waiting_where_it_may_not_stand_10 × waiting_where_it_may_not_stand_11 × waiting_where_it_may_not_stand_12 × waiting_where_it_may_not_stand_13 × waiting_where_it_may_not_stand_14 × waiting_where_it_may_not_stand_15
+Monitors = a_chain_of_askers_1 × a_chain_of_askers_2 × a_continue_resumes_a_delayed_process_1 × a_continue_resumes_a_delayed_process_2 × a_continue_resumes_a_delayed_process_3 × a_monitor_before_its_init_1 × a_monitor_is_entered_1 × a_nested_delay_keeps_outer_gates_1 × a_nested_delay_keeps_outer_gates_2 × a_queue_holds_one_process_1 × a_queue_holds_one_process_2 × a_queue_holds_one_process_3 × a_queue_holds_one_process_4 × a_queue_holds_one_process_5 × a_queue_holds_one_process_6 × a_var_parameter_of_a_delayed_caller_1 × a_var_parameter_of_a_delayed_caller_2 × a_var_parameter_of_a_delayed_caller_3 × a_var_parameter_of_a_delayed_caller_4 × askers_are_served_first_come_1 × askers_are_served_first_come_2 × askers_are_served_first_come_3 × continue_in_a_function_1 × continue_in_a_function_2 × continue_in_a_function_without_a_result_1 × queues_where_they_may_not_stand_1 × queues_where_they_may_not_stand_2 × queues_where_they_may_not_stand_3 × queues_where_they_may_not_stand_4 × queues_where_they_may_not_stand_5 × queues_where_they_may_not_stand_6 × queues_where_they_may_not_stand_7 × queues_where_they_may_not_stand_8 × queues_where_they_may_not_stand_9 × queues_where_they_may_not_stand_10 × queues_where_they_may_not_stand_11 × queues_where_they_may_not_stand_12 × queues_where_they_may_not_stand_13 × queues_where_they_may_not_stand_14 × queues_where_they_may_not_stand_15 × queues_where_they_may_not_stand_16 × queues_where_they_may_not_stand_17 × queues_where_they_may_not_stand_18 × queues_where_they_may_not_stand_19 × queues_where_they_may_not_stand_20 × queues_where_they_may_not_stand_21 × queues_where_they_may_not_stand_22 × the_resumed_process_goes_ahead_of_askers_1 × waiting_where_it_may_not_stand_1 × waiting_where_it_may_not_stand_2 × waiting_where_it_may_not_stand_3 × waiting_where_it_may_not_stand_4 × waiting_where_it_may_not_stand_5 × waiting_where_it_may_not_stand_6 × waiting_where_it_may_not_stand_7 × waiting_where_it_may_not_stand_8 × waiting_where_it_may_not_stand_9 × waiting_where_it_may_not_stand_10 × waiting_where_it_may_not_stand_11 × waiting_where_it_may_not_stand_12 × waiting_where_it_may_not_stand_13 × waiting_where_it_may_not_stand_14 × waiting_where_it_may_not_stand_15

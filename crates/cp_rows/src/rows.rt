@@ -14,6 +14,7 @@ ghost use Rattle.cp_rows.specs.Nesting.{Nesting};
 ghost use Rattle.cp_rows.specs.Orders.{Orders};
 ghost use Rattle.cp_rows.specs.Processes.{Processes};
 ghost use Rattle.cp_rows.specs.Refusals.{Refusals};
+ghost use Rattle.cp_rows.specs.Tutorial.{Tutorial};
 ghost use Rattle.cp_rows.specs.Types.{Types};
 ghost use Rattle.cp_rows.specs.Variables.{Variables};
 ghost use Rattle.cp_rows.specs.Wanted.{Wanted};
@@ -76,6 +77,11 @@ pub fn processes_hold()
 /// Each of the answers of `worked/refusals`.
 pub fn refusals_hold()
     ensures { Refusals }
+{}
+
+/// Each of the answers of `worked/tutorial`.
+pub fn tutorial_hold()
+    ensures { Tutorial }
 {}
 
 /// Each of the answers of `worked/types`.

@@ -23,8 +23,23 @@ pub enum Outcome {
     LeftOut,
 }
 
-// Workers, chunk and wave of the plans that each text runs with.
-const PLANS: [(u32, u32, u32); 3] = [(1, 1, 255), (2, 1, 255), (4, 3, 2)];
+// Workers, chunk and wave of the plans that each text runs with: few and many workers, each with
+// the shortest and the longest chunks, and short waves.
+const PLANS: [(u32, u32, u32); 13] = [
+    (1, 1, 255),
+    (1, 255, 255),
+    (2, 1, 255),
+    (2, 255, 255),
+    (7, 1, 255),
+    (7, 255, 255),
+    (64, 1, 255),
+    (64, 255, 255),
+    (2, 1, 1),
+    (2, 1, 2),
+    (2, 1, 3),
+    (4, 3, 2),
+    (7, 3, 10),
+];
 
 fn answer_of<H: Threads + Wait + Sync>(
     rt: &H,

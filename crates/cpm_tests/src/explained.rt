@@ -25,7 +25,7 @@ fn explain(alloc: Global, text: &[u8], form: Form) -> (Result<Option<Refusal>, R
 }
 
 // The text of a row, and the place that it marks.
-fn text_and_place(alloc: Global, row: Row) -> Result<(Vec<u8>, usize), AllocError> {
+pub(crate) fn text_and_place(alloc: Global, row: Row) -> Result<(Vec<u8>, usize), AllocError> {
     let mut text = Vec::new(alloc);
     let mut at = 0;
     for byte in row.text.as_bytes() {
@@ -53,7 +53,11 @@ fn each_way_to_break_a_rule_has_its_message(rt: HostRuntime) -> Result<(), Fail>
 
 // The text `var a0, a1, ..: t; begin end.` after `front`, with `count` names, and the place of the
 // last one.
-fn declare_names(alloc: Global, front: &str, count: usize) -> Result<(Vec<u8>, usize), AllocError> {
+pub(crate) fn declare_names(
+    alloc: Global,
+    front: &str,
+    count: usize,
+) -> Result<(Vec<u8>, usize), AllocError> {
     let mut text = repeat(alloc, front.as_bytes(), b"", 0, b"")?;
     let mut at = 0;
     for number in 0..count {

@@ -3,7 +3,7 @@
 
 use super::jobs::job;
 use super::streams::{Narrow, Slow};
-use super::texts::{AFTER_THREE_ROUNDS, COUNTERS};
+use super::texts::{AFTER_THREE_ROUNDS, COUNTERS, SEVEN};
 use cp_execute::execute::{Job, execute};
 use cp_execute::refusal::Refusal;
 use cp_rounds::gate::Open;
@@ -103,6 +103,31 @@ fn each_write_fails_in_turn(rt: HostRuntime) -> Result<(), Fail> {
         let (answer, written) = run(&rt, rt.alloc(), &job(3, 4)?, fails);
         assert!(rt; answer == Err(Refusal::Write));
         assert!(rt; Some(written.as_slice()) == AFTER_THREE_ROUNDS.get(..out));
+    }
+    Ok(())
+}
+
+#[test]
+fn a_writer_that_takes_nine_bytes_has_the_first_line(rt: HostRuntime) -> Result<(), Fail> {
+    for (fails_at, full_at) in [(9, NOWHERE), (NOWHERE, 9)] {
+        let mut out = Narrow {
+            taken: Vec::new(rt.alloc()),
+            fails_at,
+            full_at,
+        };
+        let (mut text, mut input) = (SEVEN, b"".as_slice());
+        let job = job(2, 10)?;
+        let answer = execute(
+            &rt,
+            rt.alloc(),
+            &mut text,
+            &mut input,
+            &job,
+            &Open,
+            &mut out,
+        );
+        assert!(rt; answer == Err(Refusal::Write));
+        assert!(rt; out.taken.as_slice() == b"rounds 2\n".as_slice());
     }
     Ok(())
 }

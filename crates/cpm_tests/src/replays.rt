@@ -11,7 +11,7 @@ use std::alloc::{AllocError, Global};
 use std::test::Fail;
 
 // Process 2 resumes process 3, which goes on in the same round, ahead of process 4, which asks.
-const RESUMED: &[u8] = b"type m = monitor; var q: queue;
+pub(crate) const RESUMED: &[u8] = b"type m = monitor; var q: queue;
   procedure entry w; begin delay(q); display(1); display(1) end;
   procedure entry s; begin display(8); display(8); continue(q) end;
   procedure entry t; begin display(4) end; begin end;
@@ -158,7 +158,11 @@ fn lawful_order(alloc: Global, chance: &mut Chance) -> Result<Vec<u8>, AllocErro
     let mut order = Vec::new(alloc);
     for _round in 0..5 {
         let mut round = Round::new();
-        while !round.is_over() {
+        // A round has twelve events, and at least one try in five writes one.
+        for _try in 0..1_000 {
+            if round.is_over() {
+                break;
+            }
             round.write(chance.below(PROCESSES + 1), &mut order)?;
         }
         order.push(b'\n')?;
@@ -169,7 +173,7 @@ fn lawful_order(alloc: Global, chance: &mut Chance) -> Result<Vec<u8>, AllocErro
 #[test]
 fn lawful_orders_give_one_report(rt: HostRuntime) -> Result<(), Fail> {
     let mut chance = Chance { state: 1975 };
-    let mut others = 0;
+    let mut others: u32 = 0;
     let mut last = Vec::new(rt.alloc());
     for _order in 0..200 {
         let order = lawful_order(rt.alloc(), &mut chance)?;
@@ -177,7 +181,7 @@ fn lawful_orders_give_one_report(rt: HostRuntime) -> Result<(), Fail> {
         assert!(rt; answer == Ok(()));
         assert!(rt; out.as_slice() == AFTER_FIVE_ROUNDS);
         if order.as_slice() != last.as_slice() {
-            others += 1;
+            others = others.saturating_add(1);
         }
         last = order;
     }

@@ -36,7 +36,7 @@ out '2416256'
 var x = 256
 ";
 
-const SEVEN: &[u8] = b"type p = process; begin display(7) end;
+pub(crate) const SEVEN: &[u8] = b"type p = process; begin display(7) end;
 var a: p;
 begin init a end.
 ";
@@ -88,6 +88,20 @@ fn texts_have_their_reports(rt: HostRuntime) -> Result<(), Fail> {
     ];
     for (text, rounds, turn, report) in cases {
         let (answer, out) = execute_job(&rt, rt.alloc(), text, b"", &job(rounds, turn)?);
+        assert!(rt; answer == Ok(()));
+        assert!(rt; out.as_slice() == report);
+    }
+    Ok(())
+}
+
+// The clock shows the number of the round, which is more than an integer holds in round 32,768.
+#[test]
+fn the_clock_runs_over(rt: HostRuntime) -> Result<(), Fail> {
+    let text = b"var x: integer; begin while realtime < 32767 do wait; wait; x := realtime end.";
+    let ready = b"rounds 32767\nprocess 1 initial waiting\nout ''\nvar x = 0\n".as_slice();
+    let fault = b"rounds 32768\nprocess 1 initial fault 3\nout ''\nvar x = 0\n".as_slice();
+    for (rounds, report) in [(32_767, ready), (32_768, fault)] {
+        let (answer, out) = execute_job(&rt, rt.alloc(), text, b"", &job(rounds, 10)?);
         assert!(rt; answer == Ok(()));
         assert!(rt; out.as_slice() == report);
     }

@@ -1,4 +1,4 @@
-use Rattle.std.proofs.Common.{◌≡◌, ◌≤◌, ℕ, List, [], Some, length, slice_get, sym, ap, ◌∙◌, subst, arith}
+use Rattle.std.proofs.Common.{◌≡◌, ℕ, List, [], Some, length, slice_get, sym, ap, ◌∙◌, subst, arith}
 use Rattle.cp_private.specs.declared.private.Private.{Private}
 use Rattle.cp_rounds.specs.Replayed.{EachWoken}
 use Rattle.cp_rounds.proofs.Lists.{got_or}

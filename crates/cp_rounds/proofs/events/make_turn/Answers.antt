@@ -1,4 +1,4 @@
-use Rattle.std.proofs.Common.{rules, ◌≡◌, ◌-◌, [], List, ℕ, Some, length, vec_len, map, slice_get, subst, sym, ap, ◌∙◌, arith}
+use Rattle.std.proofs.Common.{rules, ◌≡◌, ◌-◌, [], List, ℕ, length, vec_len, map, slice_get, subst, sym, ap, ◌∙◌, arith}
 use Rattle.cp_kernel.specs.KernelOf.{Bytes, kernel_of}
 use Rattle.cp_kernel.specs.Turns.{IsTurned}
 use Rattle.cp_kernel.proofs.Asking.{room_kept}

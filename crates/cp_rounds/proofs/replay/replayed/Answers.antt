@@ -1,4 +1,4 @@
-use Rattle.std.proofs.Common.{◌≡◌, ℕ, List, length, subst, sym, ◌∙◌}
+use Rattle.std.proofs.Common.{ℕ, List, length, subst, sym, ◌∙◌}
 use Rattle.std.specs.List.{fold}
 use Rattle.cp_machine_model.specs.Machines.{wake}
 use Rattle.cp_machine_model.specs.Replays.{AreWithin, event}

@@ -1,0 +1,143 @@
+//! Rounds until nothing can move any more.
+//!
+//! A machine that is still stays still, so the first still state is found by rounds in stretches:
+//! each is twice as long as the last one, until one leads past that state. It is taken back, and
+//! from then on each stretch is half as long as the last one.
+
+ghost use Rattle.std.specs.Prelude.{◌≡◌, ◌<◌, ◌≤◌, ◌+◌, ◌-◌, ◌^◌, IfErr, IfOk, true};
+ghost use Rattle.cp_rounds.specs.InStates.{MakesRounds};
+ghost use Rattle.cp_rounds.specs.Stillness.{Advances, NoneStillBefore, TellsStill};
+ghost use Rattle.cp_rounds.specs.Views.{IsAfter, processes_of};
+
+use crate::gate::TurnGate;
+use crate::machine::{Machine, MemoryAt};
+use crate::plan::Plan;
+use cp_machine_model::law::rounds as rounds_are_run;
+use cp_stillness::law::lasting;
+use std::sync::Wait;
+use std::thread::Threads;
+
+// The longest stretch. The copy that is kept of the machine's parts costs little beside so many
+// rounds.
+const LONGEST_STRETCH: u32 = 65_536;
+
+// How many rounds are tried next.
+#[derive(Clone, Copy)]
+struct Stretch {
+    rounds: u32,
+    /// Whether a stretch led past the first still state.
+    past: bool,
+    ghost some: { 0 < rounds },
+    ghost most: { rounds ≤ 65536 },
+}
+
+impl Stretch {
+    fn first() -> Stretch
+        ensures rounds { result.rounds ≡ 1 }
+    {
+        Stretch {
+            rounds: 1,
+            past: false,
+        }
+    }
+
+    // The stretch after one that made its rounds.
+    fn next(self) -> Stretch
+        ensures past { result.past ≡ self.past }
+        ensures less { self.past ≡ true → result.rounds ≤ self.rounds }
+    {
+        let rounds = if self.past {
+            self.rounds / 2
+        } else {
+            (self.rounds * 2).min(LONGEST_STRETCH)
+        };
+        Stretch {
+            rounds: rounds.max(1),
+            past: self.past,
+        }
+    }
+
+    // The stretch after one of `tried` rounds, which led past the first still state.
+    fn half(tried: u32) -> Stretch
+        requires several { 1 < tried }
+        ensures past { result.past ≡ true }
+        ensures less { result.rounds < tried }
+    {
+        Stretch {
+            rounds: (tried / 2).min(LONGEST_STRETCH),
+            past: true,
+        }
+    }
+}
+
+impl Machine {
+    // Makes `rounds` rounds. If there is more than one and the machine is still after them, the
+    // machine is put back as it was. Returns whether the rounds were made.
+    fn advance<R: Threads + Wait + Sync, G: TurnGate>(
+        &mut self,
+        rt: &R,
+        rounds: u32,
+        plan: &Plan,
+        gate: &G,
+    ) -> Result<bool, MemoryAt>
+        requires some { 0 < rounds }
+        requires count { self.old.rounds + rounds < 2 ^ 64 }
+        ensures made { IfOk result
+            (λ made. Advances plan.now.turn.steps rounds made self.old self.new) }
+        ensures several { IfOk result (λ made. rounds ≤ 1 → made ≡ true) }
+        ensures partly { IfErr result (λ e. (1 ≤ e.0) × (e.0 ≤ rounds)
+            × IsAfter plan.now.turn.steps (e.0 - 1) self.old self.new) }
+    {
+        let Ok(before) = self.parts.copy(self.alloc) else {
+            return Err(MemoryAt(1));
+        };
+        self.make_all(rt, rounds, plan, gate)?;
+        if rounds > 1 && self.is_still() {
+            self.parts = before;
+            self.rounds -= u64::from(rounds);
+            return Ok(false);
+        }
+        Ok(true)
+    }
+
+    /// Makes rounds until no process can move, and at most `limit`. Returns how many were made: the
+    /// machine is still after them or there are `limit`, and it was still after no fewer.
+    ///
+    /// # Errors
+    ///
+    /// `MemoryAt` with the first round for which memory ran out or a thread could not be started.
+    pub fn run_until_still<R: Threads + Wait + Sync, G: TurnGate>(
+        &mut self,
+        rt: &R,
+        limit: u32,
+        plan: &Plan,
+        gate: &G,
+    ) -> Result<u32, MemoryAt>
+        requires count { self.old.rounds + limit < 2 ^ 64 }
+        ensures most { IfOk result (λ n. n ≤ limit) }
+        ensures done { IfOk result (λ n. IsAfter plan.now.turn.steps n self.old self.new) }
+        ensures state { IfOk result (λ n. MakesRounds plan.now.turn.steps n self.old self.new) }
+        ensures still { IfOk result (λ n. n < limit → TellsStill self.new true) }
+        ensures first { IfOk result (λ n. NoneStillBefore plan.now.turn.steps n self.old) }
+        ensures partly { IfErr result (λ e. (1 ≤ e.0) × (e.0 ≤ limit)
+            × IsAfter plan.now.turn.steps (e.0 - 1) self.old self.new) }
+        ensures processes { processes_of self.new ≡ processes_of self.old }
+    {
+        rounds_are_run();
+        lasting();
+        let mut done = 0;
+        let mut stretch = Stretch::first();
+        'rounds: while done < limit && !self.is_still() {
+            let count = stretch.rounds.min(limit - done);
+            match self.advance(rt, count, plan, gate) {
+                Ok(true) => {
+                    done += count;
+                    stretch = stretch.next();
+                }
+                Ok(false) => stretch = Stretch::half(count),
+                Err(MemoryAt(round)) => return Err(MemoryAt(done + round)),
+            }
+        }
+        Ok(done)
+    }
+}

@@ -1,0 +1,96 @@
+//! Rounds until nothing can move.
+
+use crate::machines::machine_with;
+use crate::rounds::SEVENS;
+use crate::ways::is_young;
+use cp_rounds::gate::Open;
+use cp_rounds::machine::Machine;
+use cp_rounds::plan::Plan;
+use std::alloc::Global;
+use std::process::Abort;
+use std::sync::Wait;
+use std::test::Fail;
+use std::thread::Threads;
+
+// Two steps a round make one turn of the loop. The last test and the end come in one round more.
+const COUNTS_TO_1000: &str = "var x: integer; begin while x < 1000 do x := x + 1 end.";
+
+// The clock ticks at the beginning of every fifth round, and wakes the process then.
+const WAITS: &str = "type p = process; begin wait; display(1) end;
+    var a: p; begin init a end.";
+
+const NEVER_ENDS: &str = "var x: integer; begin cycle x := x + 1 end end.";
+
+// Process 2 is delayed for good, in the round after the one in which it was started.
+const STUCK: &str = "type m = monitor; var q: queue;
+      procedure entry e; begin delay(q) end;
+    begin end;
+    p = process(x: m); begin x.e end;
+    var k: m; a: p; begin init k, a(k) end.";
+
+fn until_still<R: Threads + Wait + Sync>(
+    rt: &R,
+    machine: &mut Machine,
+    limit: u32,
+    plan: &Plan,
+) -> Result<u32, Fail> {
+    is_young(machine)?;
+    Ok(machine.run_until_still(rt, limit, plan, &Open)?)
+}
+
+// Expects a text to be still after so many rounds and no fewer, whatever the limit and the workers.
+fn expect_still<R: Abort + Threads + Wait + Sync>(
+    rt: &R,
+    alloc: Global,
+    text: &str,
+    turn: u32,
+    due: u32,
+) -> Result<(), Fail> {
+    for (workers, limit) in [(1, due), (1, due.saturating_add(1)), (3, 1_000_000)] {
+        let plan = Plan::new(turn, workers, 1, 255)?;
+        let mut machine = machine_with(alloc, text, 5, &[])?;
+        assert!(rt; !machine.is_still(), "{text}");
+        assert_eq!(rt;
+            until_still(rt, &mut machine, limit, &plan)?,
+            due,
+            "{text} {limit}"
+        );
+        assert!(rt; machine.is_still(), "{text} {limit}");
+        assert_eq!(rt; machine.rounds(), u64::from(due), "{text} {limit}");
+        assert_eq!(rt;
+            until_still(rt, &mut machine, limit, &plan)?,
+            0,
+            "{text} {limit}"
+        );
+    }
+    Ok(())
+}
+
+#[test]
+fn the_first_still_state_is_found(rt: HostRuntime) -> Result<(), Fail> {
+    expect_still(&rt, rt.alloc(), SEVENS, 10, 2)?;
+    expect_still(&rt, rt.alloc(), WAITS, 10, 5)?;
+    expect_still(&rt, rt.alloc(), STUCK, 10, 2)?;
+    expect_still(&rt, rt.alloc(), COUNTS_TO_1000, 2, 1001)
+}
+
+#[test]
+fn rounds_end_at_the_limit(rt: HostRuntime) -> Result<(), Fail> {
+    let plan = Plan::new(2, 1, 1, 255)?;
+    for (text, limit) in [
+        (NEVER_ENDS, 0),
+        (NEVER_ENDS, 1000),
+        (COUNTS_TO_1000, 1000),
+        (WAITS, 4),
+    ] {
+        let mut machine = machine_with(rt.alloc(), text, 5, &[])?;
+        assert_eq!(rt;
+            until_still(&rt, &mut machine, limit, &plan)?,
+            limit,
+            "{text}"
+        );
+        assert!(rt; !machine.is_still(), "{text}");
+        assert_eq!(rt; machine.rounds(), u64::from(limit), "{text}");
+    }
+    Ok(())
+}

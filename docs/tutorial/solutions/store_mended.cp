@@ -1,0 +1,30 @@
+"The store mended: a sleeper rests when it has left the store."
+
+type lock = monitor;
+  var sleepers: queue;
+
+  procedure entry rest;
+  begin delay(sleepers) end;
+
+  procedure entry wake;
+  begin continue(sleepers) end;
+
+  begin end;
+
+store = monitor;
+  var visits: integer;
+
+  procedure entry look;
+  begin visits := visits + 1 end;
+
+  begin visits := 0 end;
+
+sleeper = process(s: store; k: lock);
+  begin s.look; k.rest end;
+
+visitor = process(s: store; k: lock);
+  begin s.look; k.wake end;
+
+var k: lock; s: store; a: sleeper; b, c: visitor;
+
+begin init k, s, a(s, k), b(s, k), c(s, k) end.

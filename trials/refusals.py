@@ -1,0 +1,122 @@
+"""Refuses each allocation, thread start, read and write of the program in turn, on whichever thread it is made.
+
+Each call is refused alone, and then with all that come after it. A run that is refused says so, and has written nothing but perhaps
+a beginning of its report; a run that takes what it asked for elsewhere has its whole report. The tests of cp_rounds_tests that look at a
+machine after a refusal see some in the same way. refusing.c does the refusing.
+"""
+import contextlib
+import pathlib
+import subprocess
+import tempfile
+
+from running import PROGRAM, ROOT, ROUNDS, expect, expect_at_least, expect_one_of, run, wrong
+
+MEMORY = (3, b'', b'fault M\n')
+# What is refused, and the fewest refusals of each that a run and a replay have to reach.
+KINDS = ('ALLOCATION', 'THREAD', 'READ', 'WRITE')
+LEAST_OF_RUN = {'ALLOCATION': 500, 'THREAD': 1, 'READ': 400, 'WRITE': 150}
+LEAST_OF_REPLAY = {'ALLOCATION': 300, 'THREAD': 0, 'READ': 600, 'WRITE': 150}
+
+# The tests of cp_rounds_tests that look at a machine after a refusal, and the fewest times that they have to see one.
+TESTS = {'a_refused_machine_is_made_again': 10, 'a_refused_round_leaves_the_machine_as_it_was': 400, 'a_refused_run_has_made_the_rounds_before': 200}
+
+
+class Refusing:
+    """The program with refusing.c loaded. Each read and write moves one byte, so that there are many."""
+
+    def __init__(self, folder):
+        self.library, self.calls = folder / 'refusing.so', folder / 'calls'
+        subprocess.run(['cc', '-shared', '-fPIC', '-O1', '-o', self.library, ROOT / 'trials' / 'refusing.c'], check=True)
+
+    def run(self, words, program=PROGRAM, **refused):
+        """The answer of a run, how many of its calls were refused, and how many allocations were made beside the first thread."""
+        with contextlib.suppress(FileNotFoundError):
+            self.calls.unlink()
+        settings = {name: str(value) for name, value in refused.items()}
+        found = run(words, {'LD_PRELOAD': str(self.library), 'CALLS': str(self.calls), 'ONE_BYTE': '1', **settings}, program=program)
+        # A run that a signal ends leaves no counts.
+        counts = self.calls.read_text().split() if self.calls.exists() else ['0'] * 7
+        return found, int(counts[4]), int(counts[6])
+
+
+def is_cut(found, due):
+    """Whether an answer says that a write failed, and what was written is a beginning of the report but not the whole."""
+    status, out, error = found
+    return (status, error) == (4, b'fault I2\n') and len(out) < len(due) and due.startswith(out)
+
+
+def judge(kind, what, found, due, answered):
+    """Notes an answer that a run with a refused call must not have. `answered` is the status of a run that isn't refused."""
+    if kind == 'READ':
+        expect(what, (found[0], found[1]), (4, b''))
+    elif kind == 'WRITE':
+        expect(f'{what} {found!r:.500}', is_cut(found, due), True)
+    elif kind == 'THREAD':
+        expect(what, found, MEMORY)
+    else:
+        # A collection that can't reserve the room that it foresees takes less.
+        expect_one_of(what, found, [MEMORY, (answered, due, b'')])
+
+
+def refuse_each(refusing, kind, words, answered, **settings):
+    """Refuses the calls of a kind one after another, until a run meets no refusal. Returns how many were refused."""
+    due = run(words)[1]
+    for number in range(1, 100_000):
+        found, refused, beside = refusing.run(words, **{f'REFUSE_{kind}': number}, **settings)
+        if not refused:
+            expect(f'no refused {kind}, {words[0]}', (found, beside), ((answered, due, b''), 0))
+            return number - 1
+        judge(kind, f'{kind} {number} {settings}', found, due, answered)
+
+
+def refuse_all(refusing, what, words, least, answered=0):
+    """Refuses the calls of each kind in turn. Returns how many of each were refused."""
+    counts = {}
+    for kind in KINDS:
+        counts[kind] = refuse_each(refusing, kind, words, answered)
+        refuse_each(refusing, kind, words, answered, FROM_THEN_ON=1)
+        expect_at_least(f'{what}: {kind}', counts[kind], least[kind])
+    return counts
+
+
+def refuse_rounds(refusing, test):
+    """Refuses the allocations and thread starts of a test in turn. Returns how many of them the machine met.
+
+    The test passes, or fails for want of memory before it has a machine.
+    """
+    met = 0
+    for kind in ('ALLOCATION', 'THREAD'):
+        for number in range(1, 100_000):
+            (status, out, error), refused, _ = refusing.run([f'refusals::{test}'], ROUNDS, **{f'REFUSE_{kind}': number})
+            seen, unmade = b'is refused' in out, b'its result gives status 1' in out + error
+            if not (status == 0 or status == 101 and unmade and not seen):
+                wrong.append(f'{test}, {kind} {number}: {status} {out} {error}')
+            met += seen
+            if not refused:
+                break
+    expect_at_least(test, met, TESTS[test])
+    return met
+
+
+def told(what, counts):
+    return (f'of {what} {counts["ALLOCATION"]} allocations, {counts["THREAD"]} thread starts, {counts["READ"]} reads '
+            f'and {counts["WRITE"]} writes')
+
+
+def refuse_in_turn(resumed):
+    """Refuses the calls of a run, a replay and an explanation. `resumed` is a text in which a process resumes another. Returns what was tried."""
+    with tempfile.TemporaryDirectory() as name:
+        folder = pathlib.Path(name)
+        refusing = Refusing(folder)
+        text, order, given = folder / 'text.cp', folder / 'order', folder / 'input'
+        text.write_text(resumed)
+        order.write_text('P1 P1 P2 P2 P3 P3 P4 P4 K1 K2 K3 K4\n' * 5)
+        given.write_bytes(b'a\x1cb')
+        plan = ['--workers', '2', '--chunk', '1', '--wave', '2']
+        ran = refuse_all(refusing, 'run', ['run', text, '--rounds', '5', '--turn', '2', *plan, '--input', given], LEAST_OF_RUN)
+        made = refuse_all(refusing, 'replay', ['replay', text, order, '--turn', '2', '--input', given], LEAST_OF_REPLAY)
+        explained = refuse_all(refusing, 'explanation', ['explain', 'rules/c4_recursion.cp'], dict.fromkeys(KINDS, 0), answered=1)
+        waves = [refuse_each(refusing, 'THREAD', ['run', 'squarers.cp', '--rounds', '5', '--workers', '4', '--wave', wave], 0) for wave in '12']
+        expect_at_least('thread starts of 4 workers', sum(waves), 3)
+        met = sum(refuse_rounds(refusing, test) for test in TESTS)
+    return '; '.join([told('a run', ran), told('a replay', made), told('an explanation', explained), f'of machines in tests {met} calls'])
