@@ -121,12 +121,13 @@ impl<'t> Site<'t> {
 
     // Adds what helps with types and numbers of arguments.
     fn push_agreement(&self, page: &mut Page, rule: Rule) -> Result<(), AllocError> {
+        if !matches!(rule, Rule::C2 | Rule::C10 | Rule::C12) {
+            return Ok(());
+        }
+        self.push_types(page)?;
+        self.push_counts(page)?;
         match rule {
-            Rule::C2 | Rule::C10 | Rule::C12 => {
-                self.push_types(page)?;
-                self.push_counts(page)?;
-                self.push_standard_callee(page)
-            }
+            Rule::C2 => self.push_standard_callee(page),
             _ => Ok(()),
         }
     }
