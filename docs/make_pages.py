@@ -1,17 +1,18 @@
 #!/usr/bin/env python3
-"""Writes the pages of `cpm explain RULE` from docs/rules.md and the texts of docs/examples/rules.
+"""Writes the pages of `cpm explain RULE` from docs/rules.md, docs/faults.md and the texts of docs/examples.
 
-A section `## C4: TITLE` has a paragraph that names a text, then *Why:* and *Mend:*. The text NAME.cp breaks the rule, and NAME.mended.cp
-doesn't. `make_pages.py` writes crates/cp_explain/src/pages.rt; `make_pages.py --unchanged` fails where that isn't what it would write.
+A section `## C4: TITLE` has a paragraph that names a text, then *Why:* and *Mend:*. The text rules/NAME.cp breaks the rule, and
+rules/NAME.mended.cp doesn't; faults/NAME.cp has the report faults/NAME.report. `make_pages.py` writes crates/cp_explain/src/pages.rt; `make_pages.py --unchanged` fails where that isn't what it would write.
 """
 import pathlib, re, sys, textwrap
 
 DOCS = pathlib.Path(__file__).resolve().parent
-EXAMPLES = DOCS / 'examples' / 'rules'
+EXAMPLES = DOCS / 'examples'
 TARGET = DOCS.parent / 'crates' / 'cp_explain' / 'src' / 'pages.rt'
-HEAD = '''//! The pages of `explain RULE`, written by `docs/make_pages.py` from docs/rules.md and its examples.
+HEAD = '''//! The pages of `explain RULE`, written by `docs/make_pages.py` from docs/rules.md, docs/faults.md and
+//! their examples.
 
-/// A page: the rule, and what is told of it.
+/// A page: the rule or the fault, and what is told of it.
 #[derive(Clone, Copy)]
 pub struct RulePage {
     pub rule: &'static str,
@@ -33,6 +34,20 @@ def indented(text):
     return textwrap.indent(text, '  ')
 
 
+def refused(name, line, words):
+    """What a page tells of a text that breaks a rule."""
+    text = wrapped(f'This text is {line}: {plain(words)}') + '\n' + indented((EXAMPLES / 'rules' / f'{name}.cp').read_text())
+    return text + '\nMended:\n\n' + indented((EXAMPLES / 'rules' / f'{name}.mended.cp').read_text())
+
+
+def stopped(name, command, words):
+    """What a page tells of a text that a fault stops."""
+    text = wrapped(f'In this text: {plain(words)}') + '\n' + indented((EXAMPLES / 'faults' / f'{name}.cp').read_text())
+    verb, options = command.split(maxsplit=1)
+    report = (EXAMPLES / 'faults' / f'{name}.report').read_text()
+    return text + f'\n`cpm {verb} {name}.cp {options}` reports:\n\n' + indented(report)
+
+
 def page(rule, title, body):
     """The page of a section."""
     why = plain(re.search(r'\*Why:\*(.*?)\n\*Mend:\*', body, re.S).group(1))
@@ -40,10 +55,7 @@ def page(rule, title, body):
     text = f'{rule}: {title}\n\n' + wrapped(f'Why: {why}') + wrapped(f'Mend: {mend}')
     named = re.match(r'\s*`(\w+)\.cp`, `([^`]*)`: ([^\n]*(?:\n(?!\n)[^\n*]*)*)', body)
     if named:
-        name, line, words = named.groups()
-        text += '\n' + wrapped(f'This text is {line}: {plain(words)}') + '\n'
-        text += indented((EXAMPLES / f'{name}.cp').read_text())
-        text += '\nMended:\n\n' + indented((EXAMPLES / f'{name}.mended.cp').read_text())
+        text += '\n' + (stopped if rule.startswith('F') else refused)(*named.groups())
     return text
 
 
@@ -53,11 +65,12 @@ def literal(text):
 
 
 def code():
-    sections = re.split(r'^#+ ', (DOCS / 'rules.md').read_text(), flags=re.M)
+    told = (DOCS / 'rules.md').read_text() + (DOCS / 'faults.md').read_text()
+    sections = re.split(r'^#+ ', told, flags=re.M)
     found = [re.match(r'([CSYFIO]\d+|M): ([^\n]*)\n(.*)', section, re.S) for section in sections]
     pages = [(match.group(1), page(*match.groups())) for match in found if match]
     rows = ''.join(f'    RulePage {{\n        rule: "{rule}",\n        text: {literal(text)},\n    }},\n' for rule, text in pages)
-    return f'{HEAD}\n/// One page for each rule, in the order of docs/rules.md.\npub const PAGES: [RulePage; {len(pages)}] = [\n{rows}];\n'
+    return f'{HEAD}\n/// One page for each rule and each fault, in the order of the documents.\npub const PAGES: [RulePage; {len(pages)}] = [\n{rows}];\n'
 
 
 if __name__ == '__main__':

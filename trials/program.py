@@ -63,6 +63,17 @@ def try_explanations():
     return count
 
 
+def try_faults():
+    """Runs each text that a fault stops, by the command of its section in docs/faults.md."""
+    count = 0
+    for report in sorted((EXAMPLES / 'faults').glob('*.report')):
+        text = report.with_suffix('.cp').name
+        words = re.search(rf'^`{re.escape(text)}`, `run (.*?)`', (ROOT / 'docs' / 'faults.md').read_text(), re.MULTILINE).group(1).split()
+        expect(report.name, run(['run', text, *words], folder=EXAMPLES / 'faults'), (0, report.read_bytes(), b''))
+        count += 1
+    return count
+
+
 def words_of(case, text, given, order):
     """The arguments with which the program gives the answer of a worked text, or None. Writes its input and its order to files."""
     command = case['command']
@@ -120,15 +131,20 @@ def try_exits():
     expect('a folder to explain', run(['explain', '.']), (4, b'', b". can't be read\n"))
     status, page, error = run(['explain', 'C4'])
     expect('a rule', (status, page.startswith(b'C4: '), error), (0, True, b''))
-    expect('no such rule is a file', run(['explain', 'C14'])[0], 4)
+    expect('a rule in small letters', run(['explain', 'c4']), (0, page, b''))
+    status, out, error = run(['explain', 'C14'])
+    expect('no such rule', (status, out, b'there is no rule C14: the rules are S1 to S6' in error), (2, b'', True))
+    due = (EXAMPLES / 'rules' / 'c4_recursion.explanation').read_bytes()
+    expect('no graph', run(['explain', 'c4_recursion.cp', '--dot'], folder=EXAMPLES / 'rules'), (1, b'', due))
     expect('standard input', run(['check', '-']), (1, b'', b'refused Y2 at 0\n'))
 
 
 def main():
     cases = worked()
     examples, orders, rules, explained, answers = try_examples(), try_orders(), try_rules(), try_explanations(), try_worked(cases)
+    faults = try_faults()
     for what, count, least in [('examples', examples, 11), ('orders', orders, 3), ('refused texts', rules, 21),
-                               ('explanations', explained, 20), ('worked texts', answers, 500)]:
+                               ('explanations', explained, 20), ('faults', faults, 9), ('worked texts', answers, 500)]:
         expect_at_least(what, count, least)
     try_exits()
     refused = refuse_in_turn(next(case['text'] for case in cases if case['name'] == RESUMED))
@@ -136,7 +152,7 @@ def main():
     for line in wrong:
         print(line)
     if wrong or '--quiet' not in sys.argv:
-        print(f'{examples} examples, {orders} orders, {rules} refused texts, {explained} explanations, {answers} worked texts; '
+        print(f'{examples} examples, {orders} orders, {rules} refused texts, {explained} explanations, {faults} faults, {answers} worked texts; '
               f'refused in turn: {refused}; {hurt} runs on what is made to hurt; {len(wrong)} wrong')
     return 1 if wrong else 0
 

@@ -13,7 +13,7 @@ use cp_execute::replaying::Replay;
 use cp_execute::running::Run;
 use cp_execute::until_still::UntilStill;
 use cp_explain::graph::Form;
-use cp_explain::rules::rule_page;
+use cp_explain::rules::{ALL, is_like_rule, rule_page};
 use cp_private::turn::Turn;
 use cp_rounds::plan::Plan;
 use cp_rounds::tick::Tick;
@@ -202,6 +202,14 @@ fn out_of_range(alloc: Global, grammar: &mut clap::Command<'_>, range: OutOfRang
     }
 }
 
+// The error for a word that looks like the name of a rule, and is none.
+fn no_rule(alloc: Global, grammar: &mut clap::Command<'_>, word: &str) -> CommandError {
+    match format!(in alloc; "there is no rule {word}: {ALL}") {
+        Ok(text) => usage_error(grammar, ErrorKind::ValueValidation, text.as_str()),
+        Err(_) => CommandError::Memory,
+    }
+}
+
 /// Parses the words of a command line, the first of which is the program's name. If there are no
 /// others, the command is to run the text of standard input for 2 rounds.
 ///
@@ -314,6 +322,9 @@ fn read_matches<'a>(
         return Ok(Command::Check { file });
     }
     if name == "explain" {
+        if rule_page(file).is_none() && is_like_rule(file) {
+            return Err(no_rule(alloc, grammar, file));
+        }
         return Ok(explain(file, matches.get_flag("dot")));
     }
     if name == "outcome" {

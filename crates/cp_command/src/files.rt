@@ -12,7 +12,7 @@ use cp_execute::refusal::{Refusal, exit_of};
 use cp_execute::replaying::Replay;
 use cp_execute::running::Run;
 use cp_execute::until_still::UntilStill;
-use cp_explain::explain::explain_text;
+use cp_explain::explain::{draw_text, explain_text};
 use cp_explain::graph::Form;
 use cp_outcome::verdict::Verdict;
 use cp_rounds::gate::Open;
@@ -253,16 +253,23 @@ fn replay_file<H: Files + Input + Print>(
     }
 }
 
-// Explains the text of a reader, and returns the exit status.
-fn explain_from<'a, H: Print, R: Read>(
+// Explains the text of a reader, and returns the exit status. Where a graph for Graphviz is wanted,
+// standard output has nothing else.
+fn explain_from<'a, H: Print, R: Read, E: Write>(
     rt: &H,
     alloc: Global,
     file: &'a str,
     text: &mut R,
     form: Form,
+    errors: &mut E,
 ) -> Result<u8, Failure<'a>> {
     let mut out = io::writer(rt);
-    let explained = match explain_text(alloc, file.as_bytes(), text, form, &mut out) {
+    let name = file.as_bytes();
+    let answer = match form {
+        Form::Lines => explain_text(alloc, name, text, form, &mut out),
+        Form::Dot => draw_text(alloc, name, text, &mut out, errors),
+    };
+    let explained = match answer {
         Ok(explained) => explained,
         Err(Refusal::Read) => return Err(Failure::Unread { file }),
         Err(refusal) => return Err(Failure::Refused(refusal)),
@@ -271,15 +278,16 @@ fn explain_from<'a, H: Print, R: Read>(
     Ok(explained.as_ref().map_or(0, exit_of))
 }
 
-fn explain_file<'a, H: Files + Input + Print>(
+fn explain_file<'a, H: Files + Input + Print, E: Write>(
     rt: &H,
     alloc: Global,
     file: &'a str,
     form: Form,
+    errors: &mut E,
 ) -> Result<u8, Failure<'a>> {
     match file {
-        STANDARD_INPUT => explain_from(rt, alloc, file, &mut rt.reader(), form),
-        _ => explain_from(rt, alloc, file, &mut open_text(rt, file)?, form),
+        STANDARD_INPUT => explain_from(rt, alloc, file, &mut rt.reader(), form, errors),
+        _ => explain_from(rt, alloc, file, &mut open_text(rt, file)?, form, errors),
     }
 }
 
@@ -292,22 +300,23 @@ fn print_page<H: Print>(rt: &H, page: &str) -> Result<(), Refusal> {
 }
 
 /// Carries out a command, and returns the exit status: 0, or that of a refusal that was explained
-/// or of a verdict.
-/// Opens the text, then the input and then the order before it reads any of them, and prints the result to standard
-/// output, which it flushes.
+/// or of a verdict. Opens the text, then the input and then the order before it reads any of them,
+/// and prints the result to standard output, which it flushes. An explanation in place of a graph for
+/// Graphviz is written to `errors`.
 ///
 /// # Errors
 ///
 /// I1 if a file can't be opened, `Unopened` or `Unread` for the file of `explain`, and the refusals
 /// of [`execute`], [`execute_outcome`], [`execute_order`] and [`explain_text`].
-pub fn perform<'a, H: Files + Input + Print + Threads + Wait + Sync>(
+pub fn perform<'a, H: Files + Input + Print + Threads + Wait + Sync, E: Write>(
     rt: &H,
     alloc: Global,
     command: &Command<'a>,
+    errors: &mut E,
 ) -> Result<u8, Failure<'a>> {
     match *command {
         Command::Check { file } => check(rt, alloc, file)?,
-        Command::Explain { file, form } => return explain_file(rt, alloc, file, form),
+        Command::Explain { file, form } => return explain_file(rt, alloc, file, form, errors),
         Command::ExplainRule { page } => print_page(rt, page)?,
         Command::Run { file, run, input } => run_file(rt, alloc, file, input, run)?,
         Command::Outcome { file, how, input } => {

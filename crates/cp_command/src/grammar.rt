@@ -1,4 +1,4 @@
-//! The grammar of the command line, for clap.
+//! The grammar of the command line: the commands, their arguments and their options.
 
 use clap::{Arg, ArgAction};
 use std::alloc::{AllocError, Global};
@@ -20,9 +20,9 @@ fn check_words<'a>(alloc: Global) -> Result<clap::Command<'a>, AllocError> {
 }
 
 fn explain_words<'a>(alloc: Global) -> Result<clap::Command<'a>, AllocError> {
-    let what = Arg::new(alloc, "FILE")
-        .required(true)
-        .help("the text, - for standard input, or a rule such as C4");
+    let what = Arg::new(alloc, "FILE").required(true).help(
+        "the text, - for standard input, or a rule or fault such as C4 or F3",
+    );
     let dot = Arg::new(alloc, "dot")
         .long("dot")
         .action(ArgAction::SetTrue)

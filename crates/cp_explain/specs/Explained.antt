@@ -10,7 +10,7 @@ use Rattle.cp_execute.specs.Refusals.{scan_number}
 use Rattle.cp_execute.specs.Texts.{IsAccepted, Refuses}
 use Rattle.cp_execute.specs.declared.refusal.Refusal.{Refusal}
 use Rattle.cp_execute.specs.declared.refusal.Refusal.TheVariants as refusal
-use Rattle.cp_explain.specs.Positions.{column_at, line_at}
+use Rattle.cp_page.specs.Positions.{column_at, line_at}
 
 -- The letter and the number of a refusal of a text, as `check` writes them.
 abbrev pub code_of : Refusal → List ℕ

@@ -11,14 +11,15 @@ ghost use Rattle.cp_execute.specs.declared.refusal.Refusal.TheVariants as refusa
 ghost use Rattle.cp_explain.specs.Explained.{Begins, Explains, Wrote, code_of, heading, place_of};
 
 use crate::graph::{Form, graph};
-use crate::page::Page;
-use crate::position::Position;
-use crate::told::{of_no_tree, of_violation};
+use crate::told::of_no_tree;
+use cp_diagnosis::of_violation;
 use cp_execute::checking::tree_of;
 use cp_execute::reading::{ReadError, read_text};
 use cp_execute::refusal::{Refusal, scan_number};
 use cp_execute::writing::write_all;
 use cp_model::tree::Tree;
+use cp_page::page::Page;
+use cp_page::position::Position;
 use cp_rules::text::{RuleError, judge};
 use std::alloc::{AllocError, Global};
 use std::io::{Read, Write};
@@ -157,6 +158,41 @@ fn read<R: Read>(alloc: Global, text: &mut R) -> Result<Vec<u8>, Refusal>
         Ok(bytes) => Ok(bytes),
         Err(ReadError::Read) => Err(Refusal::Read),
         Err(ReadError::Memory) => Err(Refusal::Memory),
+    }
+}
+
+/// Draws the access graph of the text of a reader, or explains why it is refused. The graph goes to
+/// `out`, as a graph for Graphviz, and an explanation to `errors`. Returns why the text is refused,
+/// unless it is accepted.
+///
+/// # Errors
+///
+/// I1 if a read fails, M if memory runs out, and I2 if a write fails.
+pub fn draw_text<R: Read, W: Write, E: Write>(
+    alloc: Global,
+    file: &[u8],
+    text: &mut R,
+    out: &mut W,
+    errors: &mut E,
+) -> Result<Option<Refusal>, Refusal>
+    ensures drawn { IfOk result
+        (λ e. (e ≡ None)
+        → Wrote file.now (R.remaining text.old) e (W.contents out.old) (W.contents out.new)) }
+    ensures explained { IfOk result
+        (λ e. (e ≡ None → ⊥)
+        → Wrote file.now (R.remaining text.old) e (E.contents errors.old)
+        (E.contents errors.new)) }
+    ensures fault { IfErr result IsFault }
+{
+    let bytes = read(alloc, text)?;
+    let Explanation { page, refusal } = explain(alloc, file, &bytes, Form::Dot)?;
+    let written = match refusal {
+        None => write_all(out, page.as_bytes()),
+        Some(_) => write_all(errors, page.as_bytes()),
+    };
+    match written {
+        Ok(()) => Ok(refusal),
+        Err(_) => Err(Refusal::Write),
     }
 }
 

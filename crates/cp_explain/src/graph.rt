@@ -1,12 +1,12 @@
 //! The access graph of an accepted text: its components, and which of them has a right to which, as
 //! `init` hands the rights over.
 
-use crate::components::{Component, Components, Systems};
-use crate::page::Page;
+use cp_declared::components::{Component, Components, Systems};
 use cp_model::tree::{
     Arm, Defined, Expression, Identifier, InitItem, Section, Sort, Statement, System, Tree,
     TypeDefinition,
 };
+use cp_page::page::Page;
 use std::alloc::{AllocError, Global};
 
 /// How a graph is written.

@@ -1,14 +1,15 @@
-//! The pages of `explain RULE`, written by `docs/make_pages.py` from docs/rules.md and its examples.
+//! The pages of `explain RULE`, written by `docs/make_pages.py` from docs/rules.md, docs/faults.md and
+//! their examples.
 
-/// A page: the rule, and what is told of it.
+/// A page: the rule or the fault, and what is told of it.
 #[derive(Clone, Copy)]
 pub struct RulePage {
     pub rule: &'static str,
     pub text: &'static str,
 }
 
-/// One page for each rule, in the order of docs/rules.md.
-pub const PAGES: [RulePage; 28] = [
+/// One page for each rule and each fault, in the order of the documents.
+pub const PAGES: [RulePage; 37] = [
     RulePage {
         rule: "C1",
         text: "C1: a name is declared before it is used, and once\n\nWhy: an undeclared name is a slip, and a name that hides another misleads the\nreader; so names are declared first, and none hides another.\nMend: spell the name as it is declared, or declare it. If it is declared\ntwice, rename one of the two.\n\nThis text is refused C1 at 89: the cycle assigns `totl`, which nobody\ndeclared.\n\n  \"A counter that misspells its variable.\"\n  var total: integer;\n  begin\n    total := 0;\n    cycle totl := total + 1 end\n  end.\n\nMended:\n\n  \"A counter.\"\n  var total: integer;\n  begin\n    total := 0;\n    cycle total := total + 1 end\n  end.\n",
@@ -120,5 +121,41 @@ pub const PAGES: [RulePage; 28] = [
     RulePage {
         rule: "M",
         text: "M: there is memory for it\n\nWhy: running out of memory is reported, and nothing is lost.\nMend: free some, or raise the limit (`ulimit -v`).\n",
+    },
+    RulePage {
+        rule: "F1",
+        text: "F1: a value is in the range of its type\n\nWhy: a subrange says which values a variable has, so that a slip shows where\nit happens, and not later, where the value is used.\nMend: test the value before it is assigned, as in `if d < 9 then d := d + 1`;\ncount round by `mod`, as in `d := (d + 1) mod 10`; or declare a wider\nsubrange. `succ` of a last value, `pred` of a first one and `chr` beyond 0 to\n127 are this fault too.\n\nIn this text: `d` has the values 0 to 9, and the second assignment gives it\n10.\n\n  \"A digit that counts one step too far.\"\n  var d: 0..9;\n  begin\n    d := 9;\n    d := d + 1\n  end.\n\n`cpm run f1_beyond_the_subrange.cp --rounds 2` reports:\n\n  rounds 2\n  process 1 initial fault 1\n  out ''\n  var d = 9\n",
+    },
+    RulePage {
+        rule: "F2",
+        text: "F2: an index is within the bounds of its array\n\nWhy: beyond the last element lie other variables, which the text doesn't name\nthere.\nMend: let the loop end at the last bound. If both are one constant, as in\n`array [1..size]` and `for i := 1 to size`, they can't differ.\n\nIn this text: the array has the elements 1 to 3, and `i` comes to 4.\n\n  \"A loop that runs past the end of an array.\"\n  var v: array [1..3] of integer; i: integer;\n  begin\n    for i := 1 to 4 do v[i] := i\n  end.\n\n`cpm run f2_beyond_the_array.cp --rounds 2` reports:\n\n  rounds 2\n  process 1 initial fault 2\n  out ''\n  var v[1] = 1\n  var v[2] = 2\n  var v[3] = 3\n  var i = 4\n",
+    },
+    RulePage {
+        rule: "F3",
+        text: "F3: arithmetic stays within the integers\n\nWhy: integers are -32768 to 32767. A result that begins anew at the other end\nwould be wrong and go unseen.\nMend: test before the operation, as in `if x < 32767 then x := x + 1`; count\nin larger units; or keep a great number in two variables, its thousands and\nthe rest.\n\nIn this text: 32767 + 1 is no integer.\n\n  \"One more than the greatest integer.\"\n  var x: integer;\n  begin\n    x := 32767;\n    x := x + 1\n  end.\n\n`cpm run f3_too_large.cp --rounds 2` reports:\n\n  rounds 2\n  process 1 initial fault 3\n  out ''\n  var x = 32767\n",
+    },
+    RulePage {
+        rule: "F4",
+        text: "F4: a divisor isn't zero\n\nWhy: there is no quotient by 0, and no remainder.\nMend: test the divisor first: `if count > 0 then display(sum div count)`. `&`\ndoesn't help, since it evaluates both sides.\n\nIn this text: `count` is 0.\n\n  \"The mean of no numbers.\"\n  var sum, count: integer;\n  begin\n    sum := 10; count := 0;\n    display(sum div count)\n  end.\n\n`cpm run f4_nothing_counted.cp --rounds 2` reports:\n\n  rounds 2\n  process 1 initial fault 4\n  out ''\n  var sum = 10\n  var count = 0\n",
+    },
+    RulePage {
+        rule: "F5",
+        text: "F5: a queue has one process\n\nWhy: `continue(q)` lets one process go on, so a queue has one, and the text\nsays by its queues which process goes on first.\nMend: keep an array of queues, and delay each process in a queue of its own;\nor test `empty(q)` first.\n\nIn this text: `a` waits in `door` when `b` comes to wait there. `b` keeps the\ngate.\n\n  \"Two guests that wait in one queue.\"\n  type house = monitor;\n    var door: queue;\n    procedure entry enter; begin delay(door) end;\n    begin end;\n  guest = process(h: house);\n    begin h.enter end;\n  var h: house; a, b: guest;\n  begin\n    init h, a(h), b(h)\n  end.\n\n`cpm run f5_two_in_a_queue.cp --rounds 5` reports:\n\n  rounds 5\n  process 1 initial ended\n  out ''\n  process 2 a delayed h door\n  out ''\n  process 3 b fault 5\n  out ''\n  monitor h held 3 askers -\n  queue door = 2\n",
+    },
+    RulePage {
+        rule: "F6",
+        text: "F6: a component is initialised before it is called\n\nWhy: before its body has run, the variables of a component have no meaning\nyet.\nMend: `init` it before the first call, and before it is handed to another\ncomponent: `init c; c.add`. A class is initialised by the component that\ndeclares it.\n\nIn this text: `c` is called, and no `init c` stands before it.\n\n  \"A counter that is called before it is initialised.\"\n  type counter = monitor;\n    var n: integer;\n    procedure entry add; begin n := n + 1 end;\n    begin n := 0 end;\n  var c: counter;\n  begin\n    c.add\n  end.\n\n`cpm run f6_without_init.cp --rounds 2` reports:\n\n  rounds 2\n  process 1 initial fault 6\n  out ''\n  monitor c unset askers -\n  var n = 0\n",
+    },
+    RulePage {
+        rule: "F7",
+        text: "F7: a component is initialised once\n\nWhy: others may use the component already, and its rights would change under\ntheir hands. Also a loop with an `init` in it does it again.\nMend: write an entry procedure that sets the variables anew, and call that:\n`t.reset`.\n\nIn this text: `init t` stands twice.\n\n  \"A timer that is initialised again to set it back.\"\n  type timer = class;\n    var ticks: integer;\n    begin ticks := 0 end;\n  var t: timer;\n  begin\n    init t;\n    init t\n  end.\n\n`cpm run f7_init_twice.cp --rounds 2` reports:\n\n  rounds 2\n  process 1 initial fault 7\n  out ''\n  var t.ticks = 0\n",
+    },
+    RulePage {
+        rule: "F8",
+        text: "F8: a `case` has an arm for the value\n\nWhy: what should happen for another value isn't said, and doing nothing might\nbe wrong.\nMend: add the label, if need be with an empty statement, or test first: `if\nday <= 2 then case day of 1: display('m'); 2: display('t') end`.\n\nIn this text: `day` is 3, and the labels are 1 and 2.\n\n  \"A day for which there is no arm.\"\n  var day: integer;\n  begin\n    day := 3;\n    case day of\n      1: display('m');\n      2: display('t')\n    end\n  end.\n\n`cpm run f8_no_arm.cp --rounds 2` reports:\n\n  rounds 2\n  process 1 initial fault 8\n  out ''\n  var day = 3\n",
+    },
+    RulePage {
+        rule: "F9",
+        text: "F9: a function sets its result\n\nWhy: the value of the call would be anything.\nMend: assign to the function's name on every way through its body; first of\nall, for instance: `sign := 0`.\n\nIn this text: `sign(0)` assigns nothing to `sign`.\n\n  \"A sign that isn't told of zero.\"\n  function sign(n: integer): integer;\n  begin\n    if n > 0 then sign := 1;\n    if n < 0 then sign := -1\n  end;\n  begin\n    display(sign(5));\n    display(sign(0))\n  end.\n\n`cpm run f9_no_result.cp --rounds 2` reports:\n\n  rounds 2\n  process 1 initial fault 9\n  out '1'\n",
     },
 ];

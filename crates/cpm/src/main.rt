@@ -50,7 +50,7 @@ fn main(rt: HostRuntime) -> ExitCode {
         Err(CommandError::Memory) => return report_refusal(&rt, Refusal::Memory),
         Err(error) => return report_misuse(&rt, &error),
     };
-    match perform(&rt, rt.alloc(), &command) {
+    match perform(&rt, rt.alloc(), &command, &mut rt.stderr()) {
         Ok(status) => ExitCode::from(status),
         Err(failure) => report_failure(&rt, &failure),
     }

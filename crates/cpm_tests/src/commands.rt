@@ -53,7 +53,7 @@ fn check_takes_a_file(rt: HostRuntime) {
 }
 
 #[test]
-fn explain_takes_a_file_or_a_rule(rt: HostRuntime) {
+fn explain_takes_a_file_or_a_rule(rt: HostRuntime) -> Result<(), Fail> {
     match read_command(rt.alloc(), &["cpm", "explain", "a.cp", "--dot"]) {
         Ok(Command::Explain { file, form }) => {
             assert!(rt; file == "a.cp" && form == Form::Dot);
@@ -64,16 +64,33 @@ fn explain_takes_a_file_or_a_rule(rt: HostRuntime) {
         Ok(Command::ExplainRule { page }) => assert!(rt; page.starts_with("C4: ")),
         _ => panic!(rt; "a page"),
     }
-    match read_command(rt.alloc(), &["cpm", "explain", "C14"]) {
-        Ok(Command::Explain { file, .. }) => assert!(rt; file == "C14"),
+    match read_command(rt.alloc(), &["cpm", "explain", "c4"]) {
+        Ok(Command::ExplainRule { page }) => assert!(rt; page.starts_with("C4: ")),
+        _ => panic!(rt; "a page"),
+    }
+    for word in ["C14", "f10"] {
+        match read_command(rt.alloc(), &["cpm", "explain", word]) {
+            Err(CommandError::Usage(error)) => {
+                let text = format!(in rt.alloc(); "{error}")?;
+                let told = format!(in rt.alloc();
+                    "there is no rule {word}: the rules are S1 to S6"
+                )?;
+                assert!(rt; text.contains(told.as_str()));
+            }
+            _ => panic!(rt; "no rule"),
+        }
+    }
+    match read_command(rt.alloc(), &["cpm", "explain", "C14.cp"]) {
+        Ok(Command::Explain { file, .. }) => assert!(rt; file == "C14.cp"),
         _ => panic!(rt; "a file"),
     }
+    Ok(())
 }
 
 #[test]
 fn a_file_that_cannot_be_opened_is_told(rt: HostRuntime) {
     match read_command(rt.alloc(), &["cpm", "explain", "nowhere.cp"]) {
-        Ok(command) => match perform(&rt, rt.alloc(), &command) {
+        Ok(command) => match perform(&rt, rt.alloc(), &command, &mut Vec::new(rt.alloc())) {
             Err(Failure::Unopened { file, .. }) => assert!(rt; file == "nowhere.cp"),
             _ => panic!(rt; "a failure"),
         },
@@ -260,7 +277,7 @@ fn files_are_opened_before_they_are_read(rt: HostRuntime) {
         ),
     ] {
         match read_command(rt.alloc(), words) {
-            Ok(command) => match perform(&rt, rt.alloc(), &command) {
+            Ok(command) => match perform(&rt, rt.alloc(), &command, &mut Vec::new(rt.alloc())) {
                 Err(Failure::Refused(found)) => assert!(rt; found == refusal),
                 _ => panic!(rt; "a refusal"),
             },

@@ -7,9 +7,9 @@ use super::streams::{Narrow, Slow};
 use cp_execute::refusal::Refusal;
 use cp_explain::explain::explain_text;
 use cp_explain::graph::Form;
-use cp_explain::position::Position;
 use cp_explain::rules::rule_page;
 use cp_model::rules::Rule;
+use cp_page::position::Position;
 use std::alloc::{AllocError, Global};
 use std::test::Fail;
 
@@ -148,33 +148,13 @@ fn a_name_of_the_initial_process_is_told(rt: HostRuntime) {
 }
 
 #[test]
-fn excerpts_show_any_line(rt: HostRuntime) -> Result<(), Fail> {
+fn the_end_of_a_text_is_shown(rt: HostRuntime) {
     // The end of a text, on the line after the last line feed.
     let (_, out) = explain(rt.alloc(), b"begin\n", Form::Lines);
     assert!(rt;
         out.as_slice()
             .starts_with(b"t.cp:2:1: Y2: the text ends too soon\n  2 | \n    | ^\n")
     );
-    // A tab takes one column, and is shown as its byte.
-    let (_, out) = explain(rt.alloc(), b"\tbegin\tx := 1 end.", Form::Lines);
-    assert!(rt;
-        out.as_slice().starts_with(
-            b"t.cp:1:8: C1: `x` is not declared\n  1 | \\09begin\\09x := 1 end.\n    |            ^\n"
-        )
-    );
-    // Of a longer line only 100 bytes are shown, 60 of them before the place.
-    let text = repeat(rt.alloc(), b"begin", b" ", 200, b"x := 1 end.")?;
-    let (_, out) = explain(rt.alloc(), &text, Form::Lines);
-    let shown = repeat(
-        rt.alloc(),
-        b"t.cp:1:206: C1: `x` is not declared\n  1 | ",
-        b" ",
-        60,
-        b"x := 1 end.\n    | ",
-    )?;
-    let shown = repeat(rt.alloc(), &shown, b" ", 60, b"^\n")?;
-    assert!(rt; out.as_slice().starts_with(&shown));
-    Ok(())
 }
 
 #[test]
@@ -253,13 +233,15 @@ in sender: l -> s
 
 #[test]
 fn rules_have_pages(rt: HostRuntime) {
-    for rule in ["C1", "C13", "S6", "Y3", "I4", "O1", "M"] {
+    for rule in ["C1", "C13", "S6", "Y3", "I4", "O1", "M", "F1", "F9"] {
         match rule_page(rule) {
             Some(page) => assert!(rt; page.starts_with(rule)),
             None => panic!(rt; "a page"),
         }
     }
-    assert!(rt; rule_page("C14").is_none() && rule_page("F1").is_none() && rule_page("").is_none());
+    assert!(rt;
+        rule_page("C14").is_none() && rule_page("F10").is_none() && rule_page("").is_none()
+    );
 }
 
 #[test]

@@ -23,7 +23,7 @@ pub const ROWS: [Row; 61] = [
     Row {
         text: "var c: char; begin c := @'ok' end.",
         rule: "S3",
-        message: "this is not a character constant",
+        message: "this is not a character constant: there are no strings",
     },
     Row {
         text: "begin display(@40000) end.",
@@ -38,7 +38,7 @@ pub const ROWS: [Row; 61] = [
     Row {
         text: "begin display(1) @display(2) end.",
         rule: "Y1",
-        message: "unexpected token",
+        message: "unexpected `display`: a `;` is missing before it",
     },
     Row {
         text: "begin display(1)@",

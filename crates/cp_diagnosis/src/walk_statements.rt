@@ -1,0 +1,132 @@
+//! The walk over statements.
+
+use crate::finder::Finder;
+use crate::site::{Call, Mark, NameRole, Pair, Purpose};
+use crate::walk_declarations::constant_place;
+use cp_model::tree::{Arm, Constant, Expression, InitItem, Statement};
+
+impl<'t> Finder<'t> {
+    #[cycle(statements)]
+    pub(crate) fn statements(&mut self, list: &'t [Statement]) {
+        for s in list {
+            self.statement(s);
+        }
+    }
+
+    #[cycle(statements)]
+    fn statement(&mut self, s: &'t Statement) {
+        match s {
+            Statement::Empty => {}
+            Statement::Assign { target, at, value } => {
+                self.designator(target, NameRole::Target, Call::No);
+                self.mark(*at, Mark::Becomes);
+                self.pair(*at, Pair::Sides(target, value));
+                self.expression(value);
+            }
+            Statement::Call(d, list) => {
+                self.designator(
+                    d,
+                    NameRole::Procedure(list.len()),
+                    Call::Procedure(list.len()),
+                );
+                self.purposes(d, list);
+                self.expressions(list);
+            }
+            Statement::Compound(list) | Statement::Cycle(list) => self.statements(list),
+            Statement::Init { at, items } => {
+                self.mark(*at, Mark::Init);
+                self.items(items);
+            }
+            Statement::For {
+                variable,
+                from,
+                last,
+                body,
+                ..
+            } => {
+                self.name(variable, NameRole::Counter);
+                self.expression_for(from, Purpose::Bound(variable));
+                self.expression_for(last, Purpose::Bound(variable));
+                self.statement(body);
+            }
+            _ => self.control_statement(s),
+        }
+    }
+
+    // Walks over a statement that tests a value.
+    #[cycle(statements)]
+    fn control_statement(&mut self, s: &'t Statement) {
+        match s {
+            Statement::If { condition, then } => {
+                self.expression_for(condition, Purpose::Condition);
+                self.statement(then);
+            }
+            Statement::IfElse {
+                condition,
+                then,
+                otherwise,
+            } => {
+                self.expression_for(condition, Purpose::Condition);
+                self.statement(then);
+                self.statement(otherwise);
+            }
+            Statement::Case { selector, arms } => {
+                self.expression_for(selector, Purpose::Selector);
+                self.selected(selector, arms);
+                self.arms(arms);
+            }
+            Statement::While { condition, body } => {
+                self.expression_for(condition, Purpose::Condition);
+                self.statement(body);
+            }
+            Statement::Repeat { body, condition } => {
+                self.statements(body);
+                self.expression_for(condition, Purpose::Condition);
+            }
+            _ => {}
+        }
+    }
+
+    #[cycle(statements)]
+    fn arms(&mut self, arms: &'t [Arm]) {
+        for arm in arms {
+            self.labels(&arm.labels);
+            self.statement(&arm.body);
+        }
+    }
+
+    fn labels(&mut self, labels: &'t [Constant]) {
+        for label in labels {
+            self.constant(label, Mark::Label);
+        }
+    }
+
+    // Records by what the labels of a `case` are selected.
+    fn selected(&mut self, selector: &'t Expression, arms: &'t [Arm]) {
+        for arm in arms {
+            self.selected_labels(selector, &arm.labels);
+        }
+    }
+
+    fn selected_labels(&mut self, selector: &'t Expression, labels: &'t [Constant]) {
+        for label in labels {
+            self.pair(constant_place(label), Pair::Label(selector, label));
+        }
+    }
+
+    fn items(&mut self, items: &'t [InitItem]) {
+        for item in items {
+            self.name(&item.component, NameRole::Component(item.arguments.len()));
+            self.init_arguments(item);
+        }
+    }
+
+    fn init_arguments(&mut self, item: &'t InitItem) {
+        for number in 0..item.arguments.len() {
+            self.expression_for(
+                &item.arguments[number],
+                Purpose::InitArgument(&item.component, number),
+            );
+        }
+    }
+}

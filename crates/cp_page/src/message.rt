@@ -1,0 +1,82 @@
+//! Messages: what is wrong and how to mend it, and the names that they tell of.
+
+use crate::excerpt::excerpt;
+use crate::page::Page;
+use crate::position::Position;
+use std::alloc::AllocError;
+
+/// What is wrong, and how to fix it. `$` and `%` stand for the names that it tells of.
+#[derive(Clone, Copy, Debug, PartialEq, Eq)]
+pub struct Message {
+    pub head: &'static str,
+    pub advice: &'static str,
+}
+
+/// The names that a message tells of: `$` stands for the first, and `%` for the second.
+#[derive(Clone, Copy, Debug)]
+pub struct About<'a> {
+    pub name: Option<&'a [u8]>,
+    pub other: Option<&'a [u8]>,
+}
+
+impl<'a> About<'a> {
+    /// The names of a message that has none.
+    pub const NOTHING: About<'static> = About {
+        name: None,
+        other: None,
+    };
+}
+
+impl Page {
+    // Adds one byte of a message.
+    fn message_byte(&mut self, byte: u8, about: About<'_>) -> Result<(), AllocError> {
+        match (byte, about.name, about.other) {
+            (b'$', Some(name), _) => self.bytes(name),
+            (b'%', _, Some(other)) => self.bytes(other),
+            _ => self.bytes(&[byte]),
+        }
+    }
+
+    /// Adds a text, with its `$` and `%` replaced by the names that they stand for.
+    pub fn template(&mut self, text: &str, about: About<'_>) -> Result<(), AllocError> {
+        for byte in text.as_bytes() {
+            self.message_byte(*byte, about)?;
+        }
+        Ok(())
+    }
+
+    /// Adds the end of the first line, the line of the place, and the advice.
+    pub fn place_and_advice(
+        &mut self,
+        text: &[u8],
+        at: usize,
+        advice: &str,
+        about: About<'_>,
+    ) -> Result<(), AllocError> {
+        self.bytes(b"\n")?;
+        excerpt(self, text, at, Position::of(text, at))?;
+        self.bytes(b"  ")?;
+        self.template(advice, about)
+    }
+
+    /// Adds a message, with the line of the place.
+    pub fn message(
+        &mut self,
+        text: &[u8],
+        at: usize,
+        message: Message,
+        about: About<'_>,
+    ) -> Result<(), AllocError> {
+        self.template(message.head, about)?;
+        self.place_and_advice(text, at, message.advice, about)?;
+        self.bytes(b"\n")
+    }
+
+    /// Adds a hint to the page that explains a rule, by its letter and number.
+    pub fn hint(&mut self, letter: &str, number: u8) -> Result<(), AllocError> {
+        self.text("  `cpm explain ")?;
+        self.text(letter)?;
+        self.number(usize::from(number))?;
+        self.text("` says more.\n")
+    }
+}

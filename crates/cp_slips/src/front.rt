@@ -1,0 +1,104 @@
+//! The tokens around a place.
+
+use cp_model::token::{Kind, Symbol, Token};
+
+/// The tokens of a text, and the number of the one at the place. After the last token it is their
+/// count.
+#[derive(Clone, Copy)]
+pub struct Front<'t> {
+    pub text: &'t [u8],
+    pub tokens: &'t [Token],
+    pub index: usize,
+}
+
+/// Whether a token is this symbol.
+pub fn is_symbol(kind: Option<&Kind>, symbol: Symbol) -> bool {
+    match kind {
+        Some(Kind::Symbol(seen)) => *seen == symbol,
+        _ => false,
+    }
+}
+
+/// Whether a token is a name.
+pub fn is_name(kind: Option<&Kind>) -> bool {
+    matches!(kind, Some(Kind::Name(_)))
+}
+
+/// Whether a token is a number.
+pub fn is_number(kind: Option<&Kind>) -> bool {
+    matches!(kind, Some(Kind::Number(_)))
+}
+
+/// The letters of a name, or none if a token isn't one.
+pub fn letters(kind: Option<&Kind>) -> &[u8] {
+    match kind {
+        Some(Kind::Name(name)) => name.as_bytes(),
+        _ => b"",
+    }
+}
+
+/// The bytes of a text from one place to another, as far as it has them.
+pub fn part(text: &[u8], from: usize, to: usize) -> &[u8] {
+    let to = to.min(text.len());
+    &text[from.min(to)..to]
+}
+
+impl<'t> Front<'t> {
+    /// The token that stands `count` tokens after the one at the place.
+    pub fn token(&self, count: usize) -> Option<&'t Token> {
+        self.tokens.get(self.index.saturating_add(count))
+    }
+
+    /// What stands `count` tokens after the place, which is its own token if `count` is 0.
+    pub fn after(&self, count: usize) -> Option<&'t Kind> {
+        Some(&self.token(count)?.kind)
+    }
+
+    /// What stands `count` tokens before the place.
+    pub fn before(&self, count: usize) -> Option<&'t Kind> {
+        let token = self.tokens.get(self.index.checked_sub(count)?)?;
+        Some(&token.kind)
+    }
+
+    /// Whether the token at the place is this symbol.
+    pub fn is_here(&self, symbol: Symbol) -> bool {
+        is_symbol(self.after(0), symbol)
+    }
+
+    /// Whether the next token is this symbol.
+    pub fn is_next(&self, symbol: Symbol) -> bool {
+        is_symbol(self.after(1), symbol)
+    }
+
+    /// Whether the token before the place is this symbol.
+    pub fn follows(&self, symbol: Symbol) -> bool {
+        is_symbol(self.before(1), symbol)
+    }
+
+    /// The spelling of the token at the place.
+    pub fn spelling(&self) -> Option<&'t [u8]> {
+        let token = self.token(0)?;
+        Some(part(self.text, token.span.from, token.span.to))
+    }
+
+    /// Whether a comment stands between the token before the place and the one at it.
+    pub fn follows_comment(&self) -> bool {
+        let from = match self.index.checked_sub(1) {
+            Some(number) => self.end_of(number),
+            None => 0,
+        };
+        let to = match self.token(0) {
+            Some(token) => token.span.from,
+            None => self.text.len(),
+        };
+        part(self.text, from, to).contains(&b'"')
+    }
+
+    // The place after the token with this number.
+    fn end_of(&self, number: usize) -> usize {
+        match self.tokens.get(number) {
+            Some(token) => token.span.to,
+            None => 0,
+        }
+    }
+}
