@@ -64,13 +64,17 @@ def literal(text):
     return f'"{escaped}"'
 
 
-def code():
-    told = (DOCS / 'rules.md').read_text() + (DOCS / 'faults.md').read_text()
-    sections = re.split(r'^#+ ', told, flags=re.M)
+def table(name, told, document):
+    """The constant with the pages of the sections of a document."""
+    sections = re.split(r'^#+ ', (DOCS / document).read_text(), flags=re.M)
     found = [re.match(r'([CSYFIO]\d+|M): ([^\n]*)\n(.*)', section, re.S) for section in sections]
     pages = [(match.group(1), page(*match.groups())) for match in found if match]
     rows = ''.join(f'    RulePage {{\n        rule: "{rule}",\n        text: {literal(text)},\n    }},\n' for rule, text in pages)
-    return f'{HEAD}\n/// One page for each rule and each fault, in the order of the documents.\npub const PAGES: [RulePage; {len(pages)}] = [\n{rows}];\n'
+    return f'\n/// One page for each {told}, in the order of docs/{document}.\npub const {name}: [RulePage; {len(pages)}] = [\n{rows}];\n'
+
+
+def code():
+    return HEAD + table('RULES', 'rule', 'rules.md') + table('FAULTS', 'fault', 'faults.md')
 
 
 if __name__ == '__main__':

@@ -8,8 +8,8 @@ pub struct RulePage {
     pub text: &'static str,
 }
 
-/// One page for each rule and each fault, in the order of the documents.
-pub const PAGES: [RulePage; 37] = [
+/// One page for each rule, in the order of docs/rules.md.
+pub const RULES: [RulePage; 28] = [
     RulePage {
         rule: "C1",
         text: "C1: a name is declared before it is used, and once\n\nWhy: an undeclared name is a slip, and a name that hides another misleads the\nreader; so names are declared first, and none hides another.\nMend: spell the name as it is declared, or declare it. If it is declared\ntwice, rename one of the two.\n\nThis text is refused C1 at 89: the cycle assigns `totl`, which nobody\ndeclared.\n\n  \"A counter that misspells its variable.\"\n  var total: integer;\n  begin\n    total := 0;\n    cycle totl := total + 1 end\n  end.\n\nMended:\n\n  \"A counter.\"\n  var total: integer;\n  begin\n    total := 0;\n    cycle total := total + 1 end\n  end.\n",
@@ -122,6 +122,10 @@ pub const PAGES: [RulePage; 37] = [
         rule: "M",
         text: "M: there is memory for it\n\nWhy: running out of memory is reported, and nothing is lost.\nMend: free some, or raise the limit (`ulimit -v`).\n",
     },
+];
+
+/// One page for each fault, in the order of docs/faults.md.
+pub const FAULTS: [RulePage; 9] = [
     RulePage {
         rule: "F1",
         text: "F1: a value is in the range of its type\n\nWhy: a subrange says which values a variable has, so that a slip shows where\nit happens, and not later, where the value is used.\nMend: test the value before it is assigned, as in `if d < 9 then d := d + 1`;\ncount round by `mod`, as in `d := (d + 1) mod 10`; or declare a wider\nsubrange. `succ` of a last value, `pred` of a first one and `chr` beyond 0 to\n127 are this fault too.\n\nIn this text: `d` has the values 0 to 9, and the second assignment gives it\n10.\n\n  \"A digit that counts one step too far.\"\n  var d: 0..9;\n  begin\n    d := 9;\n    d := d + 1\n  end.\n\n`cpm run f1_beyond_the_subrange.cp --rounds 2` reports:\n\n  rounds 2\n  process 1 initial fault 1\n  out ''\n  var d = 9\n",

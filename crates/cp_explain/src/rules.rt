@@ -1,6 +1,6 @@
 //! The page of a rule, or of a fault.
 
-use crate::pages::PAGES;
+use crate::pages::{FAULTS, RULES, RulePage};
 
 // The letters of rules and faults that have numbers.
 const LETTERS: &[u8] = b"SYCIOF";
@@ -29,15 +29,32 @@ fn is_name(word: &[u8], rule: &[u8]) -> bool {
     true
 }
 
-/// The page of a rule or a fault such as `C4`: what it says, the reason for it, a text that breaks
-/// it, and the text corrected. Returns `None` if there is no such rule.
-pub fn rule_page(rule: &str) -> Option<&'static str> {
-    for page in PAGES.as_slice() {
-        if is_name(rule.as_bytes(), page.rule.as_bytes()) {
+// The text of the page of these that has this name.
+fn text_of(pages: &'static [RulePage], word: &[u8]) -> Option<&'static str> {
+    for page in pages {
+        if is_name(word, page.rule.as_bytes()) {
             return Some(page.text);
         }
     }
     None
+}
+
+// The two tables are named in a function each: a proof that has the texts of both takes too long.
+fn page_of_rule(word: &[u8]) -> Option<&'static str> {
+    text_of(RULES.as_slice(), word)
+}
+
+fn page_of_fault(word: &[u8]) -> Option<&'static str> {
+    text_of(FAULTS.as_slice(), word)
+}
+
+/// The page of a rule or a fault such as `C4`: what it says, the reason for it, a text that breaks
+/// it, and the text corrected. Returns `None` if there is no such rule.
+pub fn rule_page(rule: &str) -> Option<&'static str> {
+    match page_of_rule(rule.as_bytes()) {
+        Some(page) => Some(page),
+        None => page_of_fault(rule.as_bytes()),
+    }
 }
 
 fn are_digits(bytes: &[u8]) -> bool {
