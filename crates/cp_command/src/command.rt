@@ -7,8 +7,8 @@ ghost use Rattle.cp_command.specs.declared.command.CommandError.TheVariants as e
 
 use crate::grammar::grammar;
 use crate::numbers::number;
-use clap::error::ErrorKind;
 use clap::ArgMatches;
+use clap::error::ErrorKind;
 use cp_execute::replaying::Replay;
 use cp_execute::running::Run;
 use cp_explain::graph::Form;
