@@ -1,7 +1,7 @@
 //! Plans: how long a turn is, and how a round is divided among workers.
 
 ghost use Rattle.std.specs.Prelude.{◌≡◌, ◌<◌, ◌≤◌, ◌+◌, ◌*◌, ◌/◌, ◌↔◌, ℕ, IfErr, IfOk, IsOk, IsTrue};
-ghost use Rattle.cp_rounds.specs.Plans.{AreInRange, IsFirstOut};
+ghost use Rattle.cp_rounds.specs.Plans.{AreInRange, AreParts, AreThreads, IsFirstOut, wave_size};
 
 use cp_private::limits::L1;
 use cp_private::turn::Turn;
@@ -26,6 +26,15 @@ fn is_within(number: u32, most: u32) -> bool
     ensures { IsTrue result ↔ ((1 ≤ number) × (number ≤ most)) }
 {
     1 <= number && number <= most
+}
+
+// Returns how many parts of at most `size` items `all` items have.
+fn parts_of(all: usize, size: usize) -> usize
+    requires some { 0 < size }
+    ensures parts { AreParts result size all }
+    ensures most { result ≤ all }
+{
+    all / size + if all % size == 0 { 0 } else { 1 }
 }
 
 impl Plan {
@@ -62,22 +71,23 @@ impl Plan {
 
     /// Returns how many waves a round of `processes` processes has.
     pub fn waves(&self, processes: usize) -> usize
-        ensures { result ≤ processes }
+        ensures parts { AreParts result self.now.wave processes }
+        ensures most { result ≤ processes }
     {
-        let wave = self.wave as usize;
-        processes / wave + if processes % wave == 0 { 0 } else { 1 }
+        parts_of(processes, self.wave as usize)
     }
 
     /// Returns how many chunks the wave at this index has, in a round of `processes` processes.
     pub fn chunks(&self, wave: usize, processes: usize) -> usize
+        ensures parts { AreParts result self.now.chunk
+            (wave_size self.now.wave wave processes) }
         ensures most { result ≤ 255 }
         ensures each { (j : ℕ) → j < self.now.wave → wave * self.now.wave + j < processes
             → j / self.now.chunk < result }
     {
         let first = wave.saturating_mul(self.wave as usize);
         let size = processes.saturating_sub(first).min(self.wave as usize);
-        let chunk = self.chunk as usize;
-        (size + chunk - 1) / chunk
+        parts_of(size, self.chunk as usize)
     }
 
     /// Returns the indices of the processes of a chunk: that of the first one, and the one after
@@ -95,11 +105,11 @@ impl Plan {
     /// chunk of a wave, and one more if there are several waves, because the calling thread makes
     /// the kernel turns of a wave alongside the next one.
     pub fn threads(&self, processes: usize) -> usize
-        ensures { result ≤ self.now.workers }
+        ensures count { AreThreads self.now.workers self.now.chunk self.now.wave processes result }
+        ensures most { result ≤ self.now.workers }
     {
         let wave = (self.wave as usize).min(processes);
-        let chunk = self.chunk as usize;
-        let chunks = (wave + chunk - 1) / chunk;
+        let chunks = parts_of(wave, self.chunk as usize);
         let beside = if wave < processes { 1 } else { 0 };
         (self.workers as usize).min(chunks + beside)
     }
