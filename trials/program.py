@@ -15,6 +15,7 @@ from hurting import try_to_hurt
 from refusals import refuse_in_turn
 from running import EXAMPLES, ROOT, expect, expect_at_least, run, wrong
 
+TUTORIAL = ROOT / 'docs' / 'tutorial'
 RESUMED = 'monitors/the_resumed_process_goes_ahead_of_askers 1'
 
 
@@ -111,8 +112,10 @@ def try_worked(cases):
 
 def try_exits():
     """Exits that `execute` doesn't give."""
-    status, out, _ = run(['--help'])
-    expect('help', (status, out), (2, b''))
+    status, out, error = run(['--help'])
+    expect('help', (status, out, b'Help and refusals go to standard error' in error), (2, b'', True))
+    status, out, error = run(['--version'])
+    expect('the version', (status, re.fullmatch(rb'cpm \d+\.\d+\.\d+\n', out) is not None, error), (0, True, b''))
     status, out, _ = run(['run', 'seven.cp'])
     expect('no rounds', (status, out), (2, b''))
     status, out, _ = run([b'\xff'])
@@ -136,7 +139,38 @@ def try_exits():
     expect('no such rule', (status, out, b'there is no rule C14: the rules are S1 to S6' in error), (2, b'', True))
     due = (EXAMPLES / 'rules' / 'c4_recursion.explanation').read_bytes()
     expect('no graph', run(['explain', 'c4_recursion.cp', '--dot'], folder=EXAMPLES / 'rules'), (1, b'', due))
+    lines = due.splitlines(keepends=True)
+    hint = b'`cpm explain C4` explains rule C4, and `cpm explain c4_recursion.cp` how to mend the first violation.\n'
+    due = b''.join(lines[:3] + [lines[4], hint, b'1 violation\n'])
+    expect('all violations', run(['explain', '--all', 'c4_recursion.cp'], folder=EXAMPLES / 'rules'), (1, due, b''))
+    expect('all violations of a rule', run(['explain', '--all', 'C4'])[0], 2)
+    expect('all violations, as a graph', run(['explain', '--all', '--dot', 'seven.cp'])[0], 2)
+    expect('a graph, asked for all violations', run(['explain', '--all', 'seven.cp']), run(['explain', 'seven.cp']))
     expect('standard input', run(['check', '-']), (1, b'', b'refused Y2 at 0\n'))
+
+
+def try_inputs():
+    """Inputs by the names of processes, from files and from standard input."""
+    capitals = ['run', 'capitals.cp', '--rounds', '2']
+    due = run([*capitals, '--input', 'capitals.input'], folder=TUTORIAL)
+    expect('an input', (due[0], b"out 'HELLO, WORLD'\n" in due[1]), (0, True))
+    with tempfile.TemporaryDirectory() as folder:
+        given = pathlib.Path(folder) / 'given'
+        given.write_bytes(b'hello, world')
+        expect('a named input', run([*capitals, '--in', f't={given}'], folder=TUTORIAL), due)
+        with given.open('rb') as words:
+            expect('a named input from standard input', run([*capitals, '--in', 't=-'], folder=TUTORIAL, stdin=words), due)
+        with (TUTORIAL / 'capitals.input').open('rb') as words:
+            expect('all inputs from standard input', run([*capitals, '--input', '-'], folder=TUTORIAL, stdin=words), due)
+        expect('an input of a folder', run([*capitals, '--in', f't={folder}']), (4, b'', b'fault I1\n'))
+        found = run([*capitals, '--in', f't={folder}'], folder=TUTORIAL)
+        expect('a folder as an input', found, (4, b'', f"{folder} can't be read\n".encode()))
+    found = run([*capitals, '--in', 'x=capitals.input'], folder=TUTORIAL)
+    expect('no such process', found, (2, b'', b'error: the text has no process x\n'))
+    line = b'refused I3 at 0 of capitals.input: byte 28; an input has bytes 0 to 127 but for 28\n'
+    expect('a separator', run([*capitals, '--in', 't=capitals.input'], folder=TUTORIAL), (1, b'', line))
+    status, out, error = run([*capitals, '--in', 't=nowhere'], folder=TUTORIAL)
+    expect('no such input', (status, out, error.startswith(b"nowhere can't be opened: ")), (4, b'', True))
 
 
 def main():
@@ -147,6 +181,7 @@ def main():
                                ('explanations', explained, 20), ('faults', faults, 9), ('worked texts', answers, 500)]:
         expect_at_least(what, count, least)
     try_exits()
+    try_inputs()
     refused = refuse_in_turn(next(case['text'] for case in cases if case['name'] == RESUMED))
     hurt = try_to_hurt()
     for line in wrong:

@@ -16,6 +16,7 @@ MEMORY = (3, b'', b'fault M\n')
 KINDS = ('ALLOCATION', 'THREAD', 'READ', 'WRITE')
 LEAST_OF_RUN = {'ALLOCATION': 500, 'THREAD': 1, 'READ': 400, 'WRITE': 150}
 LEAST_OF_REPLAY = {'ALLOCATION': 300, 'THREAD': 0, 'READ': 600, 'WRITE': 150}
+LEAST_OF_NAMED = {'ALLOCATION': 200, 'THREAD': 0, 'READ': 400, 'WRITE': 80}
 
 # The tests of cp_rounds_tests that look at a machine after a refusal, and the fewest times that they have to see one.
 TESTS = {'a_refused_machine_is_made_again': 10, 'a_refused_round_leaves_the_machine_as_it_was': 400, 'a_refused_run_has_made_the_rounds_before': 200}
@@ -104,7 +105,7 @@ def told(what, counts):
 
 
 def refuse_in_turn(resumed):
-    """Refuses the calls of a run, a replay and an explanation. `resumed` is a text in which a process resumes another. Returns what was tried."""
+    """Refuses the calls of two runs, a replay and an explanation. `resumed` is a text in which a process resumes another. Returns what was tried."""
     with tempfile.TemporaryDirectory() as name:
         folder = pathlib.Path(name)
         refusing = Refusing(folder)
@@ -115,8 +116,11 @@ def refuse_in_turn(resumed):
         plan = ['--workers', '2', '--chunk', '1', '--wave', '2']
         ran = refuse_all(refusing, 'run', ['run', text, '--rounds', '5', '--turn', '2', *plan, '--input', given], LEAST_OF_RUN)
         made = refuse_all(refusing, 'replay', ['replay', text, order, '--turn', '2', '--input', given], LEAST_OF_REPLAY)
+        given.write_bytes(b'hello')
+        by_name = ['run', ROOT / 'docs' / 'tutorial' / 'capitals.cp', '--rounds', '2', '--in', f't={given}']
+        named = refuse_all(refusing, 'run with a named input', by_name, LEAST_OF_NAMED)
         explained = refuse_all(refusing, 'explanation', ['explain', 'rules/c4_recursion.cp'], dict.fromkeys(KINDS, 0), answered=1)
         waves = [refuse_each(refusing, 'THREAD', ['run', 'squarers.cp', '--rounds', '5', '--workers', '4', '--wave', wave], 0) for wave in '12']
         expect_at_least('thread starts of 4 workers', sum(waves), 3)
         met = sum(refuse_rounds(refusing, test) for test in TESTS)
-    return '; '.join([told('a run', ran), told('a replay', made), told('an explanation', explained), f'of machines in tests {met} calls'])
+    return '; '.join([told('a run', ran), told('a replay', made), told('a run with a named input', named), told('an explanation', explained), f'of machines in tests {met} calls'])

@@ -16,8 +16,9 @@ use std::alloc::{AllocError, Global};
 ///
 /// # Errors
 ///
-/// `AllocError` if memory runs out. There is no other error, since the numbers of an accepted text
-/// fit.
+/// `AllocError` if memory runs out, or if the plans by which the words of routines and components
+/// start would take too much of it. That the compiler refuses no accepted text for its numbers or
+/// names isn't proved.
 pub fn program(alloc: Global, tree: &Tree) -> Result<Program, AllocError>
     requires accepted { Accepted (view.tree tree.now) }
     ensures { IfOk result (IsProgramOf (view.tree tree.now)) }
@@ -33,7 +34,7 @@ pub fn program(alloc: Global, tree: &Tree) -> Result<Program, AllocError>
 ///
 /// # Errors
 ///
-/// `Broken` if the text breaks a rule, `Memory` if memory runs out.
+/// `Broken` if the text breaks a rule, and `Memory` if memory runs out or [`program`] fails.
 pub fn check(alloc: Global, tree: &Tree) -> Result<Program, RuleError>
     ensures { Checks (view.tree tree.now) result }
 {

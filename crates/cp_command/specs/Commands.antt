@@ -7,8 +7,7 @@ use Rattle.cp_command.specs.declared.command.CommandError.{CommandError}
 use Rattle.cp_command.specs.declared.command.CommandError.TheVariants as error
 use Rattle.cp_command.specs.declared.command.Command.{Command}
 use Rattle.cp_command.specs.declared.command.Command.TheVariants as command
-use Rattle.cp_outcome.specs.declared.verdict.Verdict.{Verdict}
-use Rattle.cp_outcome.specs.declared.verdict.Verdict.TheVariants as verdict
+use Rattle.cp_command.specs.declared.command.Inputs.TheVariants as inputs
 use Rattle.cp_execute.specs.declared.replaying.Replay.{Replay}
 use Rattle.cp_execute.specs.declared.running.Run.{Run}
 
@@ -24,8 +23,10 @@ HasReplay turn tick chains replay = (replay.turn.steps ≡ turn) × (replay.tick
 
 -- A run has at most 1,000,000 rounds, and so has one until nothing can move.
 abbrev pub HasRounds : Command → Type 0
+HasRounds command.Version = Unit {0}
 HasRounds (command.Check file) = Unit {0}
 HasRounds (command.Explain file form) = Unit {0}
+HasRounds (command.ExplainAll file) = Unit {0}
 HasRounds (command.ExplainRule page) = Unit {0}
 HasRounds (command.Run file run input) = run.rounds ≤ 1000000
 HasRounds (command.Outcome file how input) = how.limit ≤ 1000000
@@ -33,10 +34,12 @@ HasRounds (command.Replay file order replay input) = Unit {0}
 
 -- The command if there are no words after the program's name.
 abbrev pub IsWithoutWords : Command → Type 0
+IsWithoutWords command.Version = ⊥
 IsWithoutWords (command.Check file) = ⊥
 IsWithoutWords (command.Explain file form) = ⊥
+IsWithoutWords (command.ExplainAll file) = ⊥
 IsWithoutWords (command.ExplainRule page) = ⊥
-IsWithoutWords (command.Run file run input) = (file ≡ None) × Has 2 100 2 1 255 1 false run × (input ≡ None)
+IsWithoutWords (command.Run file run input) = (file ≡ None) × Has 2 100 2 1 255 1 false run × (input ≡ inputs.Empty)
 IsWithoutWords (command.Outcome file how input) = ⊥
 IsWithoutWords (command.Replay file order replay input) = ⊥
 
@@ -44,12 +47,3 @@ IsWithoutWords (command.Replay file order replay input) = ⊥
 pub record ComesFrom (of : Error) (e : CommandError) : Type 0 where
   pub memory : kind_of of ≡ kind.OutOfMemory → e ≡ error.Memory
   pub usage : kind_of of ≢ kind.OutOfMemory → e ≡ error.Usage of
-
--- ---- Verdicts
-
--- The exit status of a verdict.
-abbrev pub status : Verdict → ℕ
-status verdict.Ended = 0
-status verdict.Stuck = 5
-status verdict.Fault = 6
-status verdict.Running = 7

@@ -1,118 +1,214 @@
 //! The grammar of the command line: the commands, their arguments and their options.
 
+use crate::command::VERSION;
 use clap::{Arg, ArgAction};
 use std::alloc::{AllocError, Global};
 
-fn option<'a>(alloc: Global, name: &'a str, about: &'a str) -> Arg<'a> {
-    Arg::new(alloc, name).long(name).value_name("N").help(about)
+const EXITS: &str = "Exits:
+  0  what was asked for was written
+  1  the text, the input or the order is refused
+  2  the arguments are wrong, or ask for help
+  3  out of memory
+  4  a file can't be opened, a read failed or a write failed
+  5  an outcome is 'stuck': nothing can move, and not all processes have ended
+  6  an outcome is 'fault': nothing can move, and a process has faulted
+  7  an outcome is 'running': its limit was reached
+
+Help and refusals go to standard error, results to standard output.";
+
+const SUBCOMMAND_EXITS: &str = "'cpm --help' lists the exits. Help goes to standard error.";
+
+// An option that takes a value.
+#[derive(Clone, Copy)]
+struct Valued {
+    name: &'static str,
+    value: &'static str,
+    about: &'static str,
 }
 
-fn file<'a>(alloc: Global) -> Arg<'a> {
-    Arg::new(alloc, "FILE")
-        .required(true)
-        .help("the text; - for standard input")
+const ROUNDS: Valued = Valued {
+    name: "rounds",
+    value: "N",
+    about: "how many rounds to run, up to 1000000",
+};
+
+const LIMIT: Valued = Valued {
+    name: "limit",
+    value: "N",
+    about: "the largest number of rounds, up to 1000000 (default 10000)",
+};
+
+const TURN: Valued = Valued {
+    name: "turn",
+    value: "N",
+    about: "steps in a turn, 1 to 10000 (default 100)",
+};
+
+const WORKERS: Valued = Valued {
+    name: "workers",
+    value: "N",
+    about: "threads that make private turns, 1 to 64 (default 2)",
+};
+
+const CHUNK: Valued = Valued {
+    name: "chunk",
+    value: "N",
+    about: "processes that a worker takes at once, 1 to 255 (default 1)",
+};
+
+const WAVE: Valued = Valued {
+    name: "wave",
+    value: "N",
+    about: "processes in a wave, 1 to 255 (default 255)",
+};
+
+const TICK: Valued = Valued {
+    name: "tick",
+    value: "N",
+    about: "rounds between two ticks of the clock, 1 to 1000000 (default 1)",
+};
+
+const INPUT: Valued = Valued {
+    name: "input",
+    value: "FILE",
+    about: "the inputs of the processes, with byte 28 between them; - for standard input",
+};
+
+const IN: Valued = Valued {
+    name: "in",
+    value: "NAME=FILE",
+    about: "the input of the process NAME, for each process that has one; - for standard input",
+};
+
+impl Valued {
+    fn arg<'a>(self, alloc: Global) -> Arg<'a> {
+        Arg::new(alloc, self.name)
+            .long(self.name)
+            .value_name(self.value)
+            .help(self.about)
+    }
 }
+
+fn flag<'a>(alloc: Global, name: &'a str, about: &'a str) -> Arg<'a> {
+    Arg::new(alloc, name)
+        .long(name)
+        .action(ArgAction::SetTrue)
+        .help(about)
+}
+
+fn file<'a>(alloc: Global, name: &'a str, about: &'a str) -> Arg<'a> {
+    Arg::new(alloc, name).required(true).help(about)
+}
+
+// A command that takes a file.
+fn command<'a>(
+    alloc: Global,
+    name: &'a str,
+    about: &'a str,
+    of_file: &'a str,
+) -> Result<clap::Command<'a>, AllocError> {
+    clap::Command::new(alloc, name)
+        .about(about)
+        .after_help(SUBCOMMAND_EXITS)
+        .arg(file(alloc, "FILE", of_file))
+}
+
+// Adds options.
+fn with<'a>(
+    alloc: Global,
+    command: clap::Command<'a>,
+    options: &[Valued],
+) -> Result<clap::Command<'a>, AllocError> {
+    let mut command = command;
+    for option in options {
+        command = command.arg(option.arg(alloc))?;
+    }
+    Ok(command)
+}
+
+// Adds where the inputs of the processes come from.
+fn with_inputs<'a>(
+    alloc: Global,
+    command: clap::Command<'a>,
+) -> Result<clap::Command<'a>, AllocError> {
+    let named = IN.arg(alloc).action(ArgAction::Append);
+    command
+        .arg(INPUT.arg(alloc).conflicts_with(IN.name)?)?
+        .arg(named)
+}
+
+const TEXT: &str = "the text; - for standard input";
 
 fn check_words<'a>(alloc: Global) -> Result<clap::Command<'a>, AllocError> {
-    clap::Command::new(alloc, "check")
-        .about("Checks a text against the rules of the language")
-        .arg(file(alloc))
-}
-
-fn explain_words<'a>(alloc: Global) -> Result<clap::Command<'a>, AllocError> {
-    let what = Arg::new(alloc, "FILE").required(true).help(
-        "the text, - for standard input, or a rule or fault such as C4 or F3",
-    );
-    let dot = Arg::new(alloc, "dot")
-        .long("dot")
-        .action(ArgAction::SetTrue)
-        .help("writes the access graph of an accepted text for Graphviz");
-    clap::Command::new(alloc, "explain")
-        .about(
-            "Explains what is wrong with a text, who has which right in an accepted text, or a rule",
-        )
-        .arg(what)?
-        .arg(dot)
-}
-
-fn input<'a>(alloc: Global) -> Arg<'a> {
-    Arg::new(alloc, "input")
-        .long("input")
-        .value_name("FILE")
-        .help("the inputs of the processes")
-}
-
-fn tick<'a>(alloc: Global) -> Arg<'a> {
-    option(
+    command(
         alloc,
-        "tick",
-        "rounds between two ticks of the clock, 1 to 1000000 (default 1)",
+        "check",
+        "Checks a text against the rules of the language",
+        TEXT,
     )
 }
 
-fn chains<'a>(alloc: Global) -> Arg<'a> {
-    Arg::new(alloc, "chains")
-        .long("chains")
-        .action(ArgAction::SetTrue)
-        .help("adds who waits for whom: a line for each process that asks for a gate")
+fn explain_words<'a>(alloc: Global) -> Result<clap::Command<'a>, AllocError> {
+    let dot = flag(
+        alloc,
+        "dot",
+        "writes the access graph of an accepted text for Graphviz",
+    );
+    let all = flag(
+        alloc,
+        "all",
+        "tells all violations of a text, each in short",
+    );
+    command(
+        alloc,
+        "explain",
+        "Explains what is wrong with a text, who has which right in an accepted text, or a rule",
+        "the text, - for standard input, or a rule or fault such as C4 or F3",
+    )?
+    .arg(dot)?
+    .arg(all.conflicts_with("dot")?)
 }
 
-// Adds how rounds are made.
-fn plan<'a>(alloc: Global, command: clap::Command<'a>) -> Result<clap::Command<'a>, AllocError> {
-    command
-        .arg(option(alloc, "turn", "steps in a turn, 1 to 10000 (default 100)"))?
-        .arg(option(
-            alloc,
-            "workers",
-            "threads that make private turns, 1 to 64 (default 2)",
-        ))?
-        .arg(option(
-            alloc,
-            "chunk",
-            "processes that a worker takes at once, 1 to 255 (default 1)",
-        ))?
-        .arg(option(alloc, "wave", "processes in a wave, 1 to 255 (default 255)"))?
-        .arg(tick(alloc))?
-        .arg(input(alloc))
+fn chains<'a>(alloc: Global) -> Arg<'a> {
+    flag(
+        alloc,
+        "chains",
+        "adds who waits for whom: a line for each process that asks for a gate",
+    )
 }
 
 fn run_words<'a>(alloc: Global) -> Result<clap::Command<'a>, AllocError> {
-    let rounds = option(alloc, "rounds", "how many rounds to run, up to 1000000");
-    let command = clap::Command::new(alloc, "run")
-        .about("Runs a text and reports its state")
-        .arg(file(alloc))?
-        .arg(rounds.required(true))?;
-    plan(alloc, command)?.arg(chains(alloc))
+    let run = command(alloc, "run", "Runs a text and reports its state", TEXT)?;
+    let run = run.arg(ROUNDS.arg(alloc).required(true))?;
+    let run = with(alloc, run, &[TURN, WORKERS, CHUNK, WAVE, TICK])?;
+    with_inputs(alloc, run)?.arg(chains(alloc))
 }
 
 fn outcome_words<'a>(alloc: Global) -> Result<clap::Command<'a>, AllocError> {
-    let command = clap::Command::new(alloc, "outcome")
-        .about("Runs a text until nothing can move, and tells what became of each process")
-        .arg(file(alloc))?
-        .arg(option(
-            alloc,
-            "limit",
-            "the largest number of rounds, up to 1000000 (default 10000)",
-        ))?;
-    plan(alloc, command)
+    let outcome = command(
+        alloc,
+        "outcome",
+        "Runs a text until nothing can move, and tells what became of each process",
+        TEXT,
+    )?;
+    let outcome = with(alloc, outcome, &[LIMIT, TURN, WORKERS, CHUNK, WAVE, TICK])?;
+    with_inputs(alloc, outcome)
 }
 
 fn replay_words<'a>(alloc: Global) -> Result<clap::Command<'a>, AllocError> {
-    let order = Arg::new(alloc, "ORDER").required(true).help(
+    let order = file(
+        alloc,
+        "ORDER",
         "the order: the events of each round, a line a round; - for standard input",
     );
-    clap::Command::new(alloc, "replay")
-        .about("Replays a text in the order of steps that a file tells, and reports its state")
-        .arg(file(alloc))?
-        .arg(order)?
-        .arg(option(
-            alloc,
-            "turn",
-            "steps in a kernel turn, 1 to 10000 (default 100)",
-        ))?
-        .arg(tick(alloc))?
-        .arg(input(alloc))?
-        .arg(chains(alloc))
+    let replay = command(
+        alloc,
+        "replay",
+        "Replays a text in the order of steps that a file tells, and reports its state",
+        TEXT,
+    )?;
+    let replay = with(alloc, replay.arg(order)?, &[TURN, TICK])?;
+    with_inputs(alloc, replay)?.arg(chains(alloc))
 }
 
 /// Returns the grammar of the command line.
@@ -123,6 +219,8 @@ fn replay_words<'a>(alloc: Global) -> Result<clap::Command<'a>, AllocError> {
 pub(crate) fn grammar<'a>(alloc: Global) -> Result<clap::Command<'a>, AllocError> {
     clap::Command::new(alloc, "cpm")
         .about("Checks and runs texts of Concurrent Pascal")
+        .version(VERSION)
+        .after_help(EXITS)
         .subcommand_required(true)
         .subcommand(check_words(alloc)?)?
         .subcommand(explain_words(alloc)?)?

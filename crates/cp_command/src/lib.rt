@@ -1,10 +1,17 @@
-//! The command line: `command` parses arguments into a command, by the words of `grammar`, and
-//! `files` carries it out with files and the standard streams.
+//! The command line: from the words that cpm is given to a command.
+//!
+//! - `command`: what cpm can be asked to do.
+//! - `reading`: parses the words by the `grammar`, and takes the command from what was parsed, with
+//!   the values of its `options`, which are `numbers`, and its `inputs`.
+//! - `misuse`: what is wrong with words that the grammar lets pass.
 //!
 //! `specs/Commands.antt` and `specs/Numbers.antt` define what arguments mean.
 #![tactic(auto)]
 
 pub mod command;
-pub mod files;
 mod grammar;
+mod inputs;
+mod misuse;
 pub mod numbers;
+mod options;
+pub mod reading;

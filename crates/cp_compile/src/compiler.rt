@@ -1,6 +1,6 @@
 //! Compiles a text to a program.
 
-ghost use Rattle.std.specs.Prelude.{◌≡◌, IfOk};
+ghost use Rattle.std.specs.Prelude.{◌≡◌, IfOk, length};
 ghost use Rattle.cp_model.specs.Declarations.{globals};
 ghost use Rattle.cp_model.specs.Rules.{Accepted};
 ghost use Rattle.cp_model.specs.Types.{GlobalScope};
@@ -9,6 +9,7 @@ ghost use Rattle.cp_model.specs.declared.tree.Tree as text;
 ghost use Rattle.cp_program_model.specs.Compile as code;
 ghost use Rattle.cp_scope.specs.Texts.{TablesStand};
 ghost use Rattle.cp_program.specs.View as view;
+ghost use Rattle.cp_program.specs.View.{origins_of};
 ghost use Rattle.cp_compile.specs.CompiledPrograms.{ArePlansOf, ComponentsLie, IsCode, IsPlanner, text_of};
 
 use crate::components::{InitialCompiler, Owner};
@@ -76,6 +77,7 @@ fn compile_code<'t>(
         Sort::Process,
         &tree.routines,
         &tree.body.statements,
+        tree.body.at,
         &mut emitter,
     )?;
     Ok(Code {
@@ -136,24 +138,27 @@ fn lay_components<'t>(
 }
 
 /// Compiles a text to a program. For an accepted text, it is the program that the definition
-/// `compile` of `cp_program_model` makes, which stands for the text.
+/// `compile` of `cp_program_model` makes, which stands for the text. Each operation has an origin.
 ///
 /// # Errors
 ///
 /// `Memory` if memory runs out or the plans of the text would take too much of it, and `Unaccepted`
 /// if the tree has a number or a name that no accepted text has.
 pub fn compile(alloc: Global, tree: &Tree) -> Result<Program, CompileError>
-    ensures { IfOk result (λ program. Accepted (syntax.tree tree.now)
+    ensures program { IfOk result (λ program. Accepted (syntax.tree tree.now)
         → view.program program ≡ code.compile (text_of tree.now)) }
+    ensures origins { IfOk result
+        (λ program. length (origins_of program) ≡ length (view.program program).operations) }
 {
     let tables = Tables::of_tree(alloc, tree)?;
     let planner = Planner::new(alloc, &tables)?;
     let code = compile_code(alloc, tree, &tables, &planner)?;
     let plans = make_plans(&tables, &planner)?;
     let components = lay_components(alloc, tree, &tables, &code, &plans)?;
-    let (operations, units) = code.emitter.into_parts();
+    let (operations, origins, units) = code.emitter.into_parts();
     Ok(Program::new(
         operations,
+        origins,
         units,
         components.monitors,
         components.processes,

@@ -99,7 +99,14 @@ impl<'s, 't> TextCompiler<'s, 't> {
             first,
         };
         let text = found.text;
-        compiler.compile(text.sort, &text.routines, &text.body.statements, emitter)?;
+        let body = &text.body;
+        compiler.compile(
+            text.sort,
+            &text.routines,
+            &body.statements,
+            body.at,
+            emitter,
+        )?;
         Ok(first)
     }
 

@@ -78,6 +78,7 @@ impl<'s, 't> SystemCompiler<'s, 't> {
             starts,
             last,
             &text.body.statements,
+            text.name.at,
             emitter,
         )
     }
@@ -96,11 +97,12 @@ impl<'s, 't> SystemCompiler<'s, 't> {
         Ok(())
     }
 
-    // Compiles the body.
+    // Compiles the body, which begins at the place `origin`.
     fn body(
         &self,
         sort: Sort,
         body: &[Statement],
+        origin: usize,
         emitter: &mut Emitter,
     ) -> Result<(), CompileError>
         ensures { OnOk result ((g : GlobalScope) (s : System) (firsts : List (Name × ℕ))
@@ -110,15 +112,25 @@ impl<'s, 't> SystemCompiler<'s, 't> {
     {
         let scope = Scope::new(self.tables, self.system, None, self.firsts, self.first);
         let alloc = self.planner.alloc();
-        compile_unit(alloc, &scope, Vec::new(alloc), end_of(sort), body, emitter)
+        compile_unit(
+            alloc,
+            &scope,
+            Vec::new(alloc),
+            end_of(sort),
+            body,
+            origin,
+            emitter,
+        )
     }
 
-    /// Compiles the routines and the body of the system type.
+    /// Compiles the routines and the body of the system type. The body begins at the place
+    /// `origin`.
     pub fn compile(
         &self,
         sort: Sort,
         routines: &[Routine],
         body: &[Statement],
+        origin: usize,
         emitter: &mut Emitter,
     ) -> Result<(), CompileError>
         ensures { OnOk result ((g : GlobalScope) (s : System) (firsts : List (Name × ℕ))
@@ -128,6 +140,6 @@ impl<'s, 't> SystemCompiler<'s, 't> {
             → IsCompiled emitter.new (with_system g firsts s c)) }
     {
         self.routines(routines, emitter)?;
-        self.body(sort, body, emitter)
+        self.body(sort, body, origin, emitter)
     }
 }

@@ -15,14 +15,15 @@ use cp_scope::{CompileError, Scope};
 use cp_translate::Translator;
 use std::alloc::Global;
 
-/// Compiles the statements `body` to a unit. It ends with the operation `last`, and its activations
-/// start by the plan `starts`.
+/// Compiles the statements `body` to a unit, which stands at the place `origin` of the text. It ends
+/// with the operation `last`, and its activations start by the plan `starts`.
 pub fn compile_unit(
     alloc: Global,
     scope: &Scope,
     starts: Vec<StartPiece>,
     last: Operation,
     body: &[Statement],
+    origin: usize,
     emitter: &mut Emitter,
 ) -> Result<(), CompileError>
     ensures { OnOk result ((s : code.Scope) (c : Compiled) → IsScope scope.now s
@@ -30,10 +31,11 @@ pub fn compile_unit(
         (map view.start starts.items) (view.operation last) (body_of body.now) c)) }
 {
     emitter.begin(scope.words()?);
-    let at = emitter.push(last)?;
+    let at = emitter.push(last, origin)?;
     let translator = Translator {
         scope: *scope,
         alloc,
+        origin,
     };
     let entry = translator.statements(body, 0, at, emitter)?;
     emitter.end(entry, starts)?;

@@ -133,6 +133,42 @@ impl<'t> Site<'t> {
     }
 }
 
+// What stands at the place of a violation.
+fn site_of<'t>(
+    alloc: Global,
+    tree: &'t Tree,
+    violation: Violation,
+) -> Result<Site<'t>, AllocError> {
+    let Violation { rule, at } = violation;
+    let mut site = Finder::find(tree, at);
+    if rule == Rule::C13 {
+        site.number = number(alloc, tree, site.identifier())?;
+    }
+    Ok(site)
+}
+
+impl<'t> Site<'t> {
+    fn about(&self) -> About<'t> {
+        About {
+            name: letters(self.identifier()),
+            other: letters(self.other()),
+        }
+    }
+
+    // Adds what is known of this place: types, numbers of arguments, names and declarations.
+    fn push_facts(
+        &self,
+        alloc: Global,
+        page: &mut Page,
+        text: &[u8],
+        violation: Violation,
+    ) -> Result<(), AllocError> {
+        self.push_agreement(page, violation.rule)?;
+        self.push_names(alloc, page, violation.rule)?;
+        self.push_declared(page, text, violation.at)
+    }
+}
+
 /// Explains a broken rule, after the heading. Fails only if memory runs out.
 pub fn of_violation(
     alloc: Global,
@@ -141,19 +177,27 @@ pub fn of_violation(
     violation: Violation,
 ) -> Result<Page, AllocError> {
     let Violation { rule, at } = violation;
-    let mut site = Finder::find(tree, at);
-    if rule == Rule::C13 {
-        site.number = number(alloc, tree, site.identifier())?;
-    }
-    let about = About {
-        name: letters(site.identifier()),
-        other: letters(site.other()),
-    };
+    let site = site_of(alloc, tree, violation)?;
     let mut page = Page::new(alloc);
-    page.message(text, at, site.message(rule), about)?;
-    site.push_agreement(&mut page, rule)?;
-    site.push_names(alloc, &mut page, rule)?;
-    site.push_declared(&mut page, text, at)?;
+    page.message(text, at, site.message(rule), site.about())?;
+    site.push_facts(alloc, &mut page, text, violation)?;
     page.hint("C", rule.number())?;
+    Ok(page)
+}
+
+/// Explains a broken rule in short, after the heading: without advice and without the hint. Fails
+/// only if memory runs out.
+pub fn of_violation_in_short(
+    alloc: Global,
+    text: &[u8],
+    tree: &Tree,
+    violation: Violation,
+) -> Result<Page, AllocError> {
+    let Violation { rule, at } = violation;
+    let site = site_of(alloc, tree, violation)?;
+    let mut page = Page::new(alloc);
+    page.template(site.message(rule).head, site.about())?;
+    page.place(text, at)?;
+    site.push_facts(alloc, &mut page, text, violation)?;
     Ok(page)
 }

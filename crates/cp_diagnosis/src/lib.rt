@@ -22,4 +22,4 @@ mod walk_declarations;
 mod walk_expressions;
 mod walk_statements;
 
-pub use diagnosis::of_violation;
+pub use diagnosis::{of_violation, of_violation_in_short};

@@ -2,21 +2,8 @@
 
 use crate::finder::Finder;
 use crate::site::{Call, Mark, NameRole, Pair, Purpose};
+use cp_declared::places::first_token;
 use cp_model::tree::{Designator, Expression, Index, Operation, Selector};
-
-/// The place of the first token of an expression.
-#[cycle(first_token)]
-fn first_token(e: &Expression) -> usize {
-    match e {
-        Expression::Number { at, .. }
-        | Expression::Character { at, .. }
-        | Expression::Parenthesized { at, .. }
-        | Expression::Not { at, .. }
-        | Expression::Signed { at, .. } => *at,
-        Expression::Designated(d) | Expression::Call(d, _) => d.root.at,
-        Expression::Chain { first, .. } => first_token(first),
-    }
-}
 
 impl<'t> Finder<'t> {
     /// Walks over an expression that is wanted for `purpose`.

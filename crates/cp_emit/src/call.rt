@@ -18,12 +18,14 @@ pub struct MadeTerm {
     pub temps: u32,
 }
 
-/// Adds a call whose value goes to the temp `into`, and returns the term for its value.
+/// Adds a call, which stands at the place `at` of the text and whose value goes to the temp `into`.
+/// Returns the term for its value.
 pub fn make_call(
     alloc: Global,
     calls: &mut Vec<CodedCall>,
     call: Call,
     into: u32,
+    at: usize,
 ) -> Result<MadeTerm, CompileError>
     ensures calls { OnOk result
         (map coded_call calls.new.items ≡ map coded_call calls.old.items ++
@@ -32,7 +34,7 @@ pub fn make_call(
     ensures temps { IfOk result (λ made. made.temps ≡ suc into) }
 {
     let temps = into.checked_add(1).ok_or(CompileError::Unaccepted)?;
-    calls.push(CodedCall { call, into })?;
+    calls.push(CodedCall { call, into, at })?;
     Ok(MadeTerm {
         term: Term::temp(alloc, into),
         temps,

@@ -66,14 +66,17 @@ impl Emitter {
         }
     }
 
-    /// Emits an operation and returns its place.
-    pub fn push(&mut self, operation: Operation) -> Result<u32, CompileError>
+    /// Emits an operation that comes from the place `at` of the text, and returns its own place.
+    pub fn push(&mut self, operation: Operation, at: usize) -> Result<u32, CompileError>
         ensures place { IfOk result (λ place. place ≡ place_of self.old) }
         ensures emits { OnOk result (Emits self.old self.new (view.operation operation ∷ [])) }
     {
         let place = self.place()?;
         let own = Need::of(&self.units, &operation)?;
+        self.origins.reserve(1)?;
         self.operations.push(operation)?;
+        let added = self.origins.push(at);
+        prove!(added.is_ok());
         self.need = own.greater(self.need);
         Ok(place)
     }
@@ -107,23 +110,30 @@ impl Emitter {
         let mut left = calls;
         let mut entry = next;
         while let Some(made) = left.pop() {
-            entry = self.push(Operation::Function {
+            let function = Operation::Function {
                 call: made.call,
                 into: made.into,
                 next: entry,
-            })?;
+            };
+            entry = self.push(function, made.at)?;
         }
         Ok(entry)
     }
 
-    /// Emits an operation and the calls of its terms, and returns the place where they are entered.
-    pub fn emit(&mut self, calls: Vec<CodedCall>, operation: Operation) -> Result<u32, CompileError>
+    /// Emits an operation that comes from the place `at` of the text, and the calls of its terms.
+    /// Returns the place where they are entered.
+    pub fn emit(
+        &mut self,
+        calls: Vec<CodedCall>,
+        operation: Operation,
+        at: usize,
+    ) -> Result<u32, CompileError>
         ensures entry { IfOk result
             (λ entry. entry ≡ (operation_from self.old calls.items operation).entry) }
         ensures emits { OnOk result
             (Emits self.old self.new (operation_from self.old calls.items operation).operations) }
     {
-        let place = self.push(operation)?;
+        let place = self.push(operation, at)?;
         self.emit_calls(calls, place)
     }
 }

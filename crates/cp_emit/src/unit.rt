@@ -21,6 +21,7 @@ impl Emitter {
     {
         Emitter {
             operations: Vec::new(alloc),
+            origins: Vec::new(alloc),
             units: Vec::new(alloc),
             allowance: Allowance::new(),
             first: 0,
@@ -76,11 +77,12 @@ impl Emitter {
         }
     }
 
-    /// Returns the operations and the units.
-    pub fn into_parts(self) -> (Vec<Operation>, Vec<CodeUnit>)
+    /// Returns the operations, their origins and the units.
+    pub fn into_parts(self) -> (Vec<Operation>, Vec<usize>, Vec<CodeUnit>)
         ensures operations { map view.operation result.0.items ≡ operations_of self }
-        ensures units { map view.code_unit result.1.items ≡ units_of self }
+        ensures origins { length result.1.items ≡ place_of self }
+        ensures units { map view.code_unit result.2.items ≡ units_of self }
     {
-        (self.operations, self.units)
+        (self.operations, self.origins, self.units)
     }
 }

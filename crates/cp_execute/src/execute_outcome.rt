@@ -9,7 +9,7 @@ ghost use Rattle.cp_execute.specs.Takings.{TakesInput, TakesText};
 ghost use Rattle.cp_execute.specs.declared.refusal.Refusal.TheVariants as refusal;
 
 use crate::refusal::Refusal;
-use crate::sources::{read_accepted, read_input};
+use crate::sources::{read_accepted_text, read_input};
 use crate::until_still::{UntilStill, outcome_after_run};
 use crate::writing::write_result;
 use cp_outcome::verdict::Verdict;
@@ -54,9 +54,9 @@ pub fn execute_outcome<H: Threads + Wait + Sync, R: Read, S: Read, W: Write, G: 
     ensures text { TakesText result (R.remaining text.old) (R.remaining text.new) }
     ensures input { TakesInput result (S.remaining input.old) (S.remaining input.new) }
 {
-    let tree = read_accepted(alloc, text)?;
+    let accepted = read_accepted_text(alloc, text)?;
     let bytes = read_input(alloc, input)?;
-    let outcome = outcome_after_run(rt, alloc, &tree, &bytes, how, gate)?;
+    let outcome = outcome_after_run(rt, alloc, &accepted, &bytes, how, gate)?;
     write_result(out, &outcome.bytes)?;
     Ok(outcome.verdict)
 }

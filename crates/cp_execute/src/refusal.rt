@@ -146,7 +146,7 @@ impl From<Violation> for Refusal {
     }
 }
 
-// Building the tables of an accepted text fails only if memory runs out.
+// What can't be compiled of an accepted text is told as want of memory, as `cp_check::program` does.
 impl From<CompileError> for Refusal {
     ghost from_gives = { λ _ r. r ≡ refusal.Memory };
 

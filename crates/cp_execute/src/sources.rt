@@ -16,6 +16,27 @@ use cp_model::tree::Tree;
 use std::alloc::Global;
 use std::io::Read;
 
+/// The bytes of a text, and its syntax tree.
+#[derive(Drop)]
+pub(crate) struct Text {
+    pub(crate) bytes: Vec<u8>,
+    pub(crate) tree: Tree,
+}
+
+/// Reads a text and returns it if it is accepted.
+pub(crate) fn read_accepted_text<R: Read>(alloc: Global, text: &mut R) -> Result<Text, Refusal>
+    ensures accepted { IfOk result (λ t. Accepted (view.tree t.tree)) }
+    ensures text { IfOk result
+        (λ t. IfSome (R.remaining text.old) (λ xs. IsAccepted xs (view.tree t.tree))) }
+    ensures refused { IfErr result (λ e. IfSome (R.remaining text.old) (λ xs. RefusesText xs e)) }
+    ensures about_text { IfErr result (λ e. IsAboutText (concern e)) }
+    ensures taken { TakesText result (R.remaining text.old) (R.remaining text.new) }
+{
+    let bytes = read_text(alloc, text)?;
+    let tree = accept(alloc, &bytes)?;
+    Ok(Text { bytes, tree })
+}
+
 /// Reads a text and returns its syntax tree if the text is accepted.
 pub(crate) fn read_accepted<R: Read>(alloc: Global, text: &mut R) -> Result<Tree, Refusal>
     ensures accepted { IfOk result (λ t. Accepted (view.tree t)) }
@@ -25,8 +46,8 @@ pub(crate) fn read_accepted<R: Read>(alloc: Global, text: &mut R) -> Result<Tree
     ensures about_text { IfErr result (λ e. IsAboutText (concern e)) }
     ensures taken { TakesText result (R.remaining text.old) (R.remaining text.new) }
 {
-    let bytes = read_text(alloc, text)?;
-    accept(alloc, &bytes)
+    let read = read_accepted_text(alloc, text)?;
+    Ok(read.tree)
 }
 
 /// Reads an input and checks it.

@@ -8,13 +8,13 @@ ghost use Rattle.cp_execute.specs.declared.refusal.Refusal.TheVariants as refusa
 
 use crate::refusal::Refusal;
 use crate::running::machine_at_start;
-use cp_model::tree::Tree;
+use crate::sources::Text;
 use cp_outcome::verdict::{Verdict, verdict_on};
+use cp_reasons::reasons::reasons;
 use cp_report::outcome::outcome;
 use cp_rounds::gate::TurnGate;
 use cp_rounds::plan::Plan;
 use cp_rounds::tick::Tick;
-use cp_scope::Tables;
 use std::alloc::Global;
 use std::sync::Wait;
 use std::thread::Threads;
@@ -43,22 +43,22 @@ pub(crate) struct Outcome {
 pub(crate) fn outcome_after_run<H: Threads + Wait + Sync, G: TurnGate>(
     rt: &H,
     alloc: Global,
-    tree: &Tree,
+    text: &Text,
     input: &[u8],
     how: &UntilStill,
     gate: &G,
 ) -> Result<Outcome, Refusal>
-    requires accepted { Accepted (view.tree tree.now) }
-    ensures outcome { IfOk result (λ outcome. IsOutcome how.now (view.tree tree.now) input.now
+    requires accepted { Accepted (view.tree text.now.tree) }
+    ensures outcome { IfOk result (λ outcome. IsOutcome how.now (view.tree text.now.tree) input.now
         outcome.verdict outcome.bytes.items) }
     ensures memory { IfErr result (λ e. e ≡ refusal.Memory) }
 {
-    let mut machine = machine_at_start(alloc, tree, input, how.tick)?;
-    let tables = Tables::of_tree(alloc, tree)?;
+    let mut machine = machine_at_start(alloc, &text.tree, input, how.tick)?;
     let Ok(_rounds) = machine.run_until_still(rt, how.limit, &how.plan, gate) else {
         return Err(Refusal::Memory);
     };
     let verdict = verdict_on(&machine);
-    let bytes = outcome(alloc, &tables, &machine, verdict)?;
+    let reasons = reasons(alloc, &text.bytes, &text.tree, &machine)?;
+    let bytes = outcome(alloc, &machine, verdict, reasons.as_bytes())?;
     Ok(Outcome { verdict, bytes })
 }

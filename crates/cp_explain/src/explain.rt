@@ -10,19 +10,33 @@ ghost use Rattle.cp_execute.specs.Texts.{IsTextOf, Refuses};
 ghost use Rattle.cp_execute.specs.declared.refusal.Refusal.TheVariants as refusal;
 ghost use Rattle.cp_explain.specs.Explained.{Begins, Explains, Wrote, code_of, heading, place_of};
 
-use crate::graph::{Form, graph};
+use crate::all::of_all;
+use crate::lacking::push_lacking;
 use crate::told::of_no_tree;
+use cp_access::graph::{Form, graph};
 use cp_diagnosis::of_violation;
 use cp_execute::checking::tree_of;
 use cp_execute::reading::{ReadError, read_text};
 use cp_execute::refusal::{Refusal, scan_number};
 use cp_execute::writing::write_all;
+use cp_model::rules::Violation;
 use cp_model::tree::Tree;
+use cp_notes::add_notes;
 use cp_page::page::Page;
 use cp_page::position::Position;
 use cp_rules::text::{RuleError, judge};
 use std::alloc::{AllocError, Global};
 use std::io::{Read, Write};
+
+/// How much is told of a refused text.
+#[derive(Clone, Copy, Debug, PartialEq, Eq)]
+pub enum Extent {
+    /// The first refusal.
+    First,
+    /// All violations, in short. Of a text without a tree the first refusal, and what the language
+    /// of the book has and this one hasn't.
+    All,
+}
 
 /// The explanation of a text, and why it is refused, unless it is accepted.
 #[derive(Drop)]
@@ -64,7 +78,9 @@ fn push_code(page: &mut Page, refusal: &Refusal) -> Result<(), AllocError>
     }
 }
 
-fn heading_of(
+/// The start of the first line of an explanation: the file, the position, and the code of the
+/// refusal. Fails only if memory runs out.
+pub(crate) fn heading_of(
     alloc: Global,
     file: &[u8],
     text: &[u8],
@@ -104,44 +120,81 @@ fn explain_refusal(
     })
 }
 
+// What is told of a text that breaks a rule, after the first heading.
+fn told_of_tree(
+    alloc: Global,
+    file: &[u8],
+    text: &[u8],
+    tree: &Tree,
+    violation: Violation,
+    extent: Extent,
+) -> Result<Page, AllocError> {
+    match extent {
+        Extent::First => of_violation(alloc, text, tree, violation),
+        Extent::All => of_all(alloc, file, text, tree),
+    }
+}
+
+// What is told of a text that has no tree, after the heading.
+fn told_of_no_tree(
+    alloc: Global,
+    text: &[u8],
+    refusal: Refusal,
+    extent: Extent,
+) -> Result<Page, AllocError> {
+    let mut page = of_no_tree(alloc, text, place(&refusal), refusal)?;
+    if extent == Extent::All {
+        push_lacking(&mut page, text)?;
+    }
+    Ok(page)
+}
+
 fn of_tree(
     alloc: Global,
     file: &[u8],
     text: &[u8],
     tree: &Tree,
     form: Form,
+    extent: Extent,
 ) -> Result<Explanation, AllocError>
     requires text { IsTextOf text.now (view.tree tree.now) }
     ensures { IfOk result (λ e. Explains file.now text.now e.refusal e.page) }
 {
     match judge(alloc, tree) {
-        Ok(_) => Ok(Explanation {
-            page: graph(alloc, tree, form)?,
-            refusal: None,
-        }),
+        Ok(_) => {
+            let mut page = graph(alloc, tree, form)?;
+            if form == Form::Lines {
+                add_notes(alloc, &mut page, file, text, tree)?;
+            }
+            Ok(Explanation {
+                page,
+                refusal: None,
+            })
+        }
         Err(RuleError::Broken(violation)) => {
-            let told = of_violation(alloc, text, tree, violation)?;
+            let told = told_of_tree(alloc, file, text, tree, violation, extent)?;
             explain_refusal(alloc, file, text, Refusal::from(violation), &told)
         }
         Err(RuleError::Memory) => Err(AllocError),
     }
 }
 
-/// Explains a text: by the access graph if it is accepted, or else by the first refusal. Fails only
-/// if memory runs out.
+/// Explains a text: by the access graph if it is accepted, or else by as much of why it is refused.
+/// Fails only if memory runs out.
 pub fn explain(
     alloc: Global,
     file: &[u8],
     text: &[u8],
     form: Form,
+    extent: Extent,
 ) -> Result<Explanation, AllocError>
     ensures { IfOk result (λ e. Explains file.now text.now e.refusal e.page) }
 {
     match tree_of(alloc, text) {
-        Ok(tree) => of_tree(alloc, file, text, &tree, form),
+        Ok(tree) => of_tree(alloc, file, text, &tree, form, extent),
         Err(Refusal::Memory) => Err(AllocError),
         Err(refusal) => {
-            let told = of_no_tree(alloc, text, place(&refusal), refusal)?;
+            let told = told_of_no_tree(alloc, text, refusal, extent)?;
             explain_refusal(alloc, file, text, refusal, &told)
         }
     }
@@ -185,12 +238,36 @@ pub fn draw_text<R: Read, W: Write, E: Write>(
     ensures fault { IfErr result IsFault }
 {
     let bytes = read(alloc, text)?;
-    let Explanation { page, refusal } = explain(alloc, file, &bytes, Form::Dot)?;
+    let Explanation { page, refusal } = explain(alloc, file, &bytes, Form::Dot, Extent::First)?;
     let written = match refusal {
         None => write_all(out, page.as_bytes()),
         Some(_) => write_all(errors, page.as_bytes()),
     };
     match written {
+        Ok(()) => Ok(refusal),
+        Err(_) => Err(Refusal::Write),
+    }
+}
+
+// Explains the text of a reader by as much as `extent` says.
+fn explain_to<R: Read, W: Write>(
+    alloc: Global,
+    file: &[u8],
+    text: &mut R,
+    form: Form,
+    extent: Extent,
+    out: &mut W,
+) -> Result<Option<Refusal>, Refusal>
+    ensures explains { IfOk result
+        (λ e. Wrote file.now (R.remaining text.old) e (W.contents out.old) (W.contents out.new)) }
+    ensures unwritten { IfErr result
+        (λ e. (e ≡ refusal.Write → ⊥)
+        → Keeps (W.contents out.old) (W.contents out.new)) }
+    ensures fault { IfErr result IsFault }
+{
+    let bytes = read(alloc, text)?;
+    let Explanation { page, refusal } = explain(alloc, file, &bytes, form, extent)?;
+    match write_all(out, page.as_bytes()) {
         Ok(()) => Ok(refusal),
         Err(_) => Err(Refusal::Write),
     }
@@ -216,10 +293,28 @@ pub fn explain_text<R: Read, W: Write>(
         → Keeps (W.contents out.old) (W.contents out.new)) }
     ensures fault { IfErr result IsFault }
 {
-    let bytes = read(alloc, text)?;
-    let Explanation { page, refusal } = explain(alloc, file, &bytes, form)?;
-    match write_all(out, page.as_bytes()) {
-        Ok(()) => Ok(refusal),
-        Err(_) => Err(Refusal::Write),
-    }
+    explain_to(alloc, file, text, form, Extent::First, out)
+}
+
+/// Tells all violations of the text of a reader, and if it has no tree, what an old text uses that
+/// this language hasn't. Returns why the text is refused, unless it is accepted.
+///
+/// # Errors
+///
+/// I1 if a read fails, M if memory runs out, and I2 if a write fails. After I1 and M nothing has
+/// been written.
+pub fn explain_all_text<R: Read, W: Write>(
+    alloc: Global,
+    file: &[u8],
+    text: &mut R,
+    out: &mut W,
+) -> Result<Option<Refusal>, Refusal>
+    ensures explains { IfOk result
+        (λ e. Wrote file.now (R.remaining text.old) e (W.contents out.old) (W.contents out.new)) }
+    ensures unwritten { IfErr result
+        (λ e. (e ≡ refusal.Write → ⊥)
+        → Keeps (W.contents out.old) (W.contents out.new)) }
+    ensures fault { IfErr result IsFault }
+{
+    explain_to(alloc, file, text, Form::Lines, Extent::All, out)
 }

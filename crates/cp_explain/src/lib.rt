@@ -2,15 +2,17 @@
 //!
 //! `explain::explain_text` reads a text, judges it as `check` does, and writes the explanation. For
 //! a refused text that is its heading and what cp_slips (no tokens, or no tree: `told`) or
-//! cp_diagnosis (a broken rule) tells. For an accepted text it is the access graph (`graph`).
-//! `rules` has the pages of `explain RULE`.
+//! cp_diagnosis (a broken rule) tells. For an accepted text it is the access graph (cp_access).
+//! `all` tells all violations of a text, and what it uses of the book's language that this one
+//! hasn't (`lacking`). `rules` has the pages of `explain RULE`.
 //!
 //! The judgement, the position and the start of the first line are proved (`specs/Explained.antt`).
 //! The wording is tested.
 #![tactic(auto)]
 
+mod all;
 pub mod explain;
-pub mod graph;
+mod lacking;
 mod pages;
 pub mod rules;
 mod told;

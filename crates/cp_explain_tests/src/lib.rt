@@ -6,6 +6,10 @@ mod excerpts;
 #[cfg(test)]
 mod graphs;
 #[cfg(test)]
+mod lacking;
+#[cfg(test)]
+mod lists;
+#[cfg(test)]
 mod names;
 #[cfg(test)]
 mod rules;

@@ -1,7 +1,7 @@
 //! Rows of texts with what is told of them, and how they are compared.
 
+use cp_access::graph::Form;
 use cp_explain::explain::explain_text;
-use cp_explain::graph::Form;
 use std::alloc::{AllocError, Global};
 
 /// A text, and what is told of it: its first line after the place, and a line that follows. `@`

@@ -1,7 +1,7 @@
 -- What a function of the code reports and returns: the earliest violation so far, and a meaning.
-use Rattle.std.specs.Prelude.{◌≡◌, Bool, true, false, [], ◌∷◌, Option, None, Result, Ok, Err}
+use Rattle.std.specs.Prelude.{◌≡◌, Bool, true, false, [], ◌∷◌, Option, None, Some, Result, Ok, Err}
 use Rattle.cp_model.specs.declared.rules.Violation.{Violation}
-use Rattle.cp_model.specs.RulesJudged.{Judged, Sound, Broken, Violations, least, violations_of, meaning_of, both}
+use Rattle.cp_model.specs.RulesJudged.{Judged, Sound, Broken, Violations, earlier, least, violations_of, meaning_of, both}
 
 -- The answer is the meaning, and the earliest violation is kept.
 abbrev pub Tells : {A : Type 0} → Option Violation → Option Violation → Option A → Judged A → Type 0
@@ -23,6 +23,11 @@ are_none (v ∷ vs) = false
 -- The earliest of these violations is kept, and `sound` is whether there are none.
 abbrev pub TellsOf : Option Violation → Option Violation → Bool → Violations → Type 0
 TellsOf old new sound vs = (new ≡ least old vs) × (sound ≡ are_none vs)
+
+-- What was told of a part is told of the whole.
+abbrev pub with_part : Option Violation → Option Violation → Option Violation
+with_part told None = told
+with_part told (Some v) = earlier told v
 
 -- An answer counts only if nothing else is broken.
 abbrev pub answer_if : {A : Type 0} → Bool → Option A → Option A

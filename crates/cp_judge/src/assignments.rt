@@ -14,14 +14,14 @@ use crate::designators::names_fit;
 use crate::environment::Environment;
 use crate::expressions::{judge, type_of_designator};
 use crate::names::find_entity;
-use crate::telling::{answer_if, tell, tell_violation};
+use crate::telling::{Told, answer_if, tell, tell_violation};
 use crate::values::{designates_variable, designator_of};
 use cp_model::rules::{Entity, Mode, Returns, Rule, Violation};
 use cp_model::tree::{Designator, Expression, Identifier, Selector};
 
 // The result type of the function that is being defined, if its name is the whole left side. C4 and
 // C10: the name is a procedure's own.
-fn whole_result(told: &mut Option<Violation>, x: &Identifier, returns: Returns) -> Option<usize>
+fn whole_result(told: &mut Told, x: &Identifier, returns: Returns) -> Option<usize>
     ensures { Tells told.old told.new result (st.own_result x.now (selectors_of []) returns) }
 {
     match returns {
@@ -44,7 +44,7 @@ fn whole_result(told: &mut Option<Violation>, x: &Identifier, returns: Returns) 
 }
 
 // C10: the left side is a part of that result. C4: the name is a procedure's own.
-fn part_of_result(told: &mut Option<Violation>, x: &Identifier, returns: Returns) -> Option<usize>
+fn part_of_result(told: &mut Told, x: &Identifier, returns: Returns) -> Option<usize>
     ensures { Tells told.old told.new result (parts.part_of_result x.now returns) }
 {
     if let Returns::Nothing = returns {
@@ -60,7 +60,7 @@ fn part_of_result(told: &mut Option<Violation>, x: &Identifier, returns: Returns
 }
 
 fn own_result(
-    told: &mut Option<Violation>,
+    told: &mut Told,
     x: &Identifier,
     selectors: &[Selector],
     returns: Returns,
@@ -75,7 +75,7 @@ fn own_result(
 }
 
 // Judges the names of a left side that isn't a function's own name. C10: it isn't a variable.
-fn names_changeable(env: &Environment, told: &mut Option<Violation>, d: &Designator) -> bool
+fn names_changeable(env: &Environment, told: &mut Told, d: &Designator) -> bool
     ensures { TellsOf told.old told.new result
         (n.c2_c5_c8_named env.now mode.Variable (designator d.now) ++ n.c10_designator env.now
         (designator d.now)) }
@@ -85,7 +85,7 @@ fn names_changeable(env: &Environment, told: &mut Option<Violation>, d: &Designa
     fits && is_variable
 }
 
-fn other_left(env: &Environment, told: &mut Option<Violation>, d: &Designator) -> Option<usize>
+fn other_left(env: &Environment, told: &mut Told, d: &Designator) -> Option<usize>
     ensures { Tells told.old told.new result (st.other_left_side env.now (designator d.now)) }
 {
     let fits = names_changeable(env, told, d);
@@ -94,7 +94,7 @@ fn other_left(env: &Environment, told: &mut Option<Violation>, d: &Designator) -
 }
 
 // The type of a left side.
-fn left(env: &Environment, told: &mut Option<Violation>, d: &Designator) -> Option<usize>
+fn left(env: &Environment, told: &mut Told, d: &Designator) -> Option<usize>
     ensures { Tells told.old told.new result (st.left_side env.now (designator d.now)) }
 {
     match find_entity(env, &d.root) {
@@ -134,12 +134,7 @@ fn lone_component(env: &Environment, e: &Expression) -> Option<usize>
 
 // Judges a right side and returns its type. A component's name is judged as a value only if the
 // left side isn't a component.
-fn right(
-    env: &Environment,
-    told: &mut Option<Violation>,
-    to_component: bool,
-    e: &Expression,
-) -> Option<usize>
+fn right(env: &Environment, told: &mut Told, to_component: bool, e: &Expression) -> Option<usize>
     ensures { Tells told.old told.new result (parts.right env.now to_component (expression e.now)) }
 {
     if to_component {
@@ -159,13 +154,7 @@ fn is_component_type(env: &Environment, target: Option<usize>) -> bool
     }
 }
 
-fn judge_sides(
-    env: &Environment,
-    told: &mut Option<Violation>,
-    at: usize,
-    a: usize,
-    b: usize,
-) -> Option<usize>
+fn judge_sides(env: &Environment, told: &mut Told, at: usize, a: usize, b: usize) -> Option<usize>
     ensures { Tells told.old told.new result (st.c2_sides env.now at a b) }
 {
     if env.agree(a, b) {
@@ -177,7 +166,7 @@ fn judge_sides(
 // C2: the sides of an assignment don't agree.
 fn sides(
     env: &Environment,
-    told: &mut Option<Violation>,
+    told: &mut Told,
     at: usize,
     a: Option<usize>,
     b: Option<usize>,
@@ -191,7 +180,7 @@ fn sides(
 /// a variable.
 pub fn judge_assignment(
     env: &Environment,
-    told: &mut Option<Violation>,
+    told: &mut Told,
     d: &Designator,
     at: usize,
     e: &Expression,

@@ -14,7 +14,7 @@ use crate::places::last_name;
 use crate::standard::{
     judge_standard_function_call, judge_standard_procedure_call, standard_wants,
 };
-use crate::telling::{answer_if, tell, tell_violation, unless_holds};
+use crate::telling::{Told, answer_if, tell, tell_violation, unless_holds};
 use cp_model::rules::{
     Entity, Gives, Mode, ParameterRow, Returns, RoutineRow, Rule, Violation, Want,
 };
@@ -46,13 +46,7 @@ pub struct Called {
 
 /// What a routine gives if it is called as a function. C2: the number of arguments is wrong.
 /// `rule`: the routine is a procedure.
-fn gives(
-    told: &mut Option<Violation>,
-    rule: Rule,
-    x: &Identifier,
-    fits: bool,
-    returns: Returns,
-) -> Option<Gives>
+fn gives(told: &mut Told, rule: Rule, x: &Identifier, fits: bool, returns: Returns) -> Option<Gives>
     ensures { Tells told.old told.new result (n.function_gives rule x.now fits returns) }
 {
     match returns {
@@ -73,7 +67,7 @@ fn gives(
 
 // Judges a call of a routine as a function with `count` arguments.
 fn judge_function_call(
-    told: &mut Option<Violation>,
+    told: &mut Told,
     rule: Rule,
     x: &Identifier,
     count: usize,
@@ -100,7 +94,7 @@ fn is_procedure(returns: Returns) -> bool
 
 // Judges a call of a routine as a procedure with `count` arguments.
 fn judge_procedure_call(
-    told: &mut Option<Violation>,
+    told: &mut Told,
     x: &Identifier,
     count: usize,
     row: RoutineRow,
@@ -118,14 +112,14 @@ fn judge_procedure_call(
 }
 
 // C5: a routine without `entry` stands after a component's `.`.
-pub fn has_entry(told: &mut Option<Violation>, x: &Identifier, row: RoutineRow) -> bool
+pub fn has_entry(told: &mut Told, x: &Identifier, row: RoutineRow) -> bool
     ensures { TellsOf told.old told.new result (n.c5_without_entry x.now row) }
 {
     unless_holds(told, row.entry, Rule::C5, x.at)
 }
 
 // C5: an entry routine is called by its name alone.
-fn by_name(told: &mut Option<Violation>, x: &Identifier, row: RoutineRow) -> bool
+fn by_name(told: &mut Told, x: &Identifier, row: RoutineRow) -> bool
     ensures { TellsOf told.old told.new result (n.c5_by_name x.now row) }
 {
     unless_holds(told, !row.entry, Rule::C5, x.at)
@@ -135,7 +129,7 @@ fn by_name(told: &mut Option<Violation>, x: &Identifier, row: RoutineRow) -> boo
 #[tactic(auto, using(crate::proofs::CalleesTold::also_callee))]
 pub fn function(
     env: &Environment,
-    told: &mut Option<Violation>,
+    told: &mut Told,
     mode: Mode,
     d: &Designator,
     count: usize,
@@ -179,7 +173,7 @@ pub fn function(
 #[tactic(auto, using(crate::proofs::CalleesTold::also_callee))]
 pub fn procedure(
     env: &Environment,
-    told: &mut Option<Violation>,
+    told: &mut Told,
     d: &Designator,
     count: usize,
     entity: Entity,

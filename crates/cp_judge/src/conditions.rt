@@ -15,13 +15,13 @@ use crate::environment::{BOOLEAN, Environment, is_base};
 use crate::expressions::judge;
 use crate::names::{anywhere, judge_name, outside_definition, queue_in_place};
 use crate::places::first_token;
-use crate::telling::{answer_if, tell_violation, unless_holds};
+use crate::telling::{Told, answer_if, tell_violation, unless_holds};
 use crate::values::is_variable;
-use cp_model::rules::{Entity, Mode, Rule, Violation};
+use cp_model::rules::{Entity, Mode, Rule};
 use cp_model::tree::{Expression, Identifier};
 
 // C2: the type isn't one that is wanted.
-fn require_type(told: &mut Option<Violation>, fits: bool, at: usize, t: usize) -> Option<usize>
+fn require_type(told: &mut Told, fits: bool, at: usize, t: usize) -> Option<usize>
     ensures { Tells told.old told.new result (guard fits C2 at t) }
 {
     if fits {
@@ -31,7 +31,7 @@ fn require_type(told: &mut Option<Violation>, fits: bool, at: usize, t: usize) -
 }
 
 /// C2: a condition isn't Boolean.
-pub fn condition(env: &Environment, told: &mut Option<Violation>, e: &Expression) -> Option<usize>
+pub fn condition(env: &Environment, told: &mut Told, e: &Expression) -> Option<usize>
     ensures { Tells told.old told.new result (st.c2_condition env.now (expression e.now)) }
 {
     let t = judge(env, told, Mode::Value, e)?;
@@ -39,7 +39,7 @@ pub fn condition(env: &Environment, told: &mut Option<Violation>, e: &Expression
 }
 
 /// C2: the selector of a `case` isn't simple.
-pub fn selector(env: &Environment, told: &mut Option<Violation>, e: &Expression) -> Option<usize>
+pub fn selector(env: &Environment, told: &mut Told, e: &Expression) -> Option<usize>
     ensures { Tells told.old told.new result (st.c2_selector env.now (expression e.now)) }
 {
     let t = judge(env, told, Mode::Value, e)?;
@@ -49,7 +49,7 @@ pub fn selector(env: &Environment, told: &mut Option<Violation>, e: &Expression)
 /// C2: a bound of a `for` doesn't agree with its variable, if the type of the variable is known.
 pub fn bound(
     env: &Environment,
-    told: &mut Option<Violation>,
+    told: &mut Told,
     variable: Option<usize>,
     e: &Expression,
 ) -> Option<usize>
@@ -64,12 +64,7 @@ pub fn bound(
 }
 
 // The type of a bare name where a variable is wanted. C10: it is neither a variable nor a constant.
-fn plain_value(
-    env: &Environment,
-    told: &mut Option<Violation>,
-    v: &Identifier,
-    entity: Entity,
-) -> Option<usize>
+fn plain_value(env: &Environment, told: &mut Told, v: &Identifier, entity: Entity) -> Option<usize>
     ensures { Tells told.old told.new result
         (n.value_of env.now mode.Variable (st.plain v.now) entity) }
 {
@@ -92,14 +87,14 @@ fn plain_value(
     }
 }
 
-fn plain_name(env: &Environment, told: &mut Option<Violation>, v: &Identifier) -> Option<usize>
+fn plain_name(env: &Environment, told: &mut Told, v: &Identifier) -> Option<usize>
     ensures { Tells told.old told.new result (parts.plain_name env.now v.now) }
 {
     let entity = judge_name(env, told, v)?;
     plain_value(env, told, v, entity)
 }
 
-fn plain_variable(env: &Environment, told: &mut Option<Violation>, v: &Identifier) -> Option<usize>
+fn plain_variable(env: &Environment, told: &mut Told, v: &Identifier) -> Option<usize>
     ensures { Tells told.old told.new result (parts.plain_variable env.now v.now) }
 {
     let no_queue = queue_in_place(env, told, Mode::Variable, v);
@@ -107,7 +102,7 @@ fn plain_variable(env: &Environment, told: &mut Option<Violation>, v: &Identifie
     answer_if(no_queue, t)
 }
 
-fn simple_variable(env: &Environment, told: &mut Option<Violation>, v: &Identifier) -> Option<usize>
+fn simple_variable(env: &Environment, told: &mut Told, v: &Identifier) -> Option<usize>
     ensures { Tells told.old told.new result (parts.simple_variable env.now v.now) }
 {
     let t = plain_variable(env, told, v)?;
@@ -115,7 +110,7 @@ fn simple_variable(env: &Environment, told: &mut Option<Violation>, v: &Identifi
 }
 
 // C10: the variable of a `for` isn't a variable. C2: it isn't simple.
-fn for_variable(env: &Environment, told: &mut Option<Violation>, v: &Identifier) -> Option<usize>
+fn for_variable(env: &Environment, told: &mut Told, v: &Identifier) -> Option<usize>
     ensures { Tells told.old told.new result (st.for_variable env.now v.now) }
 {
     let changeable = unless_holds(told, is_variable(env, v, &[]), Rule::C10, v.at);
@@ -126,7 +121,7 @@ fn for_variable(env: &Environment, told: &mut Option<Violation>, v: &Identifier)
 /// Judges the variable and the bounds of a `for`.
 pub fn for_header(
     env: &Environment,
-    told: &mut Option<Violation>,
+    told: &mut Told,
     v: &Identifier,
     from: &Expression,
     last: &Expression,

@@ -8,7 +8,7 @@ ghost use Rattle.cp_judge.specs.Tells.{TellsFirst};
 
 use crate::environment::{CHAR, Environment, INTEGER};
 use crate::names::resolve;
-use crate::telling::{fail_with_violation, unless_holds};
+use crate::telling::{Told, fail_with_violation, unless_holds};
 use cp_model::rules::{Entity, Rule, Violation};
 use cp_model::tree::{Constant, Identifier};
 
@@ -25,7 +25,7 @@ pub fn constant_at(c: &Constant) -> usize
 }
 
 /// C4 and C2: the name of something unfinished that is of another sort than is wanted.
-pub fn unfinished_of_other_sort<A>(told: &mut Option<Violation>, at: usize) -> Result<A, Violation>
+pub fn unfinished_of_other_sort<A>(told: &mut Told, at: usize) -> Result<A, Violation>
     ensures { TellsFirst told.old told.new result
         (also (violation rules.C4 at ∷ []) (breaks rules.C2 at)) }
 {
@@ -37,7 +37,7 @@ pub fn unfinished_of_other_sort<A>(told: &mut Option<Violation>, at: usize) -> R
 // C2: a constant is wanted, but the name is of another sort. C4: a constant is used inside its own
 // definition.
 fn constant_of_entity(
-    told: &mut Option<Violation>,
+    told: &mut Told,
     x: &Identifier,
     entity: Entity,
 ) -> Result<(usize, i32), Violation>
@@ -53,11 +53,7 @@ fn constant_of_entity(
 }
 
 /// The base type and the ordinal of a constant, or the first violation in it.
-pub fn constant(
-    env: &Environment,
-    told: &mut Option<Violation>,
-    c: &Constant,
-) -> Result<(usize, i32), Violation>
+pub fn constant(env: &Environment, told: &mut Told, c: &Constant) -> Result<(usize, i32), Violation>
     ensures { TellsFirst told.old told.new result (types.constant env.now c.now) }
 {
     match c {

@@ -11,8 +11,8 @@ use crate::environment::Environment;
 use crate::members::member_of_type;
 use crate::names::{find_entity, queue_in_place, sort_rule};
 use crate::places::{first_name, last_name};
-use crate::telling::unless_holds;
-use cp_model::rules::{Entity, Member, Mode, NamedPart, Rule, Structure, Violation};
+use crate::telling::{Told, unless_holds};
+use cp_model::rules::{Entity, Member, Mode, NamedPart, Rule, Structure};
 use cp_model::tree::{Designator, Identifier, Index, Selector};
 
 // The rule that is broken if the first name is of another sort: C2, or C10 where that rule applies.
@@ -46,12 +46,7 @@ fn is_indexed_first(selectors: &[Selector]) -> bool
 }
 
 // C2 or C10: the name of a type comes before `[`.
-fn no_indexed_type(
-    env: &Environment,
-    told: &mut Option<Violation>,
-    mode: Mode,
-    d: &Designator,
-) -> bool
+fn no_indexed_type(env: &Environment, told: &mut Told, mode: Mode, d: &Designator) -> bool
     ensures { TellsOf told.old told.new result (n.c2_before_index env.now mode (designator d.now)) }
 {
     let wrong = is_indexed_first(&d.selectors) && is_type(env, &d.root);
@@ -69,12 +64,7 @@ fn find_member(env: &Environment, x: &Identifier, y: &Identifier) -> Option<Memb
 }
 
 // C5: a routine after a component's `.` lacks `entry`.
-fn member_has_entry(
-    env: &Environment,
-    told: &mut Option<Violation>,
-    x: &Identifier,
-    y: &Identifier,
-) -> bool
+fn member_has_entry(env: &Environment, told: &mut Told, x: &Identifier, y: &Identifier) -> bool
     ensures { TellsOf told.old told.new result
         (n.c5_member env.now y.now
         (n.member_selected env.now y.now.name (r.c1_named env.now x.now))) }
@@ -88,7 +78,7 @@ fn member_has_entry(
 // C5: a routine after the first name lacks `entry`.
 fn selected_has_entry(
     env: &Environment,
-    told: &mut Option<Violation>,
+    told: &mut Told,
     x: &Identifier,
     selectors: &[Selector],
 ) -> bool
@@ -102,7 +92,7 @@ fn selected_has_entry(
 }
 
 // C5: in a designator, a routine after a component's `.` lacks `entry`.
-fn entry_after_point(env: &Environment, told: &mut Option<Violation>, d: &Designator) -> bool
+fn entry_after_point(env: &Environment, told: &mut Told, d: &Designator) -> bool
     ensures { TellsOf told.old told.new result (n.c5_after_point env.now (designator d.now)) }
 {
     selected_has_entry(env, told, &d.root, &d.selectors)
@@ -110,12 +100,7 @@ fn entry_after_point(env: &Environment, told: &mut Option<Violation>, d: &Design
 
 /// C2 or C10, C5 and C8 for the names of a designator: a type before `[`, a routine without
 /// `entry`, a variable with queues in the wrong place.
-pub fn names_fit(
-    env: &Environment,
-    told: &mut Option<Violation>,
-    mode: Mode,
-    d: &Designator,
-) -> bool
+pub fn names_fit(env: &Environment, told: &mut Told, mode: Mode, d: &Designator) -> bool
     ensures { TellsOf told.old told.new result (n.c2_c5_c8_named env.now mode (designator d.now)) }
 {
     let no_type = no_indexed_type(env, told, mode, d);
@@ -201,12 +186,7 @@ fn last_part(env: &Environment, d: &Designator) -> NamedPart
 }
 
 /// C2 or C10: a routine is wanted, but an indexed variable, field, constant or component is named.
-pub fn no_indexed_value(
-    env: &Environment,
-    told: &mut Option<Violation>,
-    mode: Mode,
-    d: &Designator,
-) -> bool
+pub fn no_indexed_value(env: &Environment, told: &mut Told, mode: Mode, d: &Designator) -> bool
     ensures { TellsOf told.old told.new result (n.c2_indexed env.now mode (designator d.now)) }
 {
     let part = last_part(env, d);

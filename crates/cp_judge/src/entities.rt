@@ -10,6 +10,7 @@ ghost use Rattle.cp_judge.specs.EntitiesNamed as spec;
 use crate::environment::Environment;
 use crate::members::member;
 use crate::names::{array, find_entity};
+use crate::telling::Told;
 use cp_model::rules::Entity;
 use cp_model::tree::{Designator, Index, Selector};
 
@@ -28,7 +29,7 @@ pub fn is_routine(entity: Option<Entity>) -> bool
 fn element(env: &Environment, at: usize, entity: Option<Entity>) -> Option<Entity>
     ensures { result ≡ spec.element env.now at entity }
 {
-    let mut told = None;
+    let mut told = Told::earliest();
     let part = array(env, &mut told, at, entity?)?;
     Some(Entity::Variable(part.element, part.access))
 }
@@ -49,7 +50,7 @@ fn part(env: &Environment, entity: Option<Entity>, s: &Selector) -> Option<Entit
 {
     match s {
         Selector::Field { at, name } => {
-            let mut told = None;
+            let mut told = Told::earliest();
             member(env, &mut told, *at, name, entity?)
         }
         Selector::Indexed(indices) => elements(env, entity, indices),

@@ -23,19 +23,14 @@ use crate::names::{array, element};
 use crate::operands::{first_operand, has_form, has_type, mode as mode_of, operand, operands};
 use crate::places::first_token;
 use crate::roots::root;
-use crate::telling::answer_if;
+use crate::telling::{Told, answer_if};
 use crate::values::{result_type, value};
 use cp_model::rules::{ArrayPart, Entity, Mode, Violation, Want};
 use cp_model::tree::{Designator, Expression, Index, Operation, Operator, Selector};
 
 /// Judges an expression and returns its type.
 #[cycle(judge)]
-pub fn judge(
-    env: &Environment,
-    told: &mut Option<Violation>,
-    mode: Mode,
-    e: &Expression,
-) -> Option<usize>
+pub fn judge(env: &Environment, told: &mut Told, mode: Mode, e: &Expression) -> Option<usize>
     ensures { Tells told.old told.new result (x.judge env.now mode (expression e.now)) }
 {
     match e {
@@ -71,7 +66,7 @@ pub fn judge(
 #[cycle(judge)]
 fn chain(
     env: &Environment,
-    told: &mut Option<Violation>,
+    told: &mut Told,
     left: Option<usize>,
     rest: &[Operation],
 ) -> Option<usize>
@@ -88,7 +83,7 @@ fn chain(
 // Judges an operator, if the types of both operands are known.
 fn judge_operation(
     env: &Environment,
-    told: &mut Option<Violation>,
+    told: &mut Told,
     operator: Operator,
     at: usize,
     left: Option<usize>,
@@ -101,12 +96,7 @@ fn judge_operation(
 
 // Judges a designator that is used as a value, or where a variable is wanted.
 #[cycle(judge)]
-fn judge_use(
-    env: &Environment,
-    told: &mut Option<Violation>,
-    mode: Mode,
-    d: &Designator,
-) -> Option<usize>
+fn judge_use(env: &Environment, told: &mut Told, mode: Mode, d: &Designator) -> Option<usize>
     ensures { Tells told.old told.new result (parts.judge_use env.now mode (designator d.now)) }
 {
     let fits = names_fit(env, told, mode, d);
@@ -118,7 +108,7 @@ fn judge_use(
 #[cycle(judge)]
 pub fn type_of_designator(
     env: &Environment,
-    told: &mut Option<Violation>,
+    told: &mut Told,
     mode: Mode,
     d: &Designator,
 ) -> Option<usize>
@@ -131,11 +121,7 @@ pub fn type_of_designator(
 
 /// Judges a designator and returns what it stands for.
 #[cycle(judge)]
-pub fn judge_designator(
-    env: &Environment,
-    told: &mut Option<Violation>,
-    d: &Designator,
-) -> Option<Entity>
+pub fn judge_designator(env: &Environment, told: &mut Told, d: &Designator) -> Option<Entity>
     ensures { Tells told.old told.new result (x.designate env.now (designator d.now)) }
 {
     let mut part = root(env, told, d);
@@ -147,12 +133,7 @@ pub fn judge_designator(
 
 // What a selector selects of what is designated so far.
 #[cycle(judge)]
-fn select(
-    env: &Environment,
-    told: &mut Option<Violation>,
-    part: Option<Entity>,
-    s: &Selector,
-) -> Option<Entity>
+fn select(env: &Environment, told: &mut Told, part: Option<Entity>, s: &Selector) -> Option<Entity>
     ensures { (t : Option Violation) (j : Judged EntityValue) → Tells t told.old part j
         → Tells t told.new result (x.select env.now j (selector s.now)) }
 {
@@ -168,7 +149,7 @@ fn select(
 #[cycle(judge)]
 fn select_elements(
     env: &Environment,
-    told: &mut Option<Violation>,
+    told: &mut Told,
     part: Option<Entity>,
     indices: &[Index],
 ) -> Option<Entity>
@@ -187,7 +168,7 @@ fn select_elements(
 // The array that is indexed, if it is known what is indexed.
 fn array_if(
     env: &Environment,
-    told: &mut Option<Violation>,
+    told: &mut Told,
     at: usize,
     part: Option<Entity>,
 ) -> Option<ArrayPart>
@@ -201,7 +182,7 @@ fn array_if(
 // An element of an array, if the array and the type of the index are known.
 fn element_if(
     env: &Environment,
-    told: &mut Option<Violation>,
+    told: &mut Told,
     at: usize,
     of: Option<ArrayPart>,
     t: Option<usize>,
@@ -224,7 +205,7 @@ fn result(env: &Environment, callee: Option<Callee>, t: Option<usize>) -> Option
 // The function that is called, if it is known what its name stands for.
 fn function_if(
     env: &Environment,
-    told: &mut Option<Violation>,
+    told: &mut Told,
     mode: Mode,
     d: &Designator,
     count: usize,
@@ -241,7 +222,7 @@ fn function_if(
 #[cycle(judge)]
 fn judge_callee(
     env: &Environment,
-    told: &mut Option<Violation>,
+    told: &mut Told,
     mode: Mode,
     d: &Designator,
     count: usize,
@@ -267,7 +248,7 @@ fn judge_callee(
 #[cycle(judge)]
 pub fn arguments(
     env: &Environment,
-    told: &mut Option<Violation>,
+    told: &mut Told,
     wants: Wants,
     list: &[Expression],
 ) -> Option<usize>
@@ -286,12 +267,7 @@ pub fn arguments(
 }
 
 #[cycle(judge)]
-fn argument(
-    env: &Environment,
-    told: &mut Option<Violation>,
-    want: Option<Want>,
-    e: &Expression,
-) -> Option<usize>
+fn argument(env: &Environment, told: &mut Told, want: Option<Want>, e: &Expression) -> Option<usize>
     ensures { Tells told.old told.new result (parts.argument_for env.now want (expression e.now)) }
 {
     let Some(want) = want else {
@@ -303,12 +279,7 @@ fn argument(
 }
 
 #[cycle(judge)]
-fn type_of_argument(
-    env: &Environment,
-    told: &mut Option<Violation>,
-    want: Want,
-    e: &Expression,
-) -> Option<usize>
+fn type_of_argument(env: &Environment, told: &mut Told, want: Want, e: &Expression) -> Option<usize>
     ensures { Tells told.old told.new result
         (parts.type_of_argument env.now want (expression e.now)) }
 {

@@ -15,13 +15,13 @@ use crate::environment::{Environment, INTEGER};
 use crate::expressions::{self, judge};
 use crate::names::{anywhere, is_in_routine, judge_name, queue_in_place};
 use crate::places::{first_token, last_name};
-use crate::telling::{answer_if, tell, tell_violation, unless_holds};
+use crate::telling::{Told, answer_if, tell, tell_violation, unless_holds};
 use crate::values::designator_of;
 use cp_model::rules::{Access, Entity, Mode, Rule, SystemRow, Violation};
 use cp_model::tree::{Designator, Expression, Identifier, InitItem, Selector};
 
 fn own_system(
-    told: &mut Option<Violation>,
+    told: &mut Told,
     x: &Identifier,
     access: Access,
     system: Option<usize>,
@@ -40,7 +40,7 @@ fn own_system(
 // C12: `init` names something that isn't a component variable of this component.
 fn own_component(
     env: &Environment,
-    told: &mut Option<Violation>,
+    told: &mut Told,
     x: &Identifier,
     entity: Entity,
 ) -> Option<usize>
@@ -55,11 +55,7 @@ fn own_component(
     }
 }
 
-fn system_of_component(
-    env: &Environment,
-    told: &mut Option<Violation>,
-    x: &Identifier,
-) -> Option<usize>
+fn system_of_component(env: &Environment, told: &mut Told, x: &Identifier) -> Option<usize>
     ensures { Tells told.old told.new result
         (then_judge (r.c1_named env.now x.now) (st.c12_component env.now x.now)) }
 {
@@ -70,7 +66,7 @@ fn system_of_component(
 // C12: a wrong number of arguments.
 fn judge_argument_count(
     env: &Environment,
-    told: &mut Option<Violation>,
+    told: &mut Told,
     x: &Identifier,
     count: usize,
     y: usize,
@@ -85,12 +81,7 @@ fn judge_argument_count(
 }
 
 // The system type that is initialised, whatever the number of arguments is.
-fn component(
-    env: &Environment,
-    told: &mut Option<Violation>,
-    x: &Identifier,
-    count: usize,
-) -> Option<usize>
+fn component(env: &Environment, told: &mut Told, x: &Identifier, count: usize) -> Option<usize>
     ensures told { told.new ≡ least told.old (violations_of (parts.component env.now x.now count)) }
     ensures system { result ≡ meaning_of (parts.system env.now x.now) }
 {
@@ -103,7 +94,7 @@ fn component(
 
 fn unused_entity(
     env: &Environment,
-    told: &mut Option<Violation>,
+    told: &mut Told,
     d: &Designator,
     entity: Entity,
 ) -> Option<usize>
@@ -113,11 +104,7 @@ fn unused_entity(
     answer_if(in_place, Some(INTEGER))
 }
 
-fn unused_designator(
-    env: &Environment,
-    told: &mut Option<Violation>,
-    d: &Designator,
-) -> Option<usize>
+fn unused_designator(env: &Environment, told: &mut Told, d: &Designator) -> Option<usize>
     ensures { Tells told.old told.new result
         (then_judge (x.designate env.now (designator d.now))
         (st.surplus_name env.now (designator d.now))) }
@@ -126,11 +113,7 @@ fn unused_designator(
     unused_entity(env, told, d, entity)
 }
 
-fn unwanted_designator(
-    env: &Environment,
-    told: &mut Option<Violation>,
-    d: &Designator,
-) -> Option<usize>
+fn unwanted_designator(env: &Environment, told: &mut Told, d: &Designator) -> Option<usize>
     ensures { Tells told.old told.new result
         (parts.unwanted_designator env.now (designator d.now)) }
 {
@@ -140,11 +123,7 @@ fn unwanted_designator(
 }
 
 // Judges an argument without requirements. What a designator stands for isn't judged as a value.
-fn unwanted_argument(
-    env: &Environment,
-    told: &mut Option<Violation>,
-    e: &Expression,
-) -> Option<usize>
+fn unwanted_argument(env: &Environment, told: &mut Told, e: &Expression) -> Option<usize>
     ensures { Tells told.old told.new result (st.surplus_argument env.now (expression e.now)) }
 {
     match designator_of(e) {
@@ -156,7 +135,7 @@ fn unwanted_argument(
 // C12: an argument isn't of the component type that is wanted.
 fn passed_entity(
     env: &Environment,
-    told: &mut Option<Violation>,
+    told: &mut Told,
     wanted: usize,
     x: &Identifier,
     entity: Entity,
@@ -177,12 +156,7 @@ fn passed_entity(
     }
 }
 
-fn passed_name(
-    env: &Environment,
-    told: &mut Option<Violation>,
-    wanted: usize,
-    x: &Identifier,
-) -> Option<usize>
+fn passed_name(env: &Environment, told: &mut Told, wanted: usize, x: &Identifier) -> Option<usize>
     ensures { Tells told.old told.new result
         (then_judge (r.c1_named env.now x.now) (st.c12_passed env.now wanted x.now)) }
 {
@@ -190,12 +164,7 @@ fn passed_name(
     passed_entity(env, told, wanted, x, entity)
 }
 
-fn name_argument(
-    env: &Environment,
-    told: &mut Option<Violation>,
-    wanted: usize,
-    x: &Identifier,
-) -> Option<usize>
+fn name_argument(env: &Environment, told: &mut Told, wanted: usize, x: &Identifier) -> Option<usize>
     ensures { Tells told.old told.new result (parts.name_argument env.now wanted x.now) }
 {
     let no_queue = queue_in_place(env, told, Mode::Value, x);
@@ -224,7 +193,7 @@ fn name_alone(e: &Expression) -> Option<&Identifier>
 // C12: the argument for a component parameter isn't a name.
 fn component_argument(
     env: &Environment,
-    told: &mut Option<Violation>,
+    told: &mut Told,
     wanted: usize,
     e: &Expression,
 ) -> Option<usize>
@@ -249,7 +218,7 @@ fn component_argument(
 
 fn simple_agrees(
     env: &Environment,
-    told: &mut Option<Violation>,
+    told: &mut Told,
     wanted: usize,
     e: &Expression,
     t: usize,
@@ -266,7 +235,7 @@ fn simple_agrees(
 // C12: an argument doesn't agree with its simple parameter.
 fn simple_argument(
     env: &Environment,
-    told: &mut Option<Violation>,
+    told: &mut Told,
     wanted: usize,
     e: &Expression,
 ) -> Option<usize>
@@ -279,7 +248,7 @@ fn simple_argument(
 
 fn argument(
     env: &Environment,
-    told: &mut Option<Violation>,
+    told: &mut Told,
     wanted: Option<usize>,
     e: &Expression,
 ) -> Option<usize>
@@ -306,12 +275,7 @@ fn parameter_type(env: &Environment, system: Option<usize>, number: usize) -> Op
     p.of
 }
 
-fn arguments(
-    env: &Environment,
-    told: &mut Option<Violation>,
-    system: Option<usize>,
-    list: &[Expression],
-)
+fn arguments(env: &Environment, told: &mut Told, system: Option<usize>, list: &[Expression])
     ensures { told.new ≡ least told.old
         (st.init_arguments env.now (parts.parameters_if env.now system)
         (expressions_of (map expression list.now))) }
@@ -321,7 +285,7 @@ fn arguments(
     }
 }
 
-fn item(env: &Environment, told: &mut Option<Violation>, item: &InitItem)
+fn item(env: &Environment, told: &mut Told, item: &InitItem)
     ensures { told.new ≡ least told.old (st.init_item env.now (init_item item.now)) }
 {
     queue_in_place(env, told, Mode::Value, &item.component);
@@ -330,7 +294,7 @@ fn item(env: &Environment, told: &mut Option<Violation>, item: &InitItem)
 }
 
 /// Judges an `init`, whose word is at `at`. C12: it is in a routine, or an item is wrong.
-pub fn judge_init(env: &Environment, told: &mut Option<Violation>, at: usize, items: &[InitItem])
+pub fn judge_init(env: &Environment, told: &mut Told, at: usize, items: &[InitItem])
     ensures { told.new ≡ least told.old (parts.judge_init env.now at (map init_item items.now)) }
 {
     unless_holds(told, !is_in_routine(env.region().part), Rule::C12, at);

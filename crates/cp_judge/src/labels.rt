@@ -10,8 +10,8 @@ ghost use Rattle.cp_judge.specs.Tells.{Tells, TellsOf};
 
 use crate::constants::{constant, constant_at};
 use crate::environment::Environment;
-use crate::telling::{answer_if, tell_violation, unless_holds};
-use cp_model::rules::{Rule, Violation};
+use crate::telling::{Told, answer_if, tell_violation, unless_holds};
+use cp_model::rules::Rule;
 use cp_model::tree::Constant;
 use std::alloc::{AllocError, Global};
 use std::collections::BTreeSet;
@@ -66,12 +66,7 @@ fn fits(base: Option<usize>, label: (usize, i32)) -> bool
 }
 
 // C3: a label occurs twice.
-fn once(
-    told: &mut Option<Violation>,
-    seen: &Labels,
-    at: usize,
-    label: (usize, i32),
-) -> Option<(usize, i32)>
+fn once(told: &mut Told, seen: &Labels, at: usize, label: (usize, i32)) -> Option<(usize, i32)>
     ensures { Tells told.old told.new result
         (guard (not (st.is_among label seen.now)) rules.C3 at label) }
 {
@@ -84,7 +79,7 @@ fn once(
 // C2: the base type of a label isn't that of the selector, if that is known. C3: the label occurs
 // twice.
 fn judge_known_label(
-    told: &mut Option<Violation>,
+    told: &mut Told,
     base: Option<usize>,
     seen: &Labels,
     at: usize,
@@ -101,7 +96,7 @@ fn judge_known_label(
 /// out.
 pub fn judge_labels(
     env: &Environment,
-    told: &mut Option<Violation>,
+    told: &mut Told,
     base: Option<usize>,
     seen: &mut Labels,
     list: &[Constant],
@@ -120,7 +115,7 @@ pub fn judge_labels(
 // Judges a label, after those that were seen.
 fn judge_label(
     env: &Environment,
-    told: &mut Option<Violation>,
+    told: &mut Told,
     base: Option<usize>,
     seen: &mut Labels,
     c: &Constant,

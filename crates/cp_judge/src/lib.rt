@@ -21,7 +21,7 @@ mod members;
 pub mod names;
 pub mod needs;
 mod operands;
-mod places;
+pub mod places;
 mod procedures;
 mod roots;
 mod standard;

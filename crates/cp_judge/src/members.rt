@@ -8,15 +8,15 @@ ghost use Rattle.cp_judge.specs.Tells.{Tells, TellsOf};
 
 use crate::environment::Environment;
 use crate::names::entity_of_member;
-use crate::telling::tell_violation;
-use cp_model::rules::{Entity, Member, Rule, Structure, Violation};
+use crate::telling::{Told, tell_violation};
+use cp_model::rules::{Entity, Member, Rule, Structure};
 use cp_model::tree::Identifier;
 
 /// What a name after a `.` stands for. C2: the `.` comes after something that is neither a record
 /// nor a component.
 pub fn member(
     env: &Environment,
-    told: &mut Option<Violation>,
+    told: &mut Told,
     at: usize,
     x: &Identifier,
     entity: Entity,

@@ -9,7 +9,7 @@ ghost use Rattle.cp_judge.specs.Tells.{Tells, TellsFirst, TellsOf};
 
 use crate::environment::Environment;
 use crate::places::{first_name, has_field, last_name};
-use crate::telling::{fail_with_violation, tell, tell_violation, unless_holds};
+use crate::telling::{Told, fail_with_violation, tell, tell_violation, unless_holds};
 use cp_model::rules::{
     Access, ArrayPart, Entity, Member, Mode, Part, Region, Rule, Standard, Structure, Violation,
 };
@@ -17,11 +17,7 @@ use cp_model::tree::{Designator, Identifier, Selector, Sort};
 
 /// What a name stands for, or the violation. C1: it isn't visible. A violation in its declaration
 /// is reported again.
-pub fn resolve(
-    env: &Environment,
-    told: &mut Option<Violation>,
-    x: &Identifier,
-) -> Result<Entity, Violation>
+pub fn resolve(env: &Environment, told: &mut Told, x: &Identifier) -> Result<Entity, Violation>
     ensures { TellsFirst told.old told.new result (r.c1_named env.now x.now) }
 {
     match env.find(x.name.as_bytes()) {
@@ -36,7 +32,7 @@ pub fn resolve(
 }
 
 /// What a name stands for, or `None` if something is broken in it, which is reported.
-pub fn judge_name(env: &Environment, told: &mut Option<Violation>, x: &Identifier) -> Option<Entity>
+pub fn judge_name(env: &Environment, told: &mut Told, x: &Identifier) -> Option<Entity>
     ensures { Tells told.old told.new result (r.c1_named env.now x.now) }
 {
     resolve(env, told, x).ok()
@@ -55,7 +51,7 @@ pub fn find_entity(env: &Environment, x: &Identifier) -> Option<Entity>
 }
 
 /// C4: a constant, type or routine is named inside its own definition.
-pub fn outside_definition(told: &mut Option<Violation>, x: &Identifier, entity: Entity) -> bool
+pub fn outside_definition(told: &mut Told, x: &Identifier, entity: Entity) -> bool
     ensures { TellsOf told.old told.new result (r.c4_unfinished x.now entity) }
 {
     let finished = match entity {
@@ -117,12 +113,7 @@ fn is_allowed(region: Region, standard: Standard) -> bool
 }
 
 /// C9: a standard name is used in the wrong place.
-pub fn in_place(
-    env: &Environment,
-    told: &mut Option<Violation>,
-    x: &Identifier,
-    entity: Entity,
-) -> bool
+pub fn in_place(env: &Environment, told: &mut Told, x: &Identifier, entity: Entity) -> bool
     ensures { TellsOf told.old told.new result (r.c9_standard env.now x.now entity) }
 {
     match entity {
@@ -134,12 +125,7 @@ pub fn in_place(
 }
 
 /// C4 and C9: the rules that apply to a name everywhere.
-pub fn anywhere(
-    env: &Environment,
-    told: &mut Option<Violation>,
-    x: &Identifier,
-    entity: Entity,
-) -> bool
+pub fn anywhere(env: &Environment, told: &mut Told, x: &Identifier, entity: Entity) -> bool
     ensures { TellsOf told.old told.new result (r.c4_c9_named env.now x.now entity) }
 {
     let finished = outside_definition(told, x, entity);
@@ -149,7 +135,7 @@ pub fn anywhere(
 
 /// What a member of a record or a component stands for. C1: there is no member with this name.
 pub fn entity_of_member(
-    told: &mut Option<Violation>,
+    told: &mut Told,
     x: &Identifier,
     access: Access,
     member: Option<Member>,
@@ -165,12 +151,7 @@ pub fn entity_of_member(
 }
 
 /// C2: a `[` comes after something that isn't an array.
-pub fn array(
-    env: &Environment,
-    told: &mut Option<Violation>,
-    at: usize,
-    entity: Entity,
-) -> Option<ArrayPart>
+pub fn array(env: &Environment, told: &mut Told, at: usize, entity: Entity) -> Option<ArrayPart>
     ensures { Tells told.old told.new result (n.c2_array env.now at entity) }
 {
     if let Entity::Variable(t, access) = entity {
@@ -189,7 +170,7 @@ pub fn array(
 /// variable.
 pub fn element(
     env: &Environment,
-    told: &mut Option<Violation>,
+    told: &mut Told,
     at: usize,
     part: ArrayPart,
     t: usize,
@@ -213,12 +194,7 @@ fn is_queue_variable(env: &Environment, x: &Identifier) -> bool
 
 /// C8: a variable with queues is named other than as the argument of `delay`, `continue` or
 /// `empty`.
-pub fn queue_in_place(
-    env: &Environment,
-    told: &mut Option<Violation>,
-    mode: Mode,
-    x: &Identifier,
-) -> bool
+pub fn queue_in_place(env: &Environment, told: &mut Told, mode: Mode, x: &Identifier) -> bool
     ensures { TellsOf told.old told.new result (n.c8_named env.now mode x.now) }
 {
     match mode {

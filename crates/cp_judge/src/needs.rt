@@ -17,6 +17,7 @@ use crate::entities::{find_designated_entity, is_routine};
 use crate::environment::Environment;
 use crate::expressions::judge_designator;
 use crate::names::find_entity;
+use crate::telling::Told;
 use cp_model::rules::{Entity, SystemRow};
 use cp_model::tree::{
     Arm, Designator, Expression, Identifier, Index, InitItem, Operation, Selector, Sort, Statement,
@@ -120,7 +121,7 @@ fn need_of_callee(env: &Environment, d: &Designator) -> usize
 fn designation(env: &Environment, d: &Designator) -> Option<Entity>
     ensures { result ≡ meaning_of (x.designate env.now (designator d.now)) }
 {
-    let mut told = None;
+    let mut told = Told::earliest();
     judge_designator(env, &mut told, d)
 }
 

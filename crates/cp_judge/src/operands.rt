@@ -10,9 +10,9 @@ ghost use Rattle.cp_judge.specs.Tells.{Tells, TellsOf};
 
 use crate::environment::{BOOLEAN, CHAR, Environment, INTEGER, QUEUE, is_base};
 use crate::places::first_token;
-use crate::telling::tell_violation;
+use crate::telling::{Told, tell_violation};
 use crate::values::variable;
-use cp_model::rules::{Mode, Rule, Violation, Want};
+use cp_model::rules::{Mode, Rule, Want};
 use cp_model::tree::{Expression, Operator};
 
 fn are_of_one_base(a: Option<usize>, b: Option<usize>) -> bool
@@ -55,7 +55,7 @@ fn operator_gives(operator: Operator) -> usize
 /// C2: the operands don't fit the operator.
 pub fn operands(
     env: &Environment,
-    told: &mut Option<Violation>,
+    told: &mut Told,
     operator: Operator,
     at: usize,
     a: usize,
@@ -72,7 +72,7 @@ pub fn operands(
 /// C2: the operand of a sign or of `not` isn't of the base type `wanted`.
 pub fn operand(
     env: &Environment,
-    told: &mut Option<Violation>,
+    told: &mut Told,
     wanted: usize,
     at: usize,
     t: usize,
@@ -119,7 +119,7 @@ pub fn first_operand(mode: Mode) -> Mode
 // parameter's very type.
 fn fits_type(
     env: &Environment,
-    told: &mut Option<Violation>,
+    told: &mut Told,
     by_reference: bool,
     of: Option<usize>,
     e: &Expression,
@@ -143,7 +143,7 @@ fn fits_type(
 }
 
 /// C10: an argument that must be a variable isn't one, whatever else is broken in it.
-pub fn has_form(env: &Environment, told: &mut Option<Violation>, want: Want, e: &Expression) -> bool
+pub fn has_form(env: &Environment, told: &mut Told, want: Want, e: &Expression) -> bool
     ensures { TellsOf told.old told.new result (form_rules env.now want (expression e.now)) }
 {
     match want {
@@ -175,7 +175,7 @@ fn is_wanted(env: &Environment, want: Want, t: usize) -> bool
 /// The rules about the type of an argument.
 pub fn has_type(
     env: &Environment,
-    told: &mut Option<Violation>,
+    told: &mut Told,
     want: Want,
     e: &Expression,
     t: usize,

@@ -14,14 +14,14 @@ use crate::callees::{Called, Callee, procedure, wants_of_call};
 use crate::designators::{names_fit, no_indexed_value};
 use crate::environment::Environment;
 use crate::expressions::{arguments, judge_designator};
-use crate::telling::answer_if;
+use crate::telling::{Told, answer_if};
 use cp_model::rules::{Entity, Mode, Violation};
 use cp_model::tree::{Designator, Expression};
 
 // The procedure that is called, if it is known what its name stands for.
 fn procedure_if(
     env: &Environment,
-    told: &mut Option<Violation>,
+    told: &mut Told,
     d: &Designator,
     count: usize,
     entity: Option<Entity>,
@@ -34,12 +34,7 @@ fn procedure_if(
     procedure(env, told, d, count, entity)
 }
 
-fn judge_callee(
-    env: &Environment,
-    told: &mut Option<Violation>,
-    d: &Designator,
-    count: usize,
-) -> Called
+fn judge_callee(env: &Environment, told: &mut Told, d: &Designator, count: usize) -> Called
     ensures callee { TellsCallee env.now told.old told.new result.callee
         (parts.procedure_called env.now (designator d.now) count) }
     ensures wants { wants_of env.now result.wants ≡ x.wants_in env.now
@@ -57,12 +52,7 @@ fn judge_callee(
 }
 
 /// Judges a call of a procedure. C2: what is called isn't a procedure, or an argument doesn't fit.
-pub fn judge_call(
-    env: &Environment,
-    told: &mut Option<Violation>,
-    d: &Designator,
-    list: &[Expression],
-)
+pub fn judge_call(env: &Environment, told: &mut Told, d: &Designator, list: &[Expression])
     ensures { told.new ≡ least told.old
         (st.call_statement env.now (designator d.now) (expressions_of (map expression list.now))) }
 {

@@ -9,14 +9,14 @@ ghost use Rattle.cp_judge.specs.Tells.{Tells};
 
 use crate::environment::Environment;
 use crate::names::{anywhere, judge_name};
-use crate::telling::answer_if;
-use cp_model::rules::{Entity, Violation};
+use crate::telling::{Told, answer_if};
+use cp_model::rules::Entity;
 use cp_model::tree::{Designator, Identifier, Selector};
 
 // C4 and C9 for a name with selectors. A name without selectors is judged by its use.
 fn before_selectors(
     env: &Environment,
-    told: &mut Option<Violation>,
+    told: &mut Told,
     x: &Identifier,
     selectors: &[Selector],
     entity: Entity,
@@ -34,7 +34,7 @@ fn before_selectors(
 }
 
 /// What the first name of a designator stands for, before its selectors apply.
-pub fn root(env: &Environment, told: &mut Option<Violation>, d: &Designator) -> Option<Entity>
+pub fn root(env: &Environment, told: &mut Told, d: &Designator) -> Option<Entity>
     ensures { Tells told.old told.new result
         (then_judge (r.c1_named env.now d.now.root)
         (n.before_selectors env.now d.now.root

@@ -7,8 +7,8 @@ ghost use Rattle.cp_judge.specs.Callees.{wants_of, callee_if, TellsWherever};
 
 use crate::callees::{Callee, Wants};
 use crate::environment::{BOOLEAN, CHAR, INTEGER};
-use crate::telling::tell_violation;
-use cp_model::rules::{Gives, Rule, Standard, Violation, Want};
+use crate::telling::{Told, tell_violation};
+use cp_model::rules::{Gives, Rule, Standard, Want};
 use cp_model::tree::Identifier;
 
 /// What the arguments of a standard routine must satisfy.
@@ -84,7 +84,7 @@ fn standard_procedure(standard: Standard) -> Option<Callee>
 // Judges a call of a standard routine. C2: the number of arguments is wrong. `rule`: there is no
 // callee.
 fn judge_standard_call(
-    told: &mut Option<Violation>,
+    told: &mut Told,
     rule: Rule,
     x: &Identifier,
     fits: bool,
@@ -104,7 +104,7 @@ fn judge_standard_call(
 
 /// Judges a call of a standard function with `count` arguments.
 pub fn judge_standard_function_call(
-    told: &mut Option<Violation>,
+    told: &mut Told,
     rule: Rule,
     x: &Identifier,
     count: usize,
@@ -121,7 +121,7 @@ pub fn judge_standard_function_call(
 
 /// Judges a call of a standard procedure with `count` arguments.
 pub fn judge_standard_procedure_call(
-    told: &mut Option<Violation>,
+    told: &mut Told,
     x: &Identifier,
     count: usize,
     standard: Standard,

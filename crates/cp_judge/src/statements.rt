@@ -13,7 +13,7 @@ use crate::environment::Environment;
 use crate::initialisation::judge_init;
 use crate::labels::{Labels, judge_labels, selector_base};
 use crate::procedures::judge_call;
-use cp_model::rules::Violation;
+use crate::telling::Told;
 use cp_model::tree::{Arm, Expression, Identifier, Statement};
 use std::alloc::{AllocError, Global};
 
@@ -22,7 +22,7 @@ use std::alloc::{AllocError, Global};
 pub fn statement(
     env: &Environment,
     alloc: Global,
-    told: &mut Option<Violation>,
+    told: &mut Told,
     s: &Statement,
 ) -> Result<(), AllocError>
     ensures { OnOk result
@@ -63,7 +63,7 @@ pub fn statement(
 fn judge_branch(
     env: &Environment,
     alloc: Global,
-    told: &mut Option<Violation>,
+    told: &mut Told,
     body: &Statement,
     e: &Expression,
 ) -> Result<(), AllocError>
@@ -81,7 +81,7 @@ fn judge_branch(
 fn judge_for(
     env: &Environment,
     alloc: Global,
-    told: &mut Option<Violation>,
+    told: &mut Told,
     body: &Statement,
     v: &Identifier,
     from: &Expression,
@@ -101,7 +101,7 @@ fn judge_for(
 fn judge_case(
     env: &Environment,
     alloc: Global,
-    told: &mut Option<Violation>,
+    told: &mut Told,
     arms: &[Arm],
     e: &Expression,
 ) -> Result<(), AllocError>
@@ -119,7 +119,7 @@ fn judge_case(
 fn judge_repeat(
     env: &Environment,
     alloc: Global,
-    told: &mut Option<Violation>,
+    told: &mut Told,
     body: &[Statement],
     e: &Expression,
 ) -> Result<(), AllocError>
@@ -138,7 +138,7 @@ fn judge_repeat(
 pub fn statements(
     env: &Environment,
     alloc: Global,
-    told: &mut Option<Violation>,
+    told: &mut Told,
     list: &[Statement],
 ) -> Result<(), AllocError>
     ensures { OnOk result
@@ -157,7 +157,7 @@ pub fn statements(
 fn judge_arms(
     env: &Environment,
     alloc: Global,
-    told: &mut Option<Violation>,
+    told: &mut Told,
     base: Option<usize>,
     list: &[Arm],
 ) -> Result<(), AllocError>

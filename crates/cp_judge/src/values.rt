@@ -11,8 +11,8 @@ use crate::callees::function;
 use crate::environment::{Environment, INTEGER};
 use crate::names::{anywhere, find_entity, outside_definition, sort_rule};
 use crate::places::{first_name, first_token, last_name};
-use crate::telling::{tell_violation, unless_holds};
-use cp_model::rules::{Access, Entity, Gives, Mode, Rule, Violation};
+use crate::telling::{Told, tell_violation, unless_holds};
+use cp_model::rules::{Access, Entity, Gives, Mode, Rule};
 use cp_model::tree::{Designator, Expression, Identifier, Selector};
 
 /// The type of what a call gives, if its first argument is of the type `argument`.
@@ -29,7 +29,7 @@ pub fn result_type(env: &Environment, argument: usize, gives: Gives) -> usize
 // Judges a routine without arguments as a call of a function. C10: a variable is wanted.
 fn function_alone(
     env: &Environment,
-    told: &mut Option<Violation>,
+    told: &mut Told,
     mode: Mode,
     d: &Designator,
     entity: Entity,
@@ -62,7 +62,7 @@ fn is_no_component(env: &Environment, mode: Mode, t: usize) -> bool
 /// component is used as a value.
 pub fn value(
     env: &Environment,
-    told: &mut Option<Violation>,
+    told: &mut Told,
     mode: Mode,
     d: &Designator,
     entity: Entity,
@@ -127,7 +127,7 @@ pub fn is_variable(env: &Environment, x: &Identifier, selectors: &[Selector]) ->
 }
 
 /// C10: a designator isn't a variable, a `var` parameter or a part of one.
-pub fn designates_variable(env: &Environment, told: &mut Option<Violation>, d: &Designator) -> bool
+pub fn designates_variable(env: &Environment, told: &mut Told, d: &Designator) -> bool
     ensures { TellsOf told.old told.new result (n.c10_designator env.now (designator d.now)) }
 {
     unless_holds(
@@ -153,7 +153,7 @@ pub fn designator_of(e: &Expression) -> Option<&Designator>
 }
 
 /// C10: an expression that must be a variable isn't one.
-pub fn variable(env: &Environment, told: &mut Option<Violation>, e: &Expression) -> bool
+pub fn variable(env: &Environment, told: &mut Told, e: &Expression) -> bool
     ensures { TellsOf told.old told.new result (n.c10_variable env.now (expression e.now)) }
 {
     match designator_of(e) {

@@ -5,7 +5,7 @@ ghost use Rattle.std.specs.Prelude.{◌≤◌, length};
 use crate::glyph::{Glyph, first_glyph, is_continuation};
 use crate::page::Page;
 use crate::position::Position;
-use cp_report::text::hex;
+use cp_digits::hexadecimal::hex;
 use itoa::Buffer;
 use std::alloc::AllocError;
 

@@ -45,6 +45,12 @@ impl Page {
         Ok(())
     }
 
+    /// Adds the end of the first line, and the line of the place.
+    pub fn place(&mut self, text: &[u8], at: usize) -> Result<(), AllocError> {
+        self.bytes(b"\n")?;
+        excerpt(self, text, at, Position::of(text, at))
+    }
+
     /// Adds the end of the first line, the line of the place, and the advice.
     pub fn place_and_advice(
         &mut self,
@@ -53,8 +59,7 @@ impl Page {
         advice: &str,
         about: About<'_>,
     ) -> Result<(), AllocError> {
-        self.bytes(b"\n")?;
-        excerpt(self, text, at, Position::of(text, at))?;
+        self.place(text, at)?;
         self.bytes(b"  ")?;
         self.template(advice, about)
     }

@@ -4,8 +4,8 @@ ghost use Rattle.std.specs.Prelude.{◌≡◌, ◌++◌, OnOk};
 ghost use Rattle.cp_model.specs.Decimal.{natural};
 
 use crate::position::Position;
+use cp_digits::decimal::push_natural;
 use cp_model::tree::Identifier;
-use cp_report::text::push_natural;
 use std::alloc::{AllocError, Global};
 use std::marker::Model;
 

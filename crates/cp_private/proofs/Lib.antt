@@ -1,7 +1,6 @@
 pub mod Unshared
 pub mod Blocks
 pub mod Calling
-pub mod Digits
 pub mod InUse
 pub mod Lasting
 pub mod Results

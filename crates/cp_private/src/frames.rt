@@ -95,6 +95,7 @@ impl Private {
             gate: callee.gate,
             held: self.gate,
         };
+        self.pause = self.counter;
         self.counter = unit.start;
         self.memory.base += call.words;
         self.memory.temp += call.temps;

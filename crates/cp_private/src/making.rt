@@ -102,6 +102,7 @@ impl Private {
                 Activity::NotBegun
             },
             counter: needs.start,
+            pause: needs.start,
             gate: 0,
             memory: Memory {
                 words: first_words(alloc, program, process, count)?,
@@ -148,6 +149,7 @@ impl Private {
             number: self.number,
             activity: self.activity,
             counter: self.counter,
+            pause: self.pause,
             gate: self.gate,
             memory: Memory {
                 words: Vec::from_slice(alloc, &self.memory.words)?,
@@ -210,6 +212,20 @@ impl Private {
         ensures { (input : List ℕ) → activity result ≡ (private_of self.now input).activity }
     {
         self.activity
+    }
+
+    /// Returns the number of the next operation, which is also the one that faulted.
+    pub fn counter(&self) -> u32
+        ensures { (input : List ℕ) → result ≡ (private_of self.now input).counter }
+    {
+        self.counter
+    }
+
+    /// Returns the number of the operation of the last call, `delay` or `wait`.
+    pub fn pause(&self) -> u32
+        ensures { result ≡ self.now.pause }
+    {
+        self.pause
     }
 
     /// Returns the word at an address. A missing word reads as 0.

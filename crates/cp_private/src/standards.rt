@@ -136,6 +136,7 @@ impl Private {
         }
         let number = self.number as i32;
         self.set_word(shared, at, number);
+        self.pause = self.counter;
         self.counter = next;
         Ok(Effect::Delays {
             monitor,
@@ -155,6 +156,7 @@ impl Private {
         ensures kept { KeepsOwn self.old self.new }
     {
         self.activity = Activity::Waiting;
+        self.pause = self.counter;
         self.counter = next;
         Ok(Effect::None)
     }

@@ -214,6 +214,9 @@ process plans p = record {
 abbrev pub plans_of : Program → List StartPlan
 plans_of p = p.plans.items
 
+abbrev pub origins_of : Program → List ℕ
+origins_of p = p.origins.items
+
 abbrev pub program : Program → code.Program
 program p = record {
   operations = map operation p.operations.items;

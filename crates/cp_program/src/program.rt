@@ -2,7 +2,7 @@
 
 ghost use Rattle.std.specs.Prelude.{◌≡◌, ◌-◌, length, map, option_map, slice_get};
 ghost use Rattle.cp_program.specs.View as view;
-ghost use Rattle.cp_program.specs.View.{plans_of};
+ghost use Rattle.cp_program.specs.View.{origins_of, plans_of};
 
 use crate::operation::Operation;
 
@@ -59,6 +59,9 @@ pub struct StartPlan {
 #[derive(Debug, Drop)]
 pub struct Program {
     operations: Vec<Operation>,
+    /// The origin of each operation: the byte of the text, counted from 0, at which what it comes
+    /// from begins. No step reads it.
+    origins: Vec<usize>,
     units: Vec<CodeUnit>,
     monitors: Vec<Monitor>,
     processes: Vec<Process>,
@@ -67,9 +70,11 @@ pub struct Program {
 }
 
 impl Program {
-    /// Creates a program of these parts. Plans have the numbers from 0 on.
+    /// Creates a program of these parts. `origins` has the origin of each operation, and plans have
+    /// the numbers from 0 on.
     pub fn new(
         operations: Vec<Operation>,
+        origins: Vec<usize>,
         units: Vec<CodeUnit>,
         monitors: Vec<Monitor>,
         processes: Vec<Process>,
@@ -78,6 +83,7 @@ impl Program {
     ) -> Program
         ensures operations { (view.program result).operations ≡ map view.operation
             operations.items }
+        ensures origins { origins_of result ≡ origins.items }
         ensures units { (view.program result).units ≡ map view.code_unit units.items }
         ensures monitors { (view.program result).monitors ≡ map (view.monitor plans.items)
             monitors.items }
@@ -87,6 +93,7 @@ impl Program {
     {
         Program {
             operations,
+            origins,
             units,
             monitors,
             processes,
@@ -102,6 +109,14 @@ impl Program {
             (view.program self.now).operations place }
     {
         self.operations.get(place as usize)
+    }
+
+    /// The origin of the operation at a place: the byte of the text, counted from 0, at which what
+    /// it comes from begins.
+    pub fn origin(&self, place: u32) -> Option<usize>
+        ensures { result ≡ slice_get (origins_of self.now) place }
+    {
+        self.origins.get(place as usize).copied()
     }
 
     /// The unit with this number, from 0 on, if there is one.

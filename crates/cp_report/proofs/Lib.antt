@@ -1,4 +1,3 @@
-pub mod Digits
 pub mod Paths
 pub mod Stacks
 pub mod Rows

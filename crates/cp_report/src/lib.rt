@@ -10,7 +10,7 @@
 //! - `subject`, `processes`, `monitors`: what a report describes, and the lines of its processes
 //!   and monitors.
 //! - `report`: the whole report.
-//! - `outcome`, `reasons`: the verdict on a machine, and why processes are where they are.
+//! - `outcome`: the verdict on a machine, before the reasons for it.
 #![tactic(auto)]
 
 mod chains;
@@ -18,14 +18,13 @@ mod components;
 mod gates;
 mod heads;
 mod lines;
-mod listing;
+pub mod listing;
 mod monitors;
 pub mod outcome;
 mod processes;
-mod reasons;
 pub mod report;
-mod status;
+pub mod status;
 mod subject;
 mod telling;
 pub mod text;
-mod walk;
+pub mod walk;

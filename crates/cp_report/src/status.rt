@@ -10,8 +10,8 @@ ghost use Rattle.cp_program.specs.View as view;
 ghost use Rattle.cp_report.specs.Statuses.{NamesMonitor, TellsQueue, TellsStage};
 
 use crate::telling::Telling;
-use crate::text::push_natural;
 use crate::walk::Walk;
+use cp_digits::decimal::push_natural;
 use cp_model::state::Fault;
 use cp_private::outside::Stage;
 use cp_private::private::Activity;
@@ -30,7 +30,11 @@ pub(crate) fn monitor_start(program: &Program, number: usize) -> usize
 }
 
 /// Adds the path of the queue at an address of the shared words.
-pub(crate) fn push_queue(
+///
+/// # Errors
+///
+/// `AllocError` if memory runs out.
+pub fn push_queue(
     walk: &mut Walk,
     tables: &Tables,
     program: &Program,
@@ -71,7 +75,8 @@ pub(crate) fn push_monitor(
     }
 }
 
-fn fault_number(fault: Fault) -> u64
+/// Returns the number of a fault, from 1 to 9.
+pub fn fault_number(fault: Fault) -> u64
     ensures { result ≡ state.fault_number fault }
 {
     match fault {

@@ -6,7 +6,8 @@ ghost use Rattle.cp_model.specs.Locations.{Path};
 ghost use Rattle.cp_model.specs.Report.{path_text};
 ghost use Rattle.cp_report.specs.Tellings.{queue_line_of, tell_leaf, value_line_of, visit_of, words_in};
 
-use crate::text::{push_integer, push_occupant};
+use crate::text::push_occupant;
+use cp_digits::decimal::push_integer;
 use cp_kernel::kernel::Kernel;
 use cp_private::private::Private;
 use std::alloc::AllocError;

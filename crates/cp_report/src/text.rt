@@ -1,28 +1,12 @@
-//! Numbers and bytes as text.
+//! The process in a queue, and the bytes of a transcript, as text.
 
-ghost use Rattle.std.specs.Prelude.{◌≡◌, ◌<◌, ◌++◌, OnOk, false, flat_map};
-ghost use Rattle.cp_model.specs.Decimal.{decimal, natural};
-ghost use Rattle.cp_model.specs.Report.{escape, hex_digit, occupant_text};
+ghost use Rattle.std.specs.Prelude.{◌≡◌, ◌++◌, OnOk, false, flat_map};
+ghost use Rattle.cp_model.specs.Report.{escape, occupant_text};
 ghost use Rattle.cp_machine_model.specs.Means.{process_of_word};
 
-use itoa::Buffer;
+use cp_digits::decimal::push_natural;
+use cp_digits::hexadecimal::hex;
 use std::alloc::AllocError;
-
-/// Adds the decimal digits of a number.
-pub fn push_natural(out: &mut Vec<u8>, n: u64) -> Result<(), AllocError>
-    ensures { OnOk result (out.new.items ≡ out.old.items ++ natural n) }
-{
-    let mut buffer = Buffer::new();
-    out.extend_from_slice(buffer.format(n).as_bytes())
-}
-
-/// Adds the decimal digits of an integer.
-pub(crate) fn push_integer(out: &mut Vec<u8>, n: i64) -> Result<(), AllocError>
-    ensures { OnOk result (out.new.items ≡ out.old.items ++ decimal n) }
-{
-    let mut buffer = Buffer::new();
-    out.extend_from_slice(buffer.format(n).as_bytes())
-}
 
 /// Adds the number of the process that waits in a queue, or a dash.
 pub(crate) fn push_occupant(out: &mut Vec<u8>, n: i32) -> Result<(), AllocError>
@@ -33,14 +17,6 @@ pub(crate) fn push_occupant(out: &mut Vec<u8>, n: i32) -> Result<(), AllocError>
     } else {
         out.extend_from_slice(b"-")
     }
-}
-
-/// Returns a hexadecimal digit, in lower case.
-pub fn hex(n: u8) -> u8
-    requires { n < 16 }
-    ensures { result ≡ hex_digit n }
-{
-    if n < 10 { b'0' + n } else { b'a' - 10 + n }
 }
 
 // Adds a byte of a transcript, or its escape.

@@ -20,7 +20,7 @@ ghost use Rattle.cp_report.specs.Walks.{Continues, Enters, Finishes, Visits, cur
 
 use crate::heads::class_head;
 use crate::telling::{Leaf, Telling};
-use crate::text::push_integer;
+use cp_digits::decimal::push_integer;
 use cp_scope::{Field, Tables, TypeRow, count_between};
 use std::alloc::{AllocError, Global};
 

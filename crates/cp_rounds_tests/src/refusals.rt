@@ -26,6 +26,7 @@ use std::thread::Threads;
 fn ending_program(alloc: Global, words: u32, shared: u32) -> Result<Program, Fail> {
     let mut operations = Vec::new(alloc);
     operations.push(Operation::End)?;
+    let origins = vec![in alloc; 0; 1]?;
     let mut units = Vec::new(alloc);
     units.push(CodeUnit {
         start: 0,
@@ -47,7 +48,9 @@ fn ending_program(alloc: Global, words: u32, shared: u32) -> Result<Program, Fai
         starts: Vec::new(alloc),
     })?;
     let monitors = Vec::new(alloc);
-    Ok(Program::new(operations, units, monitors, processes, plans, shared))
+    Ok(Program::new(
+        operations, origins, units, monitors, processes, plans, shared,
+    ))
 }
 
 // Returns the activity of the process of such a program after a round, unless the machine is

@@ -9,7 +9,7 @@ use Rattle.cp_model.specs.RulesTypes.{Made}
 use Rattle.cp_model.specs.RulesDeclarations.{Declared}
 pub use Rattle.cp_judge.specs.Tells.{first_of}
 
--- The environment so far, and the earliest violation.
+-- The environment so far, and the earliest violation that was told.
 pub record State : Type 0 where
   pub env : Environment
   pub told : Option Violation

@@ -1,5 +1,5 @@
 -- Whole texts: their violations, and the result of judging them.
-use Rattle.std.specs.Prelude.{◌≡◌, ◌+◌, ◌++◌, ℕ, Some, Result, Ok, Err}
+use Rattle.std.specs.Prelude.{◌≡◌, ◌+◌, ◌++◌, ℕ, Some, Result, Ok, Err, slice_get}
 use Rattle.cp_model.specs.Syntax as s
 use Rattle.cp_model.specs.declared.tree.Sort.TheVariants as sort
 use Rattle.cp_model.specs.declared.rules.Position.TheVariants as position
@@ -27,6 +27,11 @@ environment_of t =
     let defined = define_sections standard_environment t.sections in
     let own = d.variables defined.env position.InitialVariable t.variables in
     (d.routines own.env sort.Process t.routines).env
+
+-- The list is empty if the text is accepted, or else begins with the violation that is reported for
+-- it.
+abbrev pub Lists : s.Tree → Violations → Type 0
+Lists t list = slice_get list 0 ≡ first_violation t
 
 abbrev pub judged_text : s.Tree → State
 judged_text t = record { env = environment_of t; told = first_violation t }

@@ -1,4 +1,4 @@
-//! The checker of a text: the environment so far, and the earliest violation.
+//! The checker of a text: the environment so far, and what was told.
 
 ghost use Rattle.std.specs.Prelude.{◌≡◌, [], None, IfOk, OnOk, length, take};
 ghost use Rattle.cp_model.specs.RulesEnvironment as r;
@@ -7,7 +7,7 @@ ghost use Rattle.cp_rules.specs.Checking.{State, Judges, after, declared_name, t
 
 use crate::standard::standard_environment;
 use cp_judge::Environment;
-use cp_judge::telling::{fail_with_violation, unless_holds};
+use cp_judge::telling::{Told, fail_with_violation, unless_holds};
 use cp_model::rules::{Entity, Rule, Violation};
 use cp_model::tree::Identifier;
 use std::alloc::{AllocError, Global};
@@ -16,29 +16,31 @@ use std::marker::Model;
 /// The judgement of a part of a text: its meaning, or the first violation in it.
 pub type Judged<A> = Result<A, Violation>;
 
-/// Judges a text. It holds the environment of the part that is being judged, and the earliest
-/// violation, with the lowest rule of those at its place. Contracts see both.
+/// Judges a text. It holds the environment of the part that is being judged, and what was told.
+/// Contracts see both.
 #[derive(Drop)]
 pub struct Checker<'t> {
     pub(crate) environment: Environment<'t>,
-    pub(crate) earliest: Option<Violation>,
+    pub(crate) told: Told,
     pub(crate) alloc: Global,
 }
 
 impl<'t> Model for Checker<'t> {
     ghost Value = { State };
 
-    ghost view = { λ c. record { env = c.environment; told = c.earliest } };
+    ghost view = { λ c. record { env = c.environment; told = c.told } };
 }
 
 impl<'t> Checker<'t> {
-    /// Returns a checker at the beginning of a text. Fails only if memory runs out.
-    pub fn new(alloc: Global) -> Result<Checker<'t>, AllocError>
-        ensures { IfOk result (λ c. c ≡ record { env = r.standard_environment; told = None }) }
+    /// Returns a checker at the beginning of a text, which goes on telling from `told`. Fails only
+    /// if memory runs out.
+    pub fn new(alloc: Global, told: Told) -> Result<Checker<'t>, AllocError>
+        ensures { IfOk result
+            (λ c. c ≡ record { env = r.standard_environment; told = told }) }
     {
         Ok(Checker {
             environment: standard_environment(alloc)?,
-            earliest: None,
+            told,
             alloc,
         })
     }
@@ -47,14 +49,14 @@ impl<'t> Checker<'t> {
     pub fn breaks<A>(&mut self, rule: Rule, at: usize) -> Judged<A>
         ensures { Judges self.old self.new result (j.breaks rule at) }
     {
-        fail_with_violation(&mut self.earliest, rule, at)
+        fail_with_violation(&mut self.told, rule, at)
     }
 
     /// Reports that a rule is broken at a place, unless `holds` is true.
     pub fn unless(&mut self, holds: bool, rule: Rule, at: usize)
         ensures { self.new ≡ telling self.old (j.unless holds rule at) }
     {
-        unless_holds(&mut self.earliest, holds, rule, at);
+        unless_holds(&mut self.told, holds, rule, at);
     }
 
     /// Declares a name, unless it is already visible: the first declaration counts. Fails only if

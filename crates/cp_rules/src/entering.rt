@@ -59,7 +59,7 @@ impl<'t> Checker<'t> {
             (self.new ≡ telling self.old
             (st.statements self.old.env (view.statements_of (map view.statement list.now)))) }
     {
-        statements(&self.environment, self.alloc, &mut self.earliest, list)
+        statements(&self.environment, self.alloc, &mut self.told, list)
     }
 
     /// The need of statements, in words.

@@ -1,12 +1,12 @@
 //! The rules of a whole text, for any tree.
 //!
-//! cp_model's `specs/Rules*.antt` define the rules. `text::judge` is what other crates call. It
-//! judges a text in order with a `Checker`, which holds the environment so far and the earliest
-//! violation: first the standard names (`standard`), then the definitions (`definitions`, `types`,
-//! `arrays`, `records`, `systems`), and then the variables, the routines and the body of the
-//! initial process (`variables`, `owners`, `headings`, `routines`, `text`). cp_judge judges
-//! expressions and statements. `specs/Checking.antt` defines what contracts say about the checker's
-//! state and about a result.
+//! cp_model's `specs/Rules*.antt` define the rules. `text::judge` and `text::violations` are what
+//! other crates call. Both judge a text in order with a `Checker`, which holds the environment so
+//! far and what was told: first the standard names (`standard`), then the definitions
+//! (`definitions`, `types`, `arrays`, `records`, `systems`), and then the variables, the routines
+//! and the body of the initial process (`variables`, `owners`, `headings`, `routines`, `text`).
+//! cp_judge judges expressions and statements. `specs/Checking.antt` defines what contracts say
+//! about the checker's state and about a result.
 #![tactic(auto)]
 
 mod arrays;

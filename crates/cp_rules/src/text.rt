@@ -6,14 +6,14 @@ ghost use Rattle.cp_model.specs.RulesJudged.{least};
 ghost use Rattle.cp_model.specs.RulesStatements as st;
 ghost use Rattle.cp_model.specs.RulesTypes as ty;
 ghost use Rattle.cp_model.specs.View as view;
-ghost use Rattle.cp_rules.specs.Texts.{Judges, body_violations, judged_text};
+ghost use Rattle.cp_rules.specs.Texts.{Judges, Lists, body_violations, judged_text};
 ghost use Rattle.cp_rules.specs.Checking.{telling};
 
 use crate::checker::Checker;
 use crate::words::{is_within, sum};
 use cp_judge::Environment;
 use cp_judge::statements::statements;
-use cp_judge::telling::tell;
+use cp_judge::telling::Told;
 use cp_model::rules::{Position, Rule, Violation};
 use cp_model::tree::{Body, Sort, Statement, Tree};
 use std::alloc::{AllocError, Global};
@@ -28,13 +28,13 @@ pub enum RuleError {
 }
 
 impl<'t> Checker<'t> {
-    // The earliest violation within these statements alone.
-    fn violation_in(&self, list: &[Statement]) -> Result<Option<Violation>, AllocError>
+    // What is told of these statements alone.
+    fn told_inside(&self, list: &[Statement]) -> Result<Told, AllocError>
         ensures { IfOk result
-            (λ v. v ≡ least None
+            (λ told. told ≡ least None
             (st.statements self.now.env (view.statements_of (map view.statement list.now)))) }
     {
-        let mut inside = None;
+        let mut inside = self.told.part(self.alloc);
         statements(&self.environment, self.alloc, &mut inside, list)?;
         Ok(inside)
     }
@@ -46,8 +46,9 @@ impl<'t> Checker<'t> {
             → OnOk result
             (self.new ≡ telling self.old (body_violations self.old.env n (view.body body.now))) }
     {
-        match self.violation_in(&body.statements)? {
-            Some(violation) => tell(&mut self.earliest, violation),
+        let inside = self.told_inside(&body.statements)?;
+        match inside.first() {
+            Some(_) => self.told.tell_part(inside),
             None => {
                 let need = self.need(&body.statements);
                 let fits = is_within(sum(sum(1, words), need));
@@ -57,10 +58,12 @@ impl<'t> Checker<'t> {
         Ok(())
     }
 
-    fn text(alloc: Global, tree: &'t Tree) -> Result<Checker<'t>, AllocError>
+    // Judges a text, and goes on telling from `told`, where nothing is told yet.
+    fn text(alloc: Global, told: Told, tree: &'t Tree) -> Result<Checker<'t>, AllocError>
+        requires nothing { told ≡ None }
         ensures { IfOk result (λ c. c ≡ judged_text (view.tree tree.now)) }
     {
-        let mut checker = Checker::new(alloc)?;
+        let mut checker = Checker::new(alloc, told)?;
         checker.define_sections(&tree.sections)?;
         let words = checker.variables(Position::InitialVariable, &tree.variables)?;
         checker.routines(Sort::Process, &tree.routines)?;
@@ -78,11 +81,24 @@ impl<'t> Checker<'t> {
 pub fn judge<'t>(alloc: Global, tree: &'t Tree) -> Result<Environment<'t>, RuleError>
     ensures { Judges (view.tree tree.now) result }
 {
-    match Checker::text(alloc, tree) {
+    match Checker::text(alloc, Told::earliest(), tree) {
         Err(_) => Err(RuleError::Memory),
-        Ok(checker) => match checker.earliest {
+        Ok(checker) => match checker.told.first() {
             Some(violation) => Err(RuleError::Broken(violation)),
             None => Ok(checker.environment),
         },
     }
+}
+
+/// All violations of a text, in the order of their places, and of several at one place by the
+/// number of the rule. None is listed twice.
+///
+/// # Errors
+///
+/// Memory runs out.
+pub fn violations(alloc: Global, tree: &Tree) -> Result<Vec<Violation>, AllocError>
+    ensures { IfOk result (λ list. Lists (view.tree tree.now) list.items) }
+{
+    let checker = Checker::text(alloc, Told::all(alloc), tree)?;
+    checker.told.into_list(alloc)
 }

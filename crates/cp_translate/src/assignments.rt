@@ -81,7 +81,7 @@ impl<'s, 't> Translator<'s, 't> {
             value: made.term,
             next,
         };
-        emitter.emit(calls, set)
+        emitter.emit(calls, set, d.root.at)
     }
 
     // Emits an assignment to a variable of a simple type. `calls` has the calls of its place.
@@ -92,6 +92,7 @@ impl<'s, 't> Translator<'s, 't> {
         e: &Expression,
         calls: Vec<CodedCall>,
         next: u32,
+        origin: usize,
         emitter: &mut Emitter,
     ) -> Result<u32, CompileError>
         ensures { IfOk result (λ entry. (s : code.Scope) (c : CodedSpot) (f : CodedSpot)
@@ -109,7 +110,7 @@ impl<'s, 't> Translator<'s, 't> {
             value: made.term,
             next,
         };
-        emitter.emit(calls, set)
+        emitter.emit(calls, set, origin)
     }
 
     // Emits a copy to a variable whose type isn't simple. `calls` has the calls of its place.
@@ -119,6 +120,7 @@ impl<'s, 't> Translator<'s, 't> {
         e: &Expression,
         calls: Vec<CodedCall>,
         next: u32,
+        origin: usize,
         emitter: &mut Emitter,
     ) -> Result<u32, CompileError>
         ensures { IfOk result (λ entry. (s : code.Scope) (c : CodedSpot) (t : ResolvedType)
@@ -138,7 +140,7 @@ impl<'s, 't> Translator<'s, 't> {
             size,
             next,
         };
-        emitter.emit(calls, copy)
+        emitter.emit(calls, copy, origin)
     }
 
     // Emits an assignment to a variable.
@@ -161,8 +163,8 @@ impl<'s, 't> Translator<'s, 't> {
         let mut calls = Vec::new(self.alloc);
         let to = self.spot(d, low, &mut calls)?;
         match self.scope.tables().types.simple(to.of) {
-            Some(simple) => self.set_simple(to, simple, e, calls, next, emitter),
-            None => self.copy_words(to, e, calls, next, emitter),
+            Some(simple) => self.set_simple(to, simple, e, calls, next, d.root.at, emitter),
+            None => self.copy_words(to, e, calls, next, d.root.at, emitter),
         }
     }
 

@@ -111,13 +111,14 @@ impl<'s, 't> Translator<'s, 't> {
         })
     }
 
-    /// A call of a function with these arguments. Its value goes to the first temp after their
-    /// calls.
+    /// A call of a function with these arguments, which stands at the place `origin` of the text. Its
+    /// value goes to the first temp after their calls.
     pub fn function_call(
         &self,
         callee: &Callee,
         xs: MadeArguments,
         low: u32,
+        origin: usize,
         calls: &mut Vec<CodedCall>,
     ) -> Result<MadeTerm, CompileError>
         ensures { IfOk result (λ made. (s : code.Scope) (c : model.Callee)
@@ -127,6 +128,6 @@ impl<'s, 't> Translator<'s, 't> {
             → IsTerm before calls.new.items made (coded.function_call s c ys low)) }
     {
         let call = self.call(callee, xs.arguments, low)?;
-        make_call(self.alloc, calls, call, xs.temps)
+        make_call(self.alloc, calls, call, xs.temps, origin)
     }
 }

@@ -51,7 +51,7 @@ impl<'s, 't> Translator<'s, 't> {
             Expression::Character { ordinal, .. } => Ok(self.number(i32::from(*ordinal), low)),
             Expression::Designated(d) => self.use_term(d, low, calls),
             Expression::Call(d, es) => match self.scope.callee(d)? {
-                Some(callee) => self.user_call(&callee, es, low, calls),
+                Some(callee) => self.user_call(&callee, es, low, d.root.at, calls),
                 None => self.standard_call(lone_name(d)?, es, low, calls),
             },
             Expression::Parenthesized { inner, .. } => self.term(inner, low, calls),
@@ -104,7 +104,7 @@ impl<'s, 't> Translator<'s, 't> {
         match self.scope.callee(d)? {
             Some(callee) => {
                 let none = no_arguments(self.alloc, low);
-                self.function_call(&callee, none, low, calls)
+                self.function_call(&callee, none, low, d.root.at, calls)
             }
             None => self.place_term(d, low, calls),
         }
@@ -211,6 +211,7 @@ impl<'s, 't> Translator<'s, 't> {
         callee: &Callee,
         es: &[Expression],
         low: u32,
+        origin: usize,
         calls: &mut Vec<CodedCall>,
     ) -> Result<MadeTerm, CompileError>
         ensures { IfOk result (λ made. (s : code.Scope) (c : model.Callee)
@@ -222,7 +223,7 @@ impl<'s, 't> Translator<'s, 't> {
     {
         let table = callee.routine.table;
         let xs = self.arguments(&table.parameters, es, words_before(table), low, calls)?;
-        self.function_call(callee, xs, low, calls)
+        self.function_call(callee, xs, low, origin, calls)
     }
 
     // A standard function of the first argument.

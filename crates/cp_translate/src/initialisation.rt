@@ -188,6 +188,7 @@ impl<'s, 't> Translator<'s, 't> {
         es: &[Expression],
         low: u32,
         next: u32,
+        origin: usize,
         emitter: &mut Emitter,
     ) -> Result<u32, CompileError>
         ensures { IfOk result (λ entry. (s : code.Scope) (n : components.Component)
@@ -200,7 +201,7 @@ impl<'s, 't> Translator<'s, 't> {
         let mut calls = Vec::new(self.alloc);
         let xs = self.init_arguments(table, es, low, &mut calls)?;
         let operation = self.init_operation(component, xs.arguments, low, next)?;
-        emitter.emit(calls, operation)
+        emitter.emit(calls, operation, origin)
     }
 
     // Emits the initialisation of a named component. A name that means no component is refused.
@@ -218,7 +219,8 @@ impl<'s, 't> Translator<'s, 't> {
         match self.component(item.component.name.as_bytes()) {
             None => Err(CompileError::Unaccepted),
             Some(component) => {
-                self.init_component(component, &item.arguments, low, next, emitter)
+                let origin = item.component.at;
+                self.init_component(component, &item.arguments, low, next, origin, emitter)
             }
         }
     }

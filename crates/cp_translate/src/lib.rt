@@ -29,6 +29,7 @@ mod made;
 mod names;
 mod operations;
 mod operators;
+mod origins;
 mod parts;
 mod procedures;
 mod standard;

@@ -17,6 +17,7 @@ ghost use Rattle.cp_translate.specs.Statements.{Enters};
 use crate::translator::Translator;
 use cp_emit::Emitter;
 use cp_emit::table::table_of;
+use cp_judge::places::first_token;
 use cp_model::tree::{Constant, Direction, Expression};
 use cp_program::arm::Arm;
 use cp_program::operation::{Counting, Operation};
@@ -51,7 +52,7 @@ impl<'s, 't> Translator<'s, 't> {
             yes,
             no,
         };
-        emitter.emit(calls, test)
+        emitter.emit(calls, test, first_token(e))
     }
 
     /// Emits the operation of a `case` with these arms.
@@ -74,7 +75,7 @@ impl<'s, 't> Translator<'s, 't> {
             value: made.term,
             table,
         };
-        emitter.emit(calls, case)
+        emitter.emit(calls, case, first_token(e))
     }
 
     // Adds an arm for a label that leads to `place`, if the label has a value.
@@ -139,12 +140,13 @@ impl<'s, 't> Translator<'s, 't> {
         })
     }
 
-    /// Emits the operation with which a `for` begins.
+    /// Emits the operation with which a `for` begins. Its variable stands at the place `origin`.
     pub fn start_counting(
         &self,
         counting: Counting,
         from: &Expression,
         last: &Expression,
+        origin: usize,
         emitter: &mut Emitter,
     ) -> Result<u32, CompileError>
         ensures { IfOk result (λ entry. (s : code.Scope) → IsScope self.now.scope s
@@ -161,6 +163,6 @@ impl<'s, 't> Translator<'s, 't> {
             first: first.term,
             last: last.term,
         };
-        emitter.emit(calls, start)
+        emitter.emit(calls, start, origin)
     }
 }

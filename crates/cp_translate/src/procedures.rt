@@ -42,6 +42,7 @@ impl<'s, 't> Translator<'s, 't> {
         e: &Expression,
         low: u32,
         next: u32,
+        origin: usize,
         emitter: &mut Emitter,
     ) -> Result<u32, CompileError>
         ensures { IfOk result (λ entry. (s : code.Scope) → IsScope self.now.scope s
@@ -57,7 +58,7 @@ impl<'s, 't> Translator<'s, 't> {
             as_byte: is_char(self.base(e)?),
             next,
         };
-        emitter.emit(calls, display)
+        emitter.emit(calls, display, origin)
     }
 
     // Makes the spot of the variable that is passed to a standard procedure, and the calls before it.
@@ -77,6 +78,7 @@ impl<'s, 't> Translator<'s, 't> {
         e: &Expression,
         low: u32,
         next: u32,
+        origin: usize,
         emitter: &mut Emitter,
     ) -> Result<u32, CompileError>
         ensures { IfOk result (λ entry. (s : code.Scope) → IsScope self.now.scope s
@@ -94,7 +96,7 @@ impl<'s, 't> Translator<'s, 't> {
             high: simple.high,
             next,
         };
-        emitter.emit(calls, accept)
+        emitter.emit(calls, accept, origin)
     }
 
     // Emits a `delay` in a queue.
@@ -103,6 +105,7 @@ impl<'s, 't> Translator<'s, 't> {
         e: &Expression,
         low: u32,
         next: u32,
+        origin: usize,
         emitter: &mut Emitter,
     ) -> Result<u32, CompileError>
         ensures { IfOk result (λ entry. (s : code.Scope) → IsScope self.now.scope s
@@ -111,7 +114,7 @@ impl<'s, 't> Translator<'s, 't> {
             (with_calls c.calls (op.Delay c.spot next) (place_of emitter.old))) }
     {
         let (queue, calls) = self.passed_spot(e, low)?;
-        emitter.emit(calls, Operation::Delay { queue, next })
+        emitter.emit(calls, Operation::Delay { queue, next }, origin)
     }
 
     // Whether the running routine is a function.
@@ -126,7 +129,13 @@ impl<'s, 't> Translator<'s, 't> {
     }
 
     // Emits a `continue`, which lets the process in a queue continue.
-    fn resume(&self, e: &Expression, low: u32, emitter: &mut Emitter) -> Result<u32, CompileError>
+    fn resume(
+        &self,
+        e: &Expression,
+        low: u32,
+        origin: usize,
+        emitter: &mut Emitter,
+    ) -> Result<u32, CompileError>
         ensures { IfOk result (λ entry. (s : code.Scope) → IsScope self.now.scope s
             → let c = coded_variable s (erase.expression (tree.expression e.now)) low in
             Enters emitter.old emitter.new entry (with_calls c.calls
@@ -134,7 +143,7 @@ impl<'s, 't> Translator<'s, 't> {
     {
         let (queue, calls) = self.passed_spot(e, low)?;
         let function = self.runs_function();
-        emitter.emit(calls, Operation::Continue { queue, function })
+        emitter.emit(calls, Operation::Continue { queue, function }, origin)
     }
 
     // Emits a call of the standard procedure with this name and first argument. Any name not listed
@@ -145,6 +154,7 @@ impl<'s, 't> Translator<'s, 't> {
         e: &Expression,
         low: u32,
         next: u32,
+        origin: usize,
         emitter: &mut Emitter,
     ) -> Result<u32, CompileError>
         ensures { IfOk result (λ entry. (s : code.Scope) → IsScope self.now.scope s
@@ -154,13 +164,13 @@ impl<'s, 't> Translator<'s, 't> {
             (place_of emitter.old) next)) }
     {
         if name == b"display".as_slice() {
-            self.display(e, low, next, emitter)
+            self.display(e, low, next, origin, emitter)
         } else if name == b"accept".as_slice() {
-            self.accept(e, low, next, emitter)
+            self.accept(e, low, next, origin, emitter)
         } else if name == b"delay".as_slice() {
-            self.delay(e, low, next, emitter)
+            self.delay(e, low, next, origin, emitter)
         } else {
-            self.resume(e, low, emitter)
+            self.resume(e, low, origin, emitter)
         }
     }
 
@@ -171,6 +181,7 @@ impl<'s, 't> Translator<'s, 't> {
         es: &[Expression],
         low: u32,
         next: u32,
+        origin: usize,
         emitter: &mut Emitter,
     ) -> Result<u32, CompileError>
         ensures { IfOk result (λ entry. (s : code.Scope) → IsScope self.now.scope s
@@ -179,8 +190,8 @@ impl<'s, 't> Translator<'s, 't> {
             (place_of emitter.old) next)) }
     {
         match es {
-            [] => emitter.emit(Vec::new(self.alloc), Operation::Wait { next }),
-            [e, ..] => self.standard_procedure(name, e, low, next, emitter),
+            [] => emitter.emit(Vec::new(self.alloc), Operation::Wait { next }, origin),
+            [e, ..] => self.standard_procedure(name, e, low, next, origin, emitter),
         }
     }
 
@@ -191,6 +202,7 @@ impl<'s, 't> Translator<'s, 't> {
         es: &[Expression],
         low: u32,
         next: u32,
+        origin: usize,
         emitter: &mut Emitter,
     ) -> Result<u32, CompileError>
         ensures { IfOk result (λ entry. (s : code.Scope) (d : a.Designator) (c : model.Callee)
@@ -204,7 +216,7 @@ impl<'s, 't> Translator<'s, 't> {
         let at = words_before(table);
         let xs = self.arguments(&table.parameters, es, at, low, &mut calls)?;
         let call = self.call(called, xs.arguments, low)?;
-        emitter.emit(calls, Operation::Procedure { call, next })
+        emitter.emit(calls, Operation::Procedure { call, next }, origin)
     }
 
     /// Emits a procedure statement.
@@ -221,8 +233,8 @@ impl<'s, 't> Translator<'s, 't> {
             (erase.expressions (tree.expressions_of (map tree.expression es.now)))) low next) }
     {
         match self.scope.callee(d)? {
-            Some(called) => self.procedure_call(&called, es, low, next, emitter),
-            None => self.standard_statement(lone_name(d)?, es, low, next, emitter),
+            Some(called) => self.procedure_call(&called, es, low, next, d.root.at, emitter),
+            None => self.standard_statement(lone_name(d)?, es, low, next, d.root.at, emitter),
         }
     }
 }

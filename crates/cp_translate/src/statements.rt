@@ -10,6 +10,7 @@ ghost use Rattle.cp_model.specs.Erase as erase;
 ghost use Rattle.cp_model.specs.View as tree;
 ghost use Rattle.cp_translate.specs.Statements.{ArmsOf, StatementOf};
 
+use crate::origins::first_place;
 use crate::translator::Translator;
 use cp_emit::Emitter;
 use cp_model::tree::{Arm, Direction, Expression, Identifier, Statement};
@@ -189,11 +190,11 @@ impl<'s, 't> Translator<'s, 't> {
     {
         let inner = low.checked_add(2).ok_or(CompileError::Unaccepted)?;
         let mut counting = self.counting(variable.name.as_bytes(), direction, low, next)?;
-        let place = emitter.push(Operation::ForNext(counting))?;
+        let place = emitter.push(Operation::ForNext(counting), variable.at)?;
         let first = self.statement(body, inner, place, emitter)?;
         emitter.close_loop(place, first);
         counting.body = first;
-        self.start_counting(counting, from, last, emitter)
+        self.start_counting(counting, from, last, variable.at, emitter)
     }
 
     #[cycle(statements)]
@@ -207,7 +208,8 @@ impl<'s, 't> Translator<'s, 't> {
             emitter.new (a.Cycle (erase.statements (tree.statements_of
             (map tree.statement list.now)))) low next entry) }
     {
-        let place = emitter.push(Operation::Cycle { body: 0 })?;
+        let origin = first_place(list).unwrap_or(self.origin);
+        let place = emitter.push(Operation::Cycle { body: 0 }, origin)?;
         let first = self.statements(list, low, place, emitter)?;
         emitter.close_loop(place, first);
         Ok(place)

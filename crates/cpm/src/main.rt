@@ -2,14 +2,13 @@
 //! files that they name, and prints what was asked for.
 #![tactic(auto)]
 
-use cp_command::command::{CommandError, read_command};
-use cp_command::files::{Failure, perform};
+use cp_command::command::CommandError;
+use cp_command::reading::read_command;
 use cp_execute::refusal::Refusal;
+use cp_perform::perform::perform;
+use cp_perform::status::{Failure, USAGE};
 use std::process::ExitCode;
 use std::{env, io};
-
-/// The exit status if the arguments are wrong or ask for help.
-const USAGE: u8 = 2;
 
 // The arguments of the program, starting with its own name.
 fn arguments(rt: &HostRuntime) -> io::Result<Vec<String>> {

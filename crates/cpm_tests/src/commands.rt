@@ -1,12 +1,14 @@
 //! Command lines.
 
-use cp_command::command::{Command, CommandError, read_command};
-use cp_command::files::{Failure, perform, status_of};
+use cp_access::graph::Form;
+use cp_command::command::{Command, CommandError, Inputs};
 use cp_command::numbers::number;
+use cp_command::reading::read_command;
 use cp_execute::refusal::Refusal;
 use cp_execute::running::Run;
-use cp_explain::graph::Form;
 use cp_outcome::verdict::Verdict;
+use cp_perform::perform::perform;
+use cp_perform::status::{Failure, status_of};
 use std::test::*;
 
 // The numbers of a run in the order rounds, turn, workers, chunk, wave, tick.
@@ -19,6 +21,18 @@ fn numbers(run: Run) -> [u32; 6] {
         run.plan.wave,
         run.tick.rounds,
     ]
+}
+
+fn is_empty(input: &Inputs) -> bool {
+    matches!(input, Inputs::Empty)
+}
+
+// Whether the inputs come from this file.
+fn is_joined(input: &Inputs, name: &str) -> bool {
+    match input {
+        Inputs::Joined(file) => *file == name,
+        _ => false,
+    }
 }
 
 #[test]
@@ -37,7 +51,7 @@ fn numbers_are_digits_alone(rt: HostRuntime) {
 fn no_words_run_standard_input(rt: HostRuntime) {
     match read_command(rt.alloc(), &["cpm"]) {
         Ok(Command::Run { file, run, input }) => {
-            assert!(rt; file == None && input == None);
+            assert!(rt; file == None && is_empty(&input));
             assert!(rt; numbers(run) == [2, 100, 2, 1, 255, 1]);
         }
         _ => panic!(rt; "a run"),
@@ -88,6 +102,24 @@ fn explain_takes_a_file_or_a_rule(rt: HostRuntime) -> Result<(), Fail> {
 }
 
 #[test]
+fn explain_tells_all_of_a_file_alone(rt: HostRuntime) {
+    match read_command(rt.alloc(), &["cpm", "explain", "--all", "a.cp"]) {
+        Ok(Command::ExplainAll { file }) => assert!(rt; file == "a.cp"),
+        _ => panic!(rt; "all violations"),
+    }
+    for words in [
+        ["cpm", "explain", "--all", "C4"].as_slice(),
+        &["cpm", "explain", "--all", "--dot", "a.cp"],
+        &["cpm", "check", "--all", "a.cp"],
+    ] {
+        match read_command(rt.alloc(), words) {
+            Err(CommandError::Usage(_)) => {}
+            _ => panic!(rt; "no command"),
+        }
+    }
+}
+
+#[test]
 fn a_file_that_cannot_be_opened_is_told(rt: HostRuntime) {
     match read_command(rt.alloc(), &["cpm", "explain", "nowhere.cp"]) {
         Ok(command) => match perform(&rt, rt.alloc(), &command, &mut Vec::new(rt.alloc())) {
@@ -121,7 +153,7 @@ fn run_takes_numbers(rt: HostRuntime) {
     ];
     match read_command(rt.alloc(), words.as_slice()) {
         Ok(Command::Run { file, run, input }) => {
-            assert!(rt; file == Some("a.cp") && input == Some("in.txt") && run.chains);
+            assert!(rt; file == Some("a.cp") && is_joined(&input, "in.txt") && run.chains);
             assert!(rt; numbers(run) == [1_000_000, 7, 64, 3, 4, 5]);
         }
         _ => panic!(rt; "a run"),
@@ -132,7 +164,7 @@ fn run_takes_numbers(rt: HostRuntime) {
 fn run_has_defaults(rt: HostRuntime) {
     match read_command(rt.alloc(), &["cpm", "run", "a.cp", "--rounds", "9"]) {
         Ok(Command::Run { run, input, .. }) => {
-            assert!(rt; numbers(run) == [9, 100, 2, 1, 255, 1] && input == None && !run.chains);
+            assert!(rt; numbers(run) == [9, 100, 2, 1, 255, 1] && is_empty(&input) && !run.chains);
         }
         _ => panic!(rt; "a run"),
     }
@@ -152,14 +184,14 @@ fn outcome_has_a_limit(rt: HostRuntime) {
     ];
     match read_command(rt.alloc(), words.as_slice()) {
         Ok(Command::Outcome { file, how, input }) => {
-            assert!(rt; file == "a.cp" && input == None);
+            assert!(rt; file == "a.cp" && is_empty(&input));
             assert!(rt; how.limit == 7 && how.plan.workers == 3 && how.tick.rounds == 5);
         }
         _ => panic!(rt; "an outcome"),
     }
     match read_command(rt.alloc(), &["cpm", "outcome", "a.cp", "--input", "in.txt"]) {
         Ok(Command::Outcome { how, input, .. }) => {
-            assert!(rt; input == Some("in.txt") && how.limit == 10_000);
+            assert!(rt; is_joined(&input, "in.txt") && how.limit == 10_000);
             assert!(rt; how.plan.turn.steps == 100 && how.plan.workers == 2);
         }
         _ => panic!(rt; "an outcome"),
@@ -195,14 +227,14 @@ fn replay_takes_two_files(rt: HostRuntime) {
                 input,
             },
         ) => {
-            assert!(rt; file == "a.cp" && order == "a.order" && input == Some("in.txt"));
+            assert!(rt; file == "a.cp" && order == "a.order" && is_joined(&input, "in.txt"));
             assert!(rt; replay.turn.steps == 7 && replay.tick.rounds == 5);
         }
         _ => panic!(rt; "a replay"),
     }
     match read_command(rt.alloc(), &["cpm", "replay", "a.cp", "-"]) {
         Ok(Command::Replay { replay, input, .. }) => {
-            assert!(rt; replay.turn.steps == 100 && replay.tick.rounds == 1 && input == None);
+            assert!(rt; replay.turn.steps == 100 && replay.tick.rounds == 1 && is_empty(&input));
         }
         _ => panic!(rt; "a replay"),
     }

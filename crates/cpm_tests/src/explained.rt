@@ -1,12 +1,12 @@
-//! Explanations: one text for each message, positions, excerpts, declarations, access graphs, and
-//! streams that fail.
+//! Explanations: one text for each message, positions, excerpts, declarations, and streams
+//! that fail.
 
 use super::jobs::{nest, repeat};
 use super::messages::{ROWS, Row};
 use super::streams::{Narrow, Slow};
+use cp_access::graph::Form;
 use cp_execute::refusal::Refusal;
 use cp_explain::explain::explain_text;
-use cp_explain::graph::Form;
 use cp_explain::rules::rule_page;
 use cp_model::rules::Rule;
 use cp_page::position::Position;
@@ -17,10 +17,10 @@ use std::test::Fail;
 const NOWHERE: usize = 1_000_000;
 
 // What `explain_text` returns and writes for a text.
-fn explain(alloc: Global, text: &[u8], form: Form) -> (Result<Option<Refusal>, Refusal>, Vec<u8>) {
+fn explain(alloc: Global, text: &[u8]) -> (Result<Option<Refusal>, Refusal>, Vec<u8>) {
     let mut text = text;
     let mut out = Vec::new(alloc);
-    let answer = explain_text(alloc, b"t.cp", &mut text, form, &mut out);
+    let answer = explain_text(alloc, b"t.cp", &mut text, Form::Lines, &mut out);
     (answer, out)
 }
 
@@ -44,7 +44,7 @@ fn each_way_to_break_a_rule_has_its_message(rt: HostRuntime) -> Result<(), Fail>
         let column = at.saturating_add(1);
         let (rule, message) = (row.rule, row.message);
         let first = format!(in rt.alloc(); "t.cp:1:{column}: {rule}: {message}\n")?;
-        let (answer, out) = explain(rt.alloc(), &text, Form::Lines);
+        let (answer, out) = explain(rt.alloc(), &text);
         assert!(rt; matches!(answer, Ok(Some(_))));
         assert!(rt; out.as_slice().starts_with(first.as_bytes()));
     }
@@ -82,7 +82,7 @@ fn one_component_too_many_is_told(rt: HostRuntime) -> Result<(), Fail> {
         let first = format!(in rt.alloc();
             "t.cp:1:{column}: C13: `a{last}` is one {words} too many\n"
         )?;
-        let (_, out) = explain(rt.alloc(), &text, Form::Lines);
+        let (_, out) = explain(rt.alloc(), &text);
         assert!(rt; out.as_slice().starts_with(first.as_bytes()));
     }
     Ok(())
@@ -92,7 +92,7 @@ fn one_component_too_many_is_told(rt: HostRuntime) -> Result<(), Fail> {
 fn an_explanation_shows_the_line_and_the_declaration(rt: HostRuntime) {
     let text =
         b"type source = monitor;\n  procedure entry take(count: char);\n  begin\n    accept(count)\n  end;\n  begin end;\nbegin end.\n";
-    let (answer, out) = explain(rt.alloc(), text, Form::Lines);
+    let (answer, out) = explain(rt.alloc(), text);
     assert!(rt;
         answer
             == Ok(Some(Refusal::Check {
@@ -116,7 +116,7 @@ fn an_explanation_shows_the_line_and_the_declaration(rt: HostRuntime) {
 #[test]
 fn a_name_that_is_declared_later_is_told(rt: HostRuntime) {
     let text = b"procedure p;\nbegin q end;\nprocedure q;\nbegin end;\nbegin p end.\n";
-    let (_, out) = explain(rt.alloc(), text, Form::Lines);
+    let (_, out) = explain(rt.alloc(), text);
     assert!(rt;
         out.as_slice()
             == b"t.cp:2:7: C1: `q` is not declared
@@ -133,7 +133,7 @@ fn a_name_that_is_declared_later_is_told(rt: HostRuntime) {
 #[test]
 fn a_name_of_the_initial_process_is_told(rt: HostRuntime) {
     let text = b"type p = process;\nbegin n := 1 end;\nvar n: integer;\nbegin end.\n";
-    let (_, out) = explain(rt.alloc(), text, Form::Lines);
+    let (_, out) = explain(rt.alloc(), text);
     assert!(rt;
         out.as_slice()
             == b"t.cp:2:7: C1: `n` is not declared
@@ -150,7 +150,7 @@ fn a_name_of_the_initial_process_is_told(rt: HostRuntime) {
 #[test]
 fn the_end_of_a_text_is_shown(rt: HostRuntime) {
     // The end of a text, on the line after the last line feed.
-    let (_, out) = explain(rt.alloc(), b"begin\n", Form::Lines);
+    let (_, out) = explain(rt.alloc(), b"begin\n");
     assert!(rt;
         out.as_slice()
             .starts_with(b"t.cp:2:1: Y2: the text ends too soon\n  2 | \n    | ^\n")
@@ -160,14 +160,14 @@ fn the_end_of_a_text_is_shown(rt: HostRuntime) {
 #[test]
 fn long_and_deep_texts_are_told(rt: HostRuntime) -> Result<(), Fail> {
     let text = repeat(rt.alloc(), b"begin end.", b" ", 1_048_567, b"")?;
-    let (_, out) = explain(rt.alloc(), &text, Form::Lines);
+    let (_, out) = explain(rt.alloc(), &text);
     assert!(rt;
         out.as_slice()
             .starts_with(b"t.cp:1:1048577: S6: the text is too long\n")
     );
     // The 201st `begin`, of six bytes each.
     let text = nest(rt.alloc(), [b"", b"begin ", b"", b"end ", b"."], 201)?;
-    let (_, out) = explain(rt.alloc(), &text, Form::Lines);
+    let (_, out) = explain(rt.alloc(), &text);
     assert!(rt;
         out.as_slice()
             .starts_with(b"t.cp:1:1201: Y3: the text is nested too deeply\n")
@@ -189,48 +189,6 @@ fn positions_count_from_one(rt: HostRuntime) {
     }
 }
 
-const NETWORK: &[u8] = b"type store = monitor; begin end;
-line = class(s: store); begin end;
-sender = process(s: store; n: integer); var l: line; begin init l(s) end;
-var a: store; p, q: sender; b: store;
-begin init a, b; init p(a, 1), q(b, 2) end.";
-
-#[test]
-fn an_accepted_text_has_an_access_graph(rt: HostRuntime) {
-    let (answer, out) = explain(rt.alloc(), NETWORK, Form::Lines);
-    assert!(rt; answer == Ok(None));
-    assert!(rt;
-        out.as_slice()
-            == b"accepted
-process initial 1
-monitor a 1: store
-process p 2: sender
-process q 3: sender
-monitor b 2: store
-p 2 -> a 1
-q 3 -> b 2
-in sender: l -> s
-"
-                .as_slice()
-    );
-    let (_, out) = explain(rt.alloc(), NETWORK, Form::Dot);
-    assert!(rt;
-        out.as_slice()
-            == b"digraph access {
-  \"initial 1\" [shape=ellipse];
-  \"a 1\" [shape=box];
-  \"p 2\" [shape=ellipse];
-  \"q 3\" [shape=ellipse];
-  \"b 2\" [shape=box];
-  \"p 2\" -> \"a 1\";
-  \"q 3\" -> \"b 2\";
-  \"sender.l\" -> \"sender.s\";
-}
-"
-                .as_slice()
-    );
-}
-
 #[test]
 fn rules_have_pages(rt: HostRuntime) {
     for rule in ["C1", "C13", "S6", "Y3", "I4", "O1", "M", "F1", "F9"] {
@@ -247,7 +205,7 @@ fn rules_have_pages(rt: HostRuntime) {
 #[test]
 fn each_read_and_write_of_an_explanation_fails_in_turn(rt: HostRuntime) {
     let text = b"begin x := 1 end.".as_slice();
-    let (_, due) = explain(rt.alloc(), text, Form::Lines);
+    let (_, due) = explain(rt.alloc(), text);
     for fails_at in 0..=text.len() {
         let mut slow = Slow {
             text,

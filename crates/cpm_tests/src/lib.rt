@@ -11,9 +11,19 @@ mod explained;
 #[cfg(test)]
 mod faults;
 #[cfg(test)]
+mod input_names;
+#[cfg(test)]
 mod jobs;
 #[cfg(test)]
+mod lines;
+#[cfg(test)]
 mod messages;
+#[cfg(test)]
+mod outcome_book;
+#[cfg(test)]
+mod outcome_faults;
+#[cfg(test)]
+mod outcome_waits;
 #[cfg(test)]
 mod outcomes;
 #[cfg(test)]

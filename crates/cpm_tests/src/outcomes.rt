@@ -1,6 +1,7 @@
 //! Outcomes of whole texts. The verdicts, the rounds and the reasons were worked out by hand.
 
 use super::streams::Narrow;
+use super::{outcome_book as book, outcome_faults as faults, outcome_waits as waits};
 use cp_execute::execute_outcome::execute_outcome;
 use cp_execute::refusal::Refusal;
 use cp_execute::until_still::UntilStill;
@@ -15,7 +16,7 @@ use std::thread::Threads;
 
 // A text, the limit, the tick, and the outcome. Turns have 100 steps.
 #[derive(Drop)]
-struct Case {
+pub(crate) struct Case {
     text: &'static [u8],
     limit: u32,
     tick: u32,
@@ -23,7 +24,14 @@ struct Case {
     told: &'static [u8],
 }
 
-fn due(text: &'static [u8], limit: u32, tick: u32, verdict: Verdict, told: &'static [u8]) -> Case {
+// A case.
+pub(crate) fn due(
+    text: &'static [u8],
+    limit: u32,
+    tick: u32,
+    verdict: Verdict,
+    told: &'static [u8],
+) -> Case {
     Case {
         text,
         limit,
@@ -133,35 +141,40 @@ fn cases() -> [Case; 13] {
             1,
             1,
             Verdict::Running,
-            b"running after round 1\nprocess 1 initial: ready\nprocess 2 a: ready\n",
+            b"running after round 1
+process 1 initial: ready at the end of the body at 2:11
+process 2 a: ready at 1:25
+",
         ),
         due(
             NEVER_STARTED,
             10_000,
             1,
             Verdict::Stuck,
-            b"stuck after round 1\nprocess 2 a: never started\n",
+            b"stuck after round 1\nprocess 2 a: never started; only the init at 2:56 starts it\n",
         ),
         due(
             CYCLE,
             10,
             1,
             Verdict::Running,
-            b"running after round 10\nprocess 2 a: ready\n",
+            b"running after round 10\nprocess 2 a: ready at 1:47\n",
         ),
         due(
             WAITS,
             4,
             3,
             Verdict::Running,
-            b"running after round 4\nprocess 2 a: waits for the clock\n",
+            b"running after round 4\nprocess 2 a: waits for the clock at 1:31\n",
         ),
         due(
             OVERFLOW,
             1_000_000,
             1,
             Verdict::Fault,
-            b"fault after round 2\nprocess 2 a: fault 3: arithmetic beyond -32768..32767\n",
+            b"fault after round 2
+process 2 a: fault 3 at 1:53: arithmetic beyond -32768..32767 in `x := x + x`
+",
         ),
         due(
             FAULT_INSIDE,
@@ -169,8 +182,8 @@ fn cases() -> [Case; 13] {
             1,
             Verdict::Fault,
             b"fault after round 2
-process 2 a: fault 3: arithmetic beyond -32768..32767
-process 3 b: asks for k, held by a, which has faulted
+process 2 a: fault 3 at 2:42: arithmetic beyond -32768..32767 in `x := x + x`
+process 3 b: asks for k at 4:26, held by a, which has faulted
 ",
         ),
         due(
@@ -178,7 +191,10 @@ process 3 b: asks for k, held by a, which has faulted
             10_000,
             1,
             Verdict::Stuck,
-            b"stuck after round 3\nprocess 2 a: delayed in g.q\nprocess 3 b: delayed in f.q\n",
+            b"stuck after round 3
+process 2 a: delayed in g.q at 2:46; only g.put continues it, which b can call
+process 3 b: delayed in f.q at 2:46; only f.put continues it, which a can call
+",
         ),
         due(
             NESTED,
@@ -186,8 +202,8 @@ process 3 b: asks for k, held by a, which has faulted
             1,
             Verdict::Stuck,
             b"stuck after round 2
-process 2 a: delayed in i.q
-process 3 b: asks for o, held by a, which is delayed in i.q
+process 2 a: delayed in i.q at 2:30; only i.s continues it, which b can call
+process 3 b: asks for o at 10:38, held by a, which is delayed in i.q
 ",
         ),
         due(
@@ -196,9 +212,9 @@ process 3 b: asks for o, held by a, which is delayed in i.q
             1,
             Verdict::Stuck,
             b"stuck after round 2
-process 2 a: delayed in i.q
-process 3 b: asks for o, held by a, which is delayed in i.q
-process 4 c: asks for t, held by b, which asks for o
+process 2 a: delayed in i.q at 2:30; only i.s continues it, which b and c can call
+process 3 b: asks for o at 9:51, held by a, which is delayed in i.q
+process 4 c: asks for t at 11:36, held by b, which asks for o
 ",
         ),
         due(
@@ -206,7 +222,7 @@ process 4 c: asks for t, held by b, which asks for o
             10_000,
             1,
             Verdict::Stuck,
-            b"stuck after round 2\nprocess 2 a: delayed in k.qs[2]\n",
+            b"stuck after round 2\nprocess 2 a: delayed in k.qs[2] at 2:30; nothing continues it\n",
         ),
         due(
             ONE_ITEM,
@@ -220,7 +236,10 @@ process 4 c: asks for t, held by b, which asks for o
             2,
             1,
             Verdict::Running,
-            b"running after round 2\nprocess 2 c: ready\nprocess 3 p: ready\n",
+            b"running after round 2
+process 2 c: ready at 5:45
+process 3 p: ready at the end of the body at 8:30
+",
         ),
     ]
 }
@@ -247,15 +266,46 @@ fn outcome_of<H: Threads + Wait + Sync>(
     (answer, out)
 }
 
+// Whether a case has its outcome, with one worker and with three.
+fn is_told<H: Threads + Wait + Sync>(rt: &H, alloc: Global, case: &Case) -> Result<bool, Fail> {
+    for workers in [1, 3] {
+        let how = until_still(case.limit, case.tick, workers)?;
+        let (answer, out) = outcome_of(rt, alloc, case.text, b"", &how);
+        if answer != Ok(case.verdict) || out.as_slice() != case.told {
+            return Ok(false);
+        }
+    }
+    Ok(true)
+}
+
 #[test]
 fn texts_have_their_outcomes(rt: HostRuntime) -> Result<(), Fail> {
     for case in &cases() {
-        for workers in [1, 3] {
-            let how = until_still(case.limit, case.tick, workers)?;
-            let (answer, out) = outcome_of(&rt, rt.alloc(), case.text, b"", &how);
-            assert!(rt; answer == Ok(case.verdict));
-            assert!(rt; out.as_slice() == case.told);
-        }
+        assert!(rt; is_told(&rt, rt.alloc(), case)?);
+    }
+    Ok(())
+}
+
+#[test]
+fn each_fault_is_told_with_its_place(rt: HostRuntime) -> Result<(), Fail> {
+    for case in &faults::cases() {
+        assert!(rt; is_told(&rt, rt.alloc(), case)?);
+    }
+    Ok(())
+}
+
+#[test]
+fn who_waits_is_told_with_its_place(rt: HostRuntime) -> Result<(), Fail> {
+    for case in &waits::cases() {
+        assert!(rt; is_told(&rt, rt.alloc(), case)?);
+    }
+    Ok(())
+}
+
+#[test]
+fn programs_of_the_book_have_their_outcomes(rt: HostRuntime) -> Result<(), Fail> {
+    for case in &book::cases() {
+        assert!(rt; is_told(&rt, rt.alloc(), case)?);
     }
     Ok(())
 }

@@ -5,4 +5,4 @@ use Rattle.cp_check.proofs.checking.program.Goals as goal
 
 pub returns-in-Ok : goal.returns-in-Ok
 returns-in-Ok c = λ setup is.
-    subst (λ p. StandsFor p setup) (ap compile is ∙ sym (c.in-Ok.ensures c.requires.accepted)) (c.accepted_tree_has_program.ensures setup is)
+    subst (λ p. StandsFor p setup) (ap compile is ∙ sym (c.in-Ok.ensures.program c.requires.accepted)) (c.accepted_tree_has_program.ensures setup is)

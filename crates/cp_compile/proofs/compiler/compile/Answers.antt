@@ -6,8 +6,8 @@ use Rattle.cp_compile.specs.CompiledPrograms.{text_of}
 use Rattle.cp_compile.proofs.ProgramsCompiled.{planner_is, same_program}
 use Rattle.cp_compile.proofs.compiler.compile.Goals as goal
 
-pub returns : goal.returns
-returns c = λ accepted.
+pub returns-clause-program : goal.returns-clause-program
+returns-clause-program c = λ accepted.
     let tree = c.args.tree.now in
     let t = text_of tree in
     let g = globals t in

@@ -12,31 +12,31 @@ use Rattle.cp_execute.proofs.execute_outcome.execute_outcome.Goals as goal
 
 -- ---- the text is refused
 
-pub returns-in_err-tree-clause-beginning : goal.returns-in_err-tree-clause-beginning
-returns-in_err-tree-clause-beginning g c =
+pub returns-in_err-accepted-clause-beginning : goal.returns-in_err-accepted-clause-beginning
+returns-in_err-accepted-clause-beginning g c =
     let p = err_from_is_err_and c.from_residual.result c.from_residual.ensures.1 in
-    rw (p.1, p.2) (λ write. absurd (no_write_of_text c.in_err-tree.field-0.0 c.in_err-tree.ensures.about_text write))
+    rw (p.1, p.2) (λ write. absurd (no_write_of_text c.in_err-accepted.field-0.0 c.in_err-accepted.ensures.about_text write))
 
-pub returns-in_err-tree-clause-refused : goal.returns-in_err-tree-clause-refused
-returns-in_err-tree-clause-refused g c =
+pub returns-in_err-accepted-clause-refused : goal.returns-in_err-accepted-clause-refused
+returns-in_err-accepted-clause-refused g c =
     let p = err_from_is_err_and c.from_residual.result c.from_residual.ensures.1 in
-    rw (p.1, p.2) (λ other. run_refused_text (g.R.Read.remaining c.args.text.now) (g.S.Read.remaining c.args.input.now) c.in_err-tree.field-0.0 c.in_err-tree.ensures.refused)
+    rw (p.1, p.2) (λ other. run_refused_text (g.R.Read.remaining c.args.text.now) (g.S.Read.remaining c.args.input.now) c.in_err-accepted.field-0.0 c.in_err-accepted.ensures.refused)
 
-pub returns-in_err-tree-clause-faults : goal.returns-in_err-tree-clause-faults
-returns-in_err-tree-clause-faults g c =
+pub returns-in_err-accepted-clause-faults : goal.returns-in_err-accepted-clause-faults
+returns-in_err-accepted-clause-faults g c =
     let p = err_from_is_err_and c.from_residual.result c.from_residual.ensures.1 in
-    rw (p.1, p.2) (known_text_fault (g.R.Read.remaining c.args.text.now) (g.S.Read.remaining c.args.input.now) c.in_err-tree.field-0.0 c.in_err-tree.ensures.refused)
+    rw (p.1, p.2) (known_text_fault (g.R.Read.remaining c.args.text.now) (g.S.Read.remaining c.args.input.now) c.in_err-accepted.field-0.0 c.in_err-accepted.ensures.refused)
 
-pub returns-in_err-tree-clause-text : goal.returns-in_err-tree-clause-text
-returns-in_err-tree-clause-text g c =
+pub returns-in_err-accepted-clause-text : goal.returns-in_err-accepted-clause-text
+returns-in_err-accepted-clause-text g c =
     let p = err_from_is_err_and c.from_residual.result c.from_residual.ensures.1 in
-    rw (p.1, p.2) c.in_err-tree.ensures.taken
+    rw (p.1, p.2) c.in_err-accepted.ensures.taken
 
-pub returns-in_err-tree-clause-input : goal.returns-in_err-tree-clause-input
-returns-in_err-tree-clause-input g c =
+pub returns-in_err-accepted-clause-input : goal.returns-in_err-accepted-clause-input
+returns-in_err-accepted-clause-input g c =
     let p = err_from_is_err_and c.from_residual.result c.from_residual.ensures.1 in
     let input = g.S.Read.remaining c.args.input.now in
-    rw (p.1, p.2) (input_kept input input (concern c.in_err-tree.field-0.0) c.in_err-tree.ensures.about_text (Keeps-refl input))
+    rw (p.1, p.2) (input_kept input input (concern c.in_err-accepted.field-0.0) c.in_err-accepted.ensures.about_text (Keeps-refl input))
 
 -- ---- the input is refused
 
@@ -48,8 +48,8 @@ returns-in_err-bytes-clause-beginning g c =
 pub returns-in_err-bytes-clause-refused : goal.returns-in_err-bytes-clause-refused
 returns-in_err-bytes-clause-refused g c =
     let p = err_from_is_err_and c.from_residual-in_err-bytes.result c.from_residual-in_err-bytes.ensures.1 in
-    rw (p.1, p.2) (λ other. run_refused_input (g.R.Read.remaining c.args.text.now) (g.S.Read.remaining c.args.input.now) (view.tree c.in_ok-tree.tree) c.in_err-bytes.field-0.0
-    c.in_ok-tree.ensures.text c.in_err-bytes.ensures.refused)
+    rw (p.1, p.2) (λ other. run_refused_input (g.R.Read.remaining c.args.text.now) (g.S.Read.remaining c.args.input.now) (view.tree c.in_ok-accepted.accepted.tree) c.in_err-bytes.field-0.0
+    c.in_ok-accepted.ensures.text c.in_err-bytes.ensures.refused)
 
 pub returns-in_err-bytes-clause-faults : goal.returns-in_err-bytes-clause-faults
 returns-in_err-bytes-clause-faults g c =
@@ -59,7 +59,7 @@ returns-in_err-bytes-clause-faults g c =
 pub returns-in_err-bytes-clause-text : goal.returns-in_err-bytes-clause-text
 returns-in_err-bytes-clause-text g c =
     let p = err_from_is_err_and c.from_residual-in_err-bytes.result c.from_residual-in_err-bytes.ensures.1 in
-    rw (p.1, p.2) (text_at _ _ (concern c.in_err-bytes.field-0.0) c.in_ok-tree.ensures.taken)
+    rw (p.1, p.2) (text_at _ _ (concern c.in_err-bytes.field-0.0) c.in_ok-accepted.ensures.taken)
 
 pub returns-in_err-bytes-clause-input : goal.returns-in_err-bytes-clause-input
 returns-in_err-bytes-clause-input g c =
@@ -76,7 +76,7 @@ returns-in_err-outcome-clause-faults g c =
 pub returns-in_err-outcome-clause-text : goal.returns-in_err-outcome-clause-text
 returns-in_err-outcome-clause-text g c =
     let p = err_from_is_err_and c.from_residual-in_err-outcome.result c.from_residual-in_err-outcome.ensures.1 in
-    rw (p.1, p.2) (text_at _ _ (concern c.in_err-outcome.field-0.0) c.in_ok-tree.ensures.taken)
+    rw (p.1, p.2) (text_at _ _ (concern c.in_err-outcome.field-0.0) c.in_ok-accepted.ensures.taken)
 
 pub returns-in_err-outcome-clause-input : goal.returns-in_err-outcome-clause-input
 returns-in_err-outcome-clause-input g c =
@@ -88,12 +88,12 @@ returns-in_err-outcome-clause-input g c =
 pub returns-in_err-write_result-clause-beginning : goal.returns-in_err-write_result-clause-beginning
 returns-in_err-write_result-clause-beginning g c =
     let p = err_from_is_err_and c.from_residual-in_err-write_result.result c.from_residual-in_err-write_result.ensures.1 in
-    let made : IsOutcome c.args.how.now (view.tree c.in_ok-tree.tree) c.in_ok-bytes.bytes.items c.in_ok-outcome.outcome.verdict c.in_ok-outcome.outcome.bytes.items =
+    let made : IsOutcome c.args.how.now (view.tree c.in_ok-accepted.accepted.tree) c.in_ok-bytes.bytes.items c.in_ok-outcome.outcome.verdict c.in_ok-outcome.outcome.bytes.items =
     rw c.deref.ensures.value at c.in_ok-outcome.ensures.outcome in
     rw (p.1, p.2) (λ write. (
       c.in_ok-outcome.outcome.verdict,
-      outcome_due c.args.how.now c.in_ok-outcome.outcome.verdict (g.R.Read.remaining c.args.text.now) (g.S.Read.remaining c.args.input.now) (view.tree c.in_ok-tree.tree) c.in_ok-bytes.bytes.items
-          c.in_ok-outcome.outcome.bytes.items _ c.in_ok-tree.ensures.text c.in_ok-bytes.ensures.input c.in_ok-bytes.ensures.judged made
+      outcome_due c.args.how.now c.in_ok-outcome.outcome.verdict (g.R.Read.remaining c.args.text.now) (g.S.Read.remaining c.args.input.now) (view.tree c.in_ok-accepted.accepted.tree) c.in_ok-bytes.bytes.items
+          c.in_ok-outcome.outcome.bytes.items _ c.in_ok-accepted.ensures.text c.in_ok-bytes.ensures.input c.in_ok-bytes.ensures.judged made
           (rw c.deref-2.ensures.value at c.in_err-write_result.ensures.beginning),
     ))
 
@@ -101,7 +101,7 @@ returns-in_err-write_result-clause-beginning g c =
 
 pub returns-clause-done : goal.returns-clause-done
 returns-clause-done g c =
-    let made : IsOutcome c.args.how.now (view.tree c.in_ok-tree.tree) c.in_ok-bytes.bytes.items c.in_ok-outcome.outcome.verdict c.in_ok-outcome.outcome.bytes.items =
+    let made : IsOutcome c.args.how.now (view.tree c.in_ok-accepted.accepted.tree) c.in_ok-bytes.bytes.items c.in_ok-outcome.outcome.verdict c.in_ok-outcome.outcome.bytes.items =
     rw c.deref.ensures.value at c.in_ok-outcome.ensures.outcome in
-    outcome_due c.args.how.now c.in_ok-outcome.outcome.verdict (g.R.Read.remaining c.args.text.now) (g.S.Read.remaining c.args.input.now) (view.tree c.in_ok-tree.tree) c.in_ok-bytes.bytes.items
-    c.in_ok-outcome.outcome.bytes.items _ c.in_ok-tree.ensures.text c.in_ok-bytes.ensures.input c.in_ok-bytes.ensures.judged made (rw c.deref-2.ensures.value at c.in_ok-write_result.ensures.whole)
+    outcome_due c.args.how.now c.in_ok-outcome.outcome.verdict (g.R.Read.remaining c.args.text.now) (g.S.Read.remaining c.args.input.now) (view.tree c.in_ok-accepted.accepted.tree) c.in_ok-bytes.bytes.items
+    c.in_ok-outcome.outcome.bytes.items _ c.in_ok-accepted.ensures.text c.in_ok-bytes.ensures.input c.in_ok-bytes.ensures.judged made (rw c.deref-2.ensures.value at c.in_ok-write_result.ensures.whole)

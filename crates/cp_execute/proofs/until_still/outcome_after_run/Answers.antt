@@ -12,7 +12,7 @@ pub returns-clause-outcome : goal.returns-clause-outcome
 returns-clause-outcome g c =
     let how = c.args.how.now in
     let input = c.args.input.now in
-    let t = view.tree c.args.tree.now in
+    let t = view.tree c.args.text.now.tree in
     let setup = setup_of t input how.tick.rounds in
     let begun = c.in_ok-machine.ensures.state in
     let none = c.in_ok-machine.ensures.rounds in

@@ -8,4 +8,4 @@ pub returns : goal.returns
 returns c =
     let told = ap (λ (z : State). z.told) (c.checker.view_is ∙ c.in-Ok.ensures) in
     let env = ap (λ (z : State). z.env) (c.checker.view_is ∙ c.in-Ok.ensures) in
-    (none_told (view.tree c.args.tree.now) (sym told ∙ c.in-None.is), env)
+    (none_told (view.tree c.args.tree.now) (sym told ∙ sym c.first.ensures ∙ c.in-None.is), env)

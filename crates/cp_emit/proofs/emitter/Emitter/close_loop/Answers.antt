@@ -18,6 +18,7 @@ invariant_of-self c =
     ∙ length-map e.operations.items view.operation in
     record {
       begun = omega (arith, e.begun, as_long);
+      known = e.known ∙ sym as_long;
       needed =
           e.needed
           ∙ sym (ap (λ os. need_of_all (units_of e) e.words (drop e.first os)) c.complete_at.ensures

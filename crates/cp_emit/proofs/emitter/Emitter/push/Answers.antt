@@ -1,4 +1,4 @@
-use Rattle.std.proofs.Common.{◌≡◌, ◌≤◌, ◌∷◌, [], ◌++◌, length, map, drop, ap, sym, ◌∙◌, arith, length-append}
+use Rattle.std.proofs.Common.{rules, ◌≡◌, ◌≤◌, ◌∷◌, [], ◌++◌, length, map, drop, ap, sym, ◌∙◌, arith, length-append}
 use Rattle.std.proofs.lemmas.List.{drop-append-le, length-map, map-append}
 use Rattle.cp_program_model.specs.CodeNeeds.{greater_need, need_of, need_of_all}
 use Rattle.cp_program.specs.View as view
@@ -17,6 +17,7 @@ invariant_of-self-2 c =
     let own = c.in_ok-own.ensures ∙ ap (λ us. need_of (map view.code_unit us) o) c.deref.ensures.value in
     record {
       begun = omega (arith, e.begun, longer, length-append e.operations.items (c.args.operation ∷ []));
+      known = search rules;
       needed =
           c.greater-self.ensures
           ∙ ((λ i. greater_need (own i) (e.needed i))

@@ -1,4 +1,4 @@
-use Rattle.std.proofs.Common.{rules, ◌≡◌, ◌<◌, ◌^◌, ◌++◌, Err, length, refl, ap, sym, ◌∙◌}
+use Rattle.std.proofs.Common.{arith, rules, ◌≡◌, ◌<◌, ◌^◌, ◌++◌, Err, length, refl, ap, sym, ◌∙◌}
 use Rattle.std.specs.Prelude.{[], ◌∷◌, if◌then◌else◌}
 use Rattle.std.specs.Fmt.{signed_decimal}
 use Rattle.std.specs.Int.Signed.{mag}
@@ -6,7 +6,7 @@ use Rattle.cp_model.specs.Decimal.{decimal}
 use Rattle.cp_model.specs.StandardCalls.{byte}
 use Rattle.cp_machine_model.specs.PrivateStates.{go_to, private_outcome}
 use Rattle.cp_private.specs.States.{join}
-use Rattle.cp_private.proofs.Digits.{decimal_is}
+use Rattle.cp_digits.proofs.Digits.{decimal_is}
 use Rattle.cp_private.proofs.private.Private.display.Goals as goal
 
 pub returns-in_err-n-clause-step : goal.returns-in_err-n-clause-step
@@ -37,5 +37,5 @@ returns-else-as_byte-clause-step c =
     let digits : c.as_bytes.result.now ≡ signed_decimal c.in_ok-n.n = search rules in
     let few : mag c.in_ok-n.n < 2 ^ 31 = search rules in
     let text : c.as_bytes.result.now ≡ (if c.args.as_byte then byte c.in_ok-n.n ∷ [] else decimal c.in_ok-n.n) =
-    digits ∙ (decimal_is c.in_ok-n.n few ∙ ap (λ b. if b then byte c.in_ok-n.n ∷ [] else decimal c.in_ok-n.n) (sym c.if-as_byte.false)) in
+    digits ∙ (decimal_is c.in_ok-n.n (omega (arith, few)) ∙ ap (λ b. if b then byte c.in_ok-n.n ∷ [] else decimal c.in_ok-n.n) (sym c.if-as_byte.false)) in
     rw (← is) (ap private_outcome (c.write_out-else-as_byte.ensures.step input shared ∙ ap (λ t. go_to c.args.next (record o { output = o.output ++ t })) text))

@@ -1,8 +1,9 @@
 use Rattle.std.proofs.Common.{◌+◌, Bool, ap, sym, ◌∙◌}
 use Rattle.cp_model.specs.declared.rules.Rule.TheVariants.{C13}
-use Rattle.cp_model.specs.RulesJudged.{Violations, earlier, unless}
+use Rattle.cp_model.specs.RulesJudged.{Violations, unless}
 use Rattle.cp_model.specs.RulesTypes.{cap_words}
 use Rattle.cp_model.specs.View as view
+use Rattle.cp_judge.specs.Tells.{with_part}
 use Rattle.cp_rules.specs.Checking.{State, telling}
 use Rattle.cp_rules.proofs.WholeTexts.{broken_body, sound_body}
 use Rattle.cp_rules.proofs.checker.Checker.initial_body.Goals as goal
@@ -10,11 +11,12 @@ use Rattle.cp_rules.proofs.checker.Checker.initial_body.Goals as goal
 pub returns-in-Some : goal.returns-in-Some
 returns-in-Some c n words =
     let old = c.args.self.now in
-    let violation = c.in-Some.violation in
-    let body = broken_body old.told old.env n (view.body c.args.body.now) violation (sym (rw c.deref.ensures.value at c.in_ok-violation.ensures) ∙ c.in-Some.is) in
-    let opened = ap (λ (z : State). earlier z.told violation) c.self.view_is in
+    let first = sym c.first.ensures ∙ c.in-Some.is in
+    let body = broken_body old.told old.env n (view.body c.args.body.now) c.in-Some.field-0
+    (sym (rw c.deref.ensures.value at c.in_ok-inside.ensures) ∙ first) in
+    let opened = ap (λ (z : State). with_part z.told c.in_ok-inside.inside) c.self.view_is in
     let env = ap (λ (z : State). z.env) c.self.view_is in
-    let told = c.tell.ensures ∙ opened ∙ body in
+    let told = c.tell_part.ensures ∙ opened ∙ ap (with_part old.told) first ∙ body in
     λ i. record { env = env i; told = told i }
 
 pub returns-in-None : goal.returns-in-None
@@ -26,4 +28,4 @@ returns-in-None c n words =
     ∙ ap (λ (within : Bool). telling old (unless within C13 c.args.body.now.at)) c.is_within-fits.ensures
     ∙ ap (λ (vs : Violations). telling old vs)
     (sound_body old.env n c.args.words c.sum-in-None.result (view.body c.args.body.now)
-    (sym (rw c.deref.ensures.value at c.in_ok-violation.ensures) ∙ c.in-None.is) words counted)
+    (sym (rw c.deref.ensures.value at c.in_ok-inside.ensures) ∙ (sym c.first.ensures ∙ c.in-None.is)) words counted)

@@ -1,0 +1,105 @@
+//! The values of options.
+
+ghost use Rattle.std.specs.Prelude.{◌≡◌, ◌≤◌, IfOk};
+ghost use Rattle.cp_rounds.specs.Plans.{AreInRange};
+ghost use Rattle.cp_command.specs.Commands.{Has, HasReplay};
+
+use crate::misuse::Misuse;
+use crate::numbers::number;
+use clap::ArgMatches;
+use cp_execute::replaying::Replay;
+use cp_execute::running::Run;
+use cp_execute::until_still::UntilStill;
+use cp_private::turn::Turn;
+use cp_rounds::plan::Plan;
+use cp_rounds::tick::Tick;
+
+/// The run with these numbers.
+pub(crate) fn run_of(
+    rounds: u32,
+    turn: u32,
+    workers: u32,
+    chunk: u32,
+    wave: u32,
+    tick: u32,
+    chains: bool,
+) -> Run
+    requires plan { AreInRange turn workers chunk wave }
+    requires tick { (1 ≤ tick) × (tick ≤ 1000000) }
+    ensures { Has rounds turn workers chunk wave tick chains result }
+{
+    match (Plan::new(turn, workers, chunk, wave), Tick::new(tick)) {
+        (Ok(plan), Ok(tick)) => Run {
+            rounds,
+            plan,
+            tick,
+            chains,
+        },
+        _ => unreachable!(),
+    }
+}
+
+// The replay with these numbers.
+fn replay_of(turn: u32, tick: u32, chains: bool) -> Replay
+    requires turn { (1 ≤ turn) × (turn ≤ 10000) }
+    requires tick { (1 ≤ tick) × (tick ≤ 1000000) }
+    ensures { HasReplay turn tick chains result }
+{
+    match (Turn::new(turn), Tick::new(tick)) {
+        (Ok(turn), Ok(tick)) => Replay { turn, tick, chains },
+        _ => unreachable!(),
+    }
+}
+
+/// The number of an option, or `otherwise` if it isn't given.
+pub(crate) fn count<'a>(
+    matches: &ArgMatches<'a>,
+    name: &'static str,
+    low: u32,
+    most: u32,
+    otherwise: u32,
+) -> Result<u32, Misuse<'a>>
+    requires small { most ≤ 1000000 }
+    requires within { (low ≤ otherwise) × (otherwise ≤ most) }
+    ensures within { IfOk result (λ n. (low ≤ n) × (n ≤ most)) }
+{
+    let Some(text) = matches.get_str(name) else {
+        return Ok(otherwise);
+    };
+    match number(text.as_bytes(), low, most) {
+        Some(n) => Ok(n),
+        None => Err(Misuse::OutOfRange { name, low, most }),
+    }
+}
+
+/// The run of so many rounds with the numbers of the other options.
+pub(crate) fn read_run<'a>(
+    matches: &ArgMatches<'a>,
+    rounds: u32,
+    chains: bool,
+) -> Result<Run, Misuse<'a>>
+    ensures { IfOk result (λ run. run.rounds ≡ rounds) }
+{
+    let turn = count(matches, "turn", 1, 10_000, 100)?;
+    let workers = count(matches, "workers", 1, 64, 2)?;
+    let chunk = count(matches, "chunk", 1, 255, 1)?;
+    let wave = count(matches, "wave", 1, 255, 255)?;
+    let tick = count(matches, "tick", 1, 1_000_000, 1)?;
+    Ok(run_of(rounds, turn, workers, chunk, wave, tick, chains))
+}
+
+/// The run until nothing can move that the options tell.
+pub(crate) fn read_outcome<'a>(matches: &ArgMatches<'a>) -> Result<UntilStill, Misuse<'a>>
+    ensures { IfOk result (λ how. how.limit ≤ 1000000) }
+{
+    let limit = count(matches, "limit", 0, 1_000_000, 10_000)?;
+    let Run { plan, tick, .. } = read_run(matches, limit, false)?;
+    Ok(UntilStill { limit, plan, tick })
+}
+
+/// The replay that the options tell.
+pub(crate) fn read_replay<'a>(matches: &ArgMatches<'a>) -> Result<Replay, Misuse<'a>> {
+    let turn = count(matches, "turn", 1, 10_000, 100)?;
+    let tick = count(matches, "tick", 1, 1_000_000, 1)?;
+    Ok(replay_of(turn, tick, matches.get_flag("chains")))
+}

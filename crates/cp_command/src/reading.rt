@@ -1,0 +1,158 @@
+//! From the words of a command line to a command.
+
+ghost use Rattle.std.specs.Prelude.{◌≡◌, ◌≤◌, IfOk, IsOk, length};
+ghost use Rattle.cp_command.specs.Commands.{HasRounds, IsWithoutWords};
+
+use crate::command::{Command, CommandError, Inputs};
+use crate::grammar::grammar;
+use crate::inputs::read_inputs;
+use crate::misuse::Misuse;
+use crate::options::{count, read_outcome, read_replay, read_run, run_of};
+use clap::ArgMatches;
+use clap::error::ErrorKind;
+use cp_access::graph::Form;
+use cp_explain::rules::{is_like_rule, rule_page};
+use std::alloc::Global;
+use std::convert::AsStr;
+
+// The command `explain` of parsed arguments: explains the rule with that name, or else the text of
+// the file with that name.
+fn explain<'a>(file: &'a str, matches: &ArgMatches<'a>) -> Result<Command<'a>, Misuse<'a>>
+    ensures { IfOk result HasRounds }
+{
+    let all = matches.get_flag("all");
+    match rule_page(file) {
+        Some(_) if all => Err(Misuse::AllOfRule),
+        Some(page) => Ok(Command::ExplainRule { page }),
+        None if is_like_rule(file) => Err(Misuse::NoRule { word: file }),
+        None if all => Ok(Command::ExplainAll { file }),
+        None => Ok(Command::Explain {
+            file,
+            form: if matches.get_flag("dot") {
+                Form::Dot
+            } else {
+                Form::Lines
+            },
+        }),
+    }
+}
+
+// The command `run` of parsed arguments.
+fn run<'a>(
+    alloc: Global,
+    file: &'a str,
+    matches: &ArgMatches<'a>,
+) -> Result<Command<'a>, Misuse<'a>>
+    ensures { IfOk result HasRounds }
+{
+    let rounds = count(matches, "rounds", 0, 1_000_000, 2)?;
+    Ok(Command::Run {
+        file: Some(file),
+        run: read_run(matches, rounds, matches.get_flag("chains"))?,
+        input: read_inputs(alloc, matches)?.beside(&[file])?,
+    })
+}
+
+// The command `outcome` of parsed arguments.
+fn outcome<'a>(
+    alloc: Global,
+    file: &'a str,
+    matches: &ArgMatches<'a>,
+) -> Result<Command<'a>, Misuse<'a>>
+    ensures { IfOk result HasRounds }
+{
+    Ok(Command::Outcome {
+        file,
+        how: read_outcome(matches)?,
+        input: read_inputs(alloc, matches)?.beside(&[file])?,
+    })
+}
+
+// The command `replay` of parsed arguments.
+fn replay<'a>(
+    alloc: Global,
+    file: &'a str,
+    matches: &ArgMatches<'a>,
+) -> Result<Command<'a>, Misuse<'a>>
+    ensures { IfOk result HasRounds }
+{
+    let Some(order) = matches.get_str("ORDER") else {
+        return Err(Misuse::Missing { what: "ORDER" });
+    };
+    Ok(Command::Replay {
+        file,
+        order,
+        replay: read_replay(matches)?,
+        input: read_inputs(alloc, matches)?.beside(&[file, order])?,
+    })
+}
+
+// The command of parsed arguments. The grammar requires a command and its file, so neither is
+// missing.
+fn command_of<'a>(alloc: Global, matches: &ArgMatches<'a>) -> Result<Command<'a>, Misuse<'a>>
+    ensures { IfOk result HasRounds }
+{
+    let Some((name, matches)) = matches.subcommand() else {
+        return Err(Misuse::Missing { what: "a command" });
+    };
+    let Some(file) = matches.get_str("FILE") else {
+        return Err(Misuse::Missing { what: "FILE" });
+    };
+    match name {
+        "check" => Ok(Command::Check { file }),
+        "explain" => explain(file, matches),
+        "outcome" => outcome(alloc, file, matches),
+        "replay" => replay(alloc, file, matches),
+        _ => run(alloc, file, matches),
+    }
+}
+
+// The command if there are no words after the program's name.
+fn without_words<'a>() -> Command<'a>
+    ensures rounds { HasRounds result }
+    ensures none { IsWithoutWords result }
+{
+    Command::Run {
+        file: None,
+        run: run_of(2, 100, 2, 1, 255, 1, false),
+        input: Inputs::Empty,
+    }
+}
+
+// To ask for the version is a command.
+fn version_or<'a>(error: clap::Error) -> Result<Command<'a>, CommandError>
+    ensures { IfOk result HasRounds }
+{
+    match error.kind() {
+        ErrorKind::DisplayVersion => Ok(Command::Version),
+        _ => Err(CommandError::from(error)),
+    }
+}
+
+/// Parses the words of a command line, the first of which is the program's name. If there are no
+/// others, the command is to run the text of standard input for 2 rounds.
+///
+/// # Errors
+///
+/// `Usage` if the words are those of no command or ask for help, and `Memory` if memory runs out.
+pub fn read_command<'a, S: AsStr>(
+    alloc: Global,
+    words: &'a [S],
+) -> Result<Command<'a>, CommandError>
+    ensures rounds { IfOk result HasRounds }
+    ensures none { length words.entry.now ≤ 1 → IfOk result IsWithoutWords }
+    ensures some { length words.entry.now ≤ 1 → IsOk result }
+{
+    if words.len() <= 1 {
+        return Ok(without_words());
+    }
+    let mut grammar = grammar(alloc)?;
+    let matches = match grammar.try_get_matches_from_mut(words) {
+        Ok(matches) => matches,
+        Err(error) => return version_or(error),
+    };
+    match command_of(alloc, &matches) {
+        Ok(command) => Ok(command),
+        Err(misuse) => Err(misuse.error(alloc, &mut grammar)),
+    }
+}

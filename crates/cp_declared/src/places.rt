@@ -1,0 +1,48 @@
+//! Where expressions and statements begin.
+
+use cp_model::tree::{Expression, Statement};
+
+/// The place of the first token of an expression.
+pub fn first_token(e: &Expression) -> usize {
+    match e {
+        Expression::Number { at, .. }
+        | Expression::Character { at, .. }
+        | Expression::Parenthesized { at, .. }
+        | Expression::Not { at, .. }
+        | Expression::Signed { at, .. } => *at,
+        Expression::Designated(d) | Expression::Call(d, _) => d.root.at,
+        Expression::Chain { first, .. } => first_token(first),
+    }
+}
+
+#[cycle(begins)]
+fn list_place(list: &[Statement]) -> Option<usize> {
+    for s in list {
+        let place = statement_place(s);
+        if place.is_some() {
+            return place;
+        }
+    }
+    None
+}
+
+/// The first place in a statement that its tree keeps: its first token, or the one after the word
+/// that it begins with. An empty statement has none.
+#[cycle(begins)]
+pub fn statement_place(s: &Statement) -> Option<usize> {
+    match s {
+        Statement::Empty => None,
+        Statement::Assign { target: d, .. } | Statement::Call(d, _) => Some(d.root.at),
+        Statement::Init { at, .. } => Some(*at),
+        Statement::For { variable, .. } => Some(variable.at),
+        Statement::If { condition: e, .. }
+        | Statement::IfElse { condition: e, .. }
+        | Statement::While { condition: e, .. }
+        | Statement::Case { selector: e, .. } => Some(first_token(e)),
+        Statement::Compound(list) | Statement::Cycle(list) => list_place(list),
+        Statement::Repeat { body, condition } => match list_place(body) {
+            Some(at) => Some(at),
+            None => Some(first_token(condition)),
+        },
+    }
+}

@@ -1,0 +1,85 @@
+//! All that is wrong with a text: its violations in short, or what it uses of the book's language
+//! that this one hasn't.
+
+use crate::explain::heading_of;
+use cp_diagnosis::of_violation_in_short;
+use cp_execute::refusal::Refusal;
+use cp_model::rules::Violation;
+use cp_model::tree::Tree;
+use cp_page::page::Page;
+use cp_rules::text::violations;
+use std::alloc::{AllocError, Global};
+
+/// The most violations that are told.
+const MOST: usize = 1_000;
+
+/// How many bytes are walked over: what stands at a place is found by a walk over the whole text.
+const WALKED: usize = 67_108_864;
+
+// How many violations of a text are told, so that a long one takes no longer than a short one.
+fn most(text: &[u8]) -> usize {
+    (WALKED / text.len().max(1)).min(MOST)
+}
+
+// Adds where more is said than in short.
+fn push_hint(page: &mut Page, file: &[u8], list: &[Violation]) -> Result<(), AllocError> {
+    let Some(first) = list.first() else {
+        return Ok(());
+    };
+    let number = usize::from(first.rule.number());
+    page.text("`cpm explain C")?;
+    page.number(number)?;
+    page.text("` explains rule C")?;
+    page.number(number)?;
+    page.text(", and `cpm explain ")?;
+    page.bytes(file)?;
+    page.text("` how to mend the first violation.\n")
+}
+
+// Adds how many violations there are, of which so many are told.
+fn push_count(page: &mut Page, count: usize, told: usize) -> Result<(), AllocError> {
+    page.number(count)?;
+    page.text(if count == 1 {
+        " violation"
+    } else {
+        " violations"
+    })?;
+    if told < count {
+        page.text(", of which the first ")?;
+        page.number(told)?;
+        page.text(" are told")?;
+    }
+    page.bytes(b"\n")
+}
+
+// Adds a violation in short, after its heading.
+fn push_violation(
+    alloc: Global,
+    page: &mut Page,
+    text: &[u8],
+    tree: &Tree,
+    violation: Violation,
+) -> Result<(), AllocError> {
+    let told = of_violation_in_short(alloc, text, tree, violation)?;
+    page.bytes(told.as_bytes())
+}
+
+/// All violations of a text in short, in the order of the text, and their number. The first comes
+/// without its heading. Fails only if memory runs out.
+pub fn of_all(alloc: Global, file: &[u8], text: &[u8], tree: &Tree) -> Result<Page, AllocError> {
+    let mut page = Page::new(alloc);
+    let list = violations(alloc, tree)?;
+    let told = most(text).min(list.len());
+    let mut is_first = true;
+    for violation in list.iter().take(told) {
+        if !is_first {
+            let heading = heading_of(alloc, file, text, &Refusal::from(*violation))?;
+            page.bytes(heading.as_bytes())?;
+        }
+        push_violation(alloc, &mut page, text, tree, *violation)?;
+        is_first = false;
+    }
+    push_hint(&mut page, file, &list)?;
+    push_count(&mut page, list.len(), told)?;
+    Ok(page)
+}

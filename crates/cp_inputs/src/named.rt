@@ -1,0 +1,162 @@
+//! The processes of a text by name, and the joined input of those that have one.
+
+ghost use Rattle.std.specs.Prelude.{◌≡◌};
+ghost use Rattle.cp_execute.specs.declared.refusal.Refusal.TheVariants as refusal;
+ghost use Rattle.cp_inputs.specs.declared.named.InputError.TheVariants as error;
+
+use crate::joining::{join, misplaced};
+use cp_execute::checking::tree_of;
+use cp_execute::cutting::LONGEST_INPUT;
+use cp_execute::reading::{ReadError, read_text};
+use cp_execute::refusal::Refusal;
+use cp_model::tree::{Sort, Tree};
+use cp_report::listing::components;
+use cp_rules::text::{RuleError, judge};
+use cp_scope::{Field, Tables};
+use std::alloc::{AllocError, AllocFailed, Global};
+use std::io::Read;
+use thiserror::Error;
+
+// The name of process 1, unless a process of the text has it.
+const INITIAL: &[u8] = b"initial";
+
+/// The input of the process with this name, and the name of the file that it is read from.
+#[derive(Drop)]
+pub struct InputOf<'a, R> {
+    pub process: &'a str,
+    pub file: &'a str,
+    pub reader: R,
+}
+
+/// Why inputs by name make no input.
+#[derive(Clone, Copy, Debug, PartialEq, Eq, Error)]
+pub enum InputError<'a> {
+    /// The text is refused, the inputs are too long, or memory ran out.
+    #[error("{0}")]
+    Refused(Refusal),
+    /// The text has no process with this name.
+    #[error("error: the text has no process {process}")]
+    NoProcess { process: &'a str },
+    /// A file holds a byte that no input of a process has.
+    #[error("refused I3 at {at} of {file}: byte {byte}; an input has bytes 0 to 127 but for 28")]
+    Byte { file: &'a str, at: usize, byte: u8 },
+    /// A file can't be read.
+    #[error("{file} can't be read")]
+    Unread { file: &'a str },
+}
+
+impl<'a> From<Refusal> for InputError<'a> {
+    ghost from_gives = { λ refusal e. e ≡ error.Refused refusal };
+
+    fn from(refusal: Refusal) -> InputError<'a> {
+        InputError::Refused(refusal)
+    }
+}
+
+impl<'a> From<AllocError> for InputError<'a> {
+    ghost from_gives = { λ _ e. e ≡ error.Refused refusal.Memory };
+
+    fn from(_error: AllocError) -> InputError<'a> {
+        InputError::Refused(Refusal::Memory)
+    }
+}
+
+impl<'a, T: Drop> From<AllocFailed<T>> for InputError<'a> {
+    ghost from_gives = { λ _ e. e ≡ error.Refused refusal.Memory };
+
+    fn from(_error: AllocFailed<T>) -> InputError<'a> {
+        InputError::Refused(Refusal::Memory)
+    }
+}
+
+// The processes of an accepted text by number, from 2.
+fn processes<'t>(alloc: Global, tree: &'t Tree) -> Result<Vec<Field<'t>>, Refusal> {
+    match judge(alloc, tree) {
+        Ok(_) => {}
+        Err(RuleError::Broken(violation)) => return Err(Refusal::from(violation)),
+        Err(RuleError::Memory) => return Err(Refusal::Memory),
+    }
+    let tables = Tables::of_tree(alloc, tree)?;
+    Ok(components(alloc, &tables, Sort::Process)?)
+}
+
+// The index of the process with this name, from 0: its number less one.
+fn index_of(processes: &[Field<'_>], name: &str) -> Option<usize> {
+    let name = name.as_bytes();
+    match processes.iter().position(|process| process.name == name) {
+        Some(at) => Some(at.saturating_add(1)),
+        None if name == INITIAL => Some(0),
+        None => None,
+    }
+}
+
+impl<'a, R: Read> InputOf<'a, R> {
+    // Reads the input.
+    fn read(&mut self, alloc: Global) -> Result<Vec<u8>, InputError<'a>> {
+        let bytes = match read_text(alloc, &mut self.reader) {
+            Ok(bytes) => bytes,
+            Err(ReadError::Read) => return Err(InputError::Unread { file: self.file }),
+            Err(ReadError::Memory) => return Err(InputError::from(AllocError)),
+        };
+        match misplaced(&bytes) {
+            None => Ok(bytes),
+            Some(at) => Err(InputError::Byte {
+                file: self.file,
+                at,
+                byte: bytes.get(at).copied().unwrap_or(0),
+            }),
+        }
+    }
+}
+
+// Reads the inputs into the places of their processes. They have at most as many bytes as one input
+// may have.
+fn read_inputs<'a, R: Read>(
+    alloc: Global,
+    processes: &[Field<'_>],
+    named: &mut [InputOf<'a, R>],
+    inputs: &mut [Vec<u8>],
+) -> Result<(), InputError<'a>> {
+    let mut length: usize = inputs.len();
+    for input in named {
+        let place = index_of(processes, input.process).and_then(|at| inputs.get_mut(at));
+        let Some(place) = place else {
+            return Err(InputError::NoProcess {
+                process: input.process,
+            });
+        };
+        let bytes = input.read(alloc)?;
+        length = length.saturating_add(bytes.len());
+        if LONGEST_INPUT < length {
+            return Err(InputError::Refused(Refusal::InputSize));
+        }
+        *place = bytes;
+    }
+    Ok(())
+}
+
+/// Reads the inputs of the processes that are named, and returns the joined input of the text.
+/// Process 1 is named `initial`, unless another process has that name. A process that isn't named
+/// has no input.
+///
+/// # Errors
+///
+/// `Refused` with S, Y or C if the text isn't accepted; then, in the order of the names,
+/// `NoProcess`, `Unread` and `Byte`, and `Refused` with I4 once the inputs and the bytes 28 behind
+/// them have more than 1,048,576 bytes. Also M. A reader is read to its end or through byte
+/// 1,048,577, and no further.
+pub fn joined_input<'a, R: Read>(
+    alloc: Global,
+    text: &[u8],
+    named: &mut [InputOf<'a, R>],
+) -> Result<Vec<u8>, InputError<'a>> {
+    let tree = tree_of(alloc, text)?;
+    let processes = processes(alloc, &tree)?;
+    let mut inputs: Vec<Vec<u8>> = Vec::new(alloc);
+    inputs.push(Vec::new(alloc))?;
+    for _process in &processes {
+        inputs.push(Vec::new(alloc))?;
+    }
+    read_inputs(alloc, &processes, named, &mut inputs)?;
+    Ok(join(alloc, &inputs)?)
+}

@@ -1,0 +1,25 @@
+//! Notes on accepted texts: what the rules allow, and what is doomed for all that.
+//!
+//! `text` walks over declarations, `statements` over bodies and `expressions` over calls; `walk` is
+//! what they know on their way, and `flow` which ways lead to a place.
+//! Each kind of note stands in a module: `initialisation`, `queues`, `meetings`, `ranges` and
+//! `results`, but for statements that never run, which `statements` notes. `note` orders and writes
+//! them in the words of `messages`.
+//!
+//! A note claims only what holds whatever the values are. All of this is words, and tested.
+#![tactic(auto)]
+
+mod expressions;
+mod flow;
+mod initialisation;
+mod meetings;
+mod messages;
+mod note;
+mod queues;
+mod ranges;
+mod results;
+mod statements;
+mod text;
+mod walk;
+
+pub use text::add_notes;

@@ -1,0 +1,168 @@
+//! Notes: what is allowed but doomed, each at a place of the text.
+
+use crate::messages::message;
+use cp_model::tree::Sort;
+use cp_page::message::About;
+use cp_page::page::Page;
+use cp_page::position::Position;
+use std::alloc::{AllocError, Global};
+
+/// What a note says.
+#[derive(Clone, Copy, Debug, PartialEq, Eq)]
+pub enum Saying {
+    /// No `init` of this component ever runs.
+    NeverInitialised(Sort),
+    /// Each way to this `init` has one of the same component.
+    InitialisedTwice,
+    /// This `init` runs in each round of a loop.
+    InitialisedInEachRound,
+    /// Nothing continues the queue in which this `delay` is.
+    NeverContinued,
+    /// Two processes call an entry that delays them in one queue.
+    TwoInOneQueue,
+    /// No way leads to this statement.
+    NeverRuns,
+    /// A constant beyond the range of the variable or parameter that gets it.
+    OutOfRange,
+    /// A constant index beyond the bounds.
+    OutOfBounds,
+    /// A divisor that is the constant zero.
+    ZeroDivisor,
+    /// `chr` of a constant that is no character's number.
+    NoCharacter,
+    /// No way through this function sets its result.
+    NoResult,
+    /// Not each way to the end of this function sets its result.
+    ResultUnderConditions,
+    /// Not each way to this `continue` sets the result of the function.
+    ReturnsEarly,
+    /// A call in a monitor that leads to a `delay` in another one.
+    KeepsGate,
+}
+
+/// A note, with the names that it tells of.
+#[derive(Clone, Copy)]
+struct Note<'t> {
+    at: usize,
+    saying: Saying,
+    about: About<'t>,
+}
+
+/// Notes, in the order in which they were found.
+#[derive(Drop)]
+pub struct Notes<'t> {
+    found: Vec<Note<'t>>,
+}
+
+impl<'t> Notes<'t> {
+    pub fn new(alloc: Global) -> Notes<'t> {
+        Notes {
+            found: Vec::new(alloc),
+        }
+    }
+
+    fn push(&mut self, at: usize, saying: Saying, about: About<'t>) -> Result<(), AllocError> {
+        self.found.push(Note { at, saying, about })?;
+        Ok(())
+    }
+
+    /// Adds a note that tells of no name. Fails only if memory runs out, as all that follow.
+    pub fn add(&mut self, at: usize, saying: Saying) -> Result<(), AllocError> {
+        self.push(at, saying, About::NOTHING)
+    }
+
+    /// Adds a note that tells of a name.
+    pub fn add_on(&mut self, at: usize, saying: Saying, name: &'t [u8]) -> Result<(), AllocError> {
+        let about = About {
+            name: Some(name),
+            other: None,
+        };
+        self.push(at, saying, about)
+    }
+
+    /// Adds a note that tells of two names.
+    pub fn add_on_both(
+        &mut self,
+        at: usize,
+        saying: Saying,
+        name: &'t [u8],
+        other: &'t [u8],
+    ) -> Result<(), AllocError> {
+        let about = About {
+            name: Some(name),
+            other: Some(other),
+        };
+        self.push(at, saying, about)
+    }
+
+    // The places of the notes with their numbers, in the order of the text.
+    fn order(&self, alloc: Global) -> Result<Vec<(usize, usize)>, AllocError> {
+        let mut order = Vec::new(alloc);
+        for number in 0..self.found.len() {
+            order.push((self.found[number].at, number))?;
+        }
+        order.sort()?;
+        Ok(order)
+    }
+
+    /// Writes the notes in the order of the text: of each its place and what it says, and a line of
+    /// advice.
+    pub fn write(
+        &self,
+        alloc: Global,
+        page: &mut Page,
+        file: &[u8],
+        text: &[u8],
+    ) -> Result<(), AllocError> {
+        let mut cursor = Cursor::start();
+        for (_, number) in self.order(alloc)?.as_slice() {
+            if let Some(note) = self.found.get(*number) {
+                cursor.advance(text, note.at);
+                note.write(page, file, cursor.position)?;
+            }
+        }
+        Ok(())
+    }
+}
+
+impl<'t> Note<'t> {
+    fn write(&self, page: &mut Page, file: &[u8], position: Position) -> Result<(), AllocError> {
+        let words = message(self.saying);
+        page.bytes(file)?;
+        page.bytes(b":")?;
+        page.position(position)?;
+        page.bytes(b": note: ")?;
+        page.template(words.head, self.about)?;
+        page.bytes(b"\n  ")?;
+        page.template(words.advice, self.about)?;
+        page.bytes(b"\n")
+    }
+}
+
+// A place of a text and its position, for places that only rise.
+#[derive(Drop)]
+struct Cursor {
+    at: usize,
+    position: Position,
+}
+
+impl Cursor {
+    fn start() -> Cursor {
+        Cursor {
+            at: 0,
+            position: Position { line: 1, column: 1 },
+        }
+    }
+
+    fn advance(&mut self, text: &[u8], to: usize) {
+        for at in self.at..to.min(text.len()) {
+            if text[at] == b'\n' {
+                self.position.line = self.position.line.saturating_add(1);
+                self.position.column = 1;
+            } else {
+                self.position.column = self.position.column.saturating_add(1);
+            }
+        }
+        self.at = self.at.max(to);
+    }
+}

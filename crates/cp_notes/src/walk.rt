@@ -1,0 +1,129 @@
+//! The walk over an accepted text, and what it knows on its way.
+
+use crate::flow::Flow;
+use crate::initialisation::Inits;
+use crate::meetings::Meetings;
+use crate::note::Notes;
+use crate::queues::Queues;
+use cp_meanings::names::Names;
+use cp_model::tree::{Routine, Sort, System};
+use std::alloc::{AllocError, Global};
+use std::collections::BTreeMap;
+
+/// What is known of a routine that was walked over.
+#[derive(Clone, Copy)]
+pub struct Behaviour<'t> {
+    pub routine: &'t Routine,
+    /// Whether it leads to a `delay`.
+    pub delays: bool,
+    /// The queue, by its number in the text, in which the routine surely delays its caller.
+    pub queue: Option<usize>,
+}
+
+/// A system type, and the calls of its body that surely delay, by their numbers.
+#[derive(Clone, Copy)]
+pub struct SystemType<'t> {
+    pub system: &'t System,
+    pub first_call: usize,
+    pub last_call: usize,
+}
+
+/// The body that is walked over.
+#[derive(Clone, Copy)]
+pub struct Inside<'t> {
+    /// The sort of the component that has this body. The initial process is a process.
+    pub sort: Sort,
+    pub is_initial: bool,
+    /// The routine, unless this is the body of the component itself.
+    pub routine: Option<&'t Routine>,
+    /// Whether something so far leads to a `delay`.
+    pub delays: bool,
+    /// The queue in which the routine surely delays its caller, by its number.
+    pub queue: Option<usize>,
+    /// Whether something so far depends on queues: the routine may return early by a `continue`, or
+    /// tests whether a queue is empty.
+    pub minds_queues: bool,
+    /// Whether something so far sets the result.
+    pub sets_result: bool,
+    /// How many statements that run on conditions the current one is in.
+    pub conditions: usize,
+}
+
+impl<'t> Inside<'t> {
+    /// The start of a body of a component of this sort.
+    pub fn body(sort: Sort, is_initial: bool) -> Inside<'t> {
+        Inside {
+            sort,
+            is_initial,
+            routine: None,
+            delays: false,
+            queue: None,
+            minds_queues: false,
+            sets_result: false,
+            conditions: 0,
+        }
+    }
+
+    /// The start of a routine of the same component.
+    pub fn of_routine(self, routine: &'t Routine) -> Inside<'t> {
+        Inside {
+            routine: Some(routine),
+            ..Inside::body(self.sort, self.is_initial)
+        }
+    }
+
+    /// The function, if this is one.
+    pub fn function(self) -> Option<&'t Routine> {
+        let routine = self.routine?;
+        let _of = routine.result_type.as_ref()?;
+        Some(routine)
+    }
+
+    /// Whether this is an entry routine.
+    pub fn is_entry(self) -> bool {
+        match self.routine {
+            Some(routine) => routine.entry.is_some(),
+            None => false,
+        }
+    }
+}
+
+/// What is known on the way through a text.
+#[derive(Drop)]
+pub struct Walk<'t> {
+    pub alloc: Global,
+    pub names: Names<'t>,
+    pub notes: Notes<'t>,
+    /// The routines so far, by their numbers.
+    pub routines: Vec<Behaviour<'t>>,
+    /// The system types so far, by the places of their names.
+    pub systems: BTreeMap<usize, SystemType<'t>>,
+    pub inside: Inside<'t>,
+    pub flow: Flow,
+    pub inits: Inits<'t>,
+    pub queues: Queues<'t>,
+    pub meetings: Meetings<'t>,
+}
+
+impl<'t> Walk<'t> {
+    /// The start of a text. Fails only if memory runs out.
+    pub fn new(alloc: Global) -> Result<Walk<'t>, AllocError> {
+        Ok(Walk {
+            alloc,
+            names: Names::standard(alloc)?,
+            notes: Notes::new(alloc),
+            routines: Vec::new(alloc),
+            systems: BTreeMap::new(alloc),
+            inside: Inside::body(Sort::Process, true),
+            flow: Flow::START,
+            inits: Inits::new(alloc),
+            queues: Queues::new(alloc),
+            meetings: Meetings::new(alloc),
+        })
+    }
+
+    /// What is known of the routine with a number.
+    pub fn behaviour(&self, number: usize) -> Option<Behaviour<'t>> {
+        self.routines.get(number).copied()
+    }
+}

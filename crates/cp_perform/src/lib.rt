@@ -1,0 +1,19 @@
+//! Carrying out a command with files and the standard streams.
+//!
+//! - `perform`: which command does what.
+//! - `opening`: what a command reads, by name: a file, standard input, or bytes in memory.
+//! - `inputs`: the inputs of a run.
+//! - `running`: checks, runs, outcomes and replays. `explaining`: explanations.
+//! - `printing`: standard output. `status`: why a command has no result, and the exit statuses.
+//!
+//! `specs/Statuses.antt` defines the exit status of a verdict, `specs/Sources.antt` what is left to
+//! read.
+#![tactic(auto)]
+
+mod explaining;
+mod inputs;
+mod opening;
+pub mod perform;
+mod printing;
+mod running;
+pub mod status;

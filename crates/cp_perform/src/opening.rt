@@ -1,0 +1,80 @@
+//! What a command reads, by name: a file, standard input, or bytes in memory.
+
+ghost use Rattle.std.specs.Prelude.{◌≡◌};
+ghost use Rattle.std.specs.Io.{ReadsAtMost};
+ghost use Rattle.std.specs.Io.KnownBytes.{ReadConsumes};
+ghost use Rattle.cp_perform.specs.Sources.{remaining_of};
+
+use crate::status::Failure;
+use cp_command::command::STANDARD_INPUT;
+use cp_execute::refusal::Refusal;
+use std::fs::{self, Files};
+use std::io::{self, Cursor, ErrorKind, Input, Read};
+
+/// What is read.
+#[derive(Drop)]
+pub(crate) enum Source<F, I> {
+    File(F),
+    StandardInput(I),
+    Bytes(Cursor<Vec<u8>>),
+}
+
+impl<F: Read, I: Read> Read for Source<F, I> {
+    ghost remaining = { remaining_of F.remaining I.remaining };
+
+    fn read(&mut self, buffer: &mut [u8]) -> io::Result<usize>
+        ensures bound { ReadsAtMost result buffer.new }
+        ensures bytes { ReadConsumes (remaining_of F.remaining I.remaining self.old)
+            (remaining_of F.remaining I.remaining self.new) result buffer.new }
+    {
+        match self {
+            Source::File(file) => file.read(buffer),
+            Source::StandardInput(input) => input.read(buffer),
+            Source::Bytes(bytes) => bytes.read(buffer),
+        }
+    }
+}
+
+impl<F, I> Source<F, I> {
+    /// The source of these bytes.
+    pub(crate) fn of_bytes(bytes: Vec<u8>) -> Source<F, I> {
+        Source::Bytes(Cursor::new(bytes))
+    }
+}
+
+/// Opens what has this name, where `-` is standard input.
+///
+/// # Errors
+///
+/// `Unopened` if a file can't be opened, M if memory runs out.
+pub(crate) fn open_named<'a, H: Files + Input>(
+    rt: &H,
+    name: &'a str,
+) -> Result<Source<H::File, H::Reader>, Failure<'a>> {
+    if name == STANDARD_INPUT {
+        return Ok(Source::StandardInput(rt.reader()));
+    }
+    match fs::open(rt, name) {
+        Ok(file) => Ok(Source::File(file)),
+        Err(error) => Err(match error.kind() {
+            ErrorKind::OutOfMemory => Failure::Refused(Refusal::Memory),
+            _ => Failure::Unopened { file: name, error },
+        }),
+    }
+}
+
+/// Opens what has this name, where `-` is standard input.
+///
+/// # Errors
+///
+/// I1 if a file can't be opened, M if memory runs out.
+pub(crate) fn open<H: Files + Input>(
+    rt: &H,
+    name: &str,
+) -> Result<Source<H::File, H::Reader>, Refusal> {
+    match open_named(rt, name) {
+        Ok(source) => Ok(source),
+        Err(Failure::Refused(refusal)) => Err(refusal),
+        Err(_) => Err(Refusal::Read),
+    }
+}

@@ -1,0 +1,57 @@
+//! Which command does what.
+
+use crate::explaining::{Explaining, explain};
+use crate::printing::{print_page, print_version};
+use crate::running::{check, outcome, replay, run};
+use crate::status::{Failure, status_of};
+use cp_command::command::Command;
+use std::alloc::Global;
+use std::fs::Files;
+use std::io::{Input, Print, Write};
+use std::sync::Wait;
+use std::thread::Threads;
+
+/// Carries out a command, and returns the exit status: 0, or that of a refusal that was explained
+/// or of a verdict. Opens the text, then the inputs and then the order before it reads any of them,
+/// and prints the result to standard output, which it flushes. An explanation in place of a graph
+/// for Graphviz is written to `errors`.
+///
+/// # Errors
+///
+/// I1 if a file can't be opened, `Unopened` or `Unread` for the file of `explain` and the input of
+/// one process, `Input` if such inputs make no input, and the refusals of `execute`,
+/// `execute_outcome` and `execute_order` of cp_execute, and of `explain_text` and
+/// `explain_all_text` of cp_explain.
+pub fn perform<'a, H: Files + Input + Print + Threads + Wait + Sync, E: Write>(
+    rt: &H,
+    alloc: Global,
+    command: &Command<'a>,
+    errors: &mut E,
+) -> Result<u8, Failure<'a>> {
+    match command {
+        Command::Version => print_version(rt)?,
+        Command::Check { file } => check(rt, alloc, file)?,
+        Command::Explain { file, form } => {
+            return explain(rt, alloc, file, Explaining::First(*form), errors);
+        }
+        Command::ExplainAll { file } => {
+            return explain(rt, alloc, file, Explaining::All, errors);
+        }
+        Command::ExplainRule { page } => print_page(rt, page)?,
+        Command::Run {
+            file,
+            run: how,
+            input,
+        } => run(rt, alloc, *file, input, *how)?,
+        Command::Outcome { file, how, input } => {
+            return Ok(status_of(outcome(rt, alloc, file, input, how)?));
+        }
+        Command::Replay {
+            file,
+            order,
+            replay: how,
+            input,
+        } => replay(rt, alloc, file, order, input, how)?,
+    }
+    Ok(0)
+}

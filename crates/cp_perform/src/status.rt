@@ -1,0 +1,96 @@
+//! Why a command has no result, and the exit statuses.
+
+ghost use Rattle.std.specs.Prelude.{◌≡◌};
+ghost use Rattle.cp_perform.specs.Statuses.{status};
+ghost use Rattle.cp_execute.specs.declared.refusal.Refusal.TheVariants as refusal;
+ghost use Rattle.cp_perform.specs.declared.status.Failure.TheVariants as failure;
+
+use cp_execute::refusal::{Refusal, exit_of};
+use cp_inputs::named::InputError;
+use cp_outcome::verdict::Verdict;
+use std::alloc::AllocFailed;
+use std::io;
+use thiserror::Error;
+
+// The exit status if a file can't be opened or read.
+const FAULT: u8 = 4;
+
+/// The exit status if the arguments are wrong or ask for help.
+pub const USAGE: u8 = 2;
+
+const REFUSED: u8 = 1;
+
+/// Why a command has no result.
+#[derive(Debug, Drop, Error)]
+pub enum Failure<'a> {
+    /// The text or the input is refused, memory ran out, or a read or a write failed.
+    #[error("{0}")]
+    Refused(Refusal),
+    /// The inputs of the processes that are named make no input.
+    #[error("{0}")]
+    Input(InputError<'a>),
+    /// The file of `explain` or of a named input can't be opened, with the system's reason.
+    #[error("{file} can't be opened: {error}")]
+    Unopened { file: &'a str, error: io::Error },
+    /// The file of `explain` can't be read.
+    #[error("{file} can't be read")]
+    Unread { file: &'a str },
+}
+
+impl<'a> Failure<'a> {
+    /// The exit status: 1 if the text or the input is refused, 2 if the text hasn't a process that
+    /// is named, 3 if memory runs out, 4 if opening, reading or writing fails.
+    pub fn exit(&self) -> u8 {
+        match self {
+            Failure::Refused(refusal) => exit_of(refusal),
+            Failure::Input(error) => exit_of_input(error),
+            Failure::Unopened { .. } | Failure::Unread { .. } => FAULT,
+        }
+    }
+}
+
+impl<'a> From<Refusal> for Failure<'a> {
+    ghost from_gives = { λ refusal f. f ≡ failure.Refused refusal };
+
+    fn from(refusal: Refusal) -> Failure<'a> {
+        Failure::Refused(refusal)
+    }
+}
+
+impl<'a> From<InputError<'a>> for Failure<'a> {
+    ghost from_gives = { λ error f. f ≡ failure.Input error };
+
+    fn from(error: InputError<'a>) -> Failure<'a> {
+        Failure::Input(error)
+    }
+}
+
+impl<'a, T: Drop> From<AllocFailed<T>> for Failure<'a> {
+    ghost from_gives = { λ _ f. f ≡ failure.Refused refusal.Memory };
+
+    fn from(_error: AllocFailed<T>) -> Failure<'a> {
+        Failure::Refused(Refusal::Memory)
+    }
+}
+
+fn exit_of_input(error: &InputError<'_>) -> u8 {
+    match error {
+        InputError::Refused(refusal) => exit_of(refusal),
+        InputError::NoProcess { .. } => USAGE,
+        InputError::Byte { .. } => REFUSED,
+        InputError::Unread { .. } => FAULT,
+    }
+}
+
+/// Returns the exit status of a verdict: 0 if all processes have ended, 5 if they are stuck, 6 if
+/// one has faulted, 7 if they still move.
+pub fn status_of(verdict: Verdict) -> u8
+    ensures { result ≡ status verdict }
+{
+    match verdict {
+        Verdict::Ended => 0,
+        Verdict::Stuck => 5,
+        Verdict::Fault => 6,
+        Verdict::Running => 7,
+    }
+}

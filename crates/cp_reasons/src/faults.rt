@@ -1,0 +1,60 @@
+//! What a fault means, and the piece of the text that it stopped.
+
+use crate::names::Subject;
+use crate::piece::{Extent, push_piece};
+use cp_model::state::Fault;
+use cp_page::page::Page;
+use cp_program::operation::Operation;
+use cp_report::status::fault_number;
+use std::alloc::AllocError;
+
+// What a fault means. The piece of the text stands after these words.
+fn words_of(fault: Fault) -> &'static str {
+    match fault {
+        Fault::Range => "a value out of the range of its type in ",
+        Fault::Index => "an index beyond the bounds in ",
+        Fault::Overflow => "arithmetic beyond -32768..32767 in ",
+        Fault::DivisionByZero => "a zero divisor in ",
+        Fault::QueueTaken => "a delay in a queue where a process stands, ",
+        Fault::NotInitialised => "a call of a component that is not initialised, ",
+        Fault::InitialisedTwice => "init of a component that was initialised before, ",
+        Fault::NoLabel => "a case without a label that matches ",
+        Fault::NoResult => "a function without a result, ",
+    }
+}
+
+// How much of the text an operation comes from, from its origin on.
+fn extent_of(operation: Option<&Operation>) -> Extent {
+    match operation {
+        Some(
+            Operation::Function { .. }
+            | Operation::InitClass { .. }
+            | Operation::InitMonitor { .. }
+            | Operation::InitProcess { .. },
+        ) => Extent::Call,
+        Some(Operation::Return { .. } | Operation::EndBody | Operation::End) => Extent::Name,
+        _ => Extent::Statement,
+    }
+}
+
+impl<'r, 't> Subject<'r, 't> {
+    /// Adds a fault that stopped a process at the operation with this number.
+    pub(crate) fn push_fault(
+        &self,
+        page: &mut Page,
+        fault: Fault,
+        operation: u32,
+    ) -> Result<(), AllocError> {
+        page.text("fault ")?;
+        page.number(fault_number(fault) as usize)?;
+        self.push_origin(page, operation)?;
+        page.text(": ")?;
+        page.text(words_of(fault))?;
+        let program = self.machine.program();
+        let Some(at) = program.origin(operation) else {
+            return Ok(());
+        };
+        let extent = extent_of(program.operation(operation));
+        push_piece(page, self.text, &self.tokens, at, extent)
+    }
+}

@@ -1,0 +1,159 @@
+//! What reasons are told of, and its names: components, queues and places of the text.
+
+use crate::parts::Parts;
+use crate::rights::Rights;
+use cp_model::token::Token;
+use cp_model::tree::{Sort, Statement, System, Tree};
+use cp_page::page::Page;
+use cp_page::position::Position;
+use cp_private::private::Activity;
+use cp_report::listing::components;
+use cp_report::status::push_queue;
+use cp_report::walk::Walk;
+use cp_rounds::machine::Machine;
+use cp_scan::scan;
+use cp_scope::{Field, Tables, TypeRow};
+use std::alloc::{AllocError, Global};
+
+/// A machine that runs the program of a text, and what the text says.
+#[derive(Drop)]
+pub(crate) struct Subject<'r, 't> {
+    pub(crate) alloc: Global,
+    pub(crate) text: &'r [u8],
+    pub(crate) machine: &'r Machine,
+    pub(crate) tables: Tables<'t>,
+    /// The tokens of the text, if a process has faulted.
+    pub(crate) tokens: Vec<Token>,
+    /// The monitors by number.
+    pub(crate) monitors: Vec<Field<'t>>,
+    /// The processes by number, without the initial one.
+    pub(crate) processes: Vec<Field<'t>>,
+    /// The statements of the initial process that contain no others.
+    pub(crate) statements: Vec<&'t Statement>,
+    pub(crate) rights: Rights<'t>,
+}
+
+/// The activity of a process by its number, from 1.
+pub(crate) fn activity(machine: &Machine, number: usize) -> Activity {
+    match machine.private(number) {
+        Some(private) => private.activity(),
+        None => Activity::Ended,
+    }
+}
+
+fn has_fault(machine: &Machine) -> bool {
+    for index in 0..machine.processes() {
+        if let Activity::Faulted(_) = activity(machine, index.saturating_add(1)) {
+            return true;
+        }
+    }
+    false
+}
+
+// The tokens of a text, if a process has faulted.
+fn tokens_of(alloc: Global, text: &[u8], machine: &Machine) -> Result<Vec<Token>, AllocError> {
+    if !has_fault(machine) {
+        return Ok(Vec::new(alloc));
+    }
+    match scan(alloc, text) {
+        Ok(tokens) => Ok(tokens),
+        Err(_) => Err(AllocError),
+    }
+}
+
+fn tables_of(alloc: Global, tree: &Tree) -> Result<Tables<'_>, AllocError> {
+    match Tables::of_tree(alloc, tree) {
+        Ok(tables) => Ok(tables),
+        Err(_) => Err(AllocError),
+    }
+}
+
+impl<'r, 't> Subject<'r, 't> {
+    /// Collects what the reasons are told of. Fails only if memory runs out.
+    pub(crate) fn of(
+        alloc: Global,
+        text: &'r [u8],
+        tree: &'t Tree,
+        machine: &'r Machine,
+    ) -> Result<Subject<'r, 't>, AllocError> {
+        let tables = tables_of(alloc, tree)?;
+        let monitors = components(alloc, &tables, Sort::Monitor)?;
+        let processes = components(alloc, &tables, Sort::Process)?;
+        let mut parts = Parts::new(alloc);
+        parts.add(&tree.body.statements)?;
+        let rights = Rights::of(alloc, &tables, &parts.statements, monitors.len())?;
+        Ok(Subject {
+            alloc,
+            text,
+            machine,
+            tables,
+            tokens: tokens_of(alloc, text, machine)?,
+            monitors,
+            processes,
+            statements: parts.statements,
+            rights,
+        })
+    }
+
+    /// The name of a process by its number, from 1.
+    pub(crate) fn process_name(&self, number: u32) -> &[u8] {
+        if number == 1 {
+            return b"initial";
+        }
+        match self.processes.get((number as usize).saturating_sub(2)) {
+            Some(process) => process.name,
+            None => &[],
+        }
+    }
+
+    fn monitor(&self, number: u32) -> Option<&Field<'t>> {
+        self.monitors.get((number as usize).saturating_sub(1))
+    }
+
+    /// The name of a monitor by its number, from 1.
+    pub(crate) fn monitor_name(&self, number: u32) -> &[u8] {
+        match self.monitor(number) {
+            Some(monitor) => monitor.name,
+            None => &[],
+        }
+    }
+
+    /// The type of a monitor by its number, from 1.
+    pub(crate) fn monitor_type(&self, number: u32) -> Option<&'t System> {
+        match self.tables.types.row(self.monitor(number)?.of) {
+            Some(TypeRow::Component { system, .. }) => self.tables.types.system(*system),
+            _ => None,
+        }
+    }
+
+    /// The name of the queue at an address of the shared words, with its indices.
+    pub(crate) fn queue_name(&self, address: u32) -> Result<Vec<u8>, AllocError> {
+        let mut walk = Walk::new(self.alloc, 0);
+        let mut name = Vec::new(self.alloc);
+        push_queue(
+            &mut walk,
+            &self.tables,
+            self.machine.program(),
+            &self.monitors,
+            address as usize,
+            &mut name,
+        )?;
+        Ok(name)
+    }
+
+    /// Adds a place of the text.
+    pub(crate) fn push_place(&self, page: &mut Page, at: usize) -> Result<(), AllocError> {
+        page.position(Position::of(self.text, at))
+    }
+
+    /// Adds where in the text the operation with this number comes from.
+    pub(crate) fn push_origin(&self, page: &mut Page, operation: u32) -> Result<(), AllocError> {
+        match self.machine.program().origin(operation) {
+            Some(at) => {
+                page.text(" at ")?;
+                self.push_place(page, at)
+            }
+            None => Ok(()),
+        }
+    }
+}

@@ -1,0 +1,265 @@
+//! The lines of the processes that haven't ended.
+
+use crate::names::{Subject, activity};
+use crate::queues::entries_that_continue;
+use crate::starts::places_of_init;
+use cp_model::tree::{Identifier, Tree};
+use cp_page::page::Page;
+use cp_private::outside::{Holder, Stage};
+use cp_private::private::{Activity, Private};
+use cp_program::operation::Operation;
+use cp_rounds::machine::Machine;
+use cp_scope::small_number;
+use std::alloc::{AllocError, Global};
+
+// What stands before an item of a list with so many items, such as `a, b and c`.
+fn separator(index: usize, count: usize) -> &'static str {
+    if index == 0 {
+        ""
+    } else if index.saturating_add(1) == count {
+        " and "
+    } else {
+        ", "
+    }
+}
+
+// The name of a variable, without the indices after it.
+fn without_indices(name: &[u8]) -> &[u8] {
+    for i in 0..name.len() {
+        if name[i] == b'[' {
+            return &name[..i];
+        }
+    }
+    name
+}
+
+impl<'r, 't> Subject<'r, 't> {
+    // Whether a process can still make a step, now or later.
+    fn is_alive(&self, number: usize) -> bool {
+        !matches!(
+            activity(self.machine, number),
+            Activity::Ended | Activity::Faulted(_)
+        )
+    }
+
+    // The processes, other than this one, that can call one of these entries of a monitor.
+    fn callers(
+        &self,
+        monitor: u32,
+        entries: &[&Identifier],
+        other: u32,
+    ) -> Result<Vec<u32>, AllocError> {
+        let processes = self.machine.processes();
+        let can = self.rights.callers(monitor as usize, entries, processes)?;
+        let mut callers = Vec::new(self.alloc);
+        for number in 1..can.len() {
+            if can[number] && number != other as usize && self.is_alive(number) {
+                callers.push(small_number(number)?)?;
+            }
+        }
+        Ok(callers)
+    }
+
+    fn push_callers(&self, page: &mut Page, callers: &[u32]) -> Result<(), AllocError> {
+        if callers.is_empty() {
+            page.text("no other process")?;
+        }
+        for (index, number) in callers.iter().enumerate() {
+            page.text(separator(index, callers.len()))?;
+            page.bytes(self.process_name(*number))?;
+        }
+        Ok(())
+    }
+
+    // Adds the entries of a monitor that continue a queue in which a process is delayed, and who
+    // can call them.
+    fn push_entries(
+        &self,
+        page: &mut Page,
+        monitor: u32,
+        entries: &[&Identifier],
+        delayed: u32,
+    ) -> Result<(), AllocError> {
+        page.text("; only ")?;
+        for (index, entry) in entries.iter().enumerate() {
+            page.text(separator(index, entries.len()))?;
+            page.bytes(self.monitor_name(monitor))?;
+            page.text(".")?;
+            page.bytes(entry.name.as_bytes())?;
+        }
+        page.text(if entries.len() == 1 {
+            " continues it, which "
+        } else {
+            " continue it, which "
+        })?;
+        self.push_callers(page, &self.callers(monitor, entries, delayed)?)?;
+        page.text(" can call")
+    }
+
+    // Adds what can continue a process that is delayed in a queue.
+    fn push_continuation(
+        &self,
+        page: &mut Page,
+        monitor: u32,
+        queue: &[u8],
+        delayed: u32,
+    ) -> Result<(), AllocError> {
+        let Some(of) = self.monitor_type(monitor) else {
+            return Ok(());
+        };
+        let entries = entries_that_continue(self.alloc, of, without_indices(queue))?;
+        if entries.is_empty() {
+            return page.text("; nothing continues it");
+        }
+        self.push_entries(page, monitor, &entries, delayed)
+    }
+
+    fn push_queue(&self, page: &mut Page, monitor: u32, queue: &[u8]) -> Result<(), AllocError> {
+        page.text("delayed in ")?;
+        page.bytes(self.monitor_name(monitor))?;
+        page.text(".")?;
+        page.bytes(queue)
+    }
+
+    fn push_delay(
+        &self,
+        page: &mut Page,
+        number: u32,
+        monitor: u32,
+        queue: u32,
+        pause: u32,
+    ) -> Result<(), AllocError> {
+        let name = self.queue_name(queue)?;
+        self.push_queue(page, monitor, &name)?;
+        self.push_origin(page, pause)?;
+        self.push_continuation(page, monitor, &name, number)
+    }
+
+    // Adds why the holder of a gate doesn't leave the monitor, if it can't.
+    fn push_why_held(&self, page: &mut Page, holder: u32) -> Result<(), AllocError> {
+        match self.machine.kernel().stage(holder) {
+            Stage::Delayed { monitor, queue } => {
+                page.text(", which is ")?;
+                self.push_queue(page, monitor, &self.queue_name(queue)?)
+            }
+            Stage::Asking(monitor) => {
+                page.text(", which asks for ")?;
+                page.bytes(self.monitor_name(monitor))
+            }
+            Stage::Begun => match activity(self.machine, holder as usize) {
+                Activity::Faulted(_) => page.text(", which has faulted"),
+                _ => Ok(()),
+            },
+            Stage::Unstarted | Stage::Fresh => Ok(()),
+        }
+    }
+
+    fn push_asking(&self, page: &mut Page, monitor: u32, pause: u32) -> Result<(), AllocError> {
+        page.text("asks for ")?;
+        page.bytes(self.monitor_name(monitor))?;
+        self.push_origin(page, pause)?;
+        match self.machine.kernel().holder(monitor) {
+            Holder::Process(holder) => {
+                page.text(", held by ")?;
+                page.bytes(self.process_name(holder))?;
+                self.push_why_held(page, holder)
+            }
+            Holder::Unset | Holder::Free => Ok(()),
+        }
+    }
+
+    // Adds which `init` starts a process that hasn't been started.
+    fn push_unstarted(&self, page: &mut Page, number: u32) -> Result<(), AllocError> {
+        let name = self.process_name(number);
+        let places = places_of_init(self.alloc, &self.statements, name)?;
+        if places.is_empty() {
+            return page.text("never started; no init names it");
+        }
+        page.text(if places.len() == 1 {
+            "never started; only the init at "
+        } else {
+            "never started; only the inits at "
+        })?;
+        for (index, at) in places.iter().enumerate() {
+            page.text(separator(index, places.len()))?;
+            self.push_place(page, *at)?;
+        }
+        page.text(if places.len() == 1 {
+            " starts it"
+        } else {
+            " start it"
+        })
+    }
+
+    // Adds what a process that has begun does next.
+    fn push_begun(&self, page: &mut Page, private: &Private) -> Result<(), AllocError> {
+        match private.activity() {
+            Activity::Running | Activity::NotBegun => self.push_ready(page, private),
+            Activity::Waiting => {
+                page.text("waits for the clock")?;
+                self.push_origin(page, private.pause())
+            }
+            Activity::Ended => page.text("ended"),
+            Activity::Faulted(fault) => self.push_fault(page, fault, private.counter()),
+        }
+    }
+
+    fn push_ready(&self, page: &mut Page, private: &Private) -> Result<(), AllocError> {
+        page.text(match self.machine.program().operation(private.counter()) {
+            Some(Operation::Return { .. }) => "ready at the end of the routine",
+            Some(Operation::EndBody | Operation::End) => "ready at the end of the body",
+            _ => "ready",
+        })?;
+        self.push_origin(page, private.counter())
+    }
+
+    fn push_why(&self, page: &mut Page, number: u32, private: &Private) -> Result<(), AllocError> {
+        match self.machine.kernel().stage(number) {
+            Stage::Unstarted => self.push_unstarted(page, number),
+            Stage::Fresh => self.push_ready(page, private),
+            Stage::Asking(monitor) => self.push_asking(page, monitor, private.pause()),
+            Stage::Delayed { monitor, queue } => {
+                self.push_delay(page, number, monitor, queue, private.pause())
+            }
+            Stage::Begun => self.push_begun(page, private),
+        }
+    }
+
+    // Adds the line of a process, unless it has ended.
+    fn push_reason(&self, page: &mut Page, number: u32) -> Result<(), AllocError> {
+        let Some(private) = self.machine.private(number as usize) else {
+            return Ok(());
+        };
+        if matches!(private.activity(), Activity::Ended) {
+            return Ok(());
+        }
+        page.text("process ")?;
+        page.number(number as usize)?;
+        page.text(" ")?;
+        page.bytes(self.process_name(number))?;
+        page.text(": ")?;
+        self.push_why(page, number, private)?;
+        page.text("\n")
+    }
+}
+
+/// Returns a line for each process of a machine that hasn't ended, by number: where it is, why, and
+/// where in the text that is. The machine runs the program of a text with these bytes and this
+/// tree.
+///
+/// # Errors
+///
+/// `AllocError` if memory runs out.
+pub fn reasons(
+    alloc: Global,
+    text: &[u8],
+    tree: &Tree,
+    machine: &Machine,
+) -> Result<Page, AllocError> {
+    let subject = Subject::of(alloc, text, tree, machine)?;
+    let mut page = Page::new(alloc);
+    for index in 0..machine.processes() {
+        subject.push_reason(&mut page, small_number(index.saturating_add(1))?)?;
+    }
+    Ok(page)
+}
