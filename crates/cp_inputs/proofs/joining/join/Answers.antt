@@ -11,5 +11,5 @@ returns-clause-parts c whole =
     let bytes = c.loop-input.all.items in
     let none_left = drop_all c.loop-input.input-index inputs c.loop-input-test.false in
     let all : bytes ≡ joined inputs =
-        sym (append-nil bytes) ∙ (ap (λ vs. bytes ++ joined vs) (sym none_left) ∙ c.loop-input.invariant) in
+    sym (append-nil bytes) ∙ (ap (λ vs. bytes ++ joined vs) (sym none_left) ∙ c.loop-input.invariant) in
     subst (λ xs. AreParts xs (length inputs) inputs) (sym all) (joined_parts inputs whole)
