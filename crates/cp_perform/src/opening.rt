@@ -7,7 +7,7 @@ ghost use Rattle.cp_perform.specs.Sources.{remaining_of};
 
 use crate::status::Failure;
 use cp_command::command::STANDARD_INPUT;
-use cp_execute::refusal::Refusal;
+use cp_accept::refusal::Refusal;
 use std::fs::{self, Files};
 use std::io::{self, Cursor, ErrorKind, Input, Read};
 

@@ -10,7 +10,7 @@ use cp_command::command::{Inputs, STANDARD_INPUT};
 use cp_execute::execute::{Job, execute};
 use cp_execute::execute_order::execute_order;
 use cp_execute::execute_outcome::execute_outcome;
-use cp_execute::refusal::Refusal;
+use cp_accept::refusal::Refusal;
 use cp_execute::replaying::Replay;
 use cp_execute::running::Run;
 use cp_execute::until_still::UntilStill;
