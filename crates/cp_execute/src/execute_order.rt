@@ -7,9 +7,9 @@ ghost use Rattle.cp_execute.specs.Replayed.{BeginsReplay, RefusesNoAccepted, Ref
 ghost use Rattle.cp_accept.specs.Takings.{TakesInput, TakesOrder, TakesText};
 ghost use Rattle.cp_accept.specs.declared.refusal.Refusal.TheVariants as refusal;
 
+use crate::replaying::{Replay, report_after_replay};
 use cp_accept::reading::read_text;
 use cp_accept::refusal::Refusal;
-use crate::replaying::{Replay, report_after_replay};
 use cp_accept::sources::{read_accepted, read_input};
 use cp_accept::writing::write_result;
 use std::alloc::Global;

@@ -8,9 +8,9 @@ ghost use Rattle.cp_execute.specs.Outcomes.{BeginsOutcome, TellsOutcome};
 ghost use Rattle.cp_accept.specs.Takings.{TakesInput, TakesText};
 ghost use Rattle.cp_accept.specs.declared.refusal.Refusal.TheVariants as refusal;
 
+use crate::until_still::{UntilStill, outcome_after_run};
 use cp_accept::refusal::Refusal;
 use cp_accept::sources::{read_accepted_text, read_input};
-use crate::until_still::{UntilStill, outcome_after_run};
 use cp_accept::writing::write_result;
 use cp_outcome::verdict::Verdict;
 use cp_rounds::gate::TurnGate;

@@ -6,8 +6,8 @@ ghost use Rattle.cp_model.specs.View as view;
 ghost use Rattle.cp_execute.specs.Outcomes.{IsOutcome};
 ghost use Rattle.cp_accept.specs.declared.refusal.Refusal.TheVariants as refusal;
 
-use cp_accept::refusal::Refusal;
 use crate::running::machine_at_start;
+use cp_accept::refusal::Refusal;
 use cp_accept::sources::Text;
 use cp_outcome::verdict::{Verdict, verdict_on};
 use cp_reasons::reasons::reasons;

@@ -13,12 +13,12 @@ ghost use Rattle.cp_explain.specs.Explained.{Begins, Explains, Wrote, code_of, h
 use crate::all::of_all;
 use crate::lacking::push_lacking;
 use crate::told::of_no_tree;
-use cp_access::graph::{Form, graph};
-use cp_diagnosis::of_violation;
 use cp_accept::checking::tree_of;
 use cp_accept::reading::{ReadError, read_text};
 use cp_accept::refusal::{Refusal, scan_number};
 use cp_accept::writing::write_all;
+use cp_access::graph::{Form, graph};
+use cp_diagnosis::of_violation;
 use cp_model::rules::Violation;
 use cp_model::tree::Tree;
 use cp_notes::add_notes;

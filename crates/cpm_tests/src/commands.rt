@@ -1,10 +1,10 @@
 //! Command lines.
 
+use cp_accept::refusal::Refusal;
 use cp_access::graph::Form;
 use cp_command::command::{Command, CommandError, Inputs};
 use cp_command::numbers::number;
 use cp_command::reading::read_command;
-use cp_accept::refusal::Refusal;
 use cp_execute::running::Run;
 use cp_outcome::verdict::Verdict;
 use cp_perform::perform::perform;
