@@ -15,15 +15,9 @@ fn shape_of(sort: Sort) -> &'static str {
     }
 }
 
-fn quoted(page: &mut Page, instance: &Instance<'_>) -> Result<(), AllocError> {
-    page.bytes(b"\"")?;
-    page.bytes(&instance.path)?;
-    page.bytes(b"\"")
-}
-
 fn node(page: &mut Page, instance: &Instance<'_>) -> Result<(), AllocError> {
     page.bytes(b"  ")?;
-    quoted(page, instance)?;
+    page.node_name(&instance.path)?;
     page.bytes(b" [label=\"")?;
     page.bytes(instance.inner_path())?;
     if let Some(of) = instance.of {
@@ -67,10 +61,7 @@ fn arrows<'t>(
     let rights = instances.rights_of(from)?;
     for to in rights {
         if let Some(to) = instances.get(to) {
-            page.bytes(b"  ")?;
-            quoted(page, from)?;
-            page.bytes(b" -> ")?;
-            quoted(page, to)?;
+            page.arrow(&from.path, &to.path)?;
             page.bytes(b";\n")?;
         }
     }
