@@ -6,6 +6,7 @@ ghost use Rattle.cp_command.specs.declared.command.CommandError.TheVariants as e
 
 use clap::error::ErrorKind;
 use cp_access::graph::Form;
+use cp_execute::form::OutcomeForm;
 use cp_execute::replaying::Replay;
 use cp_execute::running::Run;
 use cp_execute::until_still::UntilStill;
@@ -48,10 +49,11 @@ pub enum Command<'a> {
         run: Run,
         input: Inputs<'a>,
     },
-    /// `outcome FILE`: runs the text of a file until nothing can move.
+    /// `outcome FILE`: runs the text of a file until nothing can move. The form names a process.
     Outcome {
         file: &'a str,
         how: UntilStill,
+        form: OutcomeForm<&'a str>,
         input: Inputs<'a>,
     },
     /// `replay FILE ORDER`: replays the text of a file in the order of another.

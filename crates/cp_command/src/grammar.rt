@@ -80,6 +80,12 @@ const IN: Valued = Valued {
     about: "the input of the process NAME, for each process that has one; - for standard input",
 };
 
+const OUT: Valued = Valued {
+    name: "out",
+    value: "NAME",
+    about: "writes what the process NAME has written, as raw bytes, in place of the verdict",
+};
+
 impl Valued {
     fn arg<'a>(self, alloc: Global) -> Arg<'a> {
         Arg::new(alloc, self.name)
@@ -192,7 +198,7 @@ fn outcome_words<'a>(alloc: Global) -> Result<clap::Command<'a>, AllocError> {
         TEXT,
     )?;
     let outcome = with(alloc, outcome, &[LIMIT, TURN, WORKERS, CHUNK, WAVE, TICK])?;
-    with_inputs(alloc, outcome)
+    with_inputs(alloc, outcome)?.arg(OUT.arg(alloc))
 }
 
 fn replay_words<'a>(alloc: Global) -> Result<clap::Command<'a>, AllocError> {

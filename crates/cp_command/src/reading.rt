@@ -7,7 +7,7 @@ use crate::command::{Command, CommandError, Inputs};
 use crate::grammar::grammar;
 use crate::inputs::read_inputs;
 use crate::misuse::Misuse;
-use crate::options::{count, read_outcome, read_replay, read_run, run_of};
+use crate::options::{count, read_form, read_outcome, read_replay, read_run, run_of};
 use clap::ArgMatches;
 use clap::error::ErrorKind;
 use cp_access::graph::Form;
@@ -64,6 +64,7 @@ fn outcome<'a>(
     Ok(Command::Outcome {
         file,
         how: read_outcome(matches)?,
+        form: read_form(matches),
         input: read_inputs(alloc, matches)?.beside(&[file])?,
     })
 }

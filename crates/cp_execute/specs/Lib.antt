@@ -5,4 +5,5 @@ pub mod Takings
 pub mod MachineReports
 pub mod Executed
 pub mod Replayed
+pub mod Forms
 pub mod Outcomes

@@ -6,10 +6,10 @@
 //! - `checking`: parses a text and judges its tree.
 //! - `cutting`: checks an input and cuts it into the inputs of the processes.
 //! - `running`, `replaying`, `until_still`: builds the program of an accepted text, runs or replays
-//!   it, and makes the report or the outcome.
+//!   it, and makes the report or the outcome. `form`: what is written of an outcome.
 //! - `writing`: writes the result. `refusal`: why a command has no result.
 //!
-//! `specs/Executed.antt`, `specs/Replayed.antt` and `specs/Outcomes.antt` define what a result means, `specs/Refusals.antt`
+//! `specs/Executed.antt`, `specs/Replayed.antt` and `specs/Outcomes.antt` with `specs/Forms.antt` define what a result means, `specs/Refusals.antt`
 //! and `specs/Texts.antt` what each refusal means, `specs/Takings.antt` how much is read.
 #![tactic(auto)]
 
@@ -18,6 +18,7 @@ pub mod cutting;
 pub mod execute;
 pub mod execute_order;
 pub mod execute_outcome;
+pub mod form;
 pub mod reading;
 pub mod refusal;
 pub mod replaying;

@@ -19,7 +19,7 @@ use std::thread::Threads;
 /// # Errors
 ///
 /// I1 if a file can't be opened, `Unopened` or `Unread` for the file of `explain` and the input of
-/// one process, `Input` if such inputs make no input, and the refusals of `execute`,
+/// one process, `Input` if such inputs make no input or the text lacks the process of `--out`, and the refusals of `execute`,
 /// `execute_outcome` and `execute_order` of cp_execute, and of `explain_text` and
 /// `explain_all_text` of cp_explain.
 pub fn perform<'a, H: Files + Input + Print + Threads + Wait + Sync, E: Write>(
@@ -43,8 +43,13 @@ pub fn perform<'a, H: Files + Input + Print + Threads + Wait + Sync, E: Write>(
             run: how,
             input,
         } => run(rt, alloc, *file, input, *how)?,
-        Command::Outcome { file, how, input } => {
-            return Ok(status_of(outcome(rt, alloc, file, input, how)?));
+        Command::Outcome {
+            file,
+            how,
+            form,
+            input,
+        } => {
+            return Ok(status_of(outcome(rt, alloc, file, input, how, *form)?));
         }
         Command::Replay {
             file,
