@@ -3,7 +3,7 @@
 ghost use Rattle.std.specs.Prelude.{◌≡◌, IfOk};
 ghost use Rattle.cp_execute.specs.Forms.{IsToldOf, IsTranscriptOf};
 
-use crate::sources::Text;
+use cp_accept::sources::Text;
 use cp_outcome::verdict::Verdict;
 use cp_reasons::reasons::reasons;
 use cp_report::outcome::outcome;

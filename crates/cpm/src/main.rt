@@ -4,7 +4,7 @@
 
 use cp_command::command::CommandError;
 use cp_command::reading::read_command;
-use cp_execute::refusal::Refusal;
+use cp_accept::refusal::Refusal;
 use cp_perform::perform::perform;
 use cp_perform::status::{Failure, USAGE};
 use std::process::ExitCode;

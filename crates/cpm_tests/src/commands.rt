@@ -4,7 +4,7 @@ use cp_access::graph::Form;
 use cp_command::command::{Command, CommandError, Inputs};
 use cp_command::numbers::number;
 use cp_command::reading::read_command;
-use cp_execute::refusal::Refusal;
+use cp_accept::refusal::Refusal;
 use cp_execute::running::Run;
 use cp_outcome::verdict::Verdict;
 use cp_perform::perform::perform;

@@ -2,7 +2,7 @@
 
 use cp_command::command::{Command, CommandError, Inputs};
 use cp_command::reading::read_command;
-use cp_execute::refusal::Refusal;
+use cp_accept::refusal::Refusal;
 use cp_inputs::named::InputError;
 use cp_perform::perform::perform;
 use cp_perform::status::Failure;

@@ -3,7 +3,7 @@
 use super::streams::Narrow;
 use super::{outcome_book as book, outcome_faults as faults, outcome_waits as waits};
 use cp_execute::execute_outcome::execute_outcome;
-use cp_execute::refusal::Refusal;
+use cp_accept::refusal::Refusal;
 use cp_execute::until_still::UntilStill;
 use cp_outcome::verdict::Verdict;
 use cp_rounds::gate::Open;

@@ -1,6 +1,6 @@
 //! The lines and the exit statuses of refusals.
 
-use cp_execute::refusal::{Refusal, exit_of};
+use cp_accept::refusal::{Refusal, exit_of};
 use cp_model::rules::{Rule, Violation};
 use cp_scan::{Cause, ScanError};
 use std::test::Fail;

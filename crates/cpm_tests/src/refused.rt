@@ -5,7 +5,7 @@ use super::jobs::{execute_job, job, repeat};
 use super::messages::ROWS;
 use super::replays::RESUMED;
 use cp_execute::execute::Job;
-use cp_execute::refusal::Refusal;
+use cp_accept::refusal::Refusal;
 use cp_model::rules::Rule;
 use cp_scan::Cause;
 use std::test::Fail;

@@ -3,7 +3,7 @@
 
 use super::streams::{Narrow, Slow};
 use cp_execute::execute_order::execute_order;
-use cp_execute::refusal::Refusal;
+use cp_accept::refusal::Refusal;
 use cp_execute::replaying::Replay;
 use cp_private::turn::Turn;
 use cp_rounds::tick::Tick;

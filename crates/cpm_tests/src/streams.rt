@@ -1,9 +1,9 @@
 //! Readers and writers that return or take one byte at a time, and fail at one place after another.
 
-use cp_execute::cutting::{check_input, cut_input};
-use cp_execute::reading::{ReadError, read_text};
-use cp_execute::refusal::Refusal;
-use cp_execute::writing::{WriteFailed, write_all};
+use cp_accept::cutting::{check_input, cut_input};
+use cp_accept::reading::{ReadError, read_text};
+use cp_accept::refusal::Refusal;
+use cp_accept::writing::{WriteFailed, write_all};
 use std::alloc::{AllocError, Global};
 use std::io;
 use std::io::{Cursor, Read, Write};

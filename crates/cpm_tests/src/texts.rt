@@ -2,7 +2,7 @@
 
 use super::jobs::{execute_job, job, nest, repeat};
 use cp_execute::execute::Job;
-use cp_execute::refusal::Refusal;
+use cp_accept::refusal::Refusal;
 use std::test::Fail;
 
 pub(crate) const COUNTERS: &[u8] = b"type p = process; var x: integer;
