@@ -10,6 +10,7 @@ use cp_execute::form::OutcomeForm;
 use cp_execute::replaying::Replay;
 use cp_execute::running::Run;
 use cp_execute::until_still::UntilStill;
+use cp_explain::explain::Extent;
 use std::alloc::AllocError;
 use thiserror::Error;
 
@@ -38,6 +39,11 @@ pub enum Command<'a> {
     /// writes the access graph of an accepted text.
     ExplainAll {
         file: &'a str,
+    },
+    /// `explain --json FILE`: judges the text of a file and explains the judgement as an object.
+    ExplainObject {
+        file: &'a str,
+        extent: Extent,
     },
     /// `explain RULE`: explains a rule.
     ExplainRule {

@@ -102,6 +102,8 @@ pub(crate) fn read_outcome<'a>(matches: &ArgMatches<'a>) -> Result<UntilStill, M
 pub(crate) fn read_form<'a>(matches: &ArgMatches<'a>) -> OutcomeForm<&'a str> {
     match matches.get_str("out") {
         Some(process) => OutcomeForm::Transcript(process),
+        None if matches.get_flag("dot") => OutcomeForm::Dot,
+        None if matches.get_flag("json") => OutcomeForm::Json,
         None => OutcomeForm::Verdict,
     }
 }

@@ -5,7 +5,9 @@ ghost use Rattle.cp_execute.specs.Forms.{IsToldOf, IsTranscriptOf};
 
 use cp_accept::sources::Text;
 use cp_outcome::verdict::Verdict;
+use cp_reasons::object::object;
 use cp_reasons::reasons::reasons;
+use cp_reasons::waits::waits;
 use cp_report::outcome::outcome;
 use cp_rounds::machine::Machine;
 use std::alloc::{AllocError, Global};
@@ -17,6 +19,10 @@ pub enum OutcomeForm<P> {
     Verdict,
     /// The transcript of a process, as raw bytes.
     Transcript(P),
+    /// Who waits for whom, as a graph for Graphviz.
+    Dot,
+    /// The verdict, and what became of each process, as a JSON object.
+    Json,
 }
 
 // Returns the transcript of the process with this number.
@@ -49,5 +55,7 @@ pub(crate) fn told(
             outcome(alloc, machine, verdict, reasons.as_bytes())
         }
         OutcomeForm::Transcript(process) => transcript(alloc, machine, process),
+        OutcomeForm::Dot => waits(alloc, &text.bytes, &text.tree, machine),
+        OutcomeForm::Json => object(alloc, &text.bytes, &text.tree, machine, verdict),
     }
 }

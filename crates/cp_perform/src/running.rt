@@ -84,6 +84,8 @@ fn numbered<'a, F: Read + Drop, I: Read + Drop>(
     Ok(match form {
         OutcomeForm::Verdict => OutcomeForm::Verdict,
         OutcomeForm::Transcript(name) => OutcomeForm::Transcript(number_of(alloc, text, name)?),
+        OutcomeForm::Dot => OutcomeForm::Dot,
+        OutcomeForm::Json => OutcomeForm::Json,
     })
 }
 

@@ -1,10 +1,11 @@
 //! Command lines.
 
+use cp_accept::refusal::Refusal;
 use cp_access::graph::Form;
 use cp_command::command::{Command, CommandError, Inputs};
 use cp_command::numbers::number;
 use cp_command::reading::read_command;
-use cp_accept::refusal::Refusal;
+use cp_execute::form::OutcomeForm;
 use cp_execute::running::Run;
 use cp_outcome::verdict::Verdict;
 use cp_perform::perform::perform;
@@ -183,8 +184,15 @@ fn outcome_has_a_limit(rt: HostRuntime) {
         "5",
     ];
     match read_command(rt.alloc(), words.as_slice()) {
-        Ok(Command::Outcome { file, how, input }) => {
-            assert!(rt; file == "a.cp" && is_empty(&input));
+        Ok(
+            Command::Outcome {
+                file,
+                how,
+                form,
+                input,
+            },
+        ) => {
+            assert!(rt; file == "a.cp" && is_empty(&input) && form == OutcomeForm::Verdict);
             assert!(rt; how.limit == 7 && how.plan.workers == 3 && how.tick.rounds == 5);
         }
         _ => panic!(rt; "an outcome"),

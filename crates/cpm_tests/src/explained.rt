@@ -4,8 +4,8 @@
 use super::jobs::{nest, repeat};
 use super::messages::{ROWS, Row};
 use super::streams::{Narrow, Slow};
-use cp_access::graph::Form;
 use cp_accept::refusal::Refusal;
+use cp_access::graph::Form;
 use cp_explain::explain::explain_text;
 use cp_explain::rules::rule_page;
 use cp_model::rules::Rule;

@@ -4,8 +4,8 @@
 use super::jobs::job;
 use super::streams::{Narrow, Slow};
 use super::texts::{AFTER_THREE_ROUNDS, COUNTERS, SEVEN};
-use cp_execute::execute::{Job, execute};
 use cp_accept::refusal::Refusal;
+use cp_execute::execute::{Job, execute};
 use cp_rounds::gate::Open;
 use std::alloc::Global;
 use std::sync::Wait;

@@ -1,7 +1,7 @@
 //! Jobs on texts in memory, and long texts.
 
-use cp_execute::execute::{Job, execute};
 use cp_accept::refusal::Refusal;
+use cp_execute::execute::{Job, execute};
 use cp_execute::running::Run;
 use cp_rounds::gate::Open;
 use cp_rounds::plan::Plan;

@@ -19,9 +19,13 @@ mod lines;
 #[cfg(test)]
 mod messages;
 #[cfg(test)]
+mod objects;
+#[cfg(test)]
 mod outcome_book;
 #[cfg(test)]
 mod outcome_faults;
+#[cfg(test)]
+mod outcome_forms;
 #[cfg(test)]
 mod outcome_waits;
 #[cfg(test)]

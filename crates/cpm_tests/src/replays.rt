@@ -2,8 +2,8 @@
 //! and reads and writes of a replay that fail at one place after another.
 
 use super::streams::{Narrow, Slow};
-use cp_execute::execute_order::execute_order;
 use cp_accept::refusal::Refusal;
+use cp_execute::execute_order::execute_order;
 use cp_execute::replaying::Replay;
 use cp_private::turn::Turn;
 use cp_rounds::tick::Tick;

@@ -1,8 +1,8 @@
 //! Whole texts, from their bytes to their reports. The reports were worked out by hand.
 
 use super::jobs::{execute_job, job, nest, repeat};
-use cp_execute::execute::Job;
 use cp_accept::refusal::Refusal;
+use cp_execute::execute::Job;
 use std::test::Fail;
 
 pub(crate) const COUNTERS: &[u8] = b"type p = process; var x: integer;
