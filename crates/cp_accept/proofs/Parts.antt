@@ -25,15 +25,15 @@ pub part_pushed : (input left : List ℕ) (n : ℕ) (all : List Bytes) (v : Byte
 part_pushed input left n all v P part later = record {
   count = omega (arith, length-append all (v ∷ []), P.count);
   each = λ i u e.
-    let is : get_or (all ++ v ∷ []) i v ≡ u = get_or_from_slice_get (all ++ v ∷ []) i u v e in
-    elim (slice_get_cases all i).1 [
-    | inl h ↦
-        ap (λ (w : Bytes). w.items) (sym is ∙ (get_or_append_left all (v ∷ []) v i h.1 ∙ get_or_from_slice_get all i h.0 v h.2)) ∙ P.each i h.0 h.2
-    | inr h ↦
-        let last : length all ≡ i = omega (arith, h.0, slice_get_within (all ++ v ∷ []) i u e, length-append all (v ∷ [])) in
-        let at : n + 1 ≡ suc i = omega (arith, last, P.count) in
-        ap (λ (w : Bytes). w.items) (sym is ∙ get_or_push all v v i last) ∙ (part ∙ (sym (cut_first left) ∙ (sym (later 0) ∙ ap (cut input) at)))
-  ];
+      let is : get_or (all ++ v ∷ []) i v ≡ u = get_or_from_slice_get (all ++ v ∷ []) i u v e in
+      elim (slice_get_cases all i).1 [
+        | inl h ↦
+            ap (λ (w : Bytes). w.items) (sym is ∙ (get_or_append_left all (v ∷ []) v i h.1 ∙ get_or_from_slice_get all i h.0 v h.2)) ∙ P.each i h.0 h.2
+        | inr h ↦
+            let last : length all ≡ i = omega (arith, h.0, slice_get_within (all ++ v ∷ []) i u e, length-append all (v ∷ [])) in
+            let at : n + 1 ≡ suc i = omega (arith, last, P.count) in
+            ap (λ (w : Bytes). w.items) (sym is ∙ get_or_push all v v i last) ∙ (part ∙ (sym (cut_first left) ∙ (sym (later 0) ∙ ap (cut input) at)))
+      ];
 }
 
 pub later_parts : (input left rest : List ℕ) (n : ℕ) → rest ≡ after_separator left

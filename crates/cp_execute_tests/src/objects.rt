@@ -4,8 +4,6 @@ use super::explained::text_and_place;
 use super::messages::ROWS;
 use super::streams::Narrow;
 use cp_accept::refusal::Refusal;
-use cp_command::command::{Command, CommandError};
-use cp_command::reading::read_command;
 use cp_explain::explain::Extent;
 use cp_explain::object::explain_object;
 use std::alloc::Global;
@@ -94,45 +92,4 @@ fn a_write_of_an_object_fails(rt: HostRuntime) {
     let mut text = b"begin end.".as_slice();
     let answer = explain_object(rt.alloc(), &mut text, Extent::First, &mut out);
     assert!(rt; answer == Err(Refusal::Write) && out.taken.as_slice() == b"{\"accept".as_slice());
-}
-
-#[test]
-fn objects_are_asked_for(rt: HostRuntime) -> Result<(), Fail> {
-    for (words, wanted) in [
-        (
-            ["cpm", "explain", "a.cp", "--json"].as_slice(),
-            Extent::First,
-        ),
-        (&["cpm", "explain", "--all", "--json", "a.cp"], Extent::All),
-    ] {
-        match read_command(rt.alloc(), words) {
-            Ok(Command::ExplainObject { file, extent }) => {
-                assert!(rt; file == "a.cp" && extent == wanted);
-            }
-            _ => panic!(rt; "an explanation"),
-        }
-    }
-    for (words, line) in [
-        (
-            ["cpm", "explain", "a.cp", "--json", "--dot"],
-            "cannot be used with",
-        ),
-        (
-            ["cpm", "explain", "--json", "--all", "C4"],
-            "--all tells the violations",
-        ),
-        (
-            ["cpm", "explain", "--json", "C4", "--"],
-            "--json explains a text",
-        ),
-    ] {
-        match read_command(rt.alloc(), words.as_slice()) {
-            Err(CommandError::Usage(error)) => {
-                let text = format!(in rt.alloc(); "{error}")?;
-                assert!(rt; text.contains(line));
-            }
-            _ => panic!(rt; "an error"),
-        }
-    }
-    Ok(())
 }

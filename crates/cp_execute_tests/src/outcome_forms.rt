@@ -2,8 +2,6 @@
 
 use super::outcomes::{FAULT_INSIDE, NESTED, NEVER_STARTED, QUEUE_IN_ARRAY, SEVEN, until_still};
 use cp_accept::refusal::Refusal;
-use cp_command::command::{Command, CommandError};
-use cp_command::reading::read_command;
 use cp_execute::execute_outcome::execute_outcome;
 use cp_execute::form::OutcomeForm;
 use cp_inputs::named::{InputError, process_number};
@@ -227,41 +225,6 @@ fn forms_are_refused_as_outcomes_are(rt: HostRuntime) -> Result<(), Fail> {
     ] {
         let (answer, out) = outcome_in(&rt, rt.alloc(), b"begin x := 1 end.\n", 10, form)?;
         assert!(rt; matches!(answer, Err(Refusal::Check { at: 6, .. })) && out.is_empty());
-    }
-    Ok(())
-}
-
-#[test]
-fn forms_are_asked_for(rt: HostRuntime) {
-    for (word, wanted) in [
-        ("--out=x", OutcomeForm::Transcript("x")),
-        ("--dot", OutcomeForm::Dot),
-        ("--json", OutcomeForm::Json),
-    ] {
-        match read_command(rt.alloc(), &["cpm", "outcome", "a.cp", word]) {
-            Ok(Command::Outcome { form, .. }) => assert!(rt; form == wanted),
-            _ => panic!(rt; "an outcome"),
-        }
-    }
-}
-
-#[test]
-fn only_one_form_is_asked_for(rt: HostRuntime) -> Result<(), Fail> {
-    for words in [
-        ["--out", "x", "--dot"].as_slice(),
-        &["--out=x", "--json"],
-        &["--json", "--dot"],
-    ] {
-        let mut all = Vec::new(rt.alloc());
-        all.extend_from_slice(&["cpm", "outcome", "a.cp"])?;
-        all.extend_from_slice(words)?;
-        match read_command(rt.alloc(), all.as_slice()) {
-            Err(CommandError::Usage(error)) => {
-                let text = format!(in rt.alloc(); "{error}")?;
-                assert!(rt; text.contains("cannot be used with"));
-            }
-            _ => panic!(rt; "an error"),
-        }
     }
     Ok(())
 }
