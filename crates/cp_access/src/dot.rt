@@ -2,6 +2,7 @@
 //! an arrow for each right.
 
 use crate::instances::{Instance, Instances};
+use cp_formats::graphviz::{push_arrow, push_node};
 use cp_model::tree::Sort;
 use cp_page::page::Page;
 use std::alloc::AllocError;
@@ -17,7 +18,7 @@ fn shape_of(sort: Sort) -> &'static str {
 
 fn node(page: &mut Page, instance: &Instance<'_>) -> Result<(), AllocError> {
     page.bytes(b"  ")?;
-    page.node_name(&instance.path)?;
+    push_node(page, &instance.path)?;
     page.bytes(b" [label=\"")?;
     page.bytes(instance.inner_path())?;
     if let Some(of) = instance.of {
@@ -61,7 +62,7 @@ fn arrows<'t>(
     let rights = instances.rights_of(from)?;
     for to in rights {
         if let Some(to) = instances.get(to) {
-            page.arrow(&from.path, &to.path)?;
+            push_arrow(page, &from.path, &to.path)?;
             page.bytes(b";\n")?;
         }
     }

@@ -3,7 +3,7 @@ use Rattle.std.specs.Prelude.{◌≡◌, ◌≤◌, ℕ, List}
 use Rattle.cp_machine_model.specs.InState.{IsIn}
 use Rattle.cp_model.specs.States.{Setup, State, process_count}
 use Rattle.cp_outcome.specs.declared.verdict.Verdict.{Verdict}
-use Rattle.cp_json.specs.Lines.{IsJsonLine}
+use Rattle.cp_formats.specs.Json.{IsJsonLine}
 use Rattle.cp_reasons.specs.Graphs.{IsGraph}
 use Rattle.cp_report.specs.Outcomes.{BeginsWithVerdict}
 use Rattle.cp_rounds.specs.Views.{machine_of}

@@ -5,7 +5,7 @@ use Rattle.cp_model.specs.Syntax as s
 use Rattle.cp_accept.specs.Takings.{front}
 use Rattle.cp_accept.specs.Texts.{IsAccepted, Refuses}
 use Rattle.cp_accept.specs.declared.refusal.Refusal.{Refusal}
-use Rattle.cp_json.specs.Lines.{IsJsonLine}
+use Rattle.cp_formats.specs.Json.{IsJsonLine}
 
 -- The text is accepted, or refused with `e`.
 abbrev pub Judges : List ℕ → Option Refusal → Type 0

@@ -15,7 +15,7 @@ use cp_accept::checking::tree_of;
 use cp_accept::refusal::Refusal;
 use cp_accept::writing::write_all;
 use cp_diagnosis::of_violation_in_short;
-use cp_json::line::line;
+use cp_formats::json::line;
 use cp_model::rules::Violation;
 use cp_model::tree::Tree;
 use cp_notes::{ToldNote, notes};
@@ -47,13 +47,13 @@ struct NoteObject {
 }
 
 #[derive(Drop, Serialize)]
-struct Accepted {
+struct AcceptedObject {
     accepted: bool,
     notes: Vec<NoteObject>,
 }
 
 #[derive(Drop, Serialize)]
-struct Refused {
+struct RefusedObject {
     accepted: bool,
     violations: Vec<ViolationObject>,
     // How many more violations there are.
@@ -107,7 +107,7 @@ fn page_of<T: Serialize>(
     refusal: Option<Refusal>,
 ) -> Result<Explanation, AllocError>
     ensures refusal { IfOk result (λ e. e.refusal ≡ refusal) }
-    ensures line { IfOk result (λ e. Rattle.cp_json.specs.Lines.IsJsonLine e.page) }
+    ensures line { IfOk result (λ e. Rattle.cp_formats.specs.Json.IsJsonLine e.page) }
 {
     let bytes = line(alloc, object)?;
     let mut page = Page::new(alloc);
@@ -147,14 +147,14 @@ fn refused(
     tree: &Tree,
     first: Violation,
     extent: Extent,
-) -> Result<Refused, AllocError> {
+) -> Result<RefusedObject, AllocError> {
     let list = match extent {
         Extent::First => Vec::from_slice(alloc, &[first])?,
         Extent::All => violations(alloc, tree)?,
     };
     let violations = violation_objects(alloc, text, tree, &list)?;
     let untold = list.len().saturating_sub(violations.len());
-    Ok(Refused {
+    Ok(RefusedObject {
         accepted: false,
         violations,
         untold: if untold == 0 { None } else { Some(untold) },
@@ -172,7 +172,7 @@ fn of_tree(
 {
     match judge(alloc, tree) {
         Ok(_) => {
-            let accepted = Accepted {
+            let accepted = AcceptedObject {
                 accepted: true,
                 notes: note_objects(alloc, text, tree)?,
             };
@@ -194,7 +194,7 @@ fn of_refusal(alloc: Global, text: &[u8], refusal: Refusal) -> Result<Explanatio
     let told = of_no_tree(alloc, text, place(&refusal), refusal)?;
     let mut violations = Vec::new(alloc);
     violations.push(violation_object(alloc, text, &refusal, &told)?)?;
-    let refused = Refused {
+    let refused = RefusedObject {
         accepted: false,
         violations,
         untold: None,

@@ -1,13 +1,11 @@
-//! Pages of explanations: text that grows (`page`), the messages that it tells (`message`), the
-//! line of a place with a caret under it (`excerpt`), and the names and arrows of graphs
-//! (`graphviz`).
+//! Pages of explanations: text that grows (`page`), the messages that it tells (`message`), and
+//! the line of a place with a caret under it (`excerpt`).
 //!
 //! The position of a place is proved (`specs/Positions.antt`); how a line is shown is tested.
 #![tactic(auto)]
 
 mod excerpt;
 mod glyph;
-mod graphviz;
 pub mod law;
 pub mod message;
 pub mod page;

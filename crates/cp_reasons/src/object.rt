@@ -1,11 +1,11 @@
 //! The outcome as a JSON object, for programs.
 
 ghost use Rattle.std.specs.Prelude.{IfOk};
-ghost use Rattle.cp_json.specs.Lines.{IsJsonLine};
+ghost use Rattle.cp_formats.specs.Json.{IsJsonLine};
 
 use crate::names::Subject;
 use crate::states::word_of;
-use cp_json::line::line;
+use cp_formats::json::line;
 use cp_model::tree::Tree;
 use cp_outcome::verdict::Verdict;
 use cp_page::page::Page;

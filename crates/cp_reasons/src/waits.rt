@@ -6,6 +6,7 @@ ghost use Rattle.cp_reasons.specs.Graphs.{IsGraph};
 
 use crate::names::{Subject, activity};
 use crate::states::word_of;
+use cp_formats::graphviz::{push_arrow, push_node};
 use cp_model::tree::Tree;
 use cp_page::page::Page;
 use cp_private::outside::{Holder, Stage};
@@ -33,7 +34,7 @@ impl<'r, 't> Subject<'r, 't> {
         }
         let stage = self.machine.kernel().stage(number);
         page.text("  ")?;
-        page.node_name(self.node_of(number))?;
+        push_node(page, self.node_of(number))?;
         page.text(" [label=\"")?;
         page.bytes(self.process_name(number))?;
         page.text("\\n")?;
@@ -65,7 +66,7 @@ impl<'r, 't> Subject<'r, 't> {
             return Ok(());
         }
         page.text("  ")?;
-        page.node_name(self.monitor_name(monitor))?;
+        push_node(page, self.monitor_name(monitor))?;
         page.text(" [shape=box];\n")
     }
 
@@ -73,11 +74,11 @@ impl<'r, 't> Subject<'r, 't> {
     fn add_wait(&self, page: &mut Page, number: u32) -> Result<(), AllocError> {
         match self.machine.kernel().stage(number) {
             Stage::Asking(monitor) => {
-                page.arrow(self.node_of(number), self.monitor_name(monitor))?;
+                push_arrow(page, self.node_of(number), self.monitor_name(monitor))?;
                 page.text(";\n")
             }
             Stage::Delayed { monitor, queue } => {
-                page.arrow(self.node_of(number), self.monitor_name(monitor))?;
+                push_arrow(page, self.node_of(number), self.monitor_name(monitor))?;
                 page.text(" [label=\"")?;
                 page.bytes(&self.queue_name(queue)?)?;
                 page.text("\", style=dashed];\n")
@@ -89,7 +90,7 @@ impl<'r, 't> Subject<'r, 't> {
     fn add_holder(&self, page: &mut Page, monitor: u32) -> Result<(), AllocError> {
         match self.machine.kernel().holder(monitor) {
             Holder::Process(number) => {
-                page.arrow(self.monitor_name(monitor), self.node_of(number))?;
+                push_arrow(page, self.monitor_name(monitor), self.node_of(number))?;
                 page.text(";\n")
             }
             Holder::Unset | Holder::Free => Ok(()),

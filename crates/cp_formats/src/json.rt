@@ -1,7 +1,7 @@
-//! The line of an object.
+//! Objects of JSON: one on a line.
 
 ghost use Rattle.std.specs.Prelude.{IfOk};
-ghost use Rattle.cp_json.specs.Lines.{IsJsonLine};
+ghost use Rattle.cp_formats.specs.Json.{IsJsonLine};
 
 use serde::Serialize;
 use std::alloc::{AllocError, Global};
