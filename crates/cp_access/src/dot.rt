@@ -2,6 +2,7 @@
 //! an arrow for each right.
 
 use crate::instances::{Instance, Instances};
+use cp_formats::graphviz::{push_arrow, push_node};
 use cp_model::tree::Sort;
 use cp_page::page::Page;
 use std::alloc::AllocError;
@@ -15,15 +16,9 @@ fn shape_of(sort: Sort) -> &'static str {
     }
 }
 
-fn quoted(page: &mut Page, instance: &Instance<'_>) -> Result<(), AllocError> {
-    page.bytes(b"\"")?;
-    page.bytes(&instance.path)?;
-    page.bytes(b"\"")
-}
-
 fn node(page: &mut Page, instance: &Instance<'_>) -> Result<(), AllocError> {
     page.bytes(b"  ")?;
-    quoted(page, instance)?;
+    push_node(page, &instance.path)?;
     page.bytes(b" [label=\"")?;
     page.bytes(instance.inner_path())?;
     if let Some(of) = instance.of {
@@ -67,10 +62,7 @@ fn arrows<'t>(
     let rights = instances.rights_of(from)?;
     for to in rights {
         if let Some(to) = instances.get(to) {
-            page.bytes(b"  ")?;
-            quoted(page, from)?;
-            page.bytes(b" -> ")?;
-            quoted(page, to)?;
+            push_arrow(page, &from.path, &to.path)?;
             page.bytes(b";\n")?;
         }
     }

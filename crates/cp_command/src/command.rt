@@ -6,9 +6,11 @@ ghost use Rattle.cp_command.specs.declared.command.CommandError.TheVariants as e
 
 use clap::error::ErrorKind;
 use cp_access::graph::Form;
+use cp_execute::form::OutcomeForm;
 use cp_execute::replaying::Replay;
 use cp_execute::running::Run;
 use cp_execute::until_still::UntilStill;
+use cp_explain::explain::Extent;
 use std::alloc::AllocError;
 use thiserror::Error;
 
@@ -38,6 +40,11 @@ pub enum Command<'a> {
     ExplainAll {
         file: &'a str,
     },
+    /// `explain --json FILE`: judges the text of a file and explains the judgement as an object.
+    ExplainObject {
+        file: &'a str,
+        extent: Extent,
+    },
     /// `explain RULE`: explains a rule.
     ExplainRule {
         page: &'static str,
@@ -48,10 +55,11 @@ pub enum Command<'a> {
         run: Run,
         input: Inputs<'a>,
     },
-    /// `outcome FILE`: runs the text of a file until nothing can move.
+    /// `outcome FILE`: runs the text of a file until nothing can move. The form names a process.
     Outcome {
         file: &'a str,
         how: UntilStill,
+        form: OutcomeForm<&'a str>,
         input: Inputs<'a>,
     },
     /// `replay FILE ORDER`: replays the text of a file in the order of another.

@@ -80,6 +80,16 @@ const IN: Valued = Valued {
     about: "the input of the process NAME, for each process that has one; - for standard input",
 };
 
+const OUT: Valued = Valued {
+    name: "out",
+    value: "NAME",
+    about: "writes what the process NAME has written, as raw bytes, in place of the verdict",
+};
+
+const DOT: &str = "dot";
+
+const JSON: &str = "json";
+
 impl Valued {
     fn arg<'a>(self, alloc: Global) -> Arg<'a> {
         Arg::new(alloc, self.name)
@@ -151,8 +161,13 @@ fn check_words<'a>(alloc: Global) -> Result<clap::Command<'a>, AllocError> {
 fn explain_words<'a>(alloc: Global) -> Result<clap::Command<'a>, AllocError> {
     let dot = flag(
         alloc,
-        "dot",
+        DOT,
         "writes the access graph of an accepted text for Graphviz",
+    );
+    let json = flag(
+        alloc,
+        JSON,
+        "writes the violations of a text, or the notes on it, as a JSON object",
     );
     let all = flag(
         alloc,
@@ -166,7 +181,8 @@ fn explain_words<'a>(alloc: Global) -> Result<clap::Command<'a>, AllocError> {
         "the text, - for standard input, or a rule or fault such as C4 or F3",
     )?
     .arg(dot)?
-    .arg(all.conflicts_with("dot")?)
+    .arg(json.conflicts_with(DOT)?)?
+    .arg(all.conflicts_with(DOT)?)
 }
 
 fn chains<'a>(alloc: Global) -> Arg<'a> {
@@ -184,6 +200,27 @@ fn run_words<'a>(alloc: Global) -> Result<clap::Command<'a>, AllocError> {
     with_inputs(alloc, run)?.arg(chains(alloc))
 }
 
+// Adds the forms of an outcome, of which only one may be given.
+fn with_forms<'a>(
+    alloc: Global,
+    command: clap::Command<'a>,
+) -> Result<clap::Command<'a>, AllocError> {
+    let dot = flag(
+        alloc,
+        DOT,
+        "writes who waits for whom, for Graphviz, in place of the verdict",
+    );
+    let json = flag(
+        alloc,
+        JSON,
+        "writes the verdict and all processes as a JSON object",
+    );
+    command
+        .arg(OUT.arg(alloc).conflicts_with(DOT)?.conflicts_with(JSON)?)?
+        .arg(dot.conflicts_with(JSON)?)?
+        .arg(json)
+}
+
 fn outcome_words<'a>(alloc: Global) -> Result<clap::Command<'a>, AllocError> {
     let outcome = command(
         alloc,
@@ -192,7 +229,7 @@ fn outcome_words<'a>(alloc: Global) -> Result<clap::Command<'a>, AllocError> {
         TEXT,
     )?;
     let outcome = with(alloc, outcome, &[LIMIT, TURN, WORKERS, CHUNK, WAVE, TICK])?;
-    with_inputs(alloc, outcome)
+    with_forms(alloc, with_inputs(alloc, outcome)?)
 }
 
 fn replay_words<'a>(alloc: Global) -> Result<clap::Command<'a>, AllocError> {

@@ -38,6 +38,8 @@ pub(crate) enum Misuse<'a> {
     },
     #[error("--all tells the violations of a text: it takes a file, not a rule")]
     AllOfRule,
+    #[error("--json explains a text: it takes a file, not a rule")]
+    JsonOfRule,
     #[error("{what} is missing")]
     Missing {
         what: &'static str,

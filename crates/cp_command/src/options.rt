@@ -7,6 +7,7 @@ ghost use Rattle.cp_command.specs.Commands.{Has, HasReplay};
 use crate::misuse::Misuse;
 use crate::numbers::number;
 use clap::ArgMatches;
+use cp_execute::form::OutcomeForm;
 use cp_execute::replaying::Replay;
 use cp_execute::running::Run;
 use cp_execute::until_still::UntilStill;
@@ -95,6 +96,16 @@ pub(crate) fn read_outcome<'a>(matches: &ArgMatches<'a>) -> Result<UntilStill, M
     let limit = count(matches, "limit", 0, 1_000_000, 10_000)?;
     let Run { plan, tick, .. } = read_run(matches, limit, false)?;
     Ok(UntilStill { limit, plan, tick })
+}
+
+/// The form of an outcome that the options tell. The grammar lets only one of them pass.
+pub(crate) fn read_form<'a>(matches: &ArgMatches<'a>) -> OutcomeForm<&'a str> {
+    match matches.get_str("out") {
+        Some(process) => OutcomeForm::Transcript(process),
+        None if matches.get_flag("dot") => OutcomeForm::Dot,
+        None if matches.get_flag("json") => OutcomeForm::Json,
+        None => OutcomeForm::Verdict,
+    }
 }
 
 /// The replay that the options tell.

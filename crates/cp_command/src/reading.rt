@@ -7,10 +7,11 @@ use crate::command::{Command, CommandError, Inputs};
 use crate::grammar::grammar;
 use crate::inputs::read_inputs;
 use crate::misuse::Misuse;
-use crate::options::{count, read_outcome, read_replay, read_run, run_of};
+use crate::options::{count, read_form, read_outcome, read_replay, read_run, run_of};
 use clap::ArgMatches;
 use clap::error::ErrorKind;
 use cp_access::graph::Form;
+use cp_explain::explain::Extent;
 use cp_explain::rules::{is_like_rule, rule_page};
 use std::alloc::Global;
 use std::convert::AsStr;
@@ -21,10 +22,16 @@ fn explain<'a>(file: &'a str, matches: &ArgMatches<'a>) -> Result<Command<'a>, M
     ensures { IfOk result HasRounds }
 {
     let all = matches.get_flag("all");
+    let json = matches.get_flag("json");
     match rule_page(file) {
         Some(_) if all => Err(Misuse::AllOfRule),
+        Some(_) if json => Err(Misuse::JsonOfRule),
         Some(page) => Ok(Command::ExplainRule { page }),
         None if is_like_rule(file) => Err(Misuse::NoRule { word: file }),
+        None if json => Ok(Command::ExplainObject {
+            file,
+            extent: if all { Extent::All } else { Extent::First },
+        }),
         None if all => Ok(Command::ExplainAll { file }),
         None => Ok(Command::Explain {
             file,
@@ -64,6 +71,7 @@ fn outcome<'a>(
     Ok(Command::Outcome {
         file,
         how: read_outcome(matches)?,
+        form: read_form(matches),
         input: read_inputs(alloc, matches)?.beside(&[file])?,
     })
 }

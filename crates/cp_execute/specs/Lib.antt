@@ -1,4 +1,5 @@
 pub mod MachineReports
 pub mod Executed
 pub mod Replayed
+pub mod Forms
 pub mod Outcomes

@@ -8,6 +8,7 @@ ghost use Rattle.cp_execute.specs.Outcomes.{BeginsOutcome, TellsOutcome};
 ghost use Rattle.cp_accept.specs.Takings.{TakesInput, TakesText};
 ghost use Rattle.cp_accept.specs.declared.refusal.Refusal.TheVariants as refusal;
 
+use crate::form::OutcomeForm;
 use crate::until_still::{UntilStill, outcome_after_run};
 use cp_accept::refusal::Refusal;
 use cp_accept::sources::{read_accepted_text, read_input};
@@ -19,8 +20,8 @@ use std::io::{Read, Write};
 use std::sync::Wait;
 use std::thread::Threads;
 
-/// Runs the text of one reader on the input of another until nothing can move, writes the outcome,
-/// and returns the verdict.
+/// Runs the text of one reader on the input of another until nothing can move, writes the outcome
+/// in its form, and returns the verdict.
 ///
 /// # Errors
 ///
@@ -34,11 +35,12 @@ pub fn execute_outcome<H: Threads + Wait + Sync, R: Read, S: Read, W: Write, G: 
     text: &mut R,
     input: &mut S,
     how: &UntilStill,
+    form: OutcomeForm<u32>,
     gate: &G,
     out: &mut W,
 ) -> Result<Verdict, Refusal>
     ensures done { IfOk result
-        (λ verdict. TellsOutcome how.now verdict (R.remaining text.old) (S.remaining input.old)
+        (λ verdict. TellsOutcome how.now form verdict (R.remaining text.old) (S.remaining input.old)
         (W.contents out.old) (W.contents out.new)) }
     ensures unwritten { IfErr result
         (λ e. (e ≡ refusal.Write → ⊥) → Keeps (W.contents out.old) (W.contents out.new)) }
@@ -47,7 +49,7 @@ pub fn execute_outcome<H: Threads + Wait + Sync, R: Read, S: Read, W: Write, G: 
         → IfSome (R.remaining text.old) (λ xs. RefusesRun xs (S.remaining input.old) e)) }
     ensures beginning { IfErr result
         (λ e. e ≡ refusal.Write
-        → BeginsOutcome how.now (R.remaining text.old) (S.remaining input.old)
+        → BeginsOutcome how.now form (R.remaining text.old) (S.remaining input.old)
         (W.contents out.old) (W.contents out.new)) }
     ensures faults { IfErr result
         (IsFaultOrOfInput (R.remaining text.old) (S.remaining input.old)) }
@@ -56,7 +58,7 @@ pub fn execute_outcome<H: Threads + Wait + Sync, R: Read, S: Read, W: Write, G: 
 {
     let accepted = read_accepted_text(alloc, text)?;
     let bytes = read_input(alloc, input)?;
-    let outcome = outcome_after_run(rt, alloc, &accepted, &bytes, how, gate)?;
+    let outcome = outcome_after_run(rt, alloc, &accepted, &bytes, how, form, gate)?;
     write_result(out, &outcome.bytes)?;
     Ok(outcome.verdict)
 }

@@ -6,12 +6,11 @@ ghost use Rattle.cp_model.specs.View as view;
 ghost use Rattle.cp_execute.specs.Outcomes.{IsOutcome};
 ghost use Rattle.cp_accept.specs.declared.refusal.Refusal.TheVariants as refusal;
 
+use crate::form::{OutcomeForm, told};
 use crate::running::machine_at_start;
 use cp_accept::refusal::Refusal;
 use cp_accept::sources::Text;
 use cp_outcome::verdict::{Verdict, verdict_on};
-use cp_reasons::reasons::reasons;
-use cp_report::outcome::outcome;
 use cp_rounds::gate::TurnGate;
 use cp_rounds::plan::Plan;
 use cp_rounds::tick::Tick;
@@ -35,7 +34,7 @@ pub(crate) struct Outcome {
     pub(crate) bytes: Vec<u8>,
 }
 
-/// Runs the program of an accepted text until nothing can move, and returns the outcome.
+/// Runs the program of an accepted text until nothing can move, and returns the outcome in a form.
 ///
 /// # Errors
 ///
@@ -46,10 +45,11 @@ pub(crate) fn outcome_after_run<H: Threads + Wait + Sync, G: TurnGate>(
     text: &Text,
     input: &[u8],
     how: &UntilStill,
+    form: OutcomeForm<u32>,
     gate: &G,
 ) -> Result<Outcome, Refusal>
     requires accepted { Accepted (view.tree text.now.tree) }
-    ensures outcome { IfOk result (λ outcome. IsOutcome how.now (view.tree text.now.tree) input.now
+    ensures outcome { IfOk result (λ outcome. IsOutcome how.now form (view.tree text.now.tree) input.now
         outcome.verdict outcome.bytes.items) }
     ensures memory { IfErr result (λ e. e ≡ refusal.Memory) }
 {
@@ -58,7 +58,6 @@ pub(crate) fn outcome_after_run<H: Threads + Wait + Sync, G: TurnGate>(
         return Err(Refusal::Memory);
     };
     let verdict = verdict_on(&machine);
-    let reasons = reasons(alloc, &text.bytes, &text.tree, &machine)?;
-    let bytes = outcome(alloc, &machine, verdict, reasons.as_bytes())?;
+    let bytes = told(alloc, text, &machine, verdict, form)?;
     Ok(Outcome { verdict, bytes })
 }

@@ -16,9 +16,13 @@ mod jobs;
 #[cfg(test)]
 mod messages;
 #[cfg(test)]
+mod objects;
+#[cfg(test)]
 mod outcome_book;
 #[cfg(test)]
 mod outcome_faults;
+#[cfg(test)]
+mod outcome_forms;
 #[cfg(test)]
 mod outcome_waits;
 #[cfg(test)]

@@ -4,6 +4,7 @@ use super::streams::Narrow;
 use super::{outcome_book as book, outcome_faults as faults, outcome_waits as waits};
 use cp_accept::refusal::Refusal;
 use cp_execute::execute_outcome::execute_outcome;
+use cp_execute::form::OutcomeForm;
 use cp_execute::until_still::UntilStill;
 use cp_outcome::verdict::Verdict;
 use cp_rounds::gate::Open;
@@ -41,11 +42,11 @@ pub(crate) fn due(
     }
 }
 
-const SEVEN: &[u8] = b"type p = process; begin display(7) end;
+pub(crate) const SEVEN: &[u8] = b"type p = process; begin display(7) end;
 var a: p; begin init a end.
 ";
 
-const NEVER_STARTED: &[u8] = b"type p = process; begin end;
+pub(crate) const NEVER_STARTED: &[u8] = b"type p = process; begin end;
 var x: integer; a: p; begin x := 0; if x = 1 then init a end.
 ";
 
@@ -62,7 +63,7 @@ var a: p; begin init a end.
 ";
 
 // The faulted process keeps the gate.
-const FAULT_INSIDE: &[u8] = b"type m = monitor; var x: integer;
+pub(crate) const FAULT_INSIDE: &[u8] = b"type m = monitor; var x: integer;
     procedure entry e; begin x := 30000; x := x + x end;
   begin end;
 p = process(k: m); begin k.e end;
@@ -82,7 +83,7 @@ begin init f, g, a(f, g), b(g, f) end.
 
 // The delay in the inner monitor opens its gate alone. Who could continue the queue asks for the
 // outer gate.
-const NESTED: &[u8] = b"type inner = monitor; var q: queue;
+pub(crate) const NESTED: &[u8] = b"type inner = monitor; var q: queue;
     procedure entry w; begin delay(q) end;
     procedure entry s; begin continue(q) end;
   begin end;
@@ -111,7 +112,7 @@ var i: inner; o: outer; t: top; a: waiter; b, c: signaller;
 begin init i, o(i), t(o), a(o), b(t), c(t) end.
 ";
 
-const QUEUE_IN_ARRAY: &[u8] = b"type m = monitor; var qs: array [1..2] of queue;
+pub(crate) const QUEUE_IN_ARRAY: &[u8] = b"type m = monitor; var qs: array [1..2] of queue;
     procedure entry e; begin delay(qs[2]) end;
   begin end;
 p = process(k: m); begin k.e end;
@@ -244,7 +245,7 @@ process 3 p: ready at the end of the body at 8:30
     ]
 }
 
-fn until_still(limit: u32, tick: u32, workers: u32) -> Result<UntilStill, AllocError> {
+pub(crate) fn until_still(limit: u32, tick: u32, workers: u32) -> Result<UntilStill, AllocError> {
     match (Plan::new(100, workers, 1, 255), Tick::new(tick)) {
         (Ok(plan), Ok(tick)) => Ok(UntilStill { limit, plan, tick }),
         _ => Err(AllocError),
@@ -262,7 +263,8 @@ fn outcome_of<H: Threads + Wait + Sync>(
     let mut text = text;
     let mut input = input;
     let mut out = Vec::new(alloc);
-    let answer = execute_outcome(rt, alloc, &mut text, &mut input, how, &Open, &mut out);
+    let form = OutcomeForm::Verdict;
+    let answer = execute_outcome(rt, alloc, &mut text, &mut input, how, form, &Open, &mut out);
     (answer, out)
 }
 
@@ -335,6 +337,7 @@ fn the_beginning_of_an_outcome_is_written(rt: HostRuntime) -> Result<(), Fail> {
         &mut text,
         &mut input,
         &how,
+        OutcomeForm::Verdict,
         &Open,
         &mut out,
     );

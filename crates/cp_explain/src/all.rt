@@ -16,8 +16,8 @@ const MOST: usize = 1_000;
 /// How many bytes are walked over: what stands at a place is found by a walk over the whole text.
 const WALKED: usize = 67_108_864;
 
-// How many violations of a text are told, so that a long one takes no longer than a short one.
-fn most(text: &[u8]) -> usize {
+/// How many violations of a text are told, so that a long one takes no longer than a short one.
+pub(crate) fn most(text: &[u8]) -> usize {
     (WALKED / text.len().max(1)).min(MOST)
 }
 

@@ -41,12 +41,12 @@ pub enum Extent {
 /// The explanation of a text, and why it is refused, unless it is accepted.
 #[derive(Drop)]
 pub struct Explanation {
-    page: Page,
-    refusal: Option<Refusal>,
+    pub(crate) page: Page,
+    pub(crate) refusal: Option<Refusal>,
 }
 
-// The place at which a text is refused.
-fn place(refusal: &Refusal) -> usize
+/// The place at which a text is refused.
+pub(crate) fn place(refusal: &Refusal) -> usize
     ensures { result ≡ place_of refusal.now }
 {
     match refusal {
@@ -59,7 +59,8 @@ fn place(refusal: &Refusal) -> usize
     }
 }
 
-fn push_code(page: &mut Page, refusal: &Refusal) -> Result<(), AllocError>
+/// Adds the letter and the number of a refusal. Fails only if memory runs out.
+pub(crate) fn push_code(page: &mut Page, refusal: &Refusal) -> Result<(), AllocError>
     ensures { OnOk result (page.new ≡ page.old ++ code_of refusal.now) }
 {
     match refusal {
@@ -200,7 +201,12 @@ pub fn explain(
     }
 }
 
-fn read<R: Read>(alloc: Global, text: &mut R) -> Result<Vec<u8>, Refusal>
+/// Reads the bytes of a text.
+///
+/// # Errors
+///
+/// I1 if a read fails, M if memory runs out.
+pub(crate) fn read<R: Read>(alloc: Global, text: &mut R) -> Result<Vec<u8>, Refusal>
     ensures bytes { IfOk result
         (λ bytes. IfSome (R.remaining text.old)
         (λ xs. bytes.items ≡ front xs)) }

@@ -4,15 +4,17 @@
 //! a refused text that is its heading and what cp_slips (no tokens, or no tree: `told`) or
 //! cp_diagnosis (a broken rule) tells. For an accepted text it is the access graph (cp_access).
 //! `all` tells all violations of a text, and what it uses of the book's language that this one
-//! hasn't (`lacking`). `rules` has the pages of `explain RULE`.
+//! hasn't (`lacking`). `object` tells the same of a text as a JSON object. `rules` has the pages of
+//! `explain RULE`.
 //!
-//! The judgement, the position and the start of the first line are proved (`specs/Explained.antt`).
-//! The wording is tested.
+//! The judgement, the position and the start of the first line are proved (`specs/Explained.antt`),
+//! and the judgement in an object (`specs/Objects.antt`). The wording is tested.
 #![tactic(auto)]
 
 mod all;
 pub mod explain;
 mod lacking;
+pub mod object;
 mod pages;
 pub mod rules;
 mod told;

@@ -1,4 +1,4 @@
-//! The processes of a text by name, and the joined input of those that have one.
+//! The processes of a text by name: their numbers, and the joined input of those that have one.
 
 ghost use Rattle.std.specs.Prelude.{◌≡◌};
 ghost use Rattle.cp_accept.specs.declared.refusal.Refusal.TheVariants as refusal;
@@ -12,7 +12,7 @@ use cp_accept::refusal::Refusal;
 use cp_model::tree::{Sort, Tree};
 use cp_report::listing::components;
 use cp_rules::text::{RuleError, judge};
-use cp_scope::{Field, Tables};
+use cp_scope::{CompileError, Field, Tables, small_number};
 use std::alloc::{AllocError, AllocFailed, Global};
 use std::io::Read;
 use thiserror::Error;
@@ -50,6 +50,15 @@ impl<'a> From<Refusal> for InputError<'a> {
 
     fn from(refusal: Refusal) -> InputError<'a> {
         InputError::Refused(refusal)
+    }
+}
+
+// What can't be compiled of an accepted text is told as want of memory, as `Refusal` does.
+impl<'a> From<CompileError> for InputError<'a> {
+    ghost from_gives = { λ _ e. e ≡ error.Refused refusal.Memory };
+
+    fn from(_error: CompileError) -> InputError<'a> {
+        InputError::Refused(Refusal::Memory)
     }
 }
 
@@ -133,6 +142,26 @@ fn read_inputs<'a, R: Read>(
         *place = bytes;
     }
     Ok(())
+}
+
+/// Returns the number of the process with this name. Process 1 is named `initial`, unless another
+/// process has that name.
+///
+/// # Errors
+///
+/// `Refused` with S, Y or C if the text isn't accepted, `NoProcess` if it has no such process, and M
+/// if memory runs out.
+pub fn process_number<'a>(
+    alloc: Global,
+    text: &[u8],
+    name: &'a str,
+) -> Result<u32, InputError<'a>> {
+    let tree = tree_of(alloc, text)?;
+    let processes = processes(alloc, &tree)?;
+    match index_of(&processes, name) {
+        Some(index) => Ok(small_number(index.saturating_add(1))?),
+        None => Err(InputError::NoProcess { process: name }),
+    }
 }
 
 /// Reads the inputs of the processes that are named, and returns the joined input of the text.

@@ -22,4 +22,5 @@ mod statements;
 mod text;
 mod walk;
 
-pub use text::add_notes;
+pub use note::ToldNote;
+pub use text::{add_notes, notes};

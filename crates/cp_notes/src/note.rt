@@ -105,36 +105,59 @@ impl<'t> Notes<'t> {
         Ok(order)
     }
 
-    /// Writes the notes in the order of the text: of each its place and what it says, and a line of
-    /// advice.
-    pub fn write(
-        &self,
-        alloc: Global,
-        page: &mut Page,
-        file: &[u8],
-        text: &[u8],
-    ) -> Result<(), AllocError> {
+    /// The notes in words, in the order of the text.
+    pub fn told(&self, alloc: Global, text: &[u8]) -> Result<Vec<ToldNote>, AllocError> {
         let mut cursor = Cursor::start();
+        let mut told = Vec::new(alloc);
         for (_, number) in self.order(alloc)?.as_slice() {
             if let Some(note) = self.found.get(*number) {
                 cursor.advance(text, note.at);
-                note.write(page, file, cursor.position)?;
+                told.push(note.told(alloc, cursor.position)?)?;
             }
         }
-        Ok(())
+        Ok(told)
     }
 }
 
 impl<'t> Note<'t> {
-    fn write(&self, page: &mut Page, file: &[u8], position: Position) -> Result<(), AllocError> {
+    fn told(&self, alloc: Global, position: Position) -> Result<ToldNote, AllocError> {
         let words = message(self.saying);
+        let mut head = Page::new(alloc);
+        head.template(words.head, self.about)?;
+        let mut advice = Page::new(alloc);
+        advice.template(words.advice, self.about)?;
+        Ok(ToldNote {
+            at: self.at,
+            position,
+            head,
+            advice,
+        })
+    }
+}
+
+/// A note in words.
+#[derive(Drop)]
+pub struct ToldNote {
+    /// The offset of its place in the text.
+    pub at: usize,
+    /// The position of that place.
+    pub position: Position,
+    /// What it says.
+    pub head: Page,
+    /// How to mend it.
+    pub advice: Page,
+}
+
+impl ToldNote {
+    /// Adds the note to a page: its place and what it says, and a line of advice.
+    pub(crate) fn write(&self, page: &mut Page, file: &[u8]) -> Result<(), AllocError> {
         page.bytes(file)?;
         page.bytes(b":")?;
-        page.position(position)?;
+        page.position(self.position)?;
         page.bytes(b": note: ")?;
-        page.template(words.head, self.about)?;
+        page.bytes(self.head.as_bytes())?;
         page.bytes(b"\n  ")?;
-        page.template(words.advice, self.about)?;
+        page.bytes(self.advice.as_bytes())?;
         page.bytes(b"\n")
     }
 }

@@ -2,6 +2,7 @@
 //! where it is used.
 
 use crate::flow::Flow;
+use crate::note::ToldNote;
 use crate::walk::{Behaviour, Inside, SystemType, Walk};
 use cp_meanings::meaning::{Meaning, Shape};
 use cp_model::tree::{
@@ -121,6 +122,13 @@ impl<'t> Walk<'t> {
     }
 }
 
+/// The notes on an accepted text, in the order of the text. Fails only if memory runs out.
+pub fn notes(alloc: Global, text: &[u8], tree: &Tree) -> Result<Vec<ToldNote>, AllocError> {
+    let mut walk = Walk::new(alloc)?;
+    walk.text(tree)?;
+    walk.notes.told(alloc, text)
+}
+
 /// Adds the notes on an accepted text to a page, in the order of the text. Fails only if memory
 /// runs out.
 pub fn add_notes(
@@ -130,7 +138,8 @@ pub fn add_notes(
     text: &[u8],
     tree: &Tree,
 ) -> Result<(), AllocError> {
-    let mut walk = Walk::new(alloc)?;
-    walk.text(tree)?;
-    walk.notes.write(alloc, page, file, text)
+    for note in &notes(alloc, text, tree)? {
+        note.write(page, file)?;
+    }
+    Ok(())
 }

@@ -5,7 +5,8 @@ use crate::printing::flush;
 use crate::status::Failure;
 use cp_accept::refusal::{Refusal, exit_of};
 use cp_access::graph::Form;
-use cp_explain::explain::{draw_text, explain_all_text, explain_text};
+use cp_explain::explain::{Extent, draw_text, explain_all_text, explain_text};
+use cp_explain::object::explain_object;
 use std::alloc::Global;
 use std::fs::Files;
 use std::io::{self, Input, Print, Write};
@@ -17,6 +18,8 @@ pub(crate) enum Explaining {
     First(Form),
     /// Its graph, or all violations.
     All,
+    /// The notes on it or its violations, as a JSON object.
+    Object(Extent),
 }
 
 /// Explains a text, and returns the exit status. Where a graph for Graphviz is wanted, standard
@@ -39,6 +42,7 @@ pub(crate) fn explain<'a, H: Files + Input + Print, E: Write>(
         Explaining::First(Form::Dot) => draw_text(alloc, name, &mut text, &mut out, errors),
         Explaining::First(form) => explain_text(alloc, name, &mut text, form, &mut out),
         Explaining::All => explain_all_text(alloc, name, &mut text, &mut out),
+        Explaining::Object(extent) => explain_object(alloc, &mut text, extent, &mut out),
     };
     let explained = match answer {
         Ok(explained) => explained,

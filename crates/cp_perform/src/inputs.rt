@@ -1,9 +1,7 @@
 //! The inputs of a run, opened before anything is read.
 
-use crate::opening::{Source, open, open_named};
+use crate::opening::{Source, open, open_named, read_bytes};
 use crate::status::Failure;
-use cp_accept::reading::read_text;
-use cp_accept::refusal::Refusal;
 use cp_command::command::{Inputs, NamedInput};
 use cp_inputs::named::{InputOf, joined_input};
 use std::alloc::Global;
@@ -70,10 +68,7 @@ impl<'a, F: Read + Drop, I: Read + Drop> Opened<'a, F, I> {
             Opened::One(source) => return Ok(source),
             Opened::Named(named) => named,
         };
-        let bytes = match read_text(alloc, text) {
-            Ok(bytes) => bytes,
-            Err(error) => return Err(Failure::from(Refusal::from(error))),
-        };
+        let bytes = read_bytes(alloc, text)?;
         let input = joined_input(alloc, &bytes, &mut named)?;
         *text = Source::of_bytes(bytes);
         Ok(Source::of_bytes(input))

@@ -6,8 +6,10 @@ ghost use Rattle.std.specs.Io.KnownBytes.{ReadConsumes};
 ghost use Rattle.cp_perform.specs.Sources.{remaining_of};
 
 use crate::status::Failure;
+use cp_accept::reading::read_text;
 use cp_accept::refusal::Refusal;
 use cp_command::command::STANDARD_INPUT;
+use std::alloc::Global;
 use std::fs::{self, Files};
 use std::io::{self, Cursor, ErrorKind, Input, Read};
 
@@ -39,6 +41,18 @@ impl<F, I> Source<F, I> {
     /// The source of these bytes.
     pub(crate) fn of_bytes(bytes: Vec<u8>) -> Source<F, I> {
         Source::Bytes(Cursor::new(bytes))
+    }
+}
+
+/// Reads the bytes of a text.
+///
+/// # Errors
+///
+/// I1 if a read fails, M if memory runs out.
+pub(crate) fn read_bytes<R: Read>(alloc: Global, text: &mut R) -> Result<Vec<u8>, Refusal> {
+    match read_text(alloc, text) {
+        Ok(bytes) => Ok(bytes),
+        Err(error) => Err(Refusal::from(error)),
     }
 }
 

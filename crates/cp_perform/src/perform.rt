@@ -19,9 +19,9 @@ use std::thread::Threads;
 /// # Errors
 ///
 /// I1 if a file can't be opened, `Unopened` or `Unread` for the file of `explain` and the input of
-/// one process, `Input` if such inputs make no input, and the refusals of `execute`,
-/// `execute_outcome` and `execute_order` of cp_execute, and of `explain_text` and
-/// `explain_all_text` of cp_explain.
+/// one process, `Input` if such inputs make no input or the text lacks the process of `--out`, and the refusals of `execute`,
+/// `execute_outcome` and `execute_order` of cp_execute, and of `explain_text`,
+/// `explain_all_text` and `explain_object` of cp_explain.
 pub fn perform<'a, H: Files + Input + Print + Threads + Wait + Sync, E: Write>(
     rt: &H,
     alloc: Global,
@@ -37,14 +37,22 @@ pub fn perform<'a, H: Files + Input + Print + Threads + Wait + Sync, E: Write>(
         Command::ExplainAll { file } => {
             return explain(rt, alloc, file, Explaining::All, errors);
         }
+        Command::ExplainObject { file, extent } => {
+            return explain(rt, alloc, file, Explaining::Object(*extent), errors);
+        }
         Command::ExplainRule { page } => print_page(rt, page)?,
         Command::Run {
             file,
             run: how,
             input,
         } => run(rt, alloc, *file, input, *how)?,
-        Command::Outcome { file, how, input } => {
-            return Ok(status_of(outcome(rt, alloc, file, input, how)?));
+        Command::Outcome {
+            file,
+            how,
+            form,
+            input,
+        } => {
+            return Ok(status_of(outcome(rt, alloc, file, input, how, *form)?));
         }
         Command::Replay {
             file,

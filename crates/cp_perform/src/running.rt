@@ -3,7 +3,7 @@
 //! cp_execute.
 
 use crate::inputs::open_inputs;
-use crate::opening::open;
+use crate::opening::{Source, open, read_bytes};
 use crate::printing::flush;
 use crate::status::Failure;
 use cp_accept::refusal::Refusal;
@@ -11,9 +11,11 @@ use cp_command::command::{Inputs, STANDARD_INPUT};
 use cp_execute::execute::{Job, execute};
 use cp_execute::execute_order::execute_order;
 use cp_execute::execute_outcome::execute_outcome;
+use cp_execute::form::OutcomeForm;
 use cp_execute::replaying::Replay;
 use cp_execute::running::Run;
 use cp_execute::until_still::UntilStill;
+use cp_inputs::named::process_number;
 use cp_outcome::verdict::Verdict;
 use cp_rounds::gate::Open;
 use std::alloc::Global;
@@ -60,6 +62,33 @@ pub(crate) fn run<'a, H: Files + Input + Print + Threads + Wait + Sync>(
     Ok(())
 }
 
+// The number of the process of a text with this name. The bytes of the text are put in the place of
+// their source.
+fn number_of<'a, F: Read + Drop, I: Read + Drop>(
+    alloc: Global,
+    text: &mut Source<F, I>,
+    name: &'a str,
+) -> Result<u32, Failure<'a>> {
+    let bytes = read_bytes(alloc, text)?;
+    let number = process_number(alloc, &bytes, name)?;
+    *text = Source::of_bytes(bytes);
+    Ok(number)
+}
+
+// The form of an outcome, with the process by its number.
+fn numbered<'a, F: Read + Drop, I: Read + Drop>(
+    alloc: Global,
+    text: &mut Source<F, I>,
+    form: OutcomeForm<&'a str>,
+) -> Result<OutcomeForm<u32>, Failure<'a>> {
+    Ok(match form {
+        OutcomeForm::Verdict => OutcomeForm::Verdict,
+        OutcomeForm::Transcript(name) => OutcomeForm::Transcript(number_of(alloc, text, name)?),
+        OutcomeForm::Dot => OutcomeForm::Dot,
+        OutcomeForm::Json => OutcomeForm::Json,
+    })
+}
+
 /// Runs a text until nothing can move, prints the outcome, and returns the verdict.
 pub(crate) fn outcome<'a, H: Files + Input + Print + Threads + Wait + Sync>(
     rt: &H,
@@ -67,12 +96,14 @@ pub(crate) fn outcome<'a, H: Files + Input + Print + Threads + Wait + Sync>(
     file: &str,
     input: &Inputs<'a>,
     how: &UntilStill,
+    form: OutcomeForm<&'a str>,
 ) -> Result<Verdict, Failure<'a>> {
     let mut text = open(rt, file)?;
     let input = open_inputs(rt, alloc, input)?;
     let mut input = input.joined(alloc, &mut text)?;
+    let form = numbered(alloc, &mut text, form)?;
     let mut out = io::writer(rt);
-    let verdict = execute_outcome(rt, alloc, &mut text, &mut input, how, &Open, &mut out)?;
+    let verdict = execute_outcome(rt, alloc, &mut text, &mut input, how, form, &Open, &mut out)?;
     flush(&mut out)?;
     Ok(verdict)
 }

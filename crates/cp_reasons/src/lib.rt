@@ -1,20 +1,25 @@
 //! Why each process that hasn't ended is where it is, and where in the text that is: the lines of
-//! an outcome after its verdict.
+//! an outcome after its verdict, the graph of who waits for whom, and the outcome as an object.
 //!
-//! - `reasons`: the lines, and what they are told of.
+//! - `reasons`: the lines. `waits`: the graph. `object`: the object.
+//! - `states`: in which state a process is, and at which operation.
 //! - `names`: components, queues and places of the text.
 //! - `faults`, `piece`: what a fault means, and the piece of the text that it stopped.
 //! - `queues`: which entries continue a queue. `rights`: who can call them. `starts`: which `init`
 //!   starts a process. They are read off the text, by the `parts` of its statements.
 //!
-//! All of this serves people, and is tested.
+//! All of this serves people, and is tested; `specs/Graphs.antt` says of which form a
+//! graph is.
 #![tactic(auto)]
 
 mod faults;
 mod names;
+pub mod object;
 mod parts;
 mod piece;
 mod queues;
 pub mod reasons;
 mod rights;
 mod starts;
+mod states;
+pub mod waits;

@@ -213,7 +213,13 @@ impl<'r, 't> Subject<'r, 't> {
         self.push_origin(page, private.counter())
     }
 
-    fn push_why(&self, page: &mut Page, number: u32, private: &Private) -> Result<(), AllocError> {
+    /// Adds why a process is where it is.
+    pub(crate) fn push_why(
+        &self,
+        page: &mut Page,
+        number: u32,
+        private: &Private,
+    ) -> Result<(), AllocError> {
         match self.machine.kernel().stage(number) {
             Stage::Unstarted => self.push_unstarted(page, number),
             Stage::Fresh => self.push_ready(page, private),

@@ -3,7 +3,7 @@
 use cp_perform::command::command::{Command, CommandError, Inputs};
 use cp_perform::command::numbers::number;
 use cp_perform::command::reading::read_command;
-use cp_perform::command::{Form, Run};
+use cp_perform::command::{Form, OutcomeForm, Run};
 use cp_perform::perform::perform;
 use cp_perform::status::{Failure, status_of};
 use cp_perform::{Refusal, Verdict};
@@ -181,8 +181,15 @@ fn outcome_has_a_limit(rt: HostRuntime) {
         "5",
     ];
     match read_command(rt.alloc(), words.as_slice()) {
-        Ok(Command::Outcome { file, how, input }) => {
-            assert!(rt; file == "a.cp" && is_empty(&input));
+        Ok(
+            Command::Outcome {
+                file,
+                how,
+                form,
+                input,
+            },
+        ) => {
+            assert!(rt; file == "a.cp" && is_empty(&input) && form == OutcomeForm::Verdict);
             assert!(rt; how.limit == 7 && how.plan.workers == 3 && how.tick.rounds == 5);
         }
         _ => panic!(rt; "an outcome"),

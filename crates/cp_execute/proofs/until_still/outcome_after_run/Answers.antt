@@ -2,9 +2,9 @@ use Rattle.std.proofs.Common.{◌≡◌, ◌+◌, ℕ, arith, subst}
 use Rattle.cp_machine_model.specs.InState.{IsIn}
 use Rattle.cp_model.specs.Start.{start}
 use Rattle.cp_model.specs.View as view
-use Rattle.cp_report.specs.Outcomes.{BeginsWithVerdict}
 use Rattle.cp_rounds.specs.Views.{machine_of}
 use Rattle.cp_execute.specs.Executed.{setup_of}
+use Rattle.cp_execute.specs.Forms.{Tells}
 use Rattle.cp_execute.specs.Outcomes.{state_after}
 use Rattle.cp_execute.proofs.until_still.outcome_after_run.Goals as goal
 
@@ -29,5 +29,5 @@ returns-clause-outcome g c =
       still = λ below. told.still below setup s I;
       first = λ k below. told.first setup (start setup) begun k below;
       verdict = c.verdict_on-verdict.ensures setup s I;
-      line = subst (λ (r : ℕ). BeginsWithVerdict c.verdict_on-verdict.result r c.in_ok-bytes.bytes.items) count c.in_ok-bytes.ensures;
+      told = subst (λ (r : ℕ). Tells c.args.form setup s c.verdict_on-verdict.result r c.in_ok-bytes.bytes.items) count (c.in_ok-bytes.ensures setup s I);
     }

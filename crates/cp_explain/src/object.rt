@@ -1,0 +1,242 @@
+//! The explanation of a text as a JSON object, for programs.
+
+ghost use Rattle.std.specs.Prelude.{◌≡◌, IfErr, IfOk};
+ghost use Rattle.std.specs.Io.KnownBytes.{Keeps};
+ghost use Rattle.cp_model.specs.View as view;
+ghost use Rattle.cp_accept.specs.KnownRefusals.{IsFault};
+ghost use Rattle.cp_accept.specs.Texts.{IsTextOf, Refuses};
+ghost use Rattle.cp_accept.specs.declared.refusal.Refusal.TheVariants as refusal;
+ghost use Rattle.cp_explain.specs.Objects.{IsObjectOf, WroteObject};
+
+use crate::all::most;
+use crate::explain::{Explanation, Extent, place, push_code, read};
+use crate::told::of_no_tree;
+use cp_accept::checking::tree_of;
+use cp_accept::refusal::Refusal;
+use cp_accept::writing::write_all;
+use cp_diagnosis::of_violation_in_short;
+use cp_formats::json::line;
+use cp_model::rules::Violation;
+use cp_model::tree::Tree;
+use cp_notes::{ToldNote, notes};
+use cp_page::page::Page;
+use cp_page::position::Position;
+use cp_rules::text::{RuleError, judge, violations};
+use serde::Serialize;
+use std::alloc::{AllocError, Global};
+use std::io::{Read, Write};
+
+// Why a text is refused.
+#[derive(Drop, Serialize)]
+struct ViolationObject {
+    rule: String,
+    line: usize,
+    column: usize,
+    offset: usize,
+    message: String,
+}
+
+// What is doomed in an accepted text.
+#[derive(Drop, Serialize)]
+struct NoteObject {
+    line: usize,
+    column: usize,
+    offset: usize,
+    message: String,
+    advice: String,
+}
+
+#[derive(Drop, Serialize)]
+struct AcceptedObject {
+    accepted: bool,
+    notes: Vec<NoteObject>,
+}
+
+#[derive(Drop, Serialize)]
+struct RefusedObject {
+    accepted: bool,
+    violations: Vec<ViolationObject>,
+    // How many more violations there are.
+    #[serde(skip_serializing_if = "Option::is_none")]
+    untold: Option<usize>,
+}
+
+fn first_line(bytes: &[u8]) -> &[u8] {
+    for end in 0..bytes.len() {
+        if bytes[end] == b'\n' {
+            return &bytes[..end];
+        }
+    }
+    bytes
+}
+
+// Why a text is refused, where `told` says so in its first line.
+fn violation_object(
+    alloc: Global,
+    text: &[u8],
+    refusal: &Refusal,
+    told: &Page,
+) -> Result<ViolationObject, AllocError> {
+    let offset = place(refusal);
+    let position = Position::of(text, offset);
+    let mut rule = Page::new(alloc);
+    push_code(&mut rule, refusal)?;
+    Ok(ViolationObject {
+        rule: String::from_utf8_lossy(alloc, rule.as_bytes())?,
+        line: position.line,
+        column: position.column,
+        offset,
+        message: String::from_utf8_lossy(alloc, first_line(told.as_bytes()))?,
+    })
+}
+
+fn note_object(alloc: Global, note: &ToldNote) -> Result<NoteObject, AllocError> {
+    Ok(NoteObject {
+        line: note.position.line,
+        column: note.position.column,
+        offset: note.at,
+        message: String::from_utf8_lossy(alloc, note.head.as_bytes())?,
+        advice: String::from_utf8_lossy(alloc, note.advice.as_bytes())?,
+    })
+}
+
+// The page with the line of an object, and why the text is refused.
+fn page_of<T: Serialize>(
+    alloc: Global,
+    object: &T,
+    refusal: Option<Refusal>,
+) -> Result<Explanation, AllocError>
+    ensures refusal { IfOk result (λ e. e.refusal ≡ refusal) }
+    ensures line { IfOk result (λ e. Rattle.cp_formats.specs.Json.IsJsonLine e.page) }
+{
+    let bytes = line(alloc, object)?;
+    let mut page = Page::new(alloc);
+    page.bytes(&bytes)?;
+    Ok(Explanation { page, refusal })
+}
+
+// The notes on an accepted text.
+fn note_objects(alloc: Global, text: &[u8], tree: &Tree) -> Result<Vec<NoteObject>, AllocError> {
+    let mut all = Vec::new(alloc);
+    for note in &notes(alloc, text, tree)? {
+        all.push(note_object(alloc, note)?)?;
+    }
+    Ok(all)
+}
+
+// The violations that are told of a text.
+fn violation_objects(
+    alloc: Global,
+    text: &[u8],
+    tree: &Tree,
+    list: &[Violation],
+) -> Result<Vec<ViolationObject>, AllocError> {
+    let mut all = Vec::new(alloc);
+    for violation in list.iter().take(most(text)) {
+        let told = of_violation_in_short(alloc, text, tree, *violation)?;
+        let refusal = Refusal::from(*violation);
+        all.push(violation_object(alloc, text, &refusal, &told)?)?;
+    }
+    Ok(all)
+}
+
+// A text that breaks a rule: the first violation, or all of them.
+fn refused(
+    alloc: Global,
+    text: &[u8],
+    tree: &Tree,
+    first: Violation,
+    extent: Extent,
+) -> Result<RefusedObject, AllocError> {
+    let list = match extent {
+        Extent::First => Vec::from_slice(alloc, &[first])?,
+        Extent::All => violations(alloc, tree)?,
+    };
+    let violations = violation_objects(alloc, text, tree, &list)?;
+    let untold = list.len().saturating_sub(violations.len());
+    Ok(RefusedObject {
+        accepted: false,
+        violations,
+        untold: if untold == 0 { None } else { Some(untold) },
+    })
+}
+
+fn of_tree(
+    alloc: Global,
+    text: &[u8],
+    tree: &Tree,
+    extent: Extent,
+) -> Result<Explanation, AllocError>
+    requires text { IsTextOf text.now (view.tree tree.now) }
+    ensures { IfOk result (λ e. IsObjectOf text.now e.refusal e.page) }
+{
+    match judge(alloc, tree) {
+        Ok(_) => {
+            let accepted = AcceptedObject {
+                accepted: true,
+                notes: note_objects(alloc, text, tree)?,
+            };
+            page_of(alloc, &accepted, None)
+        }
+        Err(RuleError::Broken(violation)) => {
+            let refused = refused(alloc, text, tree, violation, extent)?;
+            page_of(alloc, &refused, Some(Refusal::from(violation)))
+        }
+        Err(RuleError::Memory) => Err(AllocError),
+    }
+}
+
+// Explains a text that has no tree.
+fn of_refusal(alloc: Global, text: &[u8], refusal: Refusal) -> Result<Explanation, AllocError>
+    requires refused { Refuses text.now refusal }
+    ensures { IfOk result (λ e. IsObjectOf text.now e.refusal e.page) }
+{
+    let told = of_no_tree(alloc, text, place(&refusal), refusal)?;
+    let mut violations = Vec::new(alloc);
+    violations.push(violation_object(alloc, text, &refusal, &told)?)?;
+    let refused = RefusedObject {
+        accepted: false,
+        violations,
+        untold: None,
+    };
+    page_of(alloc, &refused, Some(refusal))
+}
+
+/// Explains a text by an object: the notes on it if it is accepted, or else the first violation or
+/// all of them. Fails only if memory runs out.
+pub fn object(alloc: Global, text: &[u8], extent: Extent) -> Result<Explanation, AllocError>
+    ensures { IfOk result (λ e. IsObjectOf text.now e.refusal e.page) }
+{
+    match tree_of(alloc, text) {
+        Ok(tree) => of_tree(alloc, text, &tree, extent),
+        Err(Refusal::Memory) => Err(AllocError),
+        Err(refusal) => of_refusal(alloc, text, refusal),
+    }
+}
+
+/// Explains the text of a reader by a line with an object, and returns why it is refused.
+///
+/// # Errors
+///
+/// I1 if a read fails, M if memory runs out, and I2 if a write fails. After I1 and M nothing has
+/// been written.
+pub fn explain_object<R: Read, W: Write>(
+    alloc: Global,
+    text: &mut R,
+    extent: Extent,
+    out: &mut W,
+) -> Result<Option<Refusal>, Refusal>
+    ensures explains { IfOk result
+        (λ e. WroteObject (R.remaining text.old) e (W.contents out.old) (W.contents out.new)) }
+    ensures unwritten { IfErr result
+        (λ e. (e ≡ refusal.Write → ⊥)
+        → Keeps (W.contents out.old) (W.contents out.new)) }
+    ensures fault { IfErr result IsFault }
+{
+    let bytes = read(alloc, text)?;
+    let Explanation { page, refusal } = object(alloc, &bytes, extent)?;
+    match write_all(out, page.as_bytes()) {
+        Ok(()) => Ok(refusal),
+        Err(_) => Err(Refusal::Write),
+    }
+}

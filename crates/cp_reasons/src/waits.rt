@@ -1,0 +1,155 @@
+//! Who waits for whom, as a graph for Graphviz: an arrow leads from a process to the monitor that
+//! it asks for or that it is delayed in, and from a monitor to the process that holds it.
+
+ghost use Rattle.std.specs.Prelude.{IfOk};
+ghost use Rattle.cp_reasons.specs.Graphs.{IsGraph};
+
+use crate::names::{Subject, activity};
+use crate::states::word_of;
+use cp_formats::graphviz::{push_arrow, push_node};
+use cp_model::tree::Tree;
+use cp_page::page::Page;
+use cp_private::outside::{Holder, Stage};
+use cp_private::private::Activity;
+use cp_rounds::machine::Machine;
+use cp_scope::small_number;
+use std::alloc::{AllocError, Global};
+
+impl<'r, 't> Subject<'r, 't> {
+    // The node of a process. That of process 1 has a blank, which no name of a text has.
+    fn node_of(&self, number: u32) -> &[u8] {
+        if number == 1 {
+            return b"initial process";
+        }
+        self.process_name(number)
+    }
+
+    fn has_ended(&self, number: u32) -> bool {
+        matches!(activity(self.machine, number as usize), Activity::Ended)
+    }
+
+    fn add_process(&self, page: &mut Page, number: u32) -> Result<(), AllocError> {
+        if self.has_ended(number) {
+            return Ok(());
+        }
+        let stage = self.machine.kernel().stage(number);
+        page.text("  ")?;
+        push_node(page, self.node_of(number))?;
+        page.text(" [label=\"")?;
+        page.bytes(self.process_name(number))?;
+        page.text("\\n")?;
+        page.text(word_of(stage, activity(self.machine, number as usize)))?;
+        page.text("\", shape=ellipse];\n")
+    }
+
+    // Whether a process is delayed in a monitor.
+    fn has_delayed(&self, monitor: u32) -> Result<bool, AllocError> {
+        for index in 0..self.machine.processes() {
+            let number = small_number(index.saturating_add(1))?;
+            match self.machine.kernel().stage(number) {
+                Stage::Delayed { monitor: of, .. } if of == monitor => return Ok(true),
+                _ => {}
+            }
+        }
+        Ok(false)
+    }
+
+    // Whether a monitor is held, or processes ask for it or are delayed in it.
+    fn is_used(&self, monitor: u32) -> Result<bool, AllocError> {
+        let kernel = self.machine.kernel();
+        let is_held = matches!(kernel.holder(monitor), Holder::Process(_));
+        Ok(is_held || !kernel.askers(monitor).is_empty() || self.has_delayed(monitor)?)
+    }
+
+    fn add_monitor(&self, page: &mut Page, monitor: u32) -> Result<(), AllocError> {
+        if !self.is_used(monitor)? {
+            return Ok(());
+        }
+        page.text("  ")?;
+        push_node(page, self.monitor_name(monitor))?;
+        page.text(" [shape=box];\n")
+    }
+
+    // Adds what a process waits for.
+    fn add_wait(&self, page: &mut Page, number: u32) -> Result<(), AllocError> {
+        match self.machine.kernel().stage(number) {
+            Stage::Asking(monitor) => {
+                push_arrow(page, self.node_of(number), self.monitor_name(monitor))?;
+                page.text(";\n")
+            }
+            Stage::Delayed { monitor, queue } => {
+                push_arrow(page, self.node_of(number), self.monitor_name(monitor))?;
+                page.text(" [label=\"")?;
+                page.bytes(&self.queue_name(queue)?)?;
+                page.text("\", style=dashed];\n")
+            }
+            Stage::Unstarted | Stage::Fresh | Stage::Begun => Ok(()),
+        }
+    }
+
+    fn add_holder(&self, page: &mut Page, monitor: u32) -> Result<(), AllocError> {
+        match self.machine.kernel().holder(monitor) {
+            Holder::Process(number) => {
+                push_arrow(page, self.monitor_name(monitor), self.node_of(number))?;
+                page.text(";\n")
+            }
+            Holder::Unset | Holder::Free => Ok(()),
+        }
+    }
+
+    fn add_processes(&self, page: &mut Page) -> Result<(), AllocError> {
+        for index in 0..self.machine.processes() {
+            self.add_process(page, small_number(index.saturating_add(1))?)?;
+        }
+        Ok(())
+    }
+
+    fn add_monitors(&self, page: &mut Page) -> Result<(), AllocError> {
+        for index in 0..self.monitors.len() {
+            self.add_monitor(page, small_number(index.saturating_add(1))?)?;
+        }
+        Ok(())
+    }
+
+    fn add_waits(&self, page: &mut Page) -> Result<(), AllocError> {
+        for index in 0..self.machine.processes() {
+            self.add_wait(page, small_number(index.saturating_add(1))?)?;
+        }
+        Ok(())
+    }
+
+    fn add_holders(&self, page: &mut Page) -> Result<(), AllocError> {
+        for index in 0..self.monitors.len() {
+            self.add_holder(page, small_number(index.saturating_add(1))?)?;
+        }
+        Ok(())
+    }
+}
+
+/// Returns who waits for whom in a machine, as a graph for Graphviz: its processes that haven't
+/// ended, and its monitors that are held, asked for or waited in. The machine runs the program of a
+/// text with these bytes and this tree.
+///
+/// # Errors
+///
+/// `AllocError` if memory runs out.
+pub fn waits(
+    alloc: Global,
+    text: &[u8],
+    tree: &Tree,
+    machine: &Machine,
+) -> Result<Vec<u8>, AllocError>
+    ensures { IfOk result (λ bytes. IsGraph bytes.items) }
+{
+    let subject = Subject::of(alloc, text, tree, machine)?;
+    let mut page = Page::new(alloc);
+    subject.add_processes(&mut page)?;
+    subject.add_monitors(&mut page)?;
+    subject.add_waits(&mut page)?;
+    subject.add_holders(&mut page)?;
+    let mut bytes = Vec::new(alloc);
+    bytes.extend_from_slice(b"digraph outcome {\n")?;
+    bytes.extend_from_slice(page.as_bytes())?;
+    bytes.extend_from_slice(b"}\n")?;
+    Ok(bytes)
+}
