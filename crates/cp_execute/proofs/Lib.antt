@@ -8,3 +8,4 @@ pub mod Replays
 pub mod OrderRefusals
 pub mod OrdersDue
 pub mod OutcomesDue
+pub mod Traced

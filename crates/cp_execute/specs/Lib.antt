@@ -6,3 +6,4 @@ pub mod MachineReports
 pub mod Executed
 pub mod Replayed
 pub mod Outcomes
+pub mod Traces
