@@ -15,3 +15,9 @@ mod misuse;
 pub mod numbers;
 mod options;
 pub mod reading;
+
+pub use cp_access::graph::Form;
+pub use cp_execute::replaying::Replay;
+pub use cp_execute::running::Run;
+pub use cp_execute::tracing::Tracing;
+pub use cp_execute::until_still::UntilStill;

@@ -3,10 +3,10 @@ use Rattle.std.proofs.Common.{◌≡◌, ℕ, List, Ok, Option, Some, IfSome, su
 use Rattle.cp_model.specs.Syntax as s
 use Rattle.cp_outcome.specs.declared.verdict.Verdict.{Verdict}
 use Rattle.cp_execute.specs.declared.until_still.UntilStill.{UntilStill}
-use Rattle.cp_execute.specs.Cutting.{judge_input}
+use Rattle.cp_accept.specs.Cutting.{judge_input}
 use Rattle.cp_execute.specs.Outcomes.{Due, IsOutcome}
-use Rattle.cp_execute.specs.Texts.{IsAccepted}
-use Rattle.cp_execute.proofs.TextRefusals.{of_known}
+use Rattle.cp_accept.specs.Texts.{IsAccepted}
+use Rattle.cp_accept.proofs.TextRefusals.{of_known}
 
 pub outcome_due : (how : UntilStill) (v : Verdict) (text input : Option (List ℕ)) (t : s.Tree) (bytes outcome : List ℕ) (Writes : List ℕ → Type 0)
     → IfSome text (λ xs. IsAccepted xs t) → IfSome input (λ ys. bytes ≡ ys) → judge_input bytes ≡ Ok tt → IsOutcome how t bytes v outcome → Writes outcome

@@ -18,7 +18,7 @@ use Rattle.cp_rounds.specs.MachineOf.{bytes_or_none, input_of}
 use Rattle.cp_rounds.proofs.Lists.{got_at}
 use Rattle.cp_scope.specs.Texts.{TablesStand}
 use Rattle.cp_scope.specs.declared.tables.Tables.{Tables}
-use Rattle.cp_execute.specs.Cutting.{AreParts, Bytes}
+use Rattle.cp_accept.specs.Cutting.{AreParts, Bytes}
 use Rattle.cp_execute.specs.Executed.{IsReportOf}
 use Rattle.cp_execute.specs.MachineReports.{IsReport}
 

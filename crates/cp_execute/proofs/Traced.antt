@@ -12,11 +12,11 @@ use Rattle.cp_machine_model.specs.PrivateStates.{PrivateState}
 use Rattle.cp_rounds.specs.InStates.{MakesRounds}
 use Rattle.cp_rounds.specs.Views.{machine_of}
 use Rattle.cp_rounds.specs.declared.machine.Machine as real
-use Rattle.cp_execute.specs.Cutting.{judge_input}
-use Rattle.cp_execute.specs.Texts.{IsAccepted}
+use Rattle.cp_accept.specs.Cutting.{judge_input}
+use Rattle.cp_accept.specs.Texts.{IsAccepted}
 use Rattle.cp_execute.specs.Traces.{Extends, IsTraced, Traces}
 use Rattle.cp_execute.specs.declared.tracing.Tracing.{Tracing}
-use Rattle.cp_execute.proofs.TextRefusals.{of_known}
+use Rattle.cp_accept.proofs.TextRefusals.{of_known}
 
 -- ---- The number of rounds
 

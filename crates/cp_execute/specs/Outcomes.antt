@@ -10,10 +10,10 @@ use Rattle.cp_outcome.specs.declared.verdict.Verdict.{Verdict}
 use Rattle.cp_report.specs.Outcomes.{BeginsWithVerdict}
 use Rattle.cp_stillness.specs.Stillness.{is_still}
 use Rattle.cp_execute.specs.declared.until_still.UntilStill.{UntilStill}
-use Rattle.cp_execute.specs.Cutting.{judge_input}
+use Rattle.cp_accept.specs.Cutting.{judge_input}
 use Rattle.cp_execute.specs.Executed.{setup_of}
-use Rattle.cp_execute.specs.Takings.{AppendsSome}
-use Rattle.cp_execute.specs.Texts.{IsAccepted}
+use Rattle.cp_accept.specs.Takings.{AppendsSome}
+use Rattle.cp_accept.specs.Texts.{IsAccepted}
 
 -- The state that one processor reaches by so many rounds.
 abbrev pub state_after : UntilStill → s.Tree → List ℕ → ℕ → State

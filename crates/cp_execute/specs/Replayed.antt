@@ -11,13 +11,14 @@ use Rattle.cp_machine_model.specs.InState.{IsIn}
 use Rattle.cp_orders.specs.Reading.{judged}
 use Rattle.cp_rounds.specs.Views.{machine_of}
 use Rattle.cp_rounds.specs.declared.machine.Machine.{Machine}
-use Rattle.cp_execute.specs.declared.refusal.Refusal.{Refusal}
-use Rattle.cp_execute.specs.declared.refusal.Refusal.TheVariants as refusal
+use Rattle.cp_accept.specs.declared.refusal.Refusal.{Refusal}
+use Rattle.cp_accept.specs.declared.refusal.Refusal.TheVariants as refusal
 use Rattle.cp_execute.specs.declared.replaying.Replay.{Replay}
-use Rattle.cp_execute.specs.Cutting.{judge_input}
-use Rattle.cp_execute.specs.Executed.{IsReportOf, RefusesInputOf, RefusesText, setup_of}
-use Rattle.cp_execute.specs.Takings.{AppendsSome, Concern, IsAboutOrder, Text, concern, front}
-use Rattle.cp_execute.specs.Texts.{IsAccepted}
+use Rattle.cp_accept.specs.Cutting.{judge_input}
+use Rattle.cp_accept.specs.KnownRefusals.{RefusesInputOf, RefusesText}
+use Rattle.cp_execute.specs.Executed.{IsReportOf, setup_of}
+use Rattle.cp_accept.specs.Takings.{AppendsSome, Concern, IsAboutOrder, Text, concern, front}
+use Rattle.cp_accept.specs.Texts.{IsAccepted}
 
 -- ---- Orders
 

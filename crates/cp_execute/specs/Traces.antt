@@ -7,12 +7,12 @@ use Rattle.cp_model.specs.Start.{start}
 use Rattle.cp_machine_model.specs.InState.{IsIn}
 use Rattle.cp_rounds.specs.Views.{machine_of}
 use Rattle.cp_rounds.specs.declared.machine.Machine.{Machine}
-use Rattle.cp_execute.specs.declared.refusal.Refusal.{Refusal}
-use Rattle.cp_execute.specs.declared.refusal.Refusal.TheVariants as refusal
+use Rattle.cp_accept.specs.declared.refusal.Refusal.{Refusal}
+use Rattle.cp_accept.specs.declared.refusal.Refusal.TheVariants as refusal
 use Rattle.cp_execute.specs.declared.tracing.Tracing.{Tracing}
-use Rattle.cp_execute.specs.Cutting.{judge_input}
+use Rattle.cp_accept.specs.Cutting.{judge_input}
 use Rattle.cp_execute.specs.Executed.{setup_of}
-use Rattle.cp_execute.specs.Texts.{IsAccepted}
+use Rattle.cp_accept.specs.Texts.{IsAccepted}
 
 -- Known bytes stay at the front, and some come behind them.
 abbrev pub Extends : Option (List ℕ) → Option (List ℕ) → Type 0

@@ -2,14 +2,15 @@
 
 ghost use Rattle.std.specs.Prelude.{◌≡◌, IfErr, IfSome, OnOk};
 ghost use Rattle.std.specs.Io.KnownBytes.{Keeps};
-ghost use Rattle.cp_execute.specs.Executed.{Accepts, Begins, BeginsAcceptance, BeginsReport, Does, IsFaultOfAccepted, IsFaultOrOfInput, Refuses, RefusesAccepted, RefusesRun, RefusesText, Reports, TakesInputFor};
-ghost use Rattle.cp_execute.specs.Takings.{TakesInput, TakesText};
-ghost use Rattle.cp_execute.specs.declared.refusal.Refusal.TheVariants as refusal;
+ghost use Rattle.cp_accept.specs.KnownRefusals.{IsFaultOfAccepted, IsFaultOrOfInput, RefusesRun, RefusesText};
+ghost use Rattle.cp_execute.specs.Executed.{Accepts, Begins, BeginsAcceptance, BeginsReport, Does, Refuses, RefusesAccepted, Reports, TakesInputFor};
+ghost use Rattle.cp_accept.specs.Takings.{TakesInput, TakesText};
+ghost use Rattle.cp_accept.specs.declared.refusal.Refusal.TheVariants as refusal;
 
-use crate::refusal::Refusal;
 use crate::running::{Run, report_after_run};
-use crate::sources::{read_accepted, read_input};
-use crate::writing::write_result;
+use cp_accept::refusal::Refusal;
+use cp_accept::sources::{read_accepted, read_input};
+use cp_accept::writing::write_result;
 use cp_rounds::gate::TurnGate;
 use std::alloc::Global;
 use std::io::{Read, Write};

@@ -4,14 +4,14 @@
 ghost use Rattle.std.specs.Prelude.{◌≡◌, IfErr, IfSome, OnOk};
 ghost use Rattle.std.specs.Io.KnownBytes.{Keeps};
 ghost use Rattle.cp_execute.specs.Replayed.{BeginsReplay, RefusesNoAccepted, RefusesReplay, Replays};
-ghost use Rattle.cp_execute.specs.Takings.{TakesInput, TakesOrder, TakesText};
-ghost use Rattle.cp_execute.specs.declared.refusal.Refusal.TheVariants as refusal;
+ghost use Rattle.cp_accept.specs.Takings.{TakesInput, TakesOrder, TakesText};
+ghost use Rattle.cp_accept.specs.declared.refusal.Refusal.TheVariants as refusal;
 
-use crate::reading::read_text;
-use crate::refusal::Refusal;
 use crate::replaying::{Replay, report_after_replay};
-use crate::sources::{read_accepted, read_input};
-use crate::writing::write_result;
+use cp_accept::reading::read_text;
+use cp_accept::refusal::Refusal;
+use cp_accept::sources::{read_accepted, read_input};
+use cp_accept::writing::write_result;
 use std::alloc::Global;
 use std::io::{Read, Write};
 

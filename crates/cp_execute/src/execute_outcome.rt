@@ -3,15 +3,15 @@
 
 ghost use Rattle.std.specs.Prelude.{◌≡◌, IfErr, IfOk, IfSome};
 ghost use Rattle.std.specs.Io.KnownBytes.{Keeps};
-ghost use Rattle.cp_execute.specs.Executed.{IsFaultOrOfInput, RefusesRun};
+ghost use Rattle.cp_accept.specs.KnownRefusals.{IsFaultOrOfInput, RefusesRun};
 ghost use Rattle.cp_execute.specs.Outcomes.{BeginsOutcome, TellsOutcome};
-ghost use Rattle.cp_execute.specs.Takings.{TakesInput, TakesText};
-ghost use Rattle.cp_execute.specs.declared.refusal.Refusal.TheVariants as refusal;
+ghost use Rattle.cp_accept.specs.Takings.{TakesInput, TakesText};
+ghost use Rattle.cp_accept.specs.declared.refusal.Refusal.TheVariants as refusal;
 
-use crate::refusal::Refusal;
-use crate::sources::{read_accepted_text, read_input};
 use crate::until_still::{UntilStill, outcome_after_run};
-use crate::writing::write_result;
+use cp_accept::refusal::Refusal;
+use cp_accept::sources::{read_accepted_text, read_input};
+use cp_accept::writing::write_result;
 use cp_outcome::verdict::Verdict;
 use cp_rounds::gate::TurnGate;
 use std::alloc::Global;

@@ -2,15 +2,15 @@
 
 ghost use Rattle.std.specs.Prelude.{◌≡◌, IfErr, IfOk, IfSome};
 ghost use Rattle.std.specs.Io.KnownBytes.{Keeps};
-ghost use Rattle.cp_execute.specs.Executed.{IsFaultOrOfInput, RefusesRun};
-ghost use Rattle.cp_execute.specs.Takings.{TakesInput, TakesText};
+ghost use Rattle.cp_accept.specs.KnownRefusals.{IsFaultOrOfInput, RefusesRun};
+ghost use Rattle.cp_accept.specs.Takings.{TakesInput, TakesText};
 ghost use Rattle.cp_execute.specs.Traces.{Extends, IsMemoryOrWrite, Traces};
-ghost use Rattle.cp_execute.specs.declared.refusal.Refusal.TheVariants as refusal;
+ghost use Rattle.cp_accept.specs.declared.refusal.Refusal.TheVariants as refusal;
 
-use crate::checking::accept;
-use crate::refusal::Refusal;
-use crate::sources::{read_accepted, read_input};
 use crate::tracing::{Tracing, machine_after_trace};
+use cp_accept::checking::accept;
+use cp_accept::refusal::Refusal;
+use cp_accept::sources::{read_accepted, read_input};
 use cp_report::roster::Roster;
 use cp_rounds::gate::TurnGate;
 use cp_rounds::machine::Machine;

@@ -10,9 +10,9 @@ ghost use Rattle.cp_program.specs.View as program_view;
 ghost use Rattle.cp_rounds.specs.Views.{processes_of};
 ghost use Rattle.cp_execute.specs.Replayed.{IsDueAfter, IsReplayed, MakesReplays, RefusesOrder, RefusesOrderFor, judge_order_of};
 
-use crate::cutting::cut_input;
-use crate::refusal::Refusal;
 use crate::running::report_of;
+use cp_accept::cutting::cut_input;
+use cp_accept::refusal::Refusal;
 use cp_check::checking::program;
 use cp_machine_model::law::{reports, waits};
 use cp_model::tree::Tree;

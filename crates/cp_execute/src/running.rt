@@ -6,10 +6,10 @@ ghost use Rattle.cp_model.specs.View as view;
 ghost use Rattle.cp_rounds.specs.Views.{machine_of};
 ghost use Rattle.cp_execute.specs.Executed.{IsAtStart, IsDue, setup_of};
 ghost use Rattle.cp_execute.specs.MachineReports.{IsReport};
-ghost use Rattle.cp_execute.specs.declared.refusal.Refusal.TheVariants as refusal;
+ghost use Rattle.cp_accept.specs.declared.refusal.Refusal.TheVariants as refusal;
 
-use crate::cutting::cut_input;
-use crate::refusal::Refusal;
+use cp_accept::cutting::cut_input;
+use cp_accept::refusal::Refusal;
 use cp_check::checking::program;
 use cp_machine_model::law::{reports, waits};
 use cp_model::tree::Tree;

@@ -5,11 +5,11 @@ ghost use Rattle.cp_model.specs.Rules.{Accepted};
 ghost use Rattle.cp_model.specs.View as view;
 ghost use Rattle.cp_rounds.specs.InStates.{MakesRounds};
 ghost use Rattle.cp_execute.specs.Traces.{Extends, IsMemoryOrWrite, IsTraced};
-ghost use Rattle.cp_execute.specs.declared.refusal.Refusal.TheVariants as refusal;
+ghost use Rattle.cp_accept.specs.declared.refusal.Refusal.TheVariants as refusal;
 
-use crate::refusal::Refusal;
 use crate::running::machine_at_start;
-use crate::writing::write_result;
+use cp_accept::refusal::Refusal;
+use cp_accept::writing::write_result;
 use cp_model::tree::Tree;
 use cp_rounds::gate::TurnGate;
 use cp_rounds::machine::Machine;

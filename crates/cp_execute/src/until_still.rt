@@ -4,11 +4,11 @@ ghost use Rattle.std.specs.Prelude.{◌≡◌, IfErr, IfOk};
 ghost use Rattle.cp_model.specs.Rules.{Accepted};
 ghost use Rattle.cp_model.specs.View as view;
 ghost use Rattle.cp_execute.specs.Outcomes.{IsOutcome};
-ghost use Rattle.cp_execute.specs.declared.refusal.Refusal.TheVariants as refusal;
+ghost use Rattle.cp_accept.specs.declared.refusal.Refusal.TheVariants as refusal;
 
-use crate::refusal::Refusal;
 use crate::running::machine_at_start;
-use crate::sources::Text;
+use cp_accept::refusal::Refusal;
+use cp_accept::sources::Text;
 use cp_outcome::verdict::{Verdict, verdict_on};
 use cp_reasons::reasons::reasons;
 use cp_report::outcome::outcome;

@@ -2,8 +2,8 @@
 //! that this one hasn't.
 
 use crate::explain::heading_of;
+use cp_accept::refusal::Refusal;
 use cp_diagnosis::of_violation_in_short;
-use cp_execute::refusal::Refusal;
 use cp_model::rules::Violation;
 use cp_model::tree::Tree;
 use cp_page::page::Page;

@@ -1,6 +1,6 @@
 //! The explanation of a text that has no tree, after its heading.
 
-use cp_execute::refusal::{Refusal, scan_number};
+use cp_accept::refusal::{Refusal, scan_number};
 use cp_page::page::Page;
 use cp_slips::{of_depth, of_spelling, of_unexpected, of_unfinished};
 use std::alloc::{AllocError, Global};

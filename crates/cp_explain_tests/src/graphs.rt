@@ -1,7 +1,7 @@
 //! Access graphs: which components and rights are shown, in either form, and to which writer.
 
 use super::telling::{explanation, has_line};
-use cp_execute::refusal::Refusal;
+use cp_accept::refusal::Refusal;
 use cp_explain::explain::draw_text;
 use std::alloc::Global;
 use std::test::Fail;

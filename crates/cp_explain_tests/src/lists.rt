@@ -1,7 +1,7 @@
 //! `explain --all`: for each text all of its violations, with their places.
 
 use super::telling::explanation;
-use cp_execute::refusal::Refusal;
+use cp_accept::refusal::Refusal;
 use cp_explain::explain::explain_all_text;
 use cp_model::rules::Rule;
 use cp_page::position::Position;

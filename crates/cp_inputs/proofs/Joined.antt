@@ -2,8 +2,8 @@
 use Rattle.std.proofs.Common.{◌≡◌, ℕ, zero, suc, List, [], ◌∷◌, ◌++◌, Bool, true, false, Some, refl, sym, ap, ◌∙◌, arith, slice_get, length}
 use Rattle.std.specs.Prelude.{if◌then◌else◌, nat_eq}
 use Rattle.cp_model.specs.Input.{cut}
-use Rattle.cp_execute.specs.Cutting.{AreParts, Bytes, after_separator, front_part}
-use Rattle.cp_execute.proofs.Parts.{cut_first, cut_later}
+use Rattle.cp_accept.specs.Cutting.{AreParts, Bytes, after_separator, front_part}
+use Rattle.cp_accept.proofs.Parts.{cut_first, cut_later}
 use Rattle.cp_inputs.specs.Joining.{AreWhole, joined}
 
 same_tail : (a b : ℕ) (xs ys : List ℕ) → a ∷ xs ≡ b ∷ ys → xs ≡ ys

@@ -1,6 +1,6 @@
 -- The joined input: the inputs of the processes by number, with a byte 28 behind each.
 use Rattle.std.specs.Prelude.{◌≡◌, ◌++◌, ◌&&◌, ℕ, suc, Bool, not, List, [], ◌∷◌, Option, None, Some, if◌then◌else◌, nat_eq, nat_le, slice_get}
-use Rattle.cp_execute.specs.Cutting.{Bytes, front_part}
+use Rattle.cp_accept.specs.Cutting.{Bytes, front_part}
 
 abbrev pub joined : List Bytes → List ℕ
 joined [] = []

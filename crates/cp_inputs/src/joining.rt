@@ -1,7 +1,7 @@
 //! Joins the inputs of all processes.
 
 ghost use Rattle.std.specs.Prelude.{◌≡◌, IfOk, None, length};
-ghost use Rattle.cp_execute.specs.Cutting.{AreParts, front_part};
+ghost use Rattle.cp_accept.specs.Cutting.{AreParts, front_part};
 ghost use Rattle.cp_inputs.specs.Joining.{AreWhole, joined, misplaced_from};
 
 use std::alloc::{AllocError, Global};

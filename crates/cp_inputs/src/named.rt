@@ -1,14 +1,14 @@
 //! The processes of a text by name, and the joined input of those that have one.
 
 ghost use Rattle.std.specs.Prelude.{◌≡◌};
-ghost use Rattle.cp_execute.specs.declared.refusal.Refusal.TheVariants as refusal;
+ghost use Rattle.cp_accept.specs.declared.refusal.Refusal.TheVariants as refusal;
 ghost use Rattle.cp_inputs.specs.declared.named.InputError.TheVariants as error;
 
 use crate::joining::{join, misplaced};
-use cp_execute::checking::tree_of;
-use cp_execute::cutting::LONGEST_INPUT;
-use cp_execute::reading::{ReadError, read_text};
-use cp_execute::refusal::Refusal;
+use cp_accept::checking::tree_of;
+use cp_accept::cutting::LONGEST_INPUT;
+use cp_accept::reading::{ReadError, read_text};
+use cp_accept::refusal::Refusal;
 use cp_model::tree::{Sort, Tree};
 use cp_report::listing::components;
 use cp_rules::text::{RuleError, judge};

@@ -3,8 +3,8 @@
 use crate::opening::open_named;
 use crate::printing::flush;
 use crate::status::Failure;
+use cp_accept::refusal::{Refusal, exit_of};
 use cp_access::graph::Form;
-use cp_execute::refusal::{Refusal, exit_of};
 use cp_explain::explain::{draw_text, explain_all_text, explain_text};
 use std::alloc::Global;
 use std::fs::Files;

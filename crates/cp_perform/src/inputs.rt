@@ -2,9 +2,9 @@
 
 use crate::opening::{Source, open, open_named};
 use crate::status::Failure;
+use cp_accept::reading::read_text;
+use cp_accept::refusal::Refusal;
 use cp_command::command::{Inputs, NamedInput};
-use cp_execute::reading::read_text;
-use cp_execute::refusal::Refusal;
 use cp_inputs::named::{InputOf, joined_input};
 use std::alloc::Global;
 use std::fs::Files;

@@ -17,3 +17,8 @@ pub mod perform;
 mod printing;
 mod running;
 pub mod status;
+
+pub use cp_accept::refusal::Refusal;
+pub use cp_command as command;
+pub use cp_inputs::named::InputError;
+pub use cp_outcome::verdict::Verdict;

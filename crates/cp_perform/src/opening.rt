@@ -6,8 +6,8 @@ ghost use Rattle.std.specs.Io.KnownBytes.{ReadConsumes};
 ghost use Rattle.cp_perform.specs.Sources.{remaining_of};
 
 use crate::status::Failure;
+use cp_accept::refusal::Refusal;
 use cp_command::command::STANDARD_INPUT;
-use cp_execute::refusal::Refusal;
 use std::fs::{self, Files};
 use std::io::{self, Cursor, ErrorKind, Input, Read};
 

@@ -1,7 +1,7 @@
 //! Standard output.
 
+use cp_accept::refusal::Refusal;
 use cp_command::command::VERSION;
-use cp_execute::refusal::Refusal;
 use std::io::{self, Print, Write};
 
 /// Hands over what the writer may hold back.

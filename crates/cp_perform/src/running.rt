@@ -1,18 +1,18 @@
-//! Checks, runs, outcomes, traces and replays. Each opens all that it reads before it reads any of it, and
-//! prints its result. Errors are those of opening, of joining inputs, and of the calls of
+//! Checks, runs, outcomes, traces and replays. Each opens all that it reads before it reads any of
+//! it, and prints its result. Errors are those of opening, of joining inputs, and of the calls of
 //! cp_execute.
 
 use crate::inputs::open_inputs;
 use crate::opening::{Source, open};
 use crate::printing::flush;
 use crate::status::Failure;
+use cp_accept::reading::read_text;
+use cp_accept::refusal::Refusal;
 use cp_command::command::{Inputs, STANDARD_INPUT};
 use cp_execute::execute::{Job, execute};
 use cp_execute::execute_order::execute_order;
 use cp_execute::execute_outcome::execute_outcome;
 use cp_execute::execute_trace::{execute_trace, unknown_name};
-use cp_execute::reading::read_text;
-use cp_execute::refusal::Refusal;
 use cp_execute::replaying::Replay;
 use cp_execute::running::Run;
 use cp_execute::tracing::Tracing;

@@ -2,10 +2,10 @@
 
 ghost use Rattle.std.specs.Prelude.{◌≡◌};
 ghost use Rattle.cp_perform.specs.Statuses.{status};
-ghost use Rattle.cp_execute.specs.declared.refusal.Refusal.TheVariants as refusal;
+ghost use Rattle.cp_accept.specs.declared.refusal.Refusal.TheVariants as refusal;
 ghost use Rattle.cp_perform.specs.declared.status.Failure.TheVariants as failure;
 
-use cp_execute::refusal::{Refusal, exit_of};
+use cp_accept::refusal::{Refusal, exit_of};
 use cp_inputs::named::InputError;
 use cp_outcome::verdict::Verdict;
 use std::alloc::AllocFailed;

@@ -1,9 +1,9 @@
 //! What `execute` returns for a worked text.
 
 use crate::cases::{Case, bytes_of};
+use cp_accept::refusal::Refusal;
 use cp_execute::execute::{Job, execute};
 use cp_execute::execute_order::execute_order;
-use cp_execute::refusal::Refusal;
 use cp_execute::replaying::Replay;
 use cp_execute::running::Run;
 use cp_private::turn::Turn;

@@ -2,9 +2,9 @@
 //! files that they name, and prints what was asked for.
 #![tactic(auto)]
 
-use cp_command::command::CommandError;
-use cp_command::reading::read_command;
-use cp_execute::refusal::Refusal;
+use cp_perform::Refusal;
+use cp_perform::command::command::CommandError;
+use cp_perform::command::reading::read_command;
 use cp_perform::perform::perform;
 use cp_perform::status::{Failure, USAGE};
 use std::process::ExitCode;

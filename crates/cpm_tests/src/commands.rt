@@ -1,14 +1,12 @@
 //! Command lines.
 
-use cp_access::graph::Form;
-use cp_command::command::{Command, CommandError, Inputs};
-use cp_command::numbers::number;
-use cp_command::reading::read_command;
-use cp_execute::refusal::Refusal;
-use cp_execute::running::Run;
-use cp_outcome::verdict::Verdict;
+use cp_perform::command::command::{Command, CommandError, Inputs};
+use cp_perform::command::numbers::number;
+use cp_perform::command::reading::read_command;
+use cp_perform::command::{Form, Run};
 use cp_perform::perform::perform;
 use cp_perform::status::{Failure, status_of};
+use cp_perform::{Refusal, Verdict};
 use std::test::*;
 
 // The numbers of a run in the order rounds, turn, workers, chunk, wave, tick.

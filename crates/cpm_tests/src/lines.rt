@@ -1,11 +1,10 @@
 //! Command lines: the version, help, and inputs by name.
 
-use cp_command::command::{Command, CommandError, Inputs};
-use cp_command::reading::read_command;
-use cp_execute::refusal::Refusal;
-use cp_inputs::named::InputError;
+use cp_perform::command::command::{Command, CommandError, Inputs};
+use cp_perform::command::reading::read_command;
 use cp_perform::perform::perform;
 use cp_perform::status::Failure;
+use cp_perform::{InputError, Refusal};
 use std::alloc::Global;
 use std::test::*;
 

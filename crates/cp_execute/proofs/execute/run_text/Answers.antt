@@ -4,13 +4,13 @@ use Rattle.std.proofs.lemmas.Result.{err_from_is_err_and}
 use Rattle.cp_model.specs.Syntax as s
 use Rattle.cp_model.specs.View as view
 use Rattle.cp_judge.proofs.Tells.{on_ok}
-use Rattle.cp_execute.specs.Cutting.{judge_input}
+use Rattle.cp_accept.specs.Cutting.{judge_input}
 use Rattle.cp_execute.specs.Executed.{IsDue}
-use Rattle.cp_execute.specs.Takings.{concern}
-use Rattle.cp_execute.specs.Texts.{IsAccepted}
-use Rattle.cp_execute.proofs.Faults.{known_text_fault, memory_fault, of_err, on_err, write_fault}
-use Rattle.cp_execute.proofs.Takings.{input_kept, input_written, memory_at, no_write_of_input, no_write_of_text, text_at, text_taken}
-use Rattle.cp_execute.proofs.TextRefusals.{of_known, run_refused_input, run_refused_text}
+use Rattle.cp_accept.specs.Takings.{concern}
+use Rattle.cp_accept.specs.Texts.{IsAccepted}
+use Rattle.cp_accept.proofs.Faults.{known_text_fault, memory_fault, of_err, on_err, write_fault}
+use Rattle.cp_accept.proofs.Takings.{input_kept, input_written, memory_at, no_write_of_input, no_write_of_text, text_at, text_taken}
+use Rattle.cp_accept.proofs.TextRefusals.{of_known, run_refused_input, run_refused_text}
 use Rattle.cp_execute.proofs.execute.run_text.Given.{Over}
 use Rattle.cp_execute.proofs.execute.run_text.Goals as goal
 use Rattle.cp_execute.proofs.execute.run_text.Goals.{After-drop-tree-5}

@@ -11,7 +11,7 @@ use Rattle.cp_program.specs.View as program_view
 use Rattle.cp_program_model.specs.StandsFor.{StandsFor}
 use Rattle.cp_rounds.specs.Views.{machine_of, processes_of}
 use Rattle.cp_rounds.proofs.InStates.{process_count_is}
-use Rattle.cp_execute.specs.Cutting.{AreParts}
+use Rattle.cp_accept.specs.Cutting.{AreParts}
 use Rattle.cp_execute.specs.Executed.{setup_of}
 use Rattle.cp_execute.specs.Replayed.{timed}
 use Rattle.cp_execute.proofs.Replays.{replay_calm}

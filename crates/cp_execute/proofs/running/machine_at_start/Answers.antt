@@ -3,7 +3,7 @@ use Rattle.cp_machine_model.specs.Machines as plain
 use Rattle.cp_model.specs.View as view
 use Rattle.cp_program.specs.View as program_view
 use Rattle.cp_program_model.specs.StandsFor.{StandsFor}
-use Rattle.cp_execute.specs.Cutting.{AreParts}
+use Rattle.cp_accept.specs.Cutting.{AreParts}
 use Rattle.cp_execute.specs.Executed.{setup_of}
 use Rattle.cp_execute.proofs.Starts.{have_inputs}
 use Rattle.cp_execute.proofs.running.machine_at_start.Goals as goal

@@ -6,7 +6,7 @@ use Rattle.cp_model.specs.Start.{start}
 use Rattle.cp_model.specs.View as view
 use Rattle.cp_rounds.specs.Views.{machine_of}
 use Rattle.cp_execute.specs.Executed.{setup_of}
-use Rattle.cp_execute.proofs.Faults.{from_ok}
+use Rattle.cp_accept.proofs.Faults.{from_ok}
 use Rattle.cp_execute.proofs.Starts.{reported}
 use Rattle.cp_execute.proofs.running.report_after_run.Goals as goal
 

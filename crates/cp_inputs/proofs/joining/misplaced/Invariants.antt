@@ -1,5 +1,5 @@
 use Rattle.std.proofs.Common.{◌≡◌, ◌++◌, drop, take}
-use Rattle.cp_execute.specs.Cutting.{front_part}
+use Rattle.cp_accept.specs.Cutting.{front_part}
 use Rattle.cp_inputs.specs.Joining.{misplaced_from}
 use Rattle.cp_inputs.proofs.joining.misplaced.Given as goal
 

@@ -1,0 +1,5 @@
+pub mod Refusals
+pub mod Cutting
+pub mod Texts
+pub mod Takings
+pub mod KnownRefusals
