@@ -50,7 +50,8 @@ fn trace_round<H: Threads + Wait + Sync, G: TurnGate>(
     ensures count { OnOk result (machine.new.rounds ≡ machine.old.rounds + 1) }
 {
     machine.round(rt, plan, gate)?;
-    trace.push_changes(machine, buffer)
+    trace.push_changes(machine, buffer)?;
+    Ok(())
 }
 
 // Writes the bytes if they are many, and then holds none.

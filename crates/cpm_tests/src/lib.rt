@@ -5,3 +5,5 @@
 mod commands;
 #[cfg(test)]
 mod lines;
+#[cfg(test)]
+mod trace_commands;
