@@ -21,7 +21,7 @@ Has rounds turn workers chunk wave tick chains run =
 abbrev pub HasReplay : ℕ → ℕ → Bool → Replay → Type 0
 HasReplay turn tick chains replay = (replay.turn.steps ≡ turn) × (replay.tick.rounds ≡ tick) × (replay.chains ≡ chains)
 
--- A run has at most 1,000,000 rounds, and so has one until nothing can move.
+-- A run has at most 1,000,000 rounds, and so have one until nothing can move and one that is traced.
 abbrev pub HasRounds : Command → Type 0
 HasRounds command.Version = Unit {0}
 HasRounds (command.Check file) = Unit {0}
@@ -31,6 +31,7 @@ HasRounds (command.ExplainObject file extent) = Unit {0}
 HasRounds (command.ExplainRule page) = Unit {0}
 HasRounds (command.Run file run input) = run.rounds ≤ 1000000
 HasRounds (command.Outcome file how form input) = how.limit ≤ 1000000
+HasRounds (command.Trace file how only input) = how.rounds ≤ 1000000
 HasRounds (command.Replay file order replay input) = Unit {0}
 
 -- The command if there are no words after the program's name.
@@ -43,6 +44,7 @@ IsWithoutWords (command.ExplainObject file extent) = ⊥
 IsWithoutWords (command.ExplainRule page) = ⊥
 IsWithoutWords (command.Run file run input) = (file ≡ None) × Has 2 100 2 1 255 1 false run × (input ≡ inputs.Empty)
 IsWithoutWords (command.Outcome file how form input) = ⊥
+IsWithoutWords (command.Trace file how only input) = ⊥
 IsWithoutWords (command.Replay file order replay input) = ⊥
 
 -- The kind of clap's error shows whether memory ran out.

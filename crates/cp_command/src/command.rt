@@ -9,6 +9,7 @@ use cp_access::graph::Form;
 use cp_execute::form::OutcomeForm;
 use cp_execute::replaying::Replay;
 use cp_execute::running::Run;
+use cp_execute::tracing::Tracing;
 use cp_execute::until_still::UntilStill;
 use cp_explain::explain::Extent;
 use std::alloc::AllocError;
@@ -60,6 +61,14 @@ pub enum Command<'a> {
         file: &'a str,
         how: UntilStill,
         form: OutcomeForm<&'a str>,
+        input: Inputs<'a>,
+    },
+    /// `trace FILE`: runs the text of a file and tells what each round changed of the processes and
+    /// monitors with the names in `only`, or of all if there are none.
+    Trace {
+        file: &'a str,
+        how: Tracing,
+        only: Vec<&'a str>,
         input: Inputs<'a>,
     },
     /// `replay FILE ORDER`: replays the text of a file in the order of another.

@@ -38,6 +38,24 @@ const LIMIT: Valued = Valued {
     about: "the largest number of rounds, up to 1000000 (default 10000)",
 };
 
+const FROM: Valued = Valued {
+    name: "from",
+    value: "A",
+    about: "the first round that is told, from 1 (default 1)",
+};
+
+const TO: Valued = Valued {
+    name: "to",
+    value: "B",
+    about: "the last round that is told, from 1 (default the last)",
+};
+
+const ONLY: Valued = Valued {
+    name: "only",
+    value: "NAME,..",
+    about: "the processes and monitors that are told (default all)",
+};
+
 const TURN: Valued = Valued {
     name: "turn",
     value: "N",
@@ -232,6 +250,22 @@ fn outcome_words<'a>(alloc: Global) -> Result<clap::Command<'a>, AllocError> {
     with_forms(alloc, with_inputs(alloc, outcome)?)
 }
 
+fn trace_words<'a>(alloc: Global) -> Result<clap::Command<'a>, AllocError> {
+    let trace = command(
+        alloc,
+        "trace",
+        "Runs a text and tells what each round changed",
+        TEXT,
+    )?;
+    let trace = trace.arg(ROUNDS.arg(alloc).required(true))?;
+    let trace = with(
+        alloc,
+        trace,
+        &[FROM, TO, ONLY, TURN, WORKERS, CHUNK, WAVE, TICK],
+    )?;
+    with_inputs(alloc, trace)
+}
+
 fn replay_words<'a>(alloc: Global) -> Result<clap::Command<'a>, AllocError> {
     let order = file(
         alloc,
@@ -263,5 +297,6 @@ pub(crate) fn grammar<'a>(alloc: Global) -> Result<clap::Command<'a>, AllocError
         .subcommand(explain_words(alloc)?)?
         .subcommand(run_words(alloc)?)?
         .subcommand(outcome_words(alloc)?)?
+        .subcommand(trace_words(alloc)?)?
         .subcommand(replay_words(alloc)?)
 }

@@ -30,6 +30,12 @@ pub(crate) enum Misuse<'a> {
     ManyNamed {
         most: usize,
     },
+    #[error("--only takes names with commas between them, not {word}")]
+    NoNames {
+        word: &'a str,
+    },
+    #[error("--from is above --to")]
+    FromAboveTo,
     #[error("only one of the files can be standard input")]
     StandardInputTwice,
     #[error("there is no rule {word}: {ALL}")]

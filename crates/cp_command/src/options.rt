@@ -10,10 +10,12 @@ use clap::ArgMatches;
 use cp_execute::form::OutcomeForm;
 use cp_execute::replaying::Replay;
 use cp_execute::running::Run;
+use cp_execute::tracing::Tracing;
 use cp_execute::until_still::UntilStill;
 use cp_private::turn::Turn;
 use cp_rounds::plan::Plan;
 use cp_rounds::tick::Tick;
+use std::alloc::Global;
 
 /// The run with these numbers.
 pub(crate) fn run_of(
@@ -106,6 +108,43 @@ pub(crate) fn read_form<'a>(matches: &ArgMatches<'a>) -> OutcomeForm<&'a str> {
         None if matches.get_flag("json") => OutcomeForm::Json,
         None => OutcomeForm::Verdict,
     }
+}
+
+/// The trace that the options tell. It ends with the last round that is told.
+pub(crate) fn read_trace<'a>(matches: &ArgMatches<'a>) -> Result<Tracing, Misuse<'a>>
+    ensures { IfOk result (λ how. how.rounds ≤ 1000000) }
+{
+    let rounds = count(matches, "rounds", 0, 1_000_000, 2)?;
+    let from = count(matches, "from", 1, 1_000_000, 1)?;
+    let to = count(matches, "to", 1, 1_000_000, 1_000_000)?;
+    if to < from {
+        return Err(Misuse::FromAboveTo);
+    }
+    let Run { plan, tick, .. } = read_run(matches, rounds, false)?;
+    Ok(Tracing {
+        rounds: rounds.min(to),
+        from,
+        plan,
+        tick,
+    })
+}
+
+/// The names that `--only` gives, with commas between them.
+pub(crate) fn read_only<'a>(
+    alloc: Global,
+    matches: &ArgMatches<'a>,
+) -> Result<Vec<&'a str>, Misuse<'a>> {
+    let mut names = Vec::new(alloc);
+    let Some(word) = matches.get_str("only") else {
+        return Ok(names);
+    };
+    for name in word.split(',') {
+        if name.is_empty() {
+            return Err(Misuse::NoNames { word });
+        }
+        names.push(name)?;
+    }
+    Ok(names)
 }
 
 /// The replay that the options tell.

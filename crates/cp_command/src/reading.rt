@@ -7,7 +7,9 @@ use crate::command::{Command, CommandError, Inputs};
 use crate::grammar::grammar;
 use crate::inputs::read_inputs;
 use crate::misuse::Misuse;
-use crate::options::{count, read_form, read_outcome, read_replay, read_run, run_of};
+use crate::options::{
+    count, read_form, read_only, read_outcome, read_replay, read_run, read_trace, run_of,
+};
 use clap::ArgMatches;
 use clap::error::ErrorKind;
 use cp_access::graph::Form;
@@ -76,6 +78,22 @@ fn outcome<'a>(
     })
 }
 
+// The command `trace` of parsed arguments.
+fn trace<'a>(
+    alloc: Global,
+    file: &'a str,
+    matches: &ArgMatches<'a>,
+) -> Result<Command<'a>, Misuse<'a>>
+    ensures { IfOk result HasRounds }
+{
+    Ok(Command::Trace {
+        file,
+        how: read_trace(matches)?,
+        only: read_only(alloc, matches)?,
+        input: read_inputs(alloc, matches)?.beside(&[file])?,
+    })
+}
+
 // The command `replay` of parsed arguments.
 fn replay<'a>(
     alloc: Global,
@@ -111,6 +129,7 @@ fn command_of<'a>(alloc: Global, matches: &ArgMatches<'a>) -> Result<Command<'a>
         "explain" => explain(file, matches),
         "outcome" => outcome(alloc, file, matches),
         "replay" => replay(alloc, file, matches),
+        "trace" => trace(alloc, file, matches),
         _ => run(alloc, file, matches),
     }
 }

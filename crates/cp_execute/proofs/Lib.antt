@@ -4,3 +4,4 @@ pub mod OrderRefusals
 pub mod OrdersDue
 pub mod OutcomesDue
 pub mod Transcripts
+pub mod Traced

@@ -3,3 +3,4 @@ pub mod Executed
 pub mod Replayed
 pub mod Forms
 pub mod Outcomes
+pub mod Traces

@@ -37,3 +37,5 @@ mod replays;
 mod streams;
 #[cfg(test)]
 mod texts;
+#[cfg(test)]
+mod traces;

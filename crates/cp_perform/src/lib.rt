@@ -3,7 +3,7 @@
 //! - `perform`: which command does what.
 //! - `opening`: what a command reads, by name: a file, standard input, or bytes in memory.
 //! - `inputs`: the inputs of a run.
-//! - `running`: checks, runs, outcomes and replays. `explaining`: explanations.
+//! - `running`: checks, runs, outcomes, traces and replays. `explaining`: explanations.
 //! - `printing`: standard output. `status`: why a command has no result, and the exit statuses.
 //!
 //! `specs/Statuses.antt` defines the exit status of a verdict, `specs/Sources.antt` what is left to

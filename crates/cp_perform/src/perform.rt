@@ -2,7 +2,7 @@
 
 use crate::explaining::{Explaining, explain};
 use crate::printing::{print_page, print_version};
-use crate::running::{check, outcome, replay, run};
+use crate::running::{check, outcome, replay, run, trace};
 use crate::status::{Failure, status_of};
 use cp_command::command::Command;
 use std::alloc::Global;
@@ -19,9 +19,10 @@ use std::thread::Threads;
 /// # Errors
 ///
 /// I1 if a file can't be opened, `Unopened` or `Unread` for the file of `explain` and the input of
-/// one process, `Input` if such inputs make no input or the text lacks the process of `--out`, and the refusals of `execute`,
-/// `execute_outcome` and `execute_order` of cp_execute, and of `explain_text`,
-/// `explain_all_text` and `explain_object` of cp_explain.
+/// one process, `Input` if such inputs make no input or the text lacks the process of `--out`,
+/// `NoMember` if a name of a trace is unknown, and the refusals of `execute`, `execute_outcome`,
+/// `execute_trace` and `execute_order` of cp_execute, and of `explain_text`, `explain_all_text` and
+/// `explain_object` of cp_explain.
 pub fn perform<'a, H: Files + Input + Print + Threads + Wait + Sync, E: Write>(
     rt: &H,
     alloc: Global,
@@ -54,6 +55,12 @@ pub fn perform<'a, H: Files + Input + Print + Threads + Wait + Sync, E: Write>(
         } => {
             return Ok(status_of(outcome(rt, alloc, file, input, how, *form)?));
         }
+        Command::Trace {
+            file,
+            how,
+            only,
+            input,
+        } => trace(rt, alloc, file, only, input, how)?,
         Command::Replay {
             file,
             order,

@@ -1,5 +1,5 @@
-//! Checks, runs, outcomes and replays. Each opens all that it reads before it reads any of it, and
-//! prints its result. Errors are those of opening, of joining inputs, and of the calls of
+//! Checks, runs, outcomes, traces and replays. Each opens all that it reads before it reads any of
+//! it, and prints its result. Errors are those of opening, of joining inputs, and of the calls of
 //! cp_execute.
 
 use crate::inputs::open_inputs;
@@ -11,9 +11,11 @@ use cp_command::command::{Inputs, STANDARD_INPUT};
 use cp_execute::execute::{Job, execute};
 use cp_execute::execute_order::execute_order;
 use cp_execute::execute_outcome::execute_outcome;
+use cp_execute::execute_trace::{execute_trace, unknown_name};
 use cp_execute::form::OutcomeForm;
 use cp_execute::replaying::Replay;
 use cp_execute::running::Run;
+use cp_execute::tracing::Tracing;
 use cp_execute::until_still::UntilStill;
 use cp_inputs::named::process_number;
 use cp_outcome::verdict::Verdict;
@@ -106,6 +108,43 @@ pub(crate) fn outcome<'a, H: Files + Input + Print + Threads + Wait + Sync>(
     let verdict = execute_outcome(rt, alloc, &mut text, &mut input, how, form, &Open, &mut out)?;
     flush(&mut out)?;
     Ok(verdict)
+}
+
+// Reads the text, and puts its bytes in the place of their source, if it has a process or a monitor
+// with each of these names.
+fn find_names<'a, F: Read + Drop, I: Read + Drop>(
+    alloc: Global,
+    text: &mut Source<F, I>,
+    names: &[&'a str],
+) -> Result<(), Failure<'a>> {
+    let bytes = read_bytes(alloc, text)?;
+    if let Some(name) = unknown_name(alloc, &bytes, names)? {
+        return Err(Failure::NoMember { name });
+    }
+    *text = Source::of_bytes(bytes);
+    Ok(())
+}
+
+/// Runs a text, and prints what each round changed of the processes and monitors with these names,
+/// or of all if there are none.
+pub(crate) fn trace<'a, H: Files + Input + Print + Threads + Wait + Sync>(
+    rt: &H,
+    alloc: Global,
+    file: &str,
+    only: &[&'a str],
+    input: &Inputs<'a>,
+    how: &Tracing,
+) -> Result<(), Failure<'a>> {
+    let mut text = open(rt, file)?;
+    let input = open_inputs(rt, alloc, input)?;
+    let mut input = input.joined(alloc, &mut text)?;
+    if !only.is_empty() {
+        find_names(alloc, &mut text, only)?;
+    }
+    let mut out = io::writer(rt);
+    execute_trace(rt, alloc, &mut text, &mut input, only, how, &Open, &mut out)?;
+    flush(&mut out)?;
+    Ok(())
 }
 
 /// Replays a text in the order of a file, and prints the report.

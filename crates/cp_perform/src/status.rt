@@ -29,6 +29,9 @@ pub enum Failure<'a> {
     /// The inputs of the processes that are named make no input.
     #[error("{0}")]
     Input(InputError<'a>),
+    /// The text has no process and no monitor with this name.
+    #[error("error: the text has no process or monitor {name}")]
+    NoMember { name: &'a str },
     /// The file of `explain` or of a named input can't be opened, with the system's reason.
     #[error("{file} can't be opened: {error}")]
     Unopened { file: &'a str, error: io::Error },
@@ -38,12 +41,13 @@ pub enum Failure<'a> {
 }
 
 impl<'a> Failure<'a> {
-    /// The exit status: 1 if the text or the input is refused, 2 if the text hasn't a process that
-    /// is named, 3 if memory runs out, 4 if opening, reading or writing fails.
+    /// The exit status: 1 if the text or the input is refused, 2 if the text hasn't a process or
+    /// monitor that is named, 3 if memory runs out, 4 if opening, reading or writing fails.
     pub fn exit(&self) -> u8 {
         match self {
             Failure::Refused(refusal) => exit_of(refusal),
             Failure::Input(error) => exit_of_input(error),
+            Failure::NoMember { .. } => USAGE,
             Failure::Unopened { .. } | Failure::Unread { .. } => FAULT,
         }
     }

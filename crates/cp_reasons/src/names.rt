@@ -3,16 +3,16 @@
 use crate::parts::Parts;
 use crate::rights::Rights;
 use cp_model::token::Token;
-use cp_model::tree::{Sort, Statement, System, Tree};
+use cp_model::tree::{Statement, System, Tree};
 use cp_page::page::Page;
 use cp_page::position::Position;
 use cp_private::private::Activity;
-use cp_report::listing::components;
-use cp_report::status::push_queue;
+use cp_report::roster::Roster;
+use cp_report::status::{activity_of, push_queue};
 use cp_report::walk::Walk;
 use cp_rounds::machine::Machine;
 use cp_scan::scan;
-use cp_scope::{Field, Tables, TypeRow};
+use cp_scope::{Tables, TypeRow};
 use std::alloc::{AllocError, Global};
 
 /// A machine that runs the program of a text, and what the text says.
@@ -24,26 +24,15 @@ pub(crate) struct Subject<'r, 't> {
     pub(crate) tables: Tables<'t>,
     /// The tokens of the text, if a process has faulted.
     pub(crate) tokens: Vec<Token>,
-    /// The monitors by number.
-    pub(crate) monitors: Vec<Field<'t>>,
-    /// The processes by number, without the initial one.
-    pub(crate) processes: Vec<Field<'t>>,
+    pub(crate) roster: Roster<'t>,
     /// The statements of the initial process that contain no others.
     pub(crate) statements: Vec<&'t Statement>,
     pub(crate) rights: Rights<'t>,
 }
 
-/// The activity of a process by its number, from 1.
-pub(crate) fn activity(machine: &Machine, number: usize) -> Activity {
-    match machine.private(number) {
-        Some(private) => private.activity(),
-        None => Activity::Ended,
-    }
-}
-
 fn has_fault(machine: &Machine) -> bool {
     for index in 0..machine.processes() {
-        if let Activity::Faulted(_) = activity(machine, index.saturating_add(1)) {
+        if let Activity::Faulted(_) = activity_of(machine, index.saturating_add(1)) {
             return true;
         }
     }
@@ -77,50 +66,25 @@ impl<'r, 't> Subject<'r, 't> {
         machine: &'r Machine,
     ) -> Result<Subject<'r, 't>, AllocError> {
         let tables = tables_of(alloc, tree)?;
-        let monitors = components(alloc, &tables, Sort::Monitor)?;
-        let processes = components(alloc, &tables, Sort::Process)?;
+        let roster = Roster::of(alloc, &tables)?;
         let mut parts = Parts::new(alloc);
         parts.add(&tree.body.statements)?;
-        let rights = Rights::of(alloc, &tables, &parts.statements, monitors.len())?;
+        let rights = Rights::of(alloc, &tables, &parts.statements, roster.monitors.len())?;
         Ok(Subject {
             alloc,
             text,
             machine,
             tables,
             tokens: tokens_of(alloc, text, machine)?,
-            monitors,
-            processes,
+            roster,
             statements: parts.statements,
             rights,
         })
     }
 
-    /// The name of a process by its number, from 1.
-    pub(crate) fn process_name(&self, number: u32) -> &[u8] {
-        if number == 1 {
-            return b"initial";
-        }
-        match self.processes.get((number as usize).saturating_sub(2)) {
-            Some(process) => process.name,
-            None => &[],
-        }
-    }
-
-    fn monitor(&self, number: u32) -> Option<&Field<'t>> {
-        self.monitors.get((number as usize).saturating_sub(1))
-    }
-
-    /// The name of a monitor by its number, from 1.
-    pub(crate) fn monitor_name(&self, number: u32) -> &[u8] {
-        match self.monitor(number) {
-            Some(monitor) => monitor.name,
-            None => &[],
-        }
-    }
-
     /// The type of a monitor by its number, from 1.
     pub(crate) fn monitor_type(&self, number: u32) -> Option<&'t System> {
-        match self.tables.types.row(self.monitor(number)?.of) {
+        match self.tables.types.row(self.roster.monitor(number)?.of) {
             Some(TypeRow::Component { system, .. }) => self.tables.types.system(*system),
             _ => None,
         }
@@ -134,7 +98,7 @@ impl<'r, 't> Subject<'r, 't> {
             &mut walk,
             &self.tables,
             self.machine.program(),
-            &self.monitors,
+            &self.roster.monitors,
             address as usize,
             &mut name,
         )?;

@@ -1,6 +1,6 @@
 //! The lines of the processes that haven't ended.
 
-use crate::names::{Subject, activity};
+use crate::names::Subject;
 use crate::queues::entries_that_continue;
 use crate::starts::places_of_init;
 use cp_model::tree::{Identifier, Tree};
@@ -8,6 +8,7 @@ use cp_page::page::Page;
 use cp_private::outside::{Holder, Stage};
 use cp_private::private::{Activity, Private};
 use cp_program::operation::Operation;
+use cp_report::status::activity_of;
 use cp_rounds::machine::Machine;
 use cp_scope::small_number;
 use std::alloc::{AllocError, Global};
@@ -37,7 +38,7 @@ impl<'r, 't> Subject<'r, 't> {
     // Whether a process can still make a step, now or later.
     fn is_alive(&self, number: usize) -> bool {
         !matches!(
-            activity(self.machine, number),
+            activity_of(self.machine, number),
             Activity::Ended | Activity::Faulted(_)
         )
     }
@@ -66,7 +67,7 @@ impl<'r, 't> Subject<'r, 't> {
         }
         for (index, number) in callers.iter().enumerate() {
             page.text(separator(index, callers.len()))?;
-            page.bytes(self.process_name(*number))?;
+            page.bytes(self.roster.process_name(*number))?;
         }
         Ok(())
     }
@@ -83,7 +84,7 @@ impl<'r, 't> Subject<'r, 't> {
         page.text("; only ")?;
         for (index, entry) in entries.iter().enumerate() {
             page.text(separator(index, entries.len()))?;
-            page.bytes(self.monitor_name(monitor))?;
+            page.bytes(self.roster.monitor_name(monitor))?;
             page.text(".")?;
             page.bytes(entry.name.as_bytes())?;
         }
@@ -116,7 +117,7 @@ impl<'r, 't> Subject<'r, 't> {
 
     fn push_queue(&self, page: &mut Page, monitor: u32, queue: &[u8]) -> Result<(), AllocError> {
         page.text("delayed in ")?;
-        page.bytes(self.monitor_name(monitor))?;
+        page.bytes(self.roster.monitor_name(monitor))?;
         page.text(".")?;
         page.bytes(queue)
     }
@@ -144,9 +145,9 @@ impl<'r, 't> Subject<'r, 't> {
             }
             Stage::Asking(monitor) => {
                 page.text(", which asks for ")?;
-                page.bytes(self.monitor_name(monitor))
+                page.bytes(self.roster.monitor_name(monitor))
             }
-            Stage::Begun => match activity(self.machine, holder as usize) {
+            Stage::Begun => match activity_of(self.machine, holder as usize) {
                 Activity::Faulted(_) => page.text(", which has faulted"),
                 _ => Ok(()),
             },
@@ -156,12 +157,12 @@ impl<'r, 't> Subject<'r, 't> {
 
     fn push_asking(&self, page: &mut Page, monitor: u32, pause: u32) -> Result<(), AllocError> {
         page.text("asks for ")?;
-        page.bytes(self.monitor_name(monitor))?;
+        page.bytes(self.roster.monitor_name(monitor))?;
         self.push_origin(page, pause)?;
         match self.machine.kernel().holder(monitor) {
             Holder::Process(holder) => {
                 page.text(", held by ")?;
-                page.bytes(self.process_name(holder))?;
+                page.bytes(self.roster.process_name(holder))?;
                 self.push_why_held(page, holder)
             }
             Holder::Unset | Holder::Free => Ok(()),
@@ -170,7 +171,7 @@ impl<'r, 't> Subject<'r, 't> {
 
     // Adds which `init` starts a process that hasn't been started.
     fn push_unstarted(&self, page: &mut Page, number: u32) -> Result<(), AllocError> {
-        let name = self.process_name(number);
+        let name = self.roster.process_name(number);
         let places = places_of_init(self.alloc, &self.statements, name)?;
         if places.is_empty() {
             return page.text("never started; no init names it");
@@ -242,7 +243,7 @@ impl<'r, 't> Subject<'r, 't> {
         page.text("process ")?;
         page.number(number as usize)?;
         page.text(" ")?;
-        page.bytes(self.process_name(number))?;
+        page.bytes(self.roster.process_name(number))?;
         page.text(": ")?;
         self.push_why(page, number, private)?;
         page.text("\n")

@@ -18,9 +18,14 @@ abbrev pub words_in : Words → List ℤ
 words_in (words.Own private) = (private_of private.now []).words
 words_in (words.Shared kernel) = (kernel_of kernel.now).shared
 
+-- Nothing is told.
+abbrev pub silent_visit : Visit
+silent_visit = record { simple = λ path at. []; queue = λ path at. [] }
+
 abbrev pub visit_of : Telling → Visit
 visit_of (telling.Lines ws) = lines_visit (words_in ws)
 visit_of (telling.PathOf at) = queue_visit at
+visit_of telling.Places = silent_visit
 
 abbrev pub tell_leaf : Visit → Leaf → Path → ℕ → Text
 tell_leaf v leaf.Simple path at = v.simple path at

@@ -4,7 +4,9 @@
 //! - `text`: numbers and bytes as text.
 //! - `telling`, `walk`: what is reported of a part of a variable, and the walk over all parts.
 //! - `heads`, `components`: the lines of whole components.
-//! - `listing`, `status`: the processes or monitors by number, and the status of a process.
+//! - `listing`, `roster`, `status`: the processes or monitors by number, all of them by name, and the
+//!   status of a process.
+//! - `places`: the places of the variables of a component.
 //! - `lines`, `gates`, `chains`: single lines, the lines of the gates of monitors, and those of chains
 //!   of askers.
 //! - `subject`, `processes`, `monitors`: what a report describes, and the lines of its processes
@@ -21,8 +23,10 @@ mod lines;
 pub mod listing;
 mod monitors;
 pub mod outcome;
+pub mod places;
 mod processes;
 pub mod report;
+pub mod roster;
 pub mod status;
 mod subject;
 mod telling;

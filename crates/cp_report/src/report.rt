@@ -8,10 +8,9 @@ ghost use Rattle.cp_report.specs.WholeReports.{IsReport, IsReportWithChains};
 
 use crate::chains::push_chains;
 use crate::lines::push_rounds;
-use crate::listing::components;
+use crate::roster::Roster;
 use crate::subject::Subject;
 use crate::walk::Walk;
-use cp_model::tree::Sort;
 use cp_rounds::machine::Machine;
 use cp_scope::{Field, Tables};
 use std::alloc::{AllocError, Global};
@@ -42,16 +41,15 @@ impl<'r, 't> Subject<'r, 't> {
 pub fn report(alloc: Global, tables: &Tables, machine: &Machine) -> Result<Vec<u8>, AllocError>
     ensures { IfOk result (λ bytes. IsReport tables.now (machine_of machine.now) bytes.items) }
 {
-    let monitors = components(alloc, tables, Sort::Monitor)?;
-    let processes = components(alloc, tables, Sort::Process)?;
+    let roster = Roster::of(alloc, tables)?;
     let subject = Subject {
         tables,
         machine,
-        monitors: &monitors,
+        monitors: &roster.monitors,
     };
     let mut walk = Walk::new(alloc, 0);
     let mut bytes = Vec::new(alloc);
-    subject.push_all(&mut walk, &mut bytes, &processes)?;
+    subject.push_all(&mut walk, &mut bytes, &roster.processes)?;
     Ok(bytes)
 }
 

@@ -16,11 +16,12 @@ use cp_model::state::Fault;
 use cp_private::outside::Stage;
 use cp_private::private::Activity;
 use cp_program::program::Program;
+use cp_rounds::machine::Machine;
 use cp_scope::{Field, Tables};
 use std::alloc::AllocError;
 
 /// Returns where the words of a monitor begin among the shared words.
-pub(crate) fn monitor_start(program: &Program, number: usize) -> usize
+pub fn monitor_start(program: &Program, number: usize) -> usize
     ensures { result ≡ plain.monitor_start (view.program program.now) number }
 {
     match program.monitor(number) {
@@ -72,6 +73,14 @@ pub(crate) fn push_monitor(
     match monitor_at(monitors, number) {
         Some(monitor) => out.extend_from_slice(monitor.name),
         None => Ok(()),
+    }
+}
+
+/// Returns the activity of the process with this number, from 1. A missing process has ended.
+pub fn activity_of(machine: &Machine, number: usize) -> Activity {
+    match machine.private(number) {
+        Some(private) => private.activity(),
+        None => Activity::Ended,
     }
 }
 

@@ -47,6 +47,8 @@ pub enum Telling<'w> {
     Lines(Words<'w>),
     /// The path of the queue at this address.
     PathOf(usize),
+    /// Nothing. The walk keeps the places.
+    Places,
 }
 
 fn push_value_line(out: &mut Vec<u8>, path: &[u8], n: i32) -> Result<(), AllocError>
@@ -91,6 +93,7 @@ impl<'w> Telling<'w> {
                 Leaf::Simple => Ok(()),
                 Leaf::Queue => push_path_if(out, at == target, path),
             },
+            Telling::Places => Ok(()),
         }
     }
 }

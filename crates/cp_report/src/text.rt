@@ -30,8 +30,8 @@ fn push_escaped(out: &mut Vec<u8>, byte: u8) -> Result<(), AllocError>
     }
 }
 
-/// Adds the bytes of a transcript, or their escapes.
-pub(crate) fn push_all_escaped(out: &mut Vec<u8>, bytes: &[u8]) -> Result<(), AllocError>
+/// Adds the bytes of a transcript, or their escapes. Fails only if memory runs out.
+pub fn push_all_escaped(out: &mut Vec<u8>, bytes: &[u8]) -> Result<(), AllocError>
     ensures { OnOk result (out.new.items ≡ out.old.items ++ flat_map escape bytes.now) }
 {
     for byte in bytes {

@@ -19,6 +19,7 @@ ghost use Rattle.cp_report.specs.Tellings.{tell_leaf, visit_of};
 ghost use Rattle.cp_report.specs.Walks.{Continues, Enters, Finishes, Visits, cursor as cursor_of, members_in};
 
 use crate::heads::class_head;
+use crate::places::Place;
 use crate::telling::{Leaf, Telling};
 use cp_digits::decimal::push_integer;
 use cp_scope::{Field, Tables, TypeRow, count_between};
@@ -47,6 +48,8 @@ pub struct Walk {
     pub(crate) path: Vec<u8>,
     /// The address of the next word.
     pub(crate) at: usize,
+    /// The places that were visited to be kept.
+    pub(crate) places: Vec<Place>,
 }
 
 // Returns the index of an element of an array.
@@ -66,6 +69,7 @@ impl Walk {
             stack: Vec::new(alloc),
             path: Vec::new(alloc),
             at,
+            places: Vec::new(alloc),
         }
     }
 
@@ -91,8 +95,29 @@ impl Walk {
         Ok(())
     }
 
-    // Reports a simple part or a queue, which has one word.
-    fn tell(&mut self, telling: &Telling, out: &mut Vec<u8>, leaf: Leaf) -> Result<(), AllocError>
+    // Keeps the place of a part whose type has the number `row`.
+    fn keep(&mut self, row: usize) -> Result<(), AllocError>
+        ensures stack { self.new.stack ≡ self.old.stack }
+        ensures path { self.new.path ≡ self.old.path }
+        ensures place { self.new.at ≡ self.old.at }
+    {
+        self.places.push(Place {
+            path: self.path.clone()?,
+            at: self.at,
+            of: row,
+        })?;
+        Ok(())
+    }
+
+    // Reports a simple part or a queue, which has one word, or keeps its place. The number of its
+    // type is `row`.
+    fn tell(
+        &mut self,
+        telling: &Telling,
+        out: &mut Vec<u8>,
+        leaf: Leaf,
+        row: usize,
+    ) -> Result<(), AllocError>
         ensures told { OnOk result ((p : Path) → path_text p ≡ self.old.path.items
             → out.new.items
             ≡ out.old.items ++ tell_leaf (visit_of telling.now) leaf p self.old.at) }
@@ -100,6 +125,9 @@ impl Walk {
         ensures stack { self.new.stack ≡ self.old.stack }
         ensures path { self.new.path ≡ self.old.path }
     {
+        if let Telling::Places = telling {
+            self.keep(row)?;
+        }
         telling.tell(out, leaf, &self.path, self.at)?;
         self.pass(1)
     }
@@ -117,8 +145,8 @@ impl Walk {
             out.old.items out.new.items) }
     {
         match tables.types.row(row) {
-            Some(TypeRow::Simple(_)) => self.tell(telling, out, Leaf::Simple),
-            Some(TypeRow::Queue) => self.tell(telling, out, Leaf::Queue),
+            Some(TypeRow::Simple(_)) => self.tell(telling, out, Leaf::Simple, row),
+            Some(TypeRow::Queue) => self.tell(telling, out, Leaf::Queue, row),
             Some(TypeRow::Array { .. }) => self.open(row),
             Some(TypeRow::Record(_)) => self.open(row),
             Some(TypeRow::Component { system, .. }) => match class_head(tables, *system)? {

@@ -7,3 +7,5 @@ mod commands;
 mod forms;
 #[cfg(test)]
 mod lines;
+#[cfg(test)]
+mod trace_commands;

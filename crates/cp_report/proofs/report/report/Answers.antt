@@ -12,11 +12,11 @@ pub returns : goal.returns
 returns c =
     λ setup text is stand.
     let tables = c.args.tables.now in
-    let ms = c.in_ok-monitors.monitors.items in
-    let ps = c.in_ok-processes.processes.items in
+    let ms = c.in_ok-roster.roster.monitors.items in
+    let ps = c.in_ok-roster.roster.processes.items in
     let same_ms : ms ≡ c.deref.result.now = search rules in
     let same_ps : ps ≡ c.deref-2.result.now = search rules in
-    let monitors = subst (λ fs. AreListed tables.types (map entry fs) (components_of setup Monitor)) same_ms (listed setup text is tables Monitor (map entry ms) stand c.in_ok-monitors.ensures) in
-    let processes = subst (λ fs. AreListed tables.types (map entry fs) (components_of setup Process)) same_ps (listed setup text is tables Process (map entry ps) stand c.in_ok-processes.ensures) in
+    let monitors = subst (λ fs. AreListed tables.types (map entry fs) (components_of setup Monitor)) same_ms (listed setup text is tables Monitor (map entry ms) stand c.in_ok-roster.ensures.monitors) in
+    let processes = subst (λ fs. AreListed tables.types (map entry fs) (components_of setup Process)) same_ps (listed setup text is tables Process (map entry ps) stand c.in_ok-roster.ensures.processes) in
     let none : c.new-bytes.result.items ≡ [] = search rules in
     c.in_ok-push_all.ensures setup text is stand (stand.scope, monitors) processes ∙ ap (λ out. out ++ machine_report setup (machine_of c.args.machine.now)) none

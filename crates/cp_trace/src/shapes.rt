@@ -1,0 +1,56 @@
+//! Where the variables of components lie. Components of one type share their places.
+
+use cp_report::places::{Place, initial_places, places};
+use cp_scope::Tables;
+use std::alloc::{AllocError, Global};
+
+// The places of the components of a type.
+#[derive(Drop)]
+struct Shape {
+    /// The number of the type, or `None` for the initial process.
+    row: Option<usize>,
+    places: Vec<Place>,
+}
+
+/// The places of the components of some types, by number from 0.
+#[derive(Drop)]
+pub(crate) struct Shapes {
+    shapes: Vec<Shape>,
+}
+
+impl Shapes {
+    /// Returns no places.
+    pub(crate) fn new(alloc: Global) -> Shapes {
+        Shapes {
+            shapes: Vec::new(alloc),
+        }
+    }
+
+    /// Returns the number of the shape of a type, which is added if it is new. `None` stands for
+    /// the type of the initial process.
+    pub(crate) fn number_of(
+        &mut self,
+        alloc: Global,
+        tables: &Tables,
+        row: Option<usize>,
+    ) -> Result<usize, AllocError> {
+        if let Some(number) = self.shapes.iter().position(|shape| shape.row == row) {
+            return Ok(number);
+        }
+        let places = match row {
+            Some(row) => places(alloc, tables, row)?,
+            None => initial_places(alloc, tables)?,
+        };
+        let number = self.shapes.len();
+        self.shapes.push(Shape { row, places })?;
+        Ok(number)
+    }
+
+    /// Returns the places of the shape with a number.
+    pub(crate) fn places(&self, number: usize) -> &[Place] {
+        match self.shapes.get(number) {
+            Some(shape) => &shape.places,
+            None => &[],
+        }
+    }
+}
