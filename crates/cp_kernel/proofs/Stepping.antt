@@ -1,5 +1,5 @@
 -- Steps that are due, and turns of them.
-use Rattle.std.proofs.Common.{◌≡◌, ℕ, zero, suc, Bool, true, false, refl, ap, sym, ◌∙◌}
+use Rattle.std.proofs.Common.{◌≡◌, ℕ, zero, suc, Bool, true, false, List, [], refl, ap, sym, ◌∙◌}
 use Rattle.std.specs.Prelude.{Option, None, Some, if◌then◌else◌, not}
 use Rattle.cp_program_model.specs.Programs.{Operation, Program}
 use Rattle.cp_machine_model.specs.KernelSteps.{Turning, is_begun, is_due, kernel_step, kernel_steps, needs_kernel, stage_of}
@@ -8,7 +8,13 @@ use Rattle.cp_machine_model.specs.Steps.{is_held, is_kernel_operation, is_privat
 use Rattle.cp_private.specs.Kinds.{kind_of}
 use Rattle.cp_private.specs.declared.kind.Kind.{Kind}
 use Rattle.cp_private.specs.declared.kind.Kind.TheVariants as kind
+use Rattle.cp_private.specs.States.{private_of}
+use Rattle.cp_private.specs.declared.private.Private.{Private}
 use Rattle.cp_kernel.specs.Due.{is_kernel}
+use Rattle.cp_kernel.specs.KernelOf.{turning}
+use Rattle.cp_kernel.specs.Turns.{IsTurned}
+use Rattle.cp_kernel.specs.declared.kernel.Kernel.{Kernel}
+use Rattle.cp_kernel.proofs.Transcripts.{nothing_moved}
 
 in_monitor : (b : Bool) → is_kernel (if b then kind.Kernel else kind.None) ≡ b
 in_monitor true = refl
@@ -56,3 +62,14 @@ steps_rest program clock (suc n) x due = ap (kernel_steps program clock n) (step
 pub steps_more : (program : Program) (clock m n : ℕ) (x : Turning) → m ≡ suc n
     → kernel_steps program clock m x ≡ kernel_steps program clock n (kernel_step program clock x)
 steps_more program clock m n x h = ap (λ k. kernel_steps program clock k x) h
+
+-- A turn with neither a step to make nor output to move.
+pub nothing_turned : (program : Program) (clock n : ℕ) (k : Kernel) (x : Private) (input : List ℕ) → is_due program (turning k x input) ≡ false
+    → x.output.items ≡ [] → IsTurned program clock n k k x x input
+nothing_turned program clock n k x input due empty =
+    let rests = sym (steps_rest program clock n (turning k x input) due) in
+    record {
+      kernel = ap (λ (y : Turning). y.kernel) rests;
+      own = (λ i. record (private_of x input) { output = empty i }) ∙ ap (λ (y : Turning). record y.own { output = [] }) rests;
+      moves = nothing_moved k x.number (kernel_steps program clock n (turning k x input)).own.output (ap (λ (y : Turning). y.own.output) (sym rests) ∙ empty);
+    }

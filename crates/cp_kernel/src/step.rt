@@ -26,6 +26,7 @@ fn is_kernel(kind: Kind) -> bool
 }
 
 // Whether the next step is the kernel's and may be made.
+#[inline(always)]
 pub(crate) fn is_due(program: &Program, kernel: &Kernel, private: &Private) -> bool
     ensures due { (input : List ℕ) → result ≡ plain.is_due (view.program program.now)
         (turning kernel.now private.now input) }
