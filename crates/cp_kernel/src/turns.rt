@@ -88,6 +88,7 @@ fn has_nothing_to_do(program: &Program, kernel: &Kernel, private: &Private) -> b
 }
 
 // Makes the steps of a kernel turn, and moves the output.
+#[inline(never)]
 fn take_turn(
     program: &Program,
     kernel: &mut Kernel,

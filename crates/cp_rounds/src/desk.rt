@@ -47,8 +47,9 @@ impl<'a, C: Course> Desk<'a, C> {
         *self.tasks[place].lock(rt) = Some(task);
     }
 
-    /// Puts the turns of a round in the first places, in order of process: those of all processes,
-    /// or else of those that don't rest. The others stay where they are.
+    /// Puts the turns of a round, of which there are `turns`, in the first places, in order of
+    /// process: those of all processes, or else of those that don't rest. The others stay where they
+    /// are.
     pub fn put_all<R: Wait>(
         &self,
         rt: &R,
@@ -57,6 +58,7 @@ impl<'a, C: Course> Desk<'a, C> {
         round: usize,
         moment: Moment,
         of_all: bool,
+        turns: usize,
         privates: &mut Vec<Private>,
     )
         requires cell { start.now.of ≡ C.cell round }
@@ -68,6 +70,9 @@ impl<'a, C: Course> Desk<'a, C> {
         ensures left { AreLeft moment.wakes 0 privates.old.items privates.new.items }
         ensures count { length privates.new.items ≡ length privates.old.items }
     {
+        if turns == 0 {
+            return;
+        }
         let mut place = 0;
         for i in 0..privates.len() {
             if !of_all && privates[i].rests(moment.wakes) {

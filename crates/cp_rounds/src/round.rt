@@ -107,6 +107,7 @@ fn begin_kernel_turns<'a, C: Course, R: Wait, G: TurnGate>(
 }
 
 // Takes a private state from a place at the desk, after its private turn.
+#[inline(never)]
 fn take_from_desk<'a, C: Course, R: Wait, G: TurnGate>(
     rt: &R,
     run: &Run<'a, C, G>,
@@ -356,6 +357,7 @@ pub fn make_round<'a, C: Course, R: Wait, G: TurnGate>(
         round,
         moment,
         of_all,
+        turns,
         &mut parts.privates,
     );
     finish_all(
