@@ -2,31 +2,29 @@
 --
 -- The equalities with plain data say which plain data the kernel and the private states are then, and
 -- the laws of cp_machine_model say of these that they are the parts of the state.
-use Rattle.std.proofs.Common.{◌≡◌, ◌≤◌, ◌<◌, ◌-◌, ◌++◌, ◌∙◌, ℕ, suc, List, [], Result, Ok, Err, IfOk, None, Some, length, ap, subst, sym, arith}
-use Rattle.std.specs.Prelude.{map, slice_get, slice_set}
+use Rattle.std.proofs.Common.{◌≡◌, ◌≤◌, ◌-◌, ◌++◌, ◌∙◌, ℕ, suc, List, [], Result, Ok, Err, IfOk, length, ap, subst, sym, arith}
+use Rattle.std.specs.Prelude.{map, slice_set}
+use Rattle.cp_model.specs.Laws.{KernelTurnKeepsInvariant}
 use Rattle.cp_model.specs.Rounds.{close_round}
 use Rattle.cp_model.specs.Start.{start}
-use Rattle.cp_model.specs.States.{Setup, State, process_count, running_clock}
+use Rattle.cp_model.specs.States.{Setup, State}
 use Rattle.cp_model.specs.Turns as meaning
 use Rattle.cp_program_model.specs.Programs as code
 use Rattle.cp_program_model.specs.StandsFor.{StandsFor}
 use Rattle.cp_machine_model.specs.InState.{IsIn}
 use Rattle.cp_machine_model.specs.KernelOf.{KernelOf}
 use Rattle.cp_machine_model.specs.KernelSteps as plain
-use Rattle.cp_machine_model.specs.Laws.{KernelTurnIsTurn, OutputMoves, StartIsKernel, TurningOf, ground_of}
+use Rattle.cp_machine_model.specs.Laws.{KernelTurnIsTurn, OutputMoves, StartIsKernel, TurningOf}
 use Rattle.cp_machine_model.specs.Machines as machines
 use Rattle.cp_machine_model.specs.Machines.{begin_one, first_machine, next_stage, transcript_of}
-use Rattle.cp_machine_model.specs.PartOf.{PartOf}
-use Rattle.cp_machine_model.specs.PrivateStates.{PrivateState}
 use Rattle.cp_machine_model.specs.RoundLaws.{EndIsEnd}
 use Rattle.cp_machine_model.proofs.MachineTurns.{transcript_there}
-use Rattle.cp_private.specs.States.{private_of}
 use Rattle.cp_private.specs.declared.private.Private.{Private}
 use Rattle.cp_program.specs.declared.program.Program.{Program}
 use Rattle.cp_program.specs.View as view
 use Rattle.cp_kernel.specs.declared.kernel.Kernel.{Kernel}
 use Rattle.cp_kernel.specs.KernelOf.{kernel_of, transcripts_of, turning}
-use Rattle.cp_kernel.specs.Promises.{EndsRound, IsAtStart}
+use Rattle.cp_kernel.specs.Promises.{EndsRound, IsAtStart, MakesKernelTurn}
 use Rattle.cp_kernel.specs.Turns.{IsTurned, parts_of}
 
 -- ---- Kernel turns
@@ -58,6 +56,18 @@ kernel_turn_made program setup F p own n clock u k after x y input law turned fi
     let alike = sym same in
     subst (λ (z : plain.Turning). TurningOf program setup F p own u (transcript_of (transcripts_of after) p) z) alike
     (subst (λ (before : List ℕ). TurningOf program setup F p own u before (record made { own = record made.own { output = [] } })) back M)
+
+pub makes_kernel_turn : (program : Program) (n clock : ℕ) (k after : Kernel) (x y : Private) (input : List ℕ)
+    → KernelTurnIsTurn → OutputMoves → KernelTurnKeepsInvariant
+    → IsTurned (view.program program) clock n k after x y input
+    → MakesKernelTurn program n k x after y input clock
+makes_kernel_turn program n clock k after x y input law moves kept turned setup F p own s I now first last count T =
+    let few : p ≤ length (transcripts_of k) = omega (arith, last, count) in
+    let there = law (view.program program) setup F p own n s (transcript_of (transcripts_of k) p) (turning k x input) I first last T in
+    let here = subst (λ (c : ℕ). TurningOf (view.program program) setup F p own (meaning.kernel_turn setup n s p) (transcript_of (transcripts_of k) p) (plain.kernel_steps (view.program program) c n (turning k x input))) (sym now) there in (
+      kernel_turn_made (view.program program) setup F p own n clock (meaning.kernel_turn setup n s p) k after x y input moves turned first few T.part.number here,
+      kept setup n p s I,
+    )
 
 -- ---- The start
 

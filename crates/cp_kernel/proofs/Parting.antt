@@ -1,5 +1,5 @@
 -- What a step reads of the kernel and changes in it, as plain data.
-use Rattle.std.proofs.Common.{◌≡◌, ◌++◌, ℕ, zero, suc, ℤ, List, length, take, drop, true, refl, ap, sym, ◌∙◌}
+use Rattle.std.proofs.Common.{◌≡◌, ◌++◌, ℕ, zero, suc, List, length, take, drop, refl, ap, sym, ◌∙◌}
 use Rattle.std.specs.Prelude.{map, option_map}
 use Rattle.std.proofs.Math.Seq.{take-append_seam}
 use Rattle.cp_machine_model.specs.KernelSteps as plain

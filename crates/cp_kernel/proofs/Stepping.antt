@@ -1,5 +1,6 @@
 -- Steps that are due, and turns of them.
-use Rattle.std.proofs.Common.{◌≡◌, ℕ, zero, suc, Bool, true, false, refl, ap, sym, ◌∙◌}
+use Rattle.std.proofs.Common.{◌≡◌, ℕ, zero, suc, Bool, true, false, List, [], refl, ap, sym, ◌∙◌}
+use Rattle.std.proofs.lemmas.Bool.{false≢true}
 use Rattle.std.specs.Prelude.{Option, None, Some, if◌then◌else◌, not}
 use Rattle.cp_program_model.specs.Programs.{Operation, Program}
 use Rattle.cp_machine_model.specs.KernelSteps.{Turning, is_begun, is_due, kernel_step, kernel_steps, needs_kernel, stage_of}
@@ -8,7 +9,13 @@ use Rattle.cp_machine_model.specs.Steps.{is_held, is_kernel_operation, is_privat
 use Rattle.cp_private.specs.Kinds.{kind_of}
 use Rattle.cp_private.specs.declared.kind.Kind.{Kind}
 use Rattle.cp_private.specs.declared.kind.Kind.TheVariants as kind
+use Rattle.cp_private.specs.States.{private_of}
+use Rattle.cp_private.specs.declared.private.Private.{Private}
 use Rattle.cp_kernel.specs.Due.{is_kernel}
+use Rattle.cp_kernel.specs.KernelOf.{turning}
+use Rattle.cp_kernel.specs.Turns.{IsTurned}
+use Rattle.cp_kernel.specs.declared.kernel.Kernel.{Kernel}
+use Rattle.cp_kernel.proofs.Transcripts.{nothing_moved}
 
 in_monitor : (b : Bool) → is_kernel (if b then kind.Kernel else kind.None) ≡ b
 in_monitor true = refl
@@ -31,20 +38,29 @@ due_by : (running : Bool) (k : Kind) (needs : Bool) → is_kernel k ≡ needs
 due_by true k needs is = is
 due_by false k needs is = refl
 
-pub due_begun : (program : Program) (x : Turning) → is_begun (stage_of x.kernel.stages x.own.number) ≡ true
-    → is_kernel (kind_of program x.own) ≡ is_due program x
-due_begun program x begun =
-    due_by (is_running x.own.activity) _ (needs_kernel x.own (operation_of program x.own)) (of_kind x.own (operation_of program x.own))
-    ∙ ap (λ b. if is_running x.own.activity then (if b then needs_kernel x.own (operation_of program x.own) else false) else false) (sym begun)
+-- What no stage makes due.
+not_due_by : (running begun needs : Bool) → (if running then (if true then needs else false) else false) ≡ false
+    → false ≡ (if running then (if begun then needs else false) else false)
+not_due_by true true needs h = sym h
+not_due_by true false needs h = refl
+not_due_by false begun needs h = refl
 
-never : (b : Bool) → (if b then false else false) ≡ false
-never true = refl
-never false = refl
+pub due_not_kernel : (program : Program) (x : Turning) → is_kernel (kind_of program x.own) ≡ false → false ≡ is_due program x
+due_not_kernel program x h =
+    not_due_by (is_running x.own.activity) (is_begun (stage_of x.kernel.stages x.own.number)) (needs_kernel x.own (operation_of program x.own))
+    (sym (due_by (is_running x.own.activity) _ (needs_kernel x.own (operation_of program x.own)) (of_kind x.own (operation_of program x.own))) ∙ h)
 
-pub due_not_begun : (program : Program) (x : Turning) → is_begun (stage_of x.kernel.stages x.own.number) ≡ false → false ≡ is_due program x
-due_not_begun program x begun =
-    sym (never (is_running x.own.activity))
-    ∙ ap (λ b. if is_running x.own.activity then (if b then needs_kernel x.own (operation_of program x.own) else false) else false) (sym begun)
+-- What is due as soon as the process has begun.
+due_as_begun : (running begun needs : Bool) → (if running then (if true then needs else false) else false) ≡ true
+    → begun ≡ (if running then (if begun then needs else false) else false)
+due_as_begun true true needs h = sym h
+due_as_begun true false needs h = refl
+due_as_begun false begun needs h = absurd (false≢true h)
+
+pub due_kernel : (program : Program) (x : Turning) → is_kernel (kind_of program x.own) ≡ true → is_begun (stage_of x.kernel.stages x.own.number) ≡ is_due program x
+due_kernel program x h =
+    due_as_begun (is_running x.own.activity) (is_begun (stage_of x.kernel.stages x.own.number)) (needs_kernel x.own (operation_of program x.own))
+    (sym (due_by (is_running x.own.activity) _ (needs_kernel x.own (operation_of program x.own)) (of_kind x.own (operation_of program x.own))) ∙ h)
 
 pub step_rests : (program : Program) (clock : ℕ) (x : Turning) → is_due program x ≡ false → kernel_step program clock x ≡ x
 step_rests program clock x due = rw due refl
@@ -56,3 +72,14 @@ steps_rest program clock (suc n) x due = ap (kernel_steps program clock n) (step
 pub steps_more : (program : Program) (clock m n : ℕ) (x : Turning) → m ≡ suc n
     → kernel_steps program clock m x ≡ kernel_steps program clock n (kernel_step program clock x)
 steps_more program clock m n x h = ap (λ k. kernel_steps program clock k x) h
+
+-- A turn with neither a step to make nor output to move.
+pub nothing_turned : (program : Program) (clock n : ℕ) (k : Kernel) (x : Private) (input : List ℕ) → is_due program (turning k x input) ≡ false
+    → x.output.items ≡ [] → IsTurned program clock n k k x x input
+nothing_turned program clock n k x input due empty =
+    let rests = sym (steps_rest program clock n (turning k x input) due) in
+    record {
+      kernel = ap (λ (y : Turning). y.kernel) rests;
+      own = (λ i. record (private_of x input) { output = empty i }) ∙ ap (λ (y : Turning). record y.own { output = [] }) rests;
+      moves = nothing_moved k x.number (kernel_steps program clock n (turning k x input)).own.output (ap (λ (y : Turning). y.own.output) (sym rests) ∙ empty);
+    }

@@ -2,7 +2,7 @@
 use Rattle.std.proofs.Common.{◌≡◌, ◌≢◌, ◌≤◌, ◌+◌, ◌-◌, ◌++◌, ℕ, zero, suc, List, [], ◌∷◌, Option, None, Some, slice_get, slice_set, map, length, vec_len, vec_capacity, refl, ap, sym, subst, ◌∙◌, arith}
 use Rattle.std.specs.Prelude.{option_map}
 use Rattle.std.proofs.lemmas.Option.{slice_get-map}
-use Rattle.std.proofs.lemmas.List.{map-set}
+use Rattle.std.proofs.lemmas.List.{append-nil, map-set}
 use Rattle.cp_machine_model.specs.Machines.{transcript_of}
 use Rattle.std.specs.Prelude.{Vec}
 use Rattle.std.specs.Global.{Global}
@@ -58,4 +58,19 @@ moved_from k mid after p written same M = record {
       ∙ ap (λ (ts : Vec (Bytes) Global). let all = map (λ (v : Bytes). v.items) ts.items in slice_set all (p - 1) (transcript_of all p ++ written)) same;
   others = λ q n apart had.
       M.others q n apart (subst (λ (ts : Vec (Bytes) Global). (v : Bytes) → slice_get ts.items (q - 1) ≡ Some v → vec_len v + n ≤ vec_capacity v) (sym same) had);
+}
+
+set_same : (xss : List (List ℕ)) (i : ℕ) (ys : List ℕ) → ((xs : List ℕ) → slice_get xss i ≡ Some xs → ys ≡ xs) → xss ≡ slice_set xss i ys
+set_same [] i ys same = refl
+set_same (xs ∷ xss) zero ys same = ap (λ zs. zs ∷ xss) (sym (same xs refl))
+set_same (xs ∷ xss) (suc i) ys same = ap (λ zss. xs ∷ zss) (set_same xss i ys same)
+
+-- Nothing is moved.
+pub nothing_moved : (k : Kernel) (p : ℕ) (written : List ℕ) → written ≡ [] → Moves k k p written
+nothing_moved k p written none = record {
+  transcripts =
+      let all = map (λ (v : Bytes). v.items) k.transcripts.items in
+      set_same all (p - 1) (transcript_of all p ++ written)
+      (λ xs there. ap (λ ys. transcript_of all p ++ ys) none ∙ (append-nil (transcript_of all p) ∙ (looked (slice_get all (p - 1)) ∙ ap bytes_by there)));
+  others = λ q n apart had. had;
 }

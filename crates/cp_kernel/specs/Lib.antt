@@ -3,3 +3,4 @@ pub mod KernelOf
 pub mod Turns
 pub mod Promises
 pub mod ChainOf
+pub mod Fresh

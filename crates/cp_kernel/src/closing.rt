@@ -1,11 +1,12 @@
 //! The end of a round: the processes that were started in it begin.
 
-ghost use Rattle.std.specs.Prelude.{◌≡◌, ℕ, List, length, map};
+ghost use Rattle.std.specs.Prelude.{◌≡◌, ℕ, List, false, length, map};
 ghost use Rattle.cp_private.specs.declared.private.Private.{Private};
 ghost use Rattle.cp_private.specs.States.{private_of, stage as stage_view};
 ghost use Rattle.cp_machine_model.specs.Machines as plain;
 ghost use Rattle.cp_program.specs.View as view;
 ghost use Rattle.cp_kernel.specs.KernelOf.{kernel_of};
+ghost use Rattle.cp_kernel.specs.Fresh.{HasNoFresh};
 ghost use Rattle.cp_kernel.specs.Promises.{EndsRound};
 ghost use Rattle.cp_kernel.specs.Turns.{parts_of};
 
@@ -56,6 +57,18 @@ fn close_stages(stages: &mut [Stage])
     }
 }
 
+// Returns whether a process was started in the round.
+fn has_fresh(stages: &[Stage]) -> bool
+    ensures { result ≡ false → HasNoFresh stages.now }
+{
+    for stage in stages {
+        if matches!(stage, Stage::Fresh) {
+            return true;
+        }
+    }
+    false
+}
+
 // The end of a round, as plain data.
 fn close(program: &Program, kernel: &mut Kernel, privates: &mut [Private])
     ensures kernel { let k = kernel_of kernel.old in kernel_of kernel.new
@@ -68,6 +81,9 @@ fn close(program: &Program, kernel: &mut Kernel, privates: &mut [Private])
     ensures numbers { map (λ (x : Private). x.number) privates.new
         ≡ map (λ (x : Private). x.number) privates.old }
 {
+    if !has_fresh(&kernel.stages) {
+        return;
+    }
     begin_all(program, kernel, privates);
     close_stages(&mut kernel.stages);
 }

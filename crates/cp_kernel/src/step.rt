@@ -26,15 +26,17 @@ fn is_kernel(kind: Kind) -> bool
 }
 
 // Whether the next step is the kernel's and may be made.
+#[inline(always)]
 pub(crate) fn is_due(program: &Program, kernel: &Kernel, private: &Private) -> bool
     ensures due { (input : List ℕ) → result ≡ plain.is_due (view.program program.now)
         (turning kernel.now private.now input) }
     ensures begun { result ≡ true → IsBegun kernel.now private.now.number }
 {
-    if !kernel.is_begun(private.number() as u32) {
+    // Few processes get past the first test.
+    if !is_kernel(next_kind(program, private)) {
         return false;
     }
-    is_kernel(next_kind(program, private))
+    kernel.is_begun(private.number() as u32)
 }
 
 // Makes one step of the process, without its effect on the kernel.

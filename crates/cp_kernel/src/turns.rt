@@ -1,6 +1,6 @@
 //! Kernel turns: the kernel's steps of a process, and the move of its output to its transcript.
 
-ghost use Rattle.std.specs.Prelude.{◌≡◌, ◌≤◌, ◌+◌, ◌*◌, ℕ, List, [], length, vec_capacity, vec_len};
+ghost use Rattle.std.specs.Prelude.{◌≡◌, ◌≤◌, ◌+◌, ◌*◌, ℕ, List, [], false, true, length, vec_capacity, vec_len};
 ghost use Rattle.cp_private.specs.Rooms.{HasRoomFor};
 ghost use Rattle.cp_private.specs.States.{private_of};
 ghost use Rattle.cp_machine_model.specs.KernelSteps as plain;
@@ -77,10 +77,47 @@ fn move_output(kernel: &mut Kernel, private: &mut Private)
     private.clear_output();
 }
 
+// Returns whether a kernel turn has neither a step to make nor output to move.
+#[inline(always)]
+fn has_nothing_to_do(program: &Program, kernel: &Kernel, private: &Private) -> bool
+    ensures due { result ≡ true → (input : List ℕ) → plain.is_due (view.program program.now)
+        (turning kernel.now private.now input) ≡ false }
+    ensures empty { result ≡ true → private.now.output.items ≡ [] }
+{
+    private.output().is_empty() && !is_due(program, kernel, private)
+}
+
+// Makes the steps of a kernel turn, and moves the output.
+#[inline(never)]
+fn take_turn(
+    program: &Program,
+    kernel: &mut Kernel,
+    private: &mut Private,
+    input: &[u8],
+    clock: u64,
+    turn: Turn,
+)
+    requires among { IsAmong kernel.old private.old.number }
+    requires asking { HasRoomForAskers kernel.old 1 }
+    requires output { HasRoomFor private.old turn.steps }
+    requires transcript { HasRoomForBytes kernel.old private.old.number
+        (vec_len private.old.output + 11 * turn.steps) }
+    ensures turn { IsTurned (view.program program.now) clock turn.steps kernel.old kernel.new
+        private.old private.new input.now }
+    ensures asking { (n : ℕ) → HasRoomForAskers kernel.old (n + 1) → HasRoomForAskers kernel.new n }
+    ensures number { private.new.number ≡ private.old.number }
+    ensures empty { vec_len private.new.output ≡ 0 }
+    ensures capacity { vec_capacity private.old.output ≤ vec_capacity private.new.output }
+{
+    take_steps(program, kernel, private, input, clock, turn.steps());
+    move_output(kernel, private);
+}
+
 /// Makes the kernel turn of a process: at most as many steps as the turn has, as long as the next
 /// one is the kernel's. Then the output of the process, including that of its private turn, moves
 /// to its transcript. It takes no memory: `reserve_askers` and `reserve_bytes` reserve the room. A
 /// step writes at most 11 bytes, and the turn asks for at most one gate.
+#[inline(always)]
 pub fn kernel_turn(
     program: &Program,
     kernel: &mut Kernel,
@@ -106,6 +143,9 @@ pub fn kernel_turn(
     law::kernel_steps();
     law::between_turns();
     invariant();
-    take_steps(program, kernel, private, input, clock, turn.steps());
-    move_output(kernel, private);
+    // The test is inlined, so that the turn of a process that can't move costs no call.
+    if has_nothing_to_do(program, kernel, private) {
+        return;
+    }
+    take_turn(program, kernel, private, input, clock, turn);
 }

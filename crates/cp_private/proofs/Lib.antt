@@ -3,6 +3,7 @@ pub mod Blocks
 pub mod Calling
 pub mod InUse
 pub mod Lasting
+pub mod AtRest
 pub mod Results
 pub mod Returning
 pub mod KindsMeant

@@ -1,10 +1,9 @@
 -- A process at its start, in every text that its program stands for.
-use Rattle.std.proofs.Common.{◌≡◌, ◌≤◌, ◌-◌, ◌∙◌, ℕ, List, [], Result, Ok, Err, IfOk, length, ap, subst, sym, arith}
+use Rattle.std.proofs.Common.{◌≡◌, ◌≤◌, ◌-◌, ℕ, List, [], Result, Ok, Err, IfOk, length, subst, sym, arith}
 use Rattle.std.specs.Prelude.{slice_get, Some}
-use Rattle.cp_model.specs.States.{Setup, process_count}
+use Rattle.cp_model.specs.States.{process_count}
 use Rattle.cp_model.specs.Start.{start}
 use Rattle.cp_program_model.specs.Programs as code
-use Rattle.cp_program_model.specs.StandsFor.{StandsFor}
 use Rattle.cp_machine_model.specs.Beginning.{Begins}
 use Rattle.cp_machine_model.specs.KernelSteps.{Kernel}
 use Rattle.cp_machine_model.specs.Laws.{StartIsPart, ground_of}

@@ -4,3 +4,4 @@ pub mod Keeping
 pub mod Calls
 pub mod Kinds
 pub mod Promises
+pub mod Resting

@@ -19,6 +19,7 @@ pub enum Kind {
     None,
 }
 
+#[inline(always)]
 fn kind_at_counter(program: &Program, private: &Private) -> Kind
     ensures { (input : List ℕ) → result ≡ kind_of (view.program program.now)
         (private_of private.now input) }
@@ -38,6 +39,7 @@ fn kind_at_counter(program: &Program, private: &Private) -> Kind
 
 /// Returns the kind of the next step. It is the kernel's inside a monitor, and if it calls a
 /// monitor or initialises a monitor or a process.
+#[inline(always)]
 pub fn next_kind(program: &Program, private: &Private) -> Kind
     ensures kind { (input : List ℕ) → result ≡ kind_of (view.program program.now)
         (private_of private.now input) }

@@ -13,8 +13,8 @@
 //! - `words`, `changing`, `reading`, `frames`, `starting`: words, temps and frames.
 //! - `assignments`, `counting`, `standards`, `targets`, `passing`, `called`, `calls`, `returns`,
 //!   `initialisation`: the steps of operations.
-//! - `step`, `turn`, `turns`, `kind`: a step of any operation, turns, and whether the next step is
-//!   private or the kernel's.
+//! - `step`, `turn`, `turns`, `kind`, `resting`: a step of any operation, turns, whether the next step
+//!   is private or the kernel's, and processes that have no private step to make.
 //! - `limits`: which number of a plan is out of its range.
 #![tactic(auto)]
 
@@ -34,6 +34,7 @@ pub mod outside;
 mod passing;
 pub mod private;
 mod reading;
+mod resting;
 mod returns;
 mod standards;
 pub mod starting;

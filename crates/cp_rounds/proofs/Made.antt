@@ -151,7 +151,7 @@ turned_at g t rounds i xs k x y here is =
     (private_of x (input_at g.inputs.items i)) (part_at g.inputs.items i xs x here)
     ∙ ap (λ (o : PrivateState). Some o) (sym is)
 
-pub process_made : (g : Setting) (t rounds : ℕ) (xs : List Private) (k0 : Kernel) (ys : List Private) (x y z : Private) (k k' : Kernel)
+process_made : (g : Setting) (t rounds : ℕ) (xs : List Private) (k0 : Kernel) (ys : List Private) (x y z : Private) (k k' : Kernel)
     → slice_get xs (length ys) ≡ Some x
     → private_of y (input_at g.inputs.items (length ys))
     ≡ take_turn (view.program g.program) t (moment_of g.tick.rounds rounds) (private_of x (input_at g.inputs.items (length ys)))
@@ -182,6 +182,23 @@ process_made g t rounds xs k0 ys x y z k k' here is number turn was =
     (λ (new : (j ≡ i) × (z ≡ q)). inl new)
     (got_snoc ys z j q e))
     taken)
+
+-- The same at an index, before which both turns are made.
+pub process_made_at : (g : Setting) (t rounds : ℕ) (xs : List Private) (k0 : Kernel) (i : ℕ) (ys : List Private) (x y z : Private) (k k' : Kernel)
+    → i ≡ length ys → slice_get xs i ≡ Some x
+    → private_of y (input_at g.inputs.items i)
+    ≡ take_turn (view.program g.program) t (moment_of g.tick.rounds rounds) (private_of x (input_at g.inputs.items i))
+    → y.number ≡ suc i
+    → IsTurned (view.program g.program) (moment_of g.tick.rounds rounds).clock t k k' y z (input_at g.inputs.items i)
+    → TurnsTaken g t rounds xs k0 ys k → TurnsTaken g t rounds xs k0 (ys ++ z ∷ []) k'
+process_made_at g t rounds xs k0 i ys x y z k k' at here is number turn was =
+    process_made g t rounds xs k0 ys x y z k k'
+    (subst (λ (n : ℕ). slice_get xs n ≡ Some x) at here)
+    (subst (λ (n : ℕ). private_of y (input_at g.inputs.items n)
+    ≡ take_turn (view.program g.program) t (moment_of g.tick.rounds rounds) (private_of x (input_at g.inputs.items n))) at is)
+    (number ∙ ap suc at)
+    (subst (λ (n : ℕ). IsTurned (view.program g.program) (moment_of g.tick.rounds rounds).clock t k k' y z (input_at g.inputs.items n)) at turn)
+    was
 
 -- ---- Whole rounds
 

@@ -1,5 +1,6 @@
 -- What a private state comes from, while any thread may make its private turn.
-use Rattle.std.specs.Prelude.{◌≡◌, ◌≤◌, ◌+◌, ◌*◌, ℕ, Bool, true, false, List, Some, slice_get, vec_len, vec_capacity}
+use Rattle.std.specs.Prelude.{◌≡◌, ◌≤◌, ◌+◌, ◌-◌, ◌*◌, ℕ, Bool, true, false, List, Some, slice_get, vec_len, vec_capacity}
+use Rattle.cp_private.specs.Resting.{rests}
 use Rattle.cp_private.specs.States.{private_of}
 use Rattle.cp_private.specs.declared.private.Private.{Private}
 use Rattle.cp_machine_model.specs.PrivateStates.{PrivateState}
@@ -39,6 +40,13 @@ IsShort most xs i made y = (x : Private) → slice_get xs i ≡ Some x → vec_l
 abbrev pub HasRoomLeft : ℕ → Bool → Private → Type 0
 HasRoomLeft most made y = vec_len y.output + bytes_to_write most made ≤ vec_capacity y.output
 
+-- y is the private state of a process once its private turn is made.
+pub record IsTaken (turned : PrivateState → PrivateState) (input : List ℕ) (most : ℕ) (xs : List Private) (process : ℕ) (y : Private) : Type 0 where
+  pub number : y.number ≡ process
+  pub comes : ComesOf turned input xs (process - 1) true y
+  pub room : HasRoomLeft most true y
+  pub short : IsShort most xs (process - 1) true y
+
 -- `turned` is the turn of t steps in this setting, which writes at most `most` bytes, and `input`
 -- is the input at each index.
 pub record IsCourseOf (turned : Moment → PrivateState → PrivateState) (input : ℕ → List ℕ) (most : ℕ) (g : Setting) (t : ℕ) : Type 0 where
@@ -49,3 +57,8 @@ pub record IsCourseOf (turned : Moment → PrivateState → PrivateState) (input
 -- Each private state has room for what a round writes.
 abbrev pub AllFree : ℕ → List Private → Type 0
 AllFree most xs = (i : ℕ) (x : Private) → slice_get xs i ≡ Some x → HasRoomLeft most false x
+
+-- From index `from` on, each private state that rests is the one at the start of the round. The
+-- others may be at the desk.
+abbrev pub AreLeft : Bool → ℕ → List Private → List Private → Type 0
+AreLeft wakes from xs ys = (i : ℕ) (y : Private) → from ≤ i → slice_get ys i ≡ Some y → rests wakes y ≡ true → slice_get xs i ≡ Some y

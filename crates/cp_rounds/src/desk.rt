@@ -1,16 +1,17 @@
-//! What the threads of a run share: a place for each process's turn.
+//! What the threads of a run share: places for the turns of a round.
 
-ghost use Rattle.std.specs.Prelude.{◌≡◌, ◌<◌, ◌≤◌, ◌-◌, IfOk, length, true, vec_capacity};
+ghost use Rattle.std.specs.Prelude.{◌≡◌, ◌<◌, ◌-◌, IfOk, length, true};
 ghost use Rattle.cp_rounds.specs.Numbers.{AreNumbered};
-ghost use Rattle.cp_rounds.specs.Tasks.{AllFree, ComesOf, HasRoomLeft, IsShort};
+ghost use Rattle.cp_rounds.specs.Tasks.{AllFree, AreLeft, ComesOf, HasRoomLeft, IsShort};
 
 use crate::moment::Moment;
 use crate::task::{Course, Start, Task};
 use cp_private::private::Private;
 use std::alloc::{AllocError, Global};
+use std::mem;
 use std::sync::{Mutex, OnceToken, Wait};
 
-/// The tasks of a round by process.
+/// The tasks of a round, in order of process. There is a place for each process.
 #[derive(Drop)]
 pub struct Desk<'a, C: Course> {
     pub(crate) tasks: Vec<Mutex<Option<Task<'a, C>>>>,
@@ -39,20 +40,25 @@ impl<'a, C: Course> Desk<'a, C> {
         self.tasks.len()
     }
 
-    // Puts the turn of a process in its place.
-    fn put<R: Wait>(&self, rt: &R, index: usize, task: Task<'a, C>)
-        requires within { index < length self.now.tasks.items }
+    // Puts a turn in a place.
+    fn put<R: Wait>(&self, rt: &R, place: usize, task: Task<'a, C>)
+        requires within { place < length self.now.tasks.items }
     {
-        *self.tasks[index].lock(rt) = Some(task);
+        *self.tasks[place].lock(rt) = Some(task);
     }
 
-    /// Puts the turns of a round in their places.
+    /// Puts the turns of a round, of which there are `turns`, in the first places, in order of
+    /// process: those of all processes, or else of those that don't rest. The others stay where they
+    /// are.
     pub fn put_all<R: Wait>(
         &self,
         rt: &R,
+        alloc: Global,
         start: &OnceToken<'a, Start>,
         round: usize,
         moment: Moment,
+        of_all: bool,
+        turns: usize,
         privates: &mut Vec<Private>,
     )
         requires cell { start.now.of ≡ C.cell round }
@@ -61,29 +67,34 @@ impl<'a, C: Course> Desk<'a, C> {
         requires start { start.now.value.value.items ≡ privates.old.items }
         requires free { AllFree C.most privates.old.items }
         requires count { length self.now.tasks.items ≡ length privates.old.items }
-        ensures none { length privates.new.items ≡ 0 }
-        ensures room { length privates.old.items ≤ vec_capacity privates.new }
+        ensures left { AreLeft moment.wakes 0 privates.old.items privates.new.items }
+        ensures count { length privates.new.items ≡ length privates.old.items }
     {
-        'put: while let Some(private) = privates.pop() {
-            let index = privates.len();
-            self.put(
-                rt,
-                index,
-                Task::new(start, round, index + 1, moment, private),
-            );
+        if turns == 0 {
+            return;
+        }
+        let mut place = 0;
+        for i in 0..privates.len() {
+            if !of_all && privates[i].rests(moment.wakes) {
+                continue;
+            }
+            let private = mem::replace(&mut privates[i], Private::absent(alloc));
+            self.put(rt, place, Task::new(start, round, i + 1, moment, private));
+            place += 1;
         }
     }
 
-    /// Returns the private state of a process, whose turn in a round has been made. Waits for the
-    /// turn, if it isn't made.
+    /// Returns the private state of a process from a place, where its turn in a round has been
+    /// made. Waits for the turn, if it isn't made.
     pub fn take<R: Wait>(
         &self,
         rt: &R,
         start: &OnceToken<'a, Start>,
         round: usize,
+        place: usize,
         process: usize,
     ) -> Private
-        requires within { (0 < process) × (process ≤ length self.now.tasks.items) }
+        requires within { place < length self.now.tasks.items }
         requires cell { start.now.of ≡ C.cell round }
         ensures number { result.number ≡ process }
         ensures comes { ComesOf (C.turned (C.moment round)) (C.input (process - 1))
@@ -92,7 +103,7 @@ impl<'a, C: Course> Desk<'a, C> {
         ensures short { IsShort C.most start.now.value.value.items (process - 1) true result }
     {
         for _ in rt.forever() {
-            let Some(task) = self.tasks[process - 1].lock(rt).take() else {
+            let Some(task) = self.tasks[place].lock(rt).take() else {
                 continue;
             };
             if let Some(private) = task.finish(start, round, process) {

@@ -7,7 +7,8 @@ use cp_private::limits::L1;
 use cp_private::turn::Turn;
 
 /// How a round is made: a turn has at most `turn` steps, and `workers` workers draw chunks of
-/// consecutive processes, wave by wave.
+/// consecutive processes, wave by wave. Processes at rest are passed over, and don't count, unless
+/// the gate has to be called for them.
 #[derive(Clone, Copy, Debug, PartialEq, Eq)]
 pub struct Plan {
     pub turn: Turn,

@@ -1,16 +1,18 @@
 //! A round of a run, by threads that draw the chunks of its waves.
 //!
 //! Everything that can fail comes before the first turn of a round: reserving room for all output
-//! and for all askers, and the boards of all waves. The turns are then made in place, so the cost of a round is that of what
-//! happens in it, and no state is copied.
+//! and for all askers, and the boards of all waves. The turns are then made in place, so the cost
+//! of a round is that of what happens in it, and no state is copied. A private state whose private
+//! turn has no step to make isn't even put at the desk, unless the gate has to be called for it.
 
-ghost use Rattle.std.specs.Prelude.{◌≡◌, ◌≢◌, ◌≤◌, ◌<◌, ◌+◌, ◌-◌, ◌*◌, ◌^◌, ℕ, false, IfErr, IfOk, length, vec_len, vec_capacity};
+ghost use Rattle.std.specs.Prelude.{◌≡◌, ◌≢◌, ◌≤◌, ◌<◌, ◌+◌, ◌-◌, ◌*◌, ◌^◌, ℕ, false, true, IfErr, IfOk, Some, length, slice_get, take, vec_len, vec_capacity};
 ghost use Rattle.cp_kernel.specs.KernelOf.{HasRoomForBytes, kernel_of, transcripts_of};
 ghost use Rattle.cp_kernel.specs.declared.kernel.Kernel.{Kernel};
+ghost use Rattle.cp_private.specs.Resting.{rests};
 ghost use Rattle.cp_rounds.specs.Made.{IsReady};
 ghost use Rattle.cp_rounds.specs.Numbers.{AreNumbered};
 ghost use Rattle.cp_rounds.specs.Runs.{AreSame, IsSame, PartsAfter, TurnsTaken};
-ghost use Rattle.cp_rounds.specs.Tasks.{AllFree, HasRoomLeft};
+ghost use Rattle.cp_rounds.specs.Tasks.{AllFree, AreLeft, HasRoomLeft, IsTaken};
 ghost use Rattle.cp_rounds.specs.Turned.{moment_of};
 
 use crate::closing::close_round;
@@ -23,7 +25,7 @@ use crate::task::{Course, Start};
 use cp_crew::{Rack, Wave};
 use cp_kernel::kernel::Kernel;
 use cp_kernel::turns::kernel_turn;
-use cp_private::private::{Activity, Private};
+use cp_private::private::Private;
 use cp_private::turn::Turn;
 use std::alloc::AllocError;
 use std::snapshot::Snapshot;
@@ -73,52 +75,6 @@ fn reserve_room(
     Ok(())
 }
 
-// Takes the next private state after its private turn, and makes its kernel turn.
-fn finish_next<'a, C: Course, R: Wait, G: TurnGate>(
-    rt: &R,
-    turns: &DeskTurns<'a, C, G>,
-    start: &OnceToken<'a, Start>,
-    round: usize,
-    moment: Moment,
-    privates: &mut Vec<Private>,
-    kernel: &mut Kernel,
-)
-    requires within { length privates.old.items < length turns.now.desk.tasks.items }
-    requires count { length turns.now.desk.tasks.items ≡ length start.now.value.value.items }
-    requires cell { start.now.of ≡ C.cell round }
-    requires time { moment ≡ C.moment round }
-    requires capacity { length turns.now.desk.tasks.items ≤ vec_capacity privates.old }
-    requires ready { IsReady C.most (length privates.old.items) start.now.value.value.items
-        kernel.old }
-    ensures taken { (rounds : ℕ) (k : Kernel)
-        → moment ≡ moment_of turns.now.setting.now.tick.rounds rounds
-        → TurnsTaken turns.now.setting.now turns.now.plan.turn.steps rounds
-        start.now.value.value.items k privates.old.items kernel.old
-        → TurnsTaken turns.now.setting.now turns.now.plan.turn.steps rounds
-        start.now.value.value.items k privates.new.items kernel.new }
-    ensures numbers { AreNumbered privates.old.items → AreNumbered privates.new.items }
-    ensures count { length privates.new.items ≡ length privates.old.items + 1 }
-    ensures capacity { length turns.now.desk.tasks.items ≤ vec_capacity privates.new }
-    ensures ready { IsReady C.most (length privates.new.items) start.now.value.value.items
-        kernel.new }
-{
-    let process = privates.len() + 1;
-    let mut private = turns.desk.take(rt, start, round, process);
-    turns.gate.kernel(process);
-    let input = turns.setting.input(process);
-    kernel_turn(
-        &turns.setting.program,
-        kernel,
-        &mut private,
-        input,
-        moment.clock,
-        turns.plan.turn,
-    );
-    if privates.push(private).is_err() {
-        unreachable!()
-    }
-}
-
 // Makes the turns of a wave that nobody has made yet, begins the next wave, and closes the board of
 // the wave, all of whose turns are then made. Returns how many chunks were drawn.
 fn finish_wave<'a, C: Course, R: Wait, G: TurnGate>(
@@ -134,20 +90,128 @@ fn finish_wave<'a, C: Course, R: Wait, G: TurnGate>(
     board.close(seat)
 }
 
-// At the first process of a wave: finishes the wave, which is the last of those that are left.
+// At the first turn of a wave: finishes the wave, which is the last of those that are left.
 fn begin_kernel_turns<'a, C: Course, R: Wait, G: TurnGate>(
     rt: &R,
     run: &Run<'a, C, G>,
     left: &mut Vec<Wave<'a, C>>,
-    first: usize,
+    place: usize,
 ) {
-    if first % run.turns.plan.wave as usize != 0 {
+    if place % run.turns.plan.wave as usize != 0 {
         return;
     }
     let Some(wave) = left.pop() else {
         return;
     };
     finish_wave(rt, &run.rack, wave, left.last_mut(), &run.turns);
+}
+
+// Takes a private state from a place at the desk, after its private turn.
+#[inline(never)]
+fn take_from_desk<'a, C: Course, R: Wait, G: TurnGate>(
+    rt: &R,
+    run: &Run<'a, C, G>,
+    left: &mut Vec<Wave<'a, C>>,
+    start: &OnceToken<'a, Start>,
+    round: usize,
+    place: usize,
+    process: usize,
+) -> Private
+    requires within { place < length run.now.turns.desk.tasks.items }
+    requires cell { start.now.of ≡ C.cell round }
+    ensures { IsTaken (C.turned (C.moment round)) (C.input (process - 1)) C.most
+        start.now.value.value.items process result }
+{
+    begin_kernel_turns(rt, run, left, place);
+    run.turns.desk.take(rt, start, round, place, process)
+}
+
+// Brings back a private state after its private turn, which it has made where it is if it rests.
+// Returns the place of the next one at the desk.
+#[inline(always)]
+fn bring_back<'a, C: Course, R: Wait, G: TurnGate>(
+    rt: &R,
+    run: &Run<'a, C, G>,
+    left: &mut Vec<Wave<'a, C>>,
+    start: &OnceToken<'a, Start>,
+    round: usize,
+    moment: Moment,
+    place: usize,
+    process: usize,
+    private: &mut Private,
+) -> usize
+    requires within { place < length run.now.turns.desk.tasks.items }
+    requires some { 0 < process }
+    requires cell { start.now.of ≡ C.cell round }
+    requires time { moment ≡ C.moment round }
+    requires numbers { AreNumbered start.now.value.value.items }
+    requires free { AllFree C.most start.now.value.value.items }
+    requires left { rests moment.wakes private.old ≡ true
+        → slice_get start.now.value.value.items (process - 1) ≡ Some private.old }
+    ensures taken { IsTaken (C.turned (C.moment round)) (C.input (process - 1)) C.most
+        start.now.value.value.items process private.new }
+    ensures place { result ≤ place + 1 }
+{
+    if private.rests(moment.wakes) {
+        return place;
+    }
+    *private = take_from_desk(rt, run, left, start, round, place, process);
+    place + 1
+}
+
+// Brings back the private state at an index after its private turn, and makes its kernel turn.
+// Returns the place of the next one at the desk.
+#[inline(always)]
+fn finish_next<'a, C: Course, R: Wait, G: TurnGate>(
+    rt: &R,
+    run: &Run<'a, C, G>,
+    left: &mut Vec<Wave<'a, C>>,
+    start: &OnceToken<'a, Start>,
+    round: usize,
+    moment: Moment,
+    place: usize,
+    index: usize,
+    privates: &mut Vec<Private>,
+    kernel: &mut Kernel,
+) -> usize
+    requires within { index < length privates.old.items }
+    requires place { place ≤ index }
+    requires count { length privates.old.items ≡ length start.now.value.value.items }
+    requires desk { length run.now.turns.desk.tasks.items ≡ length start.now.value.value.items }
+    requires cell { start.now.of ≡ C.cell round }
+    requires time { moment ≡ C.moment round }
+    requires numbers { AreNumbered start.now.value.value.items }
+    requires free { AllFree C.most start.now.value.value.items }
+    requires left { AreLeft moment.wakes index start.now.value.value.items privates.old.items }
+    requires ready { IsReady C.most index start.now.value.value.items kernel.old }
+    ensures taken { (rounds : ℕ) (k : Kernel)
+        → moment ≡ moment_of run.now.turns.setting.now.tick.rounds rounds
+        → TurnsTaken run.now.turns.setting.now run.now.turns.plan.turn.steps rounds
+        start.now.value.value.items k (take index privates.old.items) kernel.old
+        → TurnsTaken run.now.turns.setting.now run.now.turns.plan.turn.steps rounds
+        start.now.value.value.items k (take (index + 1) privates.new.items) kernel.new }
+    ensures numbers { AreNumbered (take index privates.old.items)
+        → AreNumbered (take (index + 1) privates.new.items) }
+    ensures left { AreLeft moment.wakes (index + 1) start.now.value.value.items
+        privates.new.items }
+    ensures count { length privates.new.items ≡ length privates.old.items }
+    ensures place { result ≤ place + 1 }
+    ensures ready { IsReady C.most (index + 1) start.now.value.value.items kernel.new }
+{
+    let process = index + 1;
+    let private = &mut privates[index];
+    let next = bring_back(rt, run, left, start, round, moment, place, process, private);
+    run.turns.gate.kernel(process);
+    let input = run.turns.setting.input(process);
+    kernel_turn(
+        &run.turns.setting.program,
+        kernel,
+        private,
+        input,
+        moment.clock,
+        run.turns.plan.turn,
+    );
+    next
 }
 
 // Makes all turns of a round whose tasks are at the desk: the kernel turns of a wave alongside the
@@ -162,65 +226,77 @@ fn finish_all<'a, C: Course, R: Wait, G: TurnGate>(
     privates: &mut Vec<Private>,
     kernel: &mut Kernel,
 )
-    requires none { length privates.old.items ≡ 0 }
-    requires count { length run.now.turns.desk.tasks.items ≡ length
-        start.now.value.value.items }
+    requires count { length privates.old.items ≡ length start.now.value.value.items }
+    requires desk { length run.now.turns.desk.tasks.items ≡ length start.now.value.value.items }
     requires cell { start.now.of ≡ C.cell round }
     requires time { moment ≡ C.moment round }
-    requires capacity { length run.now.turns.desk.tasks.items ≤ vec_capacity privates.old }
+    requires numbers { AreNumbered start.now.value.value.items }
+    requires free { AllFree C.most start.now.value.value.items }
+    requires left { AreLeft moment.wakes 0 start.now.value.value.items privates.old.items }
     requires ready { IsReady C.most 0 start.now.value.value.items kernel.old }
     ensures taken { (rounds : ℕ)
         → moment ≡ moment_of run.now.turns.setting.now.tick.rounds rounds
         → TurnsTaken run.now.turns.setting.now run.now.turns.plan.turn.steps rounds
         start.now.value.value.items kernel.old privates.new.items kernel.new }
     ensures numbers { AreNumbered privates.new.items }
-    ensures count { length privates.new.items ≡ length run.now.turns.desk.tasks.items }
+    ensures count { length privates.new.items ≡ length privates.old.items }
     ensures stages { length kernel.new.stages.items ≡ length privates.new.items }
 {
     if let Some(wave) = waves.last_mut() {
         wave.begin(rt, &run.rack);
     }
-    for i in 0..run.turns.desk.processes() {
-        begin_kernel_turns(rt, run, &mut waves, i);
-        finish_next(rt, &run.turns, start, round, moment, privates, kernel);
+    let mut place = 0;
+    for i in 0..privates.len() {
+        place = finish_next(
+            rt, run, &mut waves, start, round, moment, place, i, privates, kernel,
+        );
     }
+}
+
+// Returns how many private turns a round makes at the desk: those of all processes, or else of those
+// that don't rest.
+fn turns_at_desk(privates: &[Private], of_all: bool, wakes: bool) -> usize {
+    if of_all {
+        return privates.len();
+    }
+    privates
+        .iter()
+        .filter(|private| !private.rests(wakes))
+        .count()
 }
 
 // How many steps make it worth waking a thread.
 const STEPS_A_THREAD: u64 = 5_000;
 
-// Returns how many threads, besides the calling one, are worth waking: all of them if the gate has
-// to be called for each process, none if no process has a step to make, and otherwise at least one.
-fn helpers<G: TurnGate>(privates: &[Private], turn: Turn, gate: &G) -> usize {
-    if !gate.does_nothing() {
+// Returns how many threads, besides the calling one, are worth waking for so many private turns: all
+// of them if the gate has to be called for each process, none if there is no turn, and otherwise at
+// least one.
+fn helpers(turns: usize, of_all: bool, turn: Turn) -> usize {
+    if of_all {
         return usize::MAX;
     }
-    let running = privates
-        .iter()
-        .filter(|private| private.activity() == Activity::Running)
-        .count();
-    if running == 0 {
+    if turns == 0 {
         return 0;
     }
-    let steps = (running as u64).saturating_mul(u64::from(turn.steps()));
+    let steps = (turns as u64).saturating_mul(u64::from(turn.steps()));
     (steps / STEPS_A_THREAD).max(1) as usize
 }
 
-// Returns the waves of a round, the first one last, for this many workers.
+// Returns the waves of a round of so many private turns, the first one last, for this many workers.
 fn waves_of<'a, C: Course, R: Wait, G: TurnGate>(
     rt: &R,
     run: &Run<'a, C, G>,
     round: usize,
+    turns: usize,
     workers: usize,
 ) -> Result<Vec<Wave<'a, C>>, AllocError>
     requires round { round < length run.now.cells.now }
 {
-    let count = run.turns.waves;
-    let processes = run.turns.desk.processes();
+    let count = run.turns.plan.waves(turns).min(run.turns.waves);
     let mut waves = Vec::with_capacity(run.alloc, count)?;
     for later in 0..count {
         let index = count - 1 - later;
-        let chunks = run.turns.plan.chunks(index, processes);
+        let chunks = run.turns.plan.chunks(index, turns);
         // The calling thread makes the kernel turns of the wave before.
         let beside = if index > 0 { 1 } else { 0 };
         let number = run.number_of(round, index);
@@ -261,17 +337,29 @@ pub fn make_round<'a, C: Course, R: Wait, G: TurnGate>(
         desk,
         setting,
         plan,
+        gate,
         ..
     } = &run.turns;
     reserve_room(&mut parts.privates, &mut parts.kernel, plan.turn)?;
     let moment = setting.moment(run.done + round as u64);
-    let helpers = helpers(&parts.privates, plan.turn, run.turns.gate).min(run.rack.places());
-    let waves = waves_of(rt, run, round, helpers + 1)?;
+    let of_all = !gate.does_nothing();
+    let turns = turns_at_desk(&parts.privates, of_all, moment.wakes);
+    let helpers = helpers(turns, of_all, plan.turn).min(run.rack.places());
+    let waves = waves_of(rt, run, round, turns, helpers + 1)?;
     // Only this round writes its cell, but no contract says so.
     let Ok(start) = cell_at(run.cells, round).set(rt, Snapshot::of(&parts.privates)) else {
         return Err(AllocError);
     };
-    desk.put_all(rt, &start, round, moment, &mut parts.privates);
+    desk.put_all(
+        rt,
+        run.alloc,
+        &start,
+        round,
+        moment,
+        of_all,
+        turns,
+        &mut parts.privates,
+    );
     finish_all(
         rt,
         run,

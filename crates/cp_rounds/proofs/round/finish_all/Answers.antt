@@ -1,40 +1,55 @@
-use Rattle.std.proofs.Common.{◌≡◌, ◌+◌, ℕ, length, sym, subst, arith}
-use Rattle.cp_rounds.specs.Made.{IsReady}
-use Rattle.cp_rounds.proofs.Lists.{got_below}
+use Rattle.std.proofs.Common.{◌≤◌, List, length, take, refl, sym, subst, ◌∙◌, arith}
+use Rattle.std.proofs.lemmas.List.{take_all}
+use Rattle.cp_private.specs.declared.private.Private.{Private}
+use Rattle.cp_rounds.specs.Numbers.{AreNumbered}
+use Rattle.cp_rounds.specs.Runs.{TurnsTaken}
+use Rattle.cp_rounds.proofs.Lists.{none_some}
 use Rattle.cp_rounds.proofs.Made.{none_taken}
 use Rattle.cp_rounds.proofs.round.finish_all.Goals as goal
 
 pub loop-i-init : goal.loop-i-init
-loop-i-init g c =
-    let none = c.requires.none in
-    record {
-      count = c.requires.none;
-      capacity = c.requires.capacity;
-      ready = c.requires.ready;
-      numbers = λ i x e. let below = got_below c.args.privates.now.items i x e in absurd (omega (arith, below, none));
-      taken = λ rounds time.
-          none_taken c.args.run.now.turns.setting.now c.args.run.now.turns.plan.turn.steps rounds c.args.start.now.value.value.items c.args.privates.now.items c.args.kernel.now none;
-    }
+loop-i-init g c = record {
+  place = omega arith;
+  count = c.requires.count;
+  left = c.requires.left;
+  ready = c.requires.ready;
+  numbers = λ j x e. absurd (none_some x e);
+  taken = λ rounds time.
+      none_taken c.args.run.now.turns.setting.now c.args.run.now.turns.plan.turn.steps rounds c.args.start.now.value.value.items
+      (take 0 c.args.privates.now.items) c.args.kernel.now refl;
+}
 
 pub loop-i-preserved : goal.loop-i-preserved
 loop-i-preserved g c =
-    let xs = c.args.start.now.value.value.items in
-    let i = c.loop-i.i in
     let was = c.loop-i.invariant in
-    let k2 = c.finish_next.new.kernel in
-    let more = c.finish_next.ensures in
-    let longer = more.count in
-    let before = was.count in
-    let count : length c.finish_next.new.privates.items ≡ i + 1 = omega (arith, longer, before) in
+    let more = c.finish_next-place.ensures in
+    let next = more.place in
+    let place = was.place in
     record {
-      count = count;
-      capacity = more.capacity;
-      ready = subst (λ (n : ℕ). IsReady g.C.Course.most n xs k2) count more.ready;
+      place = omega (arith, next, place);
+      count = more.count ∙ was.count;
+      left = more.left;
+      ready = more.ready;
       numbers = more.numbers was.numbers;
       taken = λ rounds time. more.taken rounds c.args.kernel.now time (was.taken rounds time);
     }
 
-pub finish_next-requires-clause-ready : goal.finish_next-requires-clause-ready
-finish_next-requires-clause-ready g c = λ lives outlive.
+pub returns : goal.returns
+returns g c =
     let was = c.loop-i.invariant in
-    subst (λ (n : ℕ). IsReady g.C.Course.most n c.args.start.now.value.value.items c.loop-i.kernel) (sym was.count) was.ready
+    let xs = c.args.start.now.value.value.items in
+    let ys = c.loop-i.privates.items in
+    let past = c.loop-i-test.false in
+    let len = c.len-i-end.ensures in
+    let count = was.count in
+    let first = c.requires.count in
+    let end : length ys ≤ c.loop-i.i = omega (arith, past, len, count, first) in
+    let all = take_all c.loop-i.i ys end in
+    record {
+      taken = λ rounds time.
+          subst (λ (l : List Private). TurnsTaken c.args.run.now.turns.setting.now c.args.run.now.turns.plan.turn.steps rounds xs c.args.kernel.now l c.loop-i.kernel) all
+          (was.taken rounds time);
+      numbers = subst (λ (l : List Private). AreNumbered l) all was.numbers;
+      count = count ∙ sym first;
+      stages = was.ready.stages ∙ sym count;
+    }

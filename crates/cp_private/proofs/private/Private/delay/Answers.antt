@@ -1,6 +1,6 @@
 -- The queue lies at the address that the definition finds (`found`). Each test of the code is that of
 -- the definition there: whether a gate is held, whether the word exists, and whether it is free.
-use Rattle.std.proofs.Common.{rules, arith, ◌≡◌, ◌+◌, ◌++◌, ℕ, true, false, Ok, Err, length, refl, to_z, sym, ◌∙◌}
+use Rattle.std.proofs.Common.{rules, arith, ◌≡◌, ◌+◌, ℕ, true, false, Ok, Err, length, refl, to_z, sym, ◌∙◌}
 use Rattle.std.specs.Int.{w32}
 use Rattle.std.specs.Prelude.{int_le, pos}
 use Rattle.std.proofs.lemmas.Bool.{le-ltb, lt-ltb}

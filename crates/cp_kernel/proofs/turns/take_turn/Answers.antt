@@ -1,0 +1,28 @@
+use Rattle.std.proofs.Common.{ℕ, [], ap, subst, ◌∙◌}
+use Rattle.cp_machine_model.specs.KernelSteps as plain
+use Rattle.cp_program.specs.View as view
+use Rattle.cp_kernel.specs.KernelOf.{turning}
+use Rattle.cp_kernel.specs.Turns.{Moves}
+use Rattle.cp_kernel.proofs.Asking.{room_kept}
+use Rattle.cp_kernel.proofs.Transcripts.{moved_from}
+use Rattle.cp_kernel.proofs.turns.take_turn.Goals as goal
+
+pub returns-clause-turn : goal.returns-clause-turn
+returns-clause-turn c =
+    let input = c.args.input.now in
+    let steps = λ (n : ℕ). plain.kernel_steps (view.program c.args.program.now) c.args.clock n (turning c.args.kernel.now c.args.private.now input) in
+    let made = c.take_steps.ensures.steps ∙ ap steps c.steps.ensures.steps in
+    let mid = c.take_steps.new.kernel in
+    let after = c.move_output.new.kernel in
+    let written = (steps c.args.turn.steps).own.output in
+    let same = subst (Moves mid after c.take_steps.new.private.number) (ap (λ (x : plain.Turning). x.own.output) made) c.move_output.ensures.moves in
+    record {
+      kernel = c.move_output.ensures.kernel ∙ ap (λ (x : plain.Turning). x.kernel) made;
+      own = c.move_output.ensures.private input ∙ ap (λ (x : plain.Turning). record x.own { output = [] }) made;
+      moves =
+          moved_from c.args.kernel.now mid after c.args.private.now.number written c.take_steps.ensures.transcripts
+          (subst (λ p. Moves mid after p written) c.take_steps.ensures.number same);
+    }
+
+pub returns-clause-asking : goal.returns-clause-asking
+returns-clause-asking c = λ n h. room_kept c.take_steps.new.kernel c.move_output.new.kernel n c.move_output.ensures.gates (c.take_steps.ensures.asking n h)
