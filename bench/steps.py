@@ -10,6 +10,8 @@ import re
 import subprocess
 import tempfile
 
+from workers import PROCESSES, ended_text
+
 BENCH = pathlib.Path(__file__).resolve().parent
 PROGRAM = BENCH.parent / 'crates' / 'cpm' / 'out' / 'cpm'
 TEXTS = BENCH / 'texts'
@@ -18,6 +20,7 @@ TURN = 10_000
 FEWER, MORE = 6, 26
 GOAL_OF_LOOP = 120
 GOAL_OF_RATIO = 1.2
+GOAL_AT_REST = 60
 
 # By hand from the texts. A worker of classes.cp makes one round of its cycle in each round: `cycle`, `for` with 50 times 7 steps for two calls and
 # 50 that count, then 3 for the tally, 4 in each monitor, and 3 to restart the generator.
@@ -87,6 +90,17 @@ def measure_classes():
     print(f'classes: {instructions / uses / STEPS_OF_WORKER:.0f} instructions a step, with {STEPS_OF_WORKER} steps a process and a round')
 
 
+def measure_at_rest():
+    """Instructions a round of processes that have ended."""
+    fewer, more = 100, 1_100
+    with tempfile.TemporaryDirectory() as folder:
+        text = pathlib.Path(folder) / 'ended.cp'
+        text.write_text(ended_text())
+        (few, _), (many, _) = (counted([PROGRAM, 'run', text, '--rounds', rounds, '--workers', 1]) for rounds in (fewer, more))
+    instructions = (many - few) / (more - fewer) / (PROCESSES + 1)
+    print(f'ended: {instructions:.0f} instructions a process and a round (goal: at most {GOAL_AT_REST})')
+
+
 def main():
     measure_loop()
     with tempfile.TemporaryDirectory() as folder:
@@ -96,6 +110,7 @@ def main():
             measure_beside_plain(plain, text)
     measure_buffer()
     measure_classes()
+    measure_at_rest()
 
 
 if __name__ == '__main__':

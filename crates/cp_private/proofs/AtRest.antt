@@ -50,10 +50,3 @@ sleeping wakes (activity_case.Faulted f) gate h e = refl
 
 pub resting_sleeps : (wakes : Bool) (x : Private) → rests wakes x ≡ true → wakes ≡ true → (input : List ℕ) → wake_one (private_of x input) ≡ private_of x input
 resting_sleeps wakes x h e input = ap (λ v. record (private_of x input) { activity = v }) (sleeping wakes x.activity x.gate h e)
-
-pub resting_otherwise : (wakes : Bool) (gate : ℕ) (a : Activity) → (a ≡ activity_case.Running → ⊥) → (a ≡ activity_case.Waiting → ⊥) → true ≡ rests_while wakes gate a
-resting_otherwise wakes gate activity_case.NotBegun r w = refl
-resting_otherwise wakes gate activity_case.Running r w = absurd (r refl)
-resting_otherwise wakes gate activity_case.Waiting r w = absurd (w refl)
-resting_otherwise wakes gate activity_case.Ended r w = refl
-resting_otherwise wakes gate (activity_case.Faulted f) r w = refl

@@ -106,7 +106,8 @@ fn begin_kernel_turns<'a, C: Course, R: Wait, G: TurnGate>(
     finish_wave(rt, &run.rack, wave, left.last_mut(), &run.turns);
 }
 
-// Takes a private state from a place at the desk, after its private turn.
+// Takes the private state of a process from a place at the desk, after its private turn. It is kept
+// out of the loop over all processes.
 #[inline(never)]
 fn take_from_desk<'a, C: Course, R: Wait, G: TurnGate>(
     rt: &R,
@@ -116,14 +117,15 @@ fn take_from_desk<'a, C: Course, R: Wait, G: TurnGate>(
     round: usize,
     place: usize,
     process: usize,
-) -> Private
+    private: &mut Private,
+)
     requires within { place < length run.now.turns.desk.tasks.items }
     requires cell { start.now.of ≡ C.cell round }
     ensures { IsTaken (C.turned (C.moment round)) (C.input (process - 1)) C.most
-        start.now.value.value.items process result }
+        start.now.value.value.items process private.new }
 {
     begin_kernel_turns(rt, run, left, place);
-    run.turns.desk.take(rt, start, round, place, process)
+    *private = run.turns.desk.take(rt, start, round, place, process);
 }
 
 // Brings back a private state after its private turn, which it has made where it is if it rests.
@@ -155,7 +157,7 @@ fn bring_back<'a, C: Course, R: Wait, G: TurnGate>(
     if private.rests(moment.wakes) {
         return place;
     }
-    *private = take_from_desk(rt, run, left, start, round, place, process);
+    take_from_desk(rt, run, left, start, round, place, process, private);
     place + 1
 }
 
