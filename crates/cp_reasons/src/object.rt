@@ -64,7 +64,7 @@ impl<'r, 't> Subject<'r, 't> {
             .map(|at| Position::of(self.text, at));
         Ok(ProcessObject {
             process: number,
-            name: String::from_utf8_lossy(self.alloc, self.process_name(number))?,
+            name: String::from_utf8_lossy(self.alloc, self.roster.process_name(number))?,
             state: word_of(self.machine.kernel().stage(number), private.activity()),
             line: position.map(|position| position.line),
             column: position.map(|position| position.column),

@@ -4,13 +4,14 @@
 ghost use Rattle.std.specs.Prelude.{IfOk};
 ghost use Rattle.cp_reasons.specs.Graphs.{IsGraph};
 
-use crate::names::{Subject, activity};
+use crate::names::Subject;
 use crate::states::word_of;
 use cp_formats::graphviz::{push_arrow, push_node};
 use cp_model::tree::Tree;
 use cp_page::page::Page;
 use cp_private::outside::{Holder, Stage};
 use cp_private::private::Activity;
+use cp_report::status::activity_of;
 use cp_rounds::machine::Machine;
 use cp_scope::small_number;
 use std::alloc::{AllocError, Global};
@@ -21,11 +22,11 @@ impl<'r, 't> Subject<'r, 't> {
         if number == 1 {
             return b"initial process";
         }
-        self.process_name(number)
+        self.roster.process_name(number)
     }
 
     fn has_ended(&self, number: u32) -> bool {
-        matches!(activity(self.machine, number as usize), Activity::Ended)
+        matches!(activity_of(self.machine, number as usize), Activity::Ended)
     }
 
     fn add_process(&self, page: &mut Page, number: u32) -> Result<(), AllocError> {
@@ -36,9 +37,9 @@ impl<'r, 't> Subject<'r, 't> {
         page.text("  ")?;
         push_node(page, self.node_of(number))?;
         page.text(" [label=\"")?;
-        page.bytes(self.process_name(number))?;
+        page.bytes(self.roster.process_name(number))?;
         page.text("\\n")?;
-        page.text(word_of(stage, activity(self.machine, number as usize)))?;
+        page.text(word_of(stage, activity_of(self.machine, number as usize)))?;
         page.text("\", shape=ellipse];\n")
     }
 
@@ -66,7 +67,7 @@ impl<'r, 't> Subject<'r, 't> {
             return Ok(());
         }
         page.text("  ")?;
-        push_node(page, self.monitor_name(monitor))?;
+        push_node(page, self.roster.monitor_name(monitor))?;
         page.text(" [shape=box];\n")
     }
 
@@ -74,11 +75,11 @@ impl<'r, 't> Subject<'r, 't> {
     fn add_wait(&self, page: &mut Page, number: u32) -> Result<(), AllocError> {
         match self.machine.kernel().stage(number) {
             Stage::Asking(monitor) => {
-                push_arrow(page, self.node_of(number), self.monitor_name(monitor))?;
+                push_arrow(page, self.node_of(number), self.roster.monitor_name(monitor))?;
                 page.text(";\n")
             }
             Stage::Delayed { monitor, queue } => {
-                push_arrow(page, self.node_of(number), self.monitor_name(monitor))?;
+                push_arrow(page, self.node_of(number), self.roster.monitor_name(monitor))?;
                 page.text(" [label=\"")?;
                 page.bytes(&self.queue_name(queue)?)?;
                 page.text("\", style=dashed];\n")
@@ -90,7 +91,7 @@ impl<'r, 't> Subject<'r, 't> {
     fn add_holder(&self, page: &mut Page, monitor: u32) -> Result<(), AllocError> {
         match self.machine.kernel().holder(monitor) {
             Holder::Process(number) => {
-                push_arrow(page, self.monitor_name(monitor), self.node_of(number))?;
+                push_arrow(page, self.roster.monitor_name(monitor), self.node_of(number))?;
                 page.text(";\n")
             }
             Holder::Unset | Holder::Free => Ok(()),
@@ -105,7 +106,7 @@ impl<'r, 't> Subject<'r, 't> {
     }
 
     fn add_monitors(&self, page: &mut Page) -> Result<(), AllocError> {
-        for index in 0..self.monitors.len() {
+        for index in 0..self.roster.monitors.len() {
             self.add_monitor(page, small_number(index.saturating_add(1))?)?;
         }
         Ok(())
@@ -119,7 +120,7 @@ impl<'r, 't> Subject<'r, 't> {
     }
 
     fn add_holders(&self, page: &mut Page) -> Result<(), AllocError> {
-        for index in 0..self.monitors.len() {
+        for index in 0..self.roster.monitors.len() {
             self.add_holder(page, small_number(index.saturating_add(1))?)?;
         }
         Ok(())
