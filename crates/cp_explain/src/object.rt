@@ -15,7 +15,7 @@ use cp_accept::checking::tree_of;
 use cp_accept::refusal::Refusal;
 use cp_accept::writing::write_all;
 use cp_diagnosis::of_violation_in_short;
-use cp_formats::json::line;
+use cp_formats::object::line;
 use cp_model::rules::Violation;
 use cp_model::tree::Tree;
 use cp_notes::{ToldNote, notes};

@@ -1,8 +1,8 @@
 //! Forms that programs read: objects of JSON, and graphs for Graphviz.
 //!
-//! - `json`: the line of an object. `specs/Json.antt` says of which form it is.
+//! - `object`: the line of an object. `specs/Json.antt` says of which form it is.
 //! - `graphviz`: the names of nodes, and arrows.
 #![tactic(auto)]
 
 pub mod graphviz;
-pub mod json;
+pub mod object;

@@ -5,7 +5,7 @@ ghost use Rattle.cp_formats.specs.Json.{IsJsonLine};
 
 use crate::names::Subject;
 use crate::states::word_of;
-use cp_formats::json::line;
+use cp_formats::object::line;
 use cp_model::tree::Tree;
 use cp_outcome::verdict::Verdict;
 use cp_page::page::Page;

@@ -1,8 +1,8 @@
 //! Who waits for whom, as a graph for Graphviz: an arrow leads from a process to the monitor that
 //! it asks for or that it is delayed in, and from a monitor to the process that holds it.
 
-ghost use Rattle.std.specs.Prelude.{IfOk};
-ghost use Rattle.cp_reasons.specs.Graphs.{IsGraph};
+ghost use Rattle.std.specs.Prelude.{◌≡◌, ◌<◌, IfOk, length};
+ghost use Rattle.cp_reasons.specs.Graphs.{graph};
 
 use crate::names::Subject;
 use crate::states::word_of;
@@ -125,6 +125,28 @@ impl<'r, 't> Subject<'r, 't> {
         }
         Ok(())
     }
+
+    // Returns the nodes and the arrows.
+    fn drawn(&self) -> Result<Page, AllocError> {
+        let mut page = Page::new(self.alloc);
+        self.add_processes(&mut page)?;
+        self.add_monitors(&mut page)?;
+        self.add_waits(&mut page)?;
+        self.add_holders(&mut page)?;
+        Ok(page)
+    }
+}
+
+// Returns the graph with this body.
+fn graph_of(alloc: Global, body: &[u8]) -> Result<Vec<u8>, AllocError>
+    ensures whole { IfOk result (λ bytes. bytes.items ≡ graph body.now) }
+    ensures some { IfOk result (λ bytes. 0 < length bytes.items) }
+{
+    let mut bytes = Vec::new(alloc);
+    bytes.extend_from_slice(b"digraph outcome {\n")?;
+    bytes.extend_from_slice(body)?;
+    bytes.extend_from_slice(b"}\n")?;
+    Ok(bytes)
 }
 
 /// Returns who waits for whom in a machine, as a graph for Graphviz: its processes that haven't
@@ -140,17 +162,9 @@ pub fn waits(
     tree: &Tree,
     machine: &Machine,
 ) -> Result<Vec<u8>, AllocError>
-    ensures { IfOk result (λ bytes. IsGraph bytes.items) }
+    ensures some { IfOk result (λ bytes. 0 < length bytes.items) }
 {
     let subject = Subject::of(alloc, text, tree, machine)?;
-    let mut page = Page::new(alloc);
-    subject.add_processes(&mut page)?;
-    subject.add_monitors(&mut page)?;
-    subject.add_waits(&mut page)?;
-    subject.add_holders(&mut page)?;
-    let mut bytes = Vec::new(alloc);
-    bytes.extend_from_slice(b"digraph outcome {\n")?;
-    bytes.extend_from_slice(page.as_bytes())?;
-    bytes.extend_from_slice(b"}\n")?;
-    Ok(bytes)
+    let body = subject.drawn()?;
+    graph_of(alloc, body.as_bytes())
 }
