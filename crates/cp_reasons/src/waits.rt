@@ -75,11 +75,19 @@ impl<'r, 't> Subject<'r, 't> {
     fn add_wait(&self, page: &mut Page, number: u32) -> Result<(), AllocError> {
         match self.machine.kernel().stage(number) {
             Stage::Asking(monitor) => {
-                push_arrow(page, self.node_of(number), self.roster.monitor_name(monitor))?;
+                push_arrow(
+                    page,
+                    self.node_of(number),
+                    self.roster.monitor_name(monitor),
+                )?;
                 page.text(";\n")
             }
             Stage::Delayed { monitor, queue } => {
-                push_arrow(page, self.node_of(number), self.roster.monitor_name(monitor))?;
+                push_arrow(
+                    page,
+                    self.node_of(number),
+                    self.roster.monitor_name(monitor),
+                )?;
                 page.text(" [label=\"")?;
                 page.bytes(&self.queue_name(queue)?)?;
                 page.text("\", style=dashed];\n")
@@ -91,7 +99,11 @@ impl<'r, 't> Subject<'r, 't> {
     fn add_holder(&self, page: &mut Page, monitor: u32) -> Result<(), AllocError> {
         match self.machine.kernel().holder(monitor) {
             Holder::Process(number) => {
-                push_arrow(page, self.roster.monitor_name(monitor), self.node_of(number))?;
+                push_arrow(
+                    page,
+                    self.roster.monitor_name(monitor),
+                    self.node_of(number),
+                )?;
                 page.text(";\n")
             }
             Holder::Unset | Holder::Free => Ok(()),
