@@ -7,6 +7,7 @@ ghost use Rattle.cp_accept.specs.KnownRefusals.{IsFault};
 ghost use Rattle.cp_accept.specs.Texts.{IsTextOf, Refuses};
 ghost use Rattle.cp_accept.specs.declared.refusal.Refusal.TheVariants as refusal;
 ghost use Rattle.cp_explain.specs.Objects.{IsObjectOf, WroteObject};
+ghost use Rattle.cp_formats.specs.Json.{IsJsonLine};
 
 use crate::all::most;
 use crate::explain::{Explanation, Extent, place, push_code, read};
@@ -107,7 +108,7 @@ fn page_of<T: Serialize>(
     refusal: Option<Refusal>,
 ) -> Result<Explanation, AllocError>
     ensures refusal { IfOk result (λ e. e.refusal ≡ refusal) }
-    ensures line { IfOk result (λ e. Rattle.cp_formats.specs.Json.IsJsonLine e.page) }
+    ensures line { IfOk result (λ e. IsJsonLine e.page) }
 {
     let bytes = line(alloc, object)?;
     let mut page = Page::new(alloc);
