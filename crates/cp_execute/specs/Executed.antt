@@ -18,8 +18,8 @@ use Rattle.cp_execute.specs.declared.execute.Job.{Job}
 use Rattle.cp_execute.specs.declared.execute.Job.TheVariants as job
 use Rattle.cp_accept.specs.Cutting.{judge_input}
 use Rattle.cp_accept.specs.Texts.{IsAccepted}
-use Rattle.cp_accept.specs.Texts as texts
-use Rattle.cp_accept.specs.Takings.{AppendsSome, IsAboutInput, TakesInput, concern, front}
+use Rattle.cp_accept.specs.KnownRefusals.{IsFaultOfAccepted, IsFaultOrOfInput, RefusesRun, RefusesText}
+use Rattle.cp_accept.specs.Takings.{AppendsSome, TakesInput}
 
 abbrev pub setup_of : s.Tree → List ℕ → ℕ → Setup
 setup_of t input tick = record { tree = erase.abstract t; inputs = cut input; tick = tick }
