@@ -31,7 +31,7 @@ use Rattle.cp_accept.proofs.TextRefusals.{of_known}
 part_count : (p : ℕ) (m : Machine) (go : PrivateState → Machine) → ((o : PrivateState) → (go o).rounds ≡ m.rounds) → (with_part p m go).rounds ≡ m.rounds
 part_count p m go same = by (slice_get m.parts (p - 1))
   where
-    by : (found : Option PrivateState) → (elim found [ None ↦ m | Some o ↦ go o ]).rounds ≡ m.rounds
+    by : (found : Option PrivateState) → (elim found as (λ (z : Option PrivateState). Machine) [ None ↦ m | Some o ↦ go o ]).rounds ≡ m.rounds
     by None = refl
     by (Some o) = same o
 
@@ -77,8 +77,8 @@ none_made t a setup s I = I
 
 -- First m rounds, and then n more.
 pub more_made : (t m n : ℕ) (a b c : real.Machine) → MakesRounds t m a b → MakesRounds t n b c → MakesRounds t (m + n) a c
-more_made t m n a b c first then setup s I =
-    subst (λ (u : State). IsIn (machine_of c) setup u) (sym (run_more setup t m n s)) (then setup (meaning.run setup t m s) (first setup s I))
+more_made t m n a b c first later setup s I =
+    subst (λ (u : State). IsIn (machine_of c) setup u) (sym (run_more setup t m n s)) (later setup (meaning.run setup t m s) (first setup s I))
 
 -- ---- The bytes
 
@@ -86,7 +86,7 @@ pub extends_nothing : (a : Option (List ℕ)) → Extends a a
 extends_nothing a = ([], Appends-nil a)
 
 pub extends_more : (a b c : Option (List ℕ)) → Extends a b → Extends b c → Extends a c
-extends_more a b c first then = (first.0 ++ then.0, Appends-trans a b c first.0 then.0 first.1 then.1)
+extends_more a b c first later = (first.0 ++ later.0, Appends-trans a b c first.0 later.0 first.1 later.1)
 
 -- ---- Why it ends before
 
