@@ -10,8 +10,8 @@ use Rattle.cp_execute.specs.Executed.{setup_of}
 use Rattle.cp_execute.proofs.Traced.{more_made, rounds_count}
 use Rattle.cp_execute.proofs.tracing.machine_after_trace.Goals as goal
 
-pub trace_rounds-requires : goal.trace_rounds-requires
-trace_rounds-requires g c =
+pub trace_rounds-requires-clause-count : goal.trace_rounds-requires-clause-count
+trace_rounds-requires-clause-count g c =
     let how = c.args.how.now in
     let old = c.in_ok-machine.machine in
     let n = c.min-untold.result in
