@@ -76,5 +76,6 @@ pub fn execute_trace<H: Threads + Wait + Sync, R: Read, S: Read, W: Write, G: Tu
 {
     let tree = read_accepted(alloc, text)?;
     let bytes = read_input(alloc, input)?;
-    machine_after_trace(rt, alloc, &tree, &bytes, only, how, gate, out)
+    let machine = machine_after_trace(rt, alloc, &tree, &bytes, only, how, gate, out)?;
+    Ok(machine)
 }

@@ -1,0 +1,12 @@
+use Rattle.std.proofs.Common.{◌≡◌, ◌+◌}
+use Rattle.cp_rounds.specs.InStates.{MakesRounds}
+use Rattle.cp_execute.specs.Traces.{Extends}
+use Rattle.cp_execute.proofs.tracing.trace_rounds.Given as goal
+
+-- so many rounds were made
+abbrev pub invariant-loop-round : goal.invariant-loop-round
+invariant-loop-round g l = record {
+  made : MakesRounds l.plan.turn.steps l._round l.fn.machine l.machine;
+  count : l.machine.rounds ≡ l.fn.machine.rounds + l._round;
+  written : Extends (g.W.Write.contents l.fn.out) (g.W.Write.contents l.out);
+}
