@@ -1,5 +1,5 @@
 -- The two parts of a transcript that a machine holds are the transcript in its state.
-use Rattle.std.proofs.Common.{◌≡◌, ◌≤◌, ◌<◌, ◌-◌, ◌++◌, ℕ, List, Option, None, Some, length, ap, sym, ◌∙◌, arith}
+use Rattle.std.proofs.Common.{◌≡◌, ◌≤◌, ◌<◌, ◌-◌, ◌++◌, ℕ, List, [], Option, None, Some, length, ap, sym, ◌∙◌, arith}
 use Rattle.std.specs.Prelude.{slice_get}
 use Rattle.cp_machine_model.specs.InState.{IsIn}
 use Rattle.cp_machine_model.specs.Machines.{transcript_of}

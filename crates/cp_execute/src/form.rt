@@ -26,7 +26,6 @@ pub enum OutcomeForm<P> {
 }
 
 // Returns the transcript of the process with this number.
-#[tactic(auto, using(crate::proofs::Transcripts::whole_transcript))]
 fn transcript(alloc: Global, machine: &Machine, process: u32) -> Result<Vec<u8>, AllocError>
     ensures { IfOk result (λ bytes. IsTranscriptOf process machine.now bytes.items) }
 {
