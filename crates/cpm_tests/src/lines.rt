@@ -59,9 +59,18 @@ fn are_named(input: &Inputs, wanted: &[(&str, &str)]) -> bool {
     let Inputs::Named(all) = input else {
         return false;
     };
-    all.len() == wanted.len()
-        && all.iter().zip(wanted).all(|(input, (process, file))| input.process == *process
-            && input.file == *file)
+    if all.len() != wanted.len() {
+        return false;
+    }
+    for (input, (process, file)) in all.iter().zip(wanted) {
+        if input.process != *process {
+            return false;
+        }
+        if input.file != *file {
+            return false;
+        }
+    }
+    true
 }
 
 #[test]
@@ -149,7 +158,9 @@ fn no_more_inputs_are_named_than_processes(rt: HostRuntime) -> Result<(), Fail> 
         names.push(format!(in rt.alloc(); "--in=p{n}=x.txt")?)?;
     }
     let mut words = Vec::new(rt.alloc());
-    words.extend_from_slice(&["cpm", "outcome", "a.cp"])?;
+    for word in ["cpm", "outcome", "a.cp"] {
+        words.push(word)?;
+    }
     for name in &names {
         words.push(name.as_str())?;
     }
