@@ -16,7 +16,7 @@ MEMORY = (3, b'', b'fault M\n')
 KINDS = ('ALLOCATION', 'THREAD', 'READ', 'WRITE')
 LEAST_OF_RUN = {'ALLOCATION': 500, 'THREAD': 1, 'READ': 400, 'WRITE': 150}
 LEAST_OF_REPLAY = {'ALLOCATION': 300, 'THREAD': 0, 'READ': 600, 'WRITE': 150}
-LEAST_OF_NAMED = {'ALLOCATION': 200, 'THREAD': 0, 'READ': 400, 'WRITE': 80}
+LEAST_OF_NAMED = {'ALLOCATION': 400, 'THREAD': 1, 'READ': 350, 'WRITE': 80}
 
 # The tests of cp_rounds_tests that look at a machine after a refusal, and the fewest times that they have to see one.
 TESTS = {'a_refused_machine_is_made_again': 10, 'a_refused_round_leaves_the_machine_as_it_was': 400, 'a_refused_run_has_made_the_rounds_before': 200}
