@@ -1,5 +1,5 @@
 -- An accepted text is refused only with a fault.
-use Rattle.std.proofs.Common.{◌≡◌, ◌≤◌, ◌⊎◌, ℕ, false, List, length, Option, None, Some, Result, Ok, Err, IfErr, IfOk, IfSome, OnErr, ap, sym, ◌∙◌, subst, arith, inl, inr}
+use Rattle.std.proofs.Common.{◌≡◌, ◌≤◌, ℕ, false, List, length, Option, None, Some, Result, Ok, Err, IfErr, IfOk, IfSome, OnErr, ap, sym, ◌∙◌, subst, arith, inl}
 use Rattle.std.specs.Result.{is_err}
 use Rattle.std.proofs.lemmas.List.{take_all}
 use Rattle.cp_model.specs.Syntax as s

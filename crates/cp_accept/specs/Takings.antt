@@ -1,6 +1,6 @@
 -- How much of a reader a command takes, and what a writer gets, where their bytes are known. A text,
 -- an input and an order are read to their end, or through one byte more than they may have.
-use Rattle.std.specs.Prelude.{◌≡◌, ◌≤◌, ℕ, List, Option, Result, MatchResult, IfSome, length, take}
+use Rattle.std.specs.Prelude.{◌≤◌, ℕ, List, Option, Result, MatchResult, IfSome, length, take}
 use Rattle.std.specs.Io.KnownBytes.{Appends, Consumes, Keeps}
 use Rattle.cp_accept.specs.declared.refusal.Refusal.{Refusal}
 use Rattle.cp_accept.specs.declared.refusal.Refusal.TheVariants as refusal

@@ -1,6 +1,6 @@
 use Rattle.std.specs.Prelude.{Err, Ok}
 use Rattle.std.proofs.lemmas.Result.{err_from_is_err_and}
-use Rattle.cp_accept.proofs.Takings.{text_failed, text_taken}
+use Rattle.cp_accept.proofs.Takings.{text_taken}
 use Rattle.cp_accept.proofs.TextRefusals.{accepted_known, known_accepted, refused_is_about_text, refused_known}
 use Rattle.cp_accept.proofs.sources.read_accepted_text.Goals as goal
 
