@@ -1,12 +1,10 @@
 -- What is due after a replay, where the text, the input or the order is known.
-use Rattle.std.proofs.Common.{◌≡◌, ◌≤◌, refl, ℕ, Bool, true, false, List, length, Option, None, Some, Result, Ok, Err, IfSome, subst, arith}
+use Rattle.std.proofs.Common.{◌≡◌, ◌≤◌, refl, ℕ, Bool, true, false, List, length, Option, None, Some, Ok, IfSome, subst, arith}
 use Rattle.std.proofs.lemmas.Bool.Decides.{nat_tests}
 use Rattle.std.specs.Prelude.{if◌then◌else◌, nat_le}
-use Rattle.cp_model.specs.OrderText.{NotALine, OrderText, order_text}
+use Rattle.cp_model.specs.OrderText.{NotALine, order_text}
 use Rattle.cp_model.specs.Rounds.{Event}
 use Rattle.cp_model.specs.Syntax as s
-use Rattle.cp_accept.specs.declared.refusal.Refusal.{Refusal}
-use Rattle.cp_accept.specs.declared.refusal.Refusal.TheVariants as refusal
 use Rattle.cp_execute.specs.declared.replaying.Replay.{Replay}
 use Rattle.cp_accept.specs.Cutting.{judge_input}
 use Rattle.cp_execute.specs.Replayed.{Due, IsDueAfter, IsFit, IsReplayed, judge_order, judge_order_of, processes_in, rounds_told}

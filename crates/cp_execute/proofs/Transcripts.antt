@@ -1,10 +1,7 @@
 -- The two parts of a transcript that a machine holds are the transcript in its state.
-use Rattle.std.proofs.Common.{◌≡◌, ◌≤◌, ◌<◌, ◌-◌, ◌++◌, ℕ, List, [], Option, None, Some, length, ap, sym, ◌∙◌, arith}
-use Rattle.std.specs.Prelude.{slice_get}
-use Rattle.cp_machine_model.specs.InState.{IsIn}
+use Rattle.std.proofs.Common.{◌≡◌, ◌-◌, ◌++◌, ℕ, List, [], Option, None, Some, ap, sym, ◌∙◌, arith}
 use Rattle.cp_machine_model.specs.Machines.{transcript_of}
 use Rattle.cp_machine_model.specs.PrivateStates.{PrivateState}
-use Rattle.cp_model.specs.States.{Setup, State, process_count}
 use Rattle.cp_rounds.specs.Views.{machine_of, output_of}
 use Rattle.cp_rounds.specs.declared.machine.Machine.{Machine}
 use Rattle.cp_rounds.proofs.Lists.{got_at}

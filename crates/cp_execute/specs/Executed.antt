@@ -1,5 +1,5 @@
 -- What the commands promise about the bytes that they read and write.
-use Rattle.std.specs.Prelude.{◌≡◌, ◌≤◌, ◌⊎◌, ℕ, Bool, true, false, List, [], ◌∷◌, ◌++◌, Option, Some, Result, Ok, Err, IfSome, codes, length, take}
+use Rattle.std.specs.Prelude.{◌≡◌, ℕ, Bool, true, false, List, [], ◌∷◌, ◌++◌, Option, Some, Result, Ok, IfSome, codes}
 use Rattle.std.specs.Io.KnownBytes.{Appends, Keeps}
 use Rattle.cp_model.specs.Syntax as s
 use Rattle.cp_model.specs.Erase as erase
@@ -12,7 +12,6 @@ use Rattle.cp_machine_model.specs.InState.{IsIn}
 use Rattle.cp_rounds.specs.Views.{machine_of}
 use Rattle.cp_rounds.specs.declared.machine.Machine.{Machine}
 use Rattle.cp_accept.specs.declared.refusal.Refusal.{Refusal}
-use Rattle.cp_accept.specs.declared.refusal.Refusal.TheVariants as refusal
 use Rattle.cp_execute.specs.declared.running.Run.{Run}
 use Rattle.cp_execute.specs.declared.execute.Job.{Job}
 use Rattle.cp_execute.specs.declared.execute.Job.TheVariants as job

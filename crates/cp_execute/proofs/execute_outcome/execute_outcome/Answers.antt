@@ -1,12 +1,12 @@
-use Rattle.std.proofs.Common.{◌≡◌, ◌∙◌, ℕ, List, Ok, Some, subst, inl, inr}
+use Rattle.std.proofs.Common.{inl, inr}
 use Rattle.std.proofs.KnownBytes.{Keeps-refl}
 use Rattle.std.proofs.lemmas.Result.{err_from_is_err_and}
 use Rattle.cp_model.specs.View as view
 use Rattle.cp_execute.specs.Outcomes.{IsOutcome}
 use Rattle.cp_accept.specs.Takings.{concern}
-use Rattle.cp_accept.proofs.Faults.{known_text_fault, memory_fault, write_fault}
+use Rattle.cp_accept.proofs.Faults.{known_text_fault, memory_fault}
 use Rattle.cp_execute.proofs.OutcomesDue.{outcome_due}
-use Rattle.cp_accept.proofs.Takings.{input_kept, input_written, memory_at, no_write_of_input, no_write_of_text, text_at}
+use Rattle.cp_accept.proofs.Takings.{input_kept, memory_at, no_write_of_input, no_write_of_text, text_at}
 use Rattle.cp_accept.proofs.TextRefusals.{run_refused_input, run_refused_text}
 use Rattle.cp_execute.proofs.execute_outcome.execute_outcome.Goals as goal
 

@@ -1,4 +1,4 @@
-use Rattle.std.proofs.Common.{◌≡◌, ◌∙◌, ap, refl, subst, sym}
+use Rattle.std.proofs.Common.{◌∙◌, ap, refl, subst, sym}
 use Rattle.cp_machine_model.specs.InState.{IsIn}
 use Rattle.cp_machine_model.specs.Machines as plain
 use Rattle.cp_machine_model.proofs.MachineStarts.{start_calm}
@@ -9,7 +9,7 @@ use Rattle.cp_orders.specs.Reading.{AllWithin}
 use Rattle.cp_orders.specs.Rounds.{rounds_of}
 use Rattle.cp_program.specs.View as program_view
 use Rattle.cp_program_model.specs.StandsFor.{StandsFor}
-use Rattle.cp_rounds.specs.Views.{machine_of, processes_of}
+use Rattle.cp_rounds.specs.Views.{machine_of}
 use Rattle.cp_rounds.proofs.InStates.{process_count_is}
 use Rattle.cp_accept.specs.Cutting.{AreParts}
 use Rattle.cp_execute.specs.Executed.{setup_of}

@@ -1,4 +1,4 @@
-use Rattle.std.proofs.Common.{◌≡◌, ◌∙◌, ◌+◌, ◌-◌, ◌≤◌, ℕ, ap, arith, subst, sym}
+use Rattle.std.proofs.Common.{◌≡◌, ◌∙◌, ◌+◌, ◌-◌, ℕ, ap, arith, subst, sym}
 use Rattle.cp_accept.proofs.Faults.{from_ok}
 use Rattle.cp_machine_model.specs.Machines as plain
 use Rattle.cp_model.specs.Start.{start}

@@ -1,4 +1,4 @@
-use Rattle.std.proofs.Common.{◌≡◌, ◌∙◌, ◌+◌, ap, arith}
+use Rattle.std.proofs.Common.{◌∙◌, ap, arith}
 use Rattle.cp_machine_model.specs.Machines as plain
 use Rattle.cp_model.specs.States.{numbers_from}
 use Rattle.cp_rounds.specs.Views.{machine_of, processes_of}

@@ -1,4 +1,4 @@
-use Rattle.std.proofs.Common.{◌≡◌, ◌+◌, ℕ, arith, subst, take}
+use Rattle.std.proofs.Common.{◌≡◌, ℕ, arith, subst, take}
 use Rattle.cp_rounds.specs.InStates.{MakesRounds}
 use Rattle.cp_execute.proofs.Traced.{extends_more, extends_nothing, more_made, none_made}
 use Rattle.cp_execute.proofs.tracing.trace_rounds.Goals as goal

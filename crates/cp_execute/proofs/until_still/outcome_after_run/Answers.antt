@@ -1,4 +1,4 @@
-use Rattle.std.proofs.Common.{◌≡◌, ◌+◌, ℕ, arith, subst}
+use Rattle.std.proofs.Common.{◌≡◌, ℕ, arith, subst}
 use Rattle.cp_machine_model.specs.InState.{IsIn}
 use Rattle.cp_model.specs.Start.{start}
 use Rattle.cp_model.specs.View as view
