@@ -11,14 +11,12 @@ use cp_accept::reading::{ReadError, read_text};
 use cp_accept::refusal::Refusal;
 use cp_model::tree::{Sort, Tree};
 use cp_report::listing::components;
+use cp_report::roster::INITIAL;
 use cp_rules::text::{RuleError, judge};
 use cp_scope::{CompileError, Field, Tables, small_number};
 use std::alloc::{AllocError, AllocFailed, Global};
 use std::io::Read;
 use thiserror::Error;
-
-// The name of process 1, unless a process of the text has it.
-const INITIAL: &[u8] = b"initial";
 
 /// The input of the process with this name, and the name of the file that it is read from.
 #[derive(Drop)]
