@@ -18,8 +18,8 @@ TEXTS = BENCH / 'texts'
 TURN = 10_000
 # In round 1 processes are started, so one less are turns of their own.
 FEWER, MORE = 6, 26
-GOAL_OF_LOOP = 120
-GOAL_OF_RATIO = 1.2
+GOAL_OF_LOOP = 70
+GOAL_OF_RATIO = 0.8
 GOAL_AT_REST = 60
 
 # By hand from the texts. A worker of classes.cp makes one round of its cycle in each round: `cycle`, `for` with 50 times 7 steps for two calls and

@@ -173,6 +173,22 @@ def try_inputs():
     expect('no such input', (status, out, error.startswith(b"nowhere can't be opened: ")), (4, b'', True))
 
 
+def try_traces():
+    """The forms of a trace: the picture of docs/, objects, and progress that is shown and erased."""
+    picture = (ROOT / 'docs' / 'philosophers.svg').read_bytes()
+    expect('a picture', run(['trace', 'philosophers.cp', '--rounds', '40', '--turn', '4', '--svg']), (0, picture, b''))
+    status, out, error = run(['trace', 'squarers.cp', '--rounds', '5', '--turn', '4', '--only', 'a', '--json'])
+    written = ''.join(change['text'] for change in map(json.loads, out.splitlines()) if change['change'] == 'out')
+    expect('objects', (status, written, error), (0, '2416256', b''))
+    with tempfile.TemporaryDirectory() as folder:
+        text = pathlib.Path(folder) / 'counting.cp'
+        text.write_text('var x: integer; begin cycle x := 1; x := 2 end end.')
+        status, out, error = run(['run', text, '--rounds', '1000000', '--turn', '30', '--progress'])
+    shown = re.fullmatch(rb'(\rround \d+)+\r\x1b\[K', error) is not None
+    expect('progress', (status, out.startswith(b'rounds 1000000\n'), shown), (0, True, True))
+    expect('no progress of a short run', run(['run', 'seven.cp', '--rounds', '2', '--progress'])[2], b'')
+
+
 def main():
     cases = worked()
     examples, orders, rules, explained, answers = try_examples(), try_orders(), try_rules(), try_explanations(), try_worked(cases)
@@ -182,6 +198,7 @@ def main():
         expect_at_least(what, count, least)
     try_exits()
     try_inputs()
+    try_traces()
     refused = refuse_in_turn(next(case['text'] for case in cases if case['name'] == RESUMED))
     hurt = try_to_hurt()
     for line in wrong:

@@ -1,14 +1,24 @@
 //! Compiles a text over and over.
 
+use cp_check::checking::tables_of;
 use cp_compile::compile;
 use cp_model::tree::Tree;
+use cp_program::program::Program;
 use cp_scan::scan;
+use cp_scope::CompileError;
 use cp_syntax::parse;
+use std::alloc::Global;
 use std::io;
+
+// Makes the tables of a tree, and its program.
+fn program_of(alloc: Global, tree: &Tree) -> Result<Program, CompileError> {
+    let tables = tables_of(alloc, tree)?;
+    compile(alloc, tree, &tables)
+}
 
 // Prints the sizes of the program of a tree.
 fn report(rt: &HostRuntime, tree: &Tree) -> io::Result<()> {
-    match compile(rt.alloc(), tree) {
+    match program_of(rt.alloc(), tree) {
         Ok(program) => println!(rt;
             "{} monitors, {} processes, {} shared words",
             program.monitors(),
@@ -31,7 +41,7 @@ pub fn compile_often(rt: &HostRuntime, text: &[u8], times: u32) -> io::Result<()
         Err(error) => return println!(rt; "{error:?}"),
     };
     for _ in 1..times {
-        let _ = compile(rt.alloc(), &tree);
+        let _ = program_of(rt.alloc(), &tree);
     }
     report(rt, &tree)
 }

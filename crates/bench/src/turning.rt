@@ -2,14 +2,17 @@
 
 ghost use Rattle.std.specs.Prelude.{◌≡◌, IfSome};
 
-use cp_check::checking::check;
+use cp_check::checking::{CompiledText, check};
+use cp_model::tree::Tree;
 use cp_orders::event::Event;
 use cp_private::turn::Turn;
+use cp_program::program::Program;
 use cp_rounds::gate::Open;
 use cp_rounds::machine::Machine;
 use cp_rounds::plan::Plan;
 use cp_rounds::tick::Tick;
 use cp_scan::scan;
+use cp_scope::Tables;
 use cp_syntax::parse;
 use std::alloc::{AllocError, Global};
 use std::io;
@@ -24,13 +27,19 @@ const TURNS: u32 = 10;
 
 const STEPS: u32 = 10_000;
 
+fn tree_of(alloc: Global, text: &[u8]) -> Option<Tree> {
+    let tokens = scan(alloc, text).ok()?;
+    parse(alloc, &tokens, text.len()).ok()
+}
+
 // The machine of an accepted text, at its start and without input.
-fn machine_of(alloc: Global, text: &[u8]) -> Option<Machine>
+fn machine_of<'r, 't>(
+    alloc: Global,
+    program: Program,
+    tables: &'r Tables<'t>,
+) -> Option<Machine<'r, 't>>
     ensures { IfSome result (λ machine. machine.rounds ≡ 0) }
 {
-    let tokens = scan(alloc, text).ok()?;
-    let tree = parse(alloc, &tokens, text.len()).ok()?;
-    let program = check(alloc, &tree).ok()?;
     let mut inputs = Vec::new(alloc);
     for _p in 0..program.processes() {
         inputs.push(Vec::new(alloc)).ok()?;
@@ -38,7 +47,7 @@ fn machine_of(alloc: Global, text: &[u8]) -> Option<Machine>
     if inputs.len() != program.processes() {
         return None;
     }
-    Machine::new(alloc, program, inputs, Tick::new(1).ok()?).ok()
+    Machine::new(alloc, program, tables, inputs, Tick::new(1).ok()?).ok()
 }
 
 fn replay(alloc: Global, machine: &mut Machine, times: u32) -> Result<(), AllocError>
@@ -77,7 +86,13 @@ pub fn turn_often<H: Print + Threads + Wait + Sync>(
     times: u32,
     replays: bool,
 ) -> io::Result<()> {
-    let Some(mut machine) = machine_of(alloc, text) else {
+    let Some(tree) = tree_of(alloc, text) else {
+        return println!(rt; "no tree");
+    };
+    let Ok(CompiledText { program, tables }) = check(alloc, &tree) else {
+        return println!(rt; "no program");
+    };
+    let Some(mut machine) = machine_of(alloc, program, &tables) else {
         return println!(rt; "no machine");
     };
     let made = if replays {

@@ -1,47 +1,72 @@
-//! The check of a text: its program, or the rule that it breaks.
+//! The check of a text: its program and its tables, or the rule that it breaks.
 
 ghost use Rattle.std.specs.Prelude.{IfOk};
+ghost use Rattle.cp_model.specs.Declarations.{globals};
+ghost use Rattle.cp_model.specs.Erase as erase;
 ghost use Rattle.cp_model.specs.Rules.{Accepted};
 ghost use Rattle.cp_model.specs.View as view;
-ghost use Rattle.cp_check.specs.Checked.{Checks, IsProgramOf};
+ghost use Rattle.cp_scope.specs.Texts.{TablesStand};
+ghost use Rattle.cp_check.specs.Checked.{Checks, IsCompiled};
 
 use cp_compile::compile;
 use cp_model::tree::Tree;
 use cp_program::program::Program;
 use cp_program_model::law::accepted_tree_has_program;
 use cp_rules::text::{RuleError, judge};
+use cp_scope::Tables;
 use std::alloc::{AllocError, Global};
 
-/// Compiles an accepted text into its program.
+/// An accepted text that was compiled: its program, and the tables of what its names stand for,
+/// which borrow the names from its tree. The tables are made once, and serve all that comes after.
+#[derive(Drop)]
+pub struct CompiledText<'t> {
+    pub program: Program,
+    pub tables: Tables<'t>,
+}
+
+/// Makes the tables of a text that was accepted.
+///
+/// # Errors
+///
+/// `AllocError` if memory runs out. That no accepted text is refused for its numbers or names isn't
+/// proved.
+pub fn tables_of<'t>(alloc: Global, tree: &'t Tree) -> Result<Tables<'t>, AllocError>
+    ensures { IfOk result (λ tables. TablesStand (globals (erase.abstract (view.tree tree.now)))
+        tables tree.now) }
+{
+    Ok(Tables::of_tree(alloc, tree)?)
+}
+
+/// Compiles a text that was accepted.
 ///
 /// # Errors
 ///
 /// `AllocError` if memory runs out, or if the plans by which the words of routines and components
 /// start would take too much of it. That the compiler refuses no accepted text for its numbers or
 /// names isn't proved.
-pub fn program(alloc: Global, tree: &Tree) -> Result<Program, AllocError>
+pub fn compile_accepted<'t>(alloc: Global, tree: &'t Tree) -> Result<CompiledText<'t>, AllocError>
     requires accepted { Accepted (view.tree tree.now) }
-    ensures { IfOk result (IsProgramOf (view.tree tree.now)) }
+    ensures { IfOk result (IsCompiled tree.now) }
 {
     accepted_tree_has_program(tree);
-    match compile(alloc, tree) {
-        Ok(program) => Ok(program),
-        Err(_) => Err(AllocError),
-    }
+    let tables = tables_of(alloc, tree)?;
+    let program = compile(alloc, tree, &tables)?;
+    Ok(CompiledText { program, tables })
 }
 
-/// Judges a text and compiles it into its program.
+/// Judges a text and compiles it.
 ///
 /// # Errors
 ///
-/// `Broken` if the text breaks a rule, and `Memory` if memory runs out or [`program`] fails.
-pub fn check(alloc: Global, tree: &Tree) -> Result<Program, RuleError>
-    ensures { Checks (view.tree tree.now) result }
+/// `Broken` if the text breaks a rule, and `Memory` if memory runs out or [`compile_accepted`]
+/// fails.
+pub fn check<'t>(alloc: Global, tree: &'t Tree) -> Result<CompiledText<'t>, RuleError>
+    ensures { Checks tree.now result }
 {
     match judge(alloc, tree) {
         Err(error) => Err(error),
-        Ok(_) => match program(alloc, tree) {
-            Ok(program) => Ok(program),
+        Ok(_) => match compile_accepted(alloc, tree) {
+            Ok(compiled) => Ok(compiled),
             Err(_) => Err(RuleError::Memory),
         },
     }

@@ -29,9 +29,9 @@ HasRounds (command.Explain file form) = Unit {0}
 HasRounds (command.ExplainAll file) = Unit {0}
 HasRounds (command.ExplainObject file extent) = Unit {0}
 HasRounds (command.ExplainRule page) = Unit {0}
-HasRounds (command.Run file run input) = run.rounds ≤ 1000000
-HasRounds (command.Outcome file how form input) = how.limit ≤ 1000000
-HasRounds (command.Trace file how only input) = how.rounds ≤ 1000000
+HasRounds (command.Run file run input progress) = run.rounds ≤ 1000000
+HasRounds (command.Outcome file how form input progress) = how.limit ≤ 1000000
+HasRounds (command.Trace file how only input progress) = how.rounds ≤ 1000000
 HasRounds (command.Replay file order replay input) = Unit {0}
 
 -- The command if there are no words after the program's name.
@@ -42,9 +42,9 @@ IsWithoutWords (command.Explain file form) = ⊥
 IsWithoutWords (command.ExplainAll file) = ⊥
 IsWithoutWords (command.ExplainObject file extent) = ⊥
 IsWithoutWords (command.ExplainRule page) = ⊥
-IsWithoutWords (command.Run file run input) = (file ≡ None) × Has 2 100 2 1 255 1 false run × (input ≡ inputs.Empty)
-IsWithoutWords (command.Outcome file how form input) = ⊥
-IsWithoutWords (command.Trace file how only input) = ⊥
+IsWithoutWords (command.Run file run input progress) = (file ≡ None) × Has 2 100 2 1 255 1 false run × (input ≡ inputs.Empty) × (progress ≡ false)
+IsWithoutWords (command.Outcome file how form input progress) = ⊥
+IsWithoutWords (command.Trace file how only input progress) = ⊥
 IsWithoutWords (command.Replay file order replay input) = ⊥
 
 -- The kind of clap's error shows whether memory ran out.

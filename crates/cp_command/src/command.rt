@@ -50,11 +50,13 @@ pub enum Command<'a> {
     ExplainRule {
         page: &'static str,
     },
-    /// `run FILE`: runs the text of a file, or of standard input if `file` is `None`.
+    /// `run FILE`: runs the text of a file, or of standard input if `file` is `None`, and shows its
+    /// progress if that is asked for.
     Run {
         file: Option<&'a str>,
         run: Run,
         input: Inputs<'a>,
+        progress: bool,
     },
     /// `outcome FILE`: runs the text of a file until nothing can move. The form names a process.
     Outcome {
@@ -62,14 +64,16 @@ pub enum Command<'a> {
         how: UntilStill,
         form: OutcomeForm<&'a str>,
         input: Inputs<'a>,
+        progress: bool,
     },
-    /// `trace FILE`: runs the text of a file and tells what each round changed of the processes and
-    /// monitors with the names in `only`, or of all if there are none.
+    /// `trace FILE`: runs the text of a file and tells, in one of its forms, what became of the
+    /// processes and monitors with the names in `only`, or of all if there are none.
     Trace {
         file: &'a str,
         how: Tracing,
         only: Vec<&'a str>,
         input: Inputs<'a>,
+        progress: bool,
     },
     /// `replay FILE ORDER`: replays the text of a file in the order of another.
     Replay {

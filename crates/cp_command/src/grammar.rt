@@ -108,6 +108,10 @@ const DOT: &str = "dot";
 
 const JSON: &str = "json";
 
+const TIMELINE: &str = "timeline";
+
+const SVG: &str = "svg";
+
 impl Valued {
     fn arg<'a>(self, alloc: Global) -> Arg<'a> {
         Arg::new(alloc, self.name)
@@ -203,6 +207,14 @@ fn explain_words<'a>(alloc: Global) -> Result<clap::Command<'a>, AllocError> {
     .arg(all.conflicts_with(DOT)?)
 }
 
+fn progress<'a>(alloc: Global) -> Arg<'a> {
+    flag(
+        alloc,
+        "progress",
+        "shows the round that is being made on standard error, once a second",
+    )
+}
+
 fn chains<'a>(alloc: Global) -> Arg<'a> {
     flag(
         alloc,
@@ -215,7 +227,9 @@ fn run_words<'a>(alloc: Global) -> Result<clap::Command<'a>, AllocError> {
     let run = command(alloc, "run", "Runs a text and reports its state", TEXT)?;
     let run = run.arg(ROUNDS.arg(alloc).required(true))?;
     let run = with(alloc, run, &[TURN, WORKERS, CHUNK, WAVE, TICK])?;
-    with_inputs(alloc, run)?.arg(chains(alloc))
+    with_inputs(alloc, run)?
+        .arg(chains(alloc))?
+        .arg(progress(alloc))
 }
 
 // Adds the forms of an outcome, of which only one may be given.
@@ -247,7 +261,25 @@ fn outcome_words<'a>(alloc: Global) -> Result<clap::Command<'a>, AllocError> {
         TEXT,
     )?;
     let outcome = with(alloc, outcome, &[LIMIT, TURN, WORKERS, CHUNK, WAVE, TICK])?;
-    with_forms(alloc, with_inputs(alloc, outcome)?)
+    with_forms(alloc, with_inputs(alloc, outcome)?)?.arg(progress(alloc))
+}
+
+// Adds the forms of a trace other than its lines, of which only one may be given.
+fn with_trace_forms<'a>(
+    alloc: Global,
+    command: clap::Command<'a>,
+) -> Result<clap::Command<'a>, AllocError> {
+    let json = flag(alloc, JSON, "writes each change as a JSON object on a line");
+    let timeline = flag(
+        alloc,
+        TIMELINE,
+        "writes a row for each process and monitor, a character a round, in place of changes",
+    );
+    let svg = flag(alloc, SVG, "writes the same as a picture");
+    command
+        .arg(json.conflicts_with(TIMELINE)?.conflicts_with(SVG)?)?
+        .arg(timeline.conflicts_with(SVG)?)?
+        .arg(svg)
 }
 
 fn trace_words<'a>(alloc: Global) -> Result<clap::Command<'a>, AllocError> {
@@ -263,7 +295,7 @@ fn trace_words<'a>(alloc: Global) -> Result<clap::Command<'a>, AllocError> {
         trace,
         &[FROM, TO, ONLY, TURN, WORKERS, CHUNK, WAVE, TICK],
     )?;
-    with_inputs(alloc, trace)
+    with_trace_forms(alloc, with_inputs(alloc, trace)?)?.arg(progress(alloc))
 }
 
 fn replay_words<'a>(alloc: Global) -> Result<clap::Command<'a>, AllocError> {

@@ -20,6 +20,6 @@ pub use cp_access::graph::Form;
 pub use cp_execute::form::OutcomeForm;
 pub use cp_execute::replaying::Replay;
 pub use cp_execute::running::Run;
-pub use cp_execute::tracing::Tracing;
+pub use cp_execute::tracing::{TraceForm, Tracing};
 pub use cp_execute::until_still::UntilStill;
 pub use cp_explain::explain::Extent;

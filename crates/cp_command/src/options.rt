@@ -10,7 +10,7 @@ use clap::ArgMatches;
 use cp_execute::form::OutcomeForm;
 use cp_execute::replaying::Replay;
 use cp_execute::running::Run;
-use cp_execute::tracing::Tracing;
+use cp_execute::tracing::{TraceForm, Tracing};
 use cp_execute::until_still::UntilStill;
 use cp_private::turn::Turn;
 use cp_rounds::plan::Plan;
@@ -110,6 +110,19 @@ pub(crate) fn read_form<'a>(matches: &ArgMatches<'a>) -> OutcomeForm<&'a str> {
     }
 }
 
+// The form of a trace that the options tell. The grammar lets only one of them pass.
+fn read_trace_form<'a>(matches: &ArgMatches<'a>) -> TraceForm {
+    if matches.get_flag("timeline") {
+        TraceForm::Timeline
+    } else if matches.get_flag("svg") {
+        TraceForm::Svg
+    } else if matches.get_flag("json") {
+        TraceForm::Json
+    } else {
+        TraceForm::Lines
+    }
+}
+
 /// The trace that the options tell. It ends with the last round that is told.
 pub(crate) fn read_trace<'a>(matches: &ArgMatches<'a>) -> Result<Tracing, Misuse<'a>>
     ensures { IfOk result (λ how. how.rounds ≤ 1000000) }
@@ -124,6 +137,7 @@ pub(crate) fn read_trace<'a>(matches: &ArgMatches<'a>) -> Result<Tracing, Misuse
     Ok(Tracing {
         rounds: rounds.min(to),
         from,
+        form: read_trace_form(matches),
         plan,
         tick,
     })

@@ -59,6 +59,7 @@ fn run<'a>(
         file: Some(file),
         run: read_run(matches, rounds, matches.get_flag("chains"))?,
         input: read_inputs(alloc, matches)?.beside(&[file])?,
+        progress: matches.get_flag("progress"),
     })
 }
 
@@ -75,6 +76,7 @@ fn outcome<'a>(
         how: read_outcome(matches)?,
         form: read_form(matches),
         input: read_inputs(alloc, matches)?.beside(&[file])?,
+        progress: matches.get_flag("progress"),
     })
 }
 
@@ -91,6 +93,7 @@ fn trace<'a>(
         how: read_trace(matches)?,
         only: read_only(alloc, matches)?,
         input: read_inputs(alloc, matches)?.beside(&[file])?,
+        progress: matches.get_flag("progress"),
     })
 }
 
@@ -143,6 +146,7 @@ fn without_words<'a>() -> Command<'a>
         file: None,
         run: run_of(2, 100, 2, 1, 255, 1, false),
         input: Inputs::Empty,
+        progress: false,
     }
 }
 

@@ -137,24 +137,29 @@ fn lay_components<'t>(
     })
 }
 
-/// Compiles a text to a program. For an accepted text, it is the program that the definition
-/// `compile` of `cp_program_model` makes, which stands for the text. Each operation has an origin.
+/// Compiles a text with these tables to a program. For an accepted text and the tables that stand
+/// for it, it is the program that the definition `compile` of `cp_program_model` makes, which stands
+/// for the text. Each operation has an origin.
 ///
 /// # Errors
 ///
 /// `Memory` if memory runs out or the plans of the text would take too much of it, and `Unaccepted`
 /// if the tree has a number or a name that no accepted text has.
-pub fn compile(alloc: Global, tree: &Tree) -> Result<Program, CompileError>
+pub fn compile<'t>(
+    alloc: Global,
+    tree: &'t Tree,
+    tables: &Tables<'t>,
+) -> Result<Program, CompileError>
     ensures program { IfOk result (λ program. Accepted (syntax.tree tree.now)
+        → TablesStand (globals (text_of tree.now)) tables.now tree.now
         → view.program program ≡ code.compile (text_of tree.now)) }
     ensures origins { IfOk result
         (λ program. length (origins_of program) ≡ length (view.program program).operations) }
 {
-    let tables = Tables::of_tree(alloc, tree)?;
-    let planner = Planner::new(alloc, &tables)?;
-    let code = compile_code(alloc, tree, &tables, &planner)?;
-    let plans = make_plans(&tables, &planner)?;
-    let components = lay_components(alloc, tree, &tables, &code, &plans)?;
+    let planner = Planner::new(alloc, tables)?;
+    let code = compile_code(alloc, tree, tables, &planner)?;
+    let plans = make_plans(tables, &planner)?;
+    let components = lay_components(alloc, tree, tables, &code, &plans)?;
     let (operations, origins, units) = code.emitter.into_parts();
     Ok(Program::new(
         operations,

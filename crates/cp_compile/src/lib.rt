@@ -8,8 +8,9 @@
 //! - `components`, `layout`: monitors and processes, and where their words lie.
 //! - `compiler`: compiles a whole tree.
 //!
-//! For an accepted text, the result is that of `cp_program_model`'s function `compile`, which stands for the
-//! text by a law (`cp_program_model::law::accepted_tree_has_program`).
+//! The tables of the text are made before (cp_check). For an accepted text, the result is that of
+//! `cp_program_model`'s function `compile`, which stands for the text by a law
+//! (`cp_program_model::law::accepted_tree_has_program`).
 #![tactic(auto)]
 
 mod compiler;

@@ -4,4 +4,5 @@ pub mod OrderRefusals
 pub mod OrdersDue
 pub mod OutcomesDue
 pub mod Transcripts
+pub mod Told
 pub mod Traced

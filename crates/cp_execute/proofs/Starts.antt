@@ -1,5 +1,6 @@
 -- The inputs that were cut, and what is reported of a machine.
 use Rattle.std.proofs.Common.{◌≡◌, ◌-◌, ◌≤◌, ℕ, zero, suc, Bool, true, false, List, length, ap, sym, subst, ◌∙◌, arith}
+use Rattle.std.specs.Borrow.{Bor}
 use Rattle.std.specs.Prelude.{slice_get}
 use Rattle.cp_program_model.specs.Programs.{Program}
 use Rattle.cp_model.specs.Declarations.{globals}
@@ -7,6 +8,7 @@ use Rattle.cp_model.specs.Erase as erase
 use Rattle.cp_model.specs.Input.{cut}
 use Rattle.cp_model.specs.Report.{IsReportWithChains, Text}
 use Rattle.cp_model.specs.States.{Setup, State}
+use Rattle.cp_model.specs.Types.{GlobalScope}
 use Rattle.cp_model.specs.View as view
 use Rattle.cp_model.specs.declared.tree.Tree as tree
 use Rattle.cp_machine_model.specs.Chains.{ReportHasChains}
@@ -16,6 +18,8 @@ use Rattle.cp_machine_model.specs.RoundLaws.{ReportIsReport}
 use Rattle.cp_rounds.specs.InStates.{HaveInputs}
 use Rattle.cp_rounds.specs.MachineOf.{bytes_or_none, input_of}
 use Rattle.cp_rounds.proofs.Lists.{got_at}
+use Rattle.cp_rounds.specs.Views.{KeepsText}
+use Rattle.cp_rounds.specs.declared.machine.Machine as rounds
 use Rattle.cp_scope.specs.Texts.{TablesStand}
 use Rattle.cp_scope.specs.declared.tables.Tables.{Tables}
 use Rattle.cp_accept.specs.Cutting.{AreParts, Bytes}
@@ -39,6 +43,11 @@ have_inputs program setup input all parts given p first last =
     input_is input (length program.processes) all parts p first last ∙ ap (λ (f : ℕ → List ℕ). f p) given
 
 -- ---- The report
+
+-- The tables of a text are those that a machine lends, before its rounds and after them.
+pub lent : (g : GlobalScope) (text : tree.Tree) (tables : Bor Tables) (old new : rounds.Machine) → TablesStand g tables.now text → old.tables ≡ tables → KeepsText old new
+    → TablesStand g new.tables.now text
+lent g text tables old new stand first kept = subst (λ (b : Bor Tables). TablesStand g b.now text) (sym (kept.tables ∙ first)) stand
 
 -- What is reported of a machine between rounds is the report of the state that it is in.
 pub reported : (chains : Bool) (tables : Tables) (m : Machine) (setup : Setup) (text : tree.Tree) (s : State) (bytes : Text) → ReportIsReport → ReportHasChains

@@ -12,6 +12,7 @@ use Rattle.cp_machine_model.specs.PrivateStates.{PrivateState}
 use Rattle.cp_machine_model.specs.Steps.{private_steps}
 use Rattle.cp_rounds.specs.InStates.{MakesRounds}
 use Rattle.cp_rounds.specs.Views.{machine_of}
+use Rattle.cp_rounds.specs.declared.halted.Halted.{Halted}
 use Rattle.cp_rounds.specs.declared.machine.Machine as real
 use Rattle.cp_accept.specs.Cutting.{judge_input}
 use Rattle.cp_accept.specs.KnownRefusals.{IsFault, RefusesRun, RefusesText}
@@ -104,7 +105,7 @@ fault_input old new e (inr write) taken = subst (λ (r : Refusal). TakesInputAt 
 
 -- ---- What is due
 
-pub trace_due : (how : Tracing) (machine : real.Machine) (text input : Option (List ℕ)) (t : s.Tree) (bytes : List ℕ)
+pub trace_due : (how : Tracing) (machine : Halted) (text input : Option (List ℕ)) (t : s.Tree) (bytes : List ℕ)
     → IfSome text (λ xs. IsAccepted xs t) → IfSome input (λ ys. bytes ≡ ys) → judge_input bytes ≡ Ok tt → IsTraced how t bytes machine → Traces how machine text input
 trace_due how machine text input t bytes accepted same fit made xs is =
     (t, of_known (λ zs. IsAccepted zs t) text xs accepted is, of_input)

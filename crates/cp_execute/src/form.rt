@@ -40,10 +40,10 @@ fn transcript(alloc: Global, machine: &Machine, process: u32) -> Result<Vec<u8>,
 /// # Errors
 ///
 /// `AllocError` if memory runs out.
-pub(crate) fn told(
+pub(crate) fn told<'t>(
     alloc: Global,
-    text: &Text,
-    machine: &Machine,
+    text: &'t Text,
+    machine: &Machine<'_, 't>,
     verdict: Verdict,
     form: OutcomeForm<u32>,
 ) -> Result<Vec<u8>, AllocError>

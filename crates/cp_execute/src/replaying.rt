@@ -1,28 +1,25 @@
 //! Replaying a program: from its input and the bytes of an order to its report.
 
 ghost use Rattle.std.specs.Prelude.{◌≡◌, IfErr, IfOk, Ok, length};
-ghost use Rattle.cp_check.specs.Checked.{IsProgramOf};
+ghost use Rattle.cp_check.specs.Checked.{IsCompiled};
 ghost use Rattle.cp_model.specs.Rules.{Accepted};
 ghost use Rattle.cp_model.specs.View as view;
 ghost use Rattle.cp_orders.specs.Reading.{AllWithin};
 ghost use Rattle.cp_orders.specs.Rounds.{rounds_of};
 ghost use Rattle.cp_program.specs.View as program_view;
-ghost use Rattle.cp_rounds.specs.Views.{processes_of};
+ghost use Rattle.cp_rounds.specs.Views.{KeepsText, processes_of};
 ghost use Rattle.cp_execute.specs.Replayed.{IsDueAfter, IsReplayed, MakesReplays, RefusesOrder, RefusesOrderFor, judge_order_of};
 
-use crate::running::report_of;
-use cp_accept::cutting::cut_input;
+use crate::running::{machine_at_start, report_of};
 use cp_accept::refusal::Refusal;
-use cp_check::checking::program;
+use cp_check::checking::{CompiledText, compile_accepted};
 use cp_machine_model::law::{reports, waits};
 use cp_model::tree::Tree;
 use cp_orders::orders::Orders;
 use cp_orders::reading::read_orders;
 use cp_private::turn::Turn;
-use cp_program::program::Program;
 use cp_rounds::machine::Machine;
 use cp_rounds::tick::Tick;
-use cp_scope::Tables;
 use std::alloc::{AllocError, Global};
 
 /// The parameters of a replay: how many steps a kernel turn has at most, how often the clock ticks,
@@ -38,8 +35,9 @@ pub struct Replay {
 fn replay_rounds(machine: &mut Machine, orders: &Orders, turn: Turn) -> Result<(), AllocError>
     requires first { machine.old.rounds ≡ 0 }
     requires within { AllWithin (processes_of machine.old) (rounds_of orders.now) }
-    ensures { IfOk result (λ _. MakesReplays turn.steps (rounds_of orders.now)
+    ensures state { IfOk result (λ _. MakesReplays turn.steps (rounds_of orders.now)
         machine.old machine.new) }
+    ensures text { IfOk result (λ _. KeepsText machine.old machine.new) }
 {
     for k in 0..orders.len() {
         if let Some(events) = orders.round(k) {
@@ -60,29 +58,27 @@ fn orders_of(alloc: Global, order: &[u8], processes: usize) -> Result<Orders, Re
     Ok(orders)
 }
 
-// Replays a text's program in a known order and returns the report.
+// Replays a compiled text in a known order and returns the report.
 fn replay_of(
     alloc: Global,
     tree: &Tree,
-    program: Program,
+    text: CompiledText,
     input: &[u8],
     orders: &Orders,
     replay: &Replay,
 ) -> Result<Vec<u8>, AllocError>
-    requires program { IsProgramOf (view.tree tree.now) program }
-    requires within { AllWithin (length (program_view.program program).processes)
+    requires text { IsCompiled tree.now text }
+    requires within { AllWithin (length (program_view.program text.program).processes)
         (rounds_of orders.now) }
     ensures { IfOk result (λ bytes. IsDueAfter replay.now (view.tree tree.now) input.now
         (rounds_of orders.now) bytes.items) }
 {
     reports();
     waits();
-    let tables = Tables::of_tree(alloc, tree)?;
-    let inputs = cut_input(alloc, input, program.processes())?;
-    let mut machine = Machine::new(alloc, program, inputs, replay.tick)?;
+    let CompiledText { program, tables } = text;
+    let mut machine = machine_at_start(alloc, program, &tables, input, replay.tick)?;
     replay_rounds(&mut machine, orders, replay.turn)?;
-    let bytes = report_of(alloc, &tables, &machine, replay.chains)?;
-    Ok(bytes)
+    report_of(alloc, &machine, replay.chains)
 }
 
 /// Replays the program of an accepted text and returns the report.
@@ -102,8 +98,8 @@ pub(crate) fn report_after_replay(
         (λ bytes. IsReplayed replay.now (view.tree tree.now) input.now order.now bytes.items) }
     ensures refused { IfErr result (RefusesOrder (view.tree tree.now) order.now) }
 {
-    let program = program(alloc, tree)?;
-    let orders = orders_of(alloc, order, program.processes())?;
-    let bytes = replay_of(alloc, tree, program, input, &orders, replay)?;
+    let text = compile_accepted(alloc, tree)?;
+    let orders = orders_of(alloc, order, text.program.processes())?;
+    let bytes = replay_of(alloc, tree, text, input, &orders, replay)?;
     Ok(bytes)
 }

@@ -1,7 +1,9 @@
 //! Running a program: from its input to its report.
 
 ghost use Rattle.std.specs.Prelude.{◌≡◌, false, IfErr, IfOk};
+ghost use Rattle.cp_check.specs.Checked.{IsProgramOf};
 ghost use Rattle.cp_model.specs.Rules.{Accepted};
+ghost use Rattle.cp_model.specs.Syntax as s;
 ghost use Rattle.cp_model.specs.View as view;
 ghost use Rattle.cp_rounds.specs.Views.{machine_of};
 ghost use Rattle.cp_execute.specs.Executed.{IsAtStart, IsDue, setup_of};
@@ -10,9 +12,10 @@ ghost use Rattle.cp_accept.specs.declared.refusal.Refusal.TheVariants as refusal
 
 use cp_accept::cutting::cut_input;
 use cp_accept::refusal::Refusal;
-use cp_check::checking::program;
+use cp_check::checking::{CompiledText, compile_accepted};
 use cp_machine_model::law::{reports, waits};
 use cp_model::tree::Tree;
+use cp_program::program::Program;
 use cp_report::report::{report, report_with_chains};
 use cp_rounds::gate::TurnGate;
 use cp_rounds::machine::Machine;
@@ -40,40 +43,38 @@ pub struct Run {
 /// `AllocError` if memory runs out.
 pub(crate) fn report_of(
     alloc: Global,
-    tables: &Tables,
     machine: &Machine,
     chains: bool,
 ) -> Result<Vec<u8>, AllocError>
-    ensures { IfOk result
-        (λ bytes. IsReport chains tables.now (machine_of machine.now) bytes.items) }
+    ensures { IfOk result (λ bytes. IsReport chains machine.now.tables.now (machine_of machine.now)
+        bytes.items) }
 {
     if chains {
-        report_with_chains(alloc, tables, machine)
+        report_with_chains(alloc, machine)
     } else {
-        report(alloc, tables, machine)
+        report(alloc, machine)
     }
 }
 
-/// Returns the machine of an accepted text at its start.
+/// Returns the machine of a text's program and tables at its start.
 ///
 /// # Errors
 ///
 /// `AllocError` if memory runs out.
-pub(crate) fn machine_at_start(
+pub(crate) fn machine_at_start<'r, 't>(
     alloc: Global,
-    tree: &Tree,
+    program: Program,
+    tables: &'r Tables<'t>,
     input: &[u8],
     tick: Tick,
-) -> Result<Machine, AllocError>
-    requires accepted { Accepted (view.tree tree.now) }
-    ensures state { IfOk result
-        (λ machine. IsAtStart (setup_of (view.tree tree.now) input.now tick.rounds) machine) }
+) -> Result<Machine<'r, 't>, AllocError>
+    ensures state { IfOk result (λ machine. (t : s.Tree) → IsProgramOf t program
+        → IsAtStart (setup_of t input.now tick.rounds) machine) }
     ensures rounds { IfOk result (λ machine. machine.rounds ≡ 0) }
+    ensures tables { IfOk result (λ machine. machine.tables ≡ tables.entry) }
 {
-    let program = program(alloc, tree)?;
     let inputs = cut_input(alloc, input, program.processes())?;
-    let machine = Machine::new(alloc, program, inputs, tick)?;
-    Ok(machine)
+    Machine::new(alloc, program, tables, inputs, tick)
 }
 
 /// Runs the program of an accepted text and returns the report.
@@ -96,11 +97,12 @@ pub(crate) fn report_after_run<H: Threads + Wait + Sync, G: TurnGate>(
 {
     reports();
     waits();
-    let mut machine = machine_at_start(alloc, tree, input, run.tick)?;
-    let tables = Tables::of_tree(alloc, tree)?;
+    let compiled = compile_accepted(alloc, tree)?;
+    let CompiledText { program, tables } = compiled;
+    let mut machine = machine_at_start(alloc, program, &tables, input, run.tick)?;
     if machine.run(rt, run.rounds, &run.plan, gate).is_err() {
         return Err(Refusal::Memory);
     }
-    let bytes = report_of(alloc, &tables, &machine, run.chains)?;
+    let bytes = report_of(alloc, &machine, run.chains)?;
     Ok(bytes)
 }

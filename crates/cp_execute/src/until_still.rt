@@ -10,6 +10,7 @@ use crate::form::{OutcomeForm, told};
 use crate::running::machine_at_start;
 use cp_accept::refusal::Refusal;
 use cp_accept::sources::Text;
+use cp_check::checking::{CompiledText, compile_accepted};
 use cp_outcome::verdict::{Verdict, verdict_on};
 use cp_rounds::gate::TurnGate;
 use cp_rounds::plan::Plan;
@@ -53,7 +54,9 @@ pub(crate) fn outcome_after_run<H: Threads + Wait + Sync, G: TurnGate>(
         outcome.verdict outcome.bytes.items) }
     ensures memory { IfErr result (λ e. e ≡ refusal.Memory) }
 {
-    let mut machine = machine_at_start(alloc, &text.tree, input, how.tick)?;
+    let compiled = compile_accepted(alloc, &text.tree)?;
+    let CompiledText { program, tables } = compiled;
+    let mut machine = machine_at_start(alloc, program, &tables, input, how.tick)?;
     let Ok(_rounds) = machine.run_until_still(rt, how.limit, &how.plan, gate) else {
         return Err(Refusal::Memory);
     };

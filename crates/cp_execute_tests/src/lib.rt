@@ -28,6 +28,8 @@ mod outcome_waits;
 #[cfg(test)]
 mod outcomes;
 #[cfg(test)]
+mod pictures;
+#[cfg(test)]
 mod refusals;
 #[cfg(test)]
 mod refused;
@@ -37,5 +39,9 @@ mod replays;
 mod streams;
 #[cfg(test)]
 mod texts;
+#[cfg(test)]
+mod timelines;
+#[cfg(test)]
+mod trace_objects;
 #[cfg(test)]
 mod traces;

@@ -1,9 +1,9 @@
-//! Traces of whole texts. What each round changes was worked out by hand.
+//! Traces of whole texts as lines. What each round changes was worked out by hand.
 
 use super::streams::Narrow;
 use cp_accept::refusal::Refusal;
 use cp_execute::execute_trace::{execute_trace, unknown_name};
-use cp_execute::tracing::Tracing;
+use cp_execute::tracing::{TraceForm, Tracing};
 use cp_rounds::gate::Open;
 use cp_rounds::plan::Plan;
 use cp_rounds::tick::Tick;
@@ -15,18 +15,18 @@ use std::thread::Threads;
 // A text, the steps in a turn, the first and the last round that is told, the names that are told,
 // and the trace.
 #[derive(Drop)]
-struct Case {
+pub(crate) struct Case {
     text: &'static [u8],
     turn: u32,
     from: u32,
-    rounds: u32,
+    pub(crate) rounds: u32,
     only: &'static [&'static str],
-    told: &'static [u8],
+    pub(crate) told: &'static [u8],
 }
 
 // The consumer is delayed in round 2 and continued in the same round, inside of the monitor. It goes
 // on in round 3, and displays in round 4.
-const ONE_ITEM: &[u8] =
+pub(crate) const ONE_ITEM: &[u8] =
     b"type slot = monitor; var full: boolean; x: integer; sender, receiver: queue;
     procedure entry put(v: integer);
     begin if full then delay(sender); x := v; full := true; continue(receiver) end;
@@ -54,7 +54,7 @@ round 4
   process 2 c: ready -> ended; out '7'
 ";
 
-const VALUES: &[u8] = b"type colour = (red, green, blue);
+pub(crate) const VALUES: &[u8] = b"type colour = (red, green, blue);
 pair = record n: integer; c: char end;
 p = process; var h: colour; s: array [1..2] of pair; b: boolean;
   begin h := blue; s[2].n := -5; s[1].c := 'q'; b := true; display('x'); display(b) end;
@@ -62,7 +62,7 @@ var a: p; begin init a end.
 ";
 
 // The faulted process keeps the gate.
-const FAULT_INSIDE: &[u8] = b"type m = monitor; var x: integer;
+pub(crate) const FAULT_INSIDE: &[u8] = b"type m = monitor; var x: integer;
     procedure entry e; begin x := 30000; x := x + x end;
   begin end;
 p = process(k: m); begin k.e end;
@@ -70,7 +70,7 @@ var k: m; a, b: p; begin init k, a(k), b(k) end.
 ";
 
 // Each takes its left fork in round 2, and is delayed at its right one in round 3.
-const PHILOSOPHERS: &[u8] = b"type fork = monitor; var taken: boolean; q: queue;
+pub(crate) const PHILOSOPHERS: &[u8] = b"type fork = monitor; var taken: boolean; q: queue;
     procedure entry get; begin if taken then delay(q); taken := true end;
     procedure entry put; begin taken := false; continue(q) end;
   begin taken := false end;
@@ -80,11 +80,12 @@ var f, g: fork; a, b: philosopher;
 begin init f, g, a(f, g), b(g, f) end.
 ";
 
-const STEPS: &[u8] = b"type p = process; var x: integer; begin x := 1; x := 2; display(x) end;
+pub(crate) const STEPS: &[u8] =
+    b"type p = process; var x: integer; begin x := 1; x := 2; display(x) end;
 var a: p; begin init a end.
 ";
 
-fn due(
+pub(crate) fn due(
     text: &'static [u8],
     turn: u32,
     from: u32,
@@ -182,11 +183,12 @@ round 5
     ]
 }
 
-fn tracing(case: &Case, workers: u32) -> Result<Tracing, AllocError> {
+fn tracing(case: &Case, form: TraceForm, workers: u32) -> Result<Tracing, AllocError> {
     match (Plan::new(case.turn, workers, 1, 255), Tick::new(1)) {
         (Ok(plan), Ok(tick)) => Ok(Tracing {
             rounds: case.rounds,
             from: case.from,
+            form,
             plan,
             tick,
         }),
@@ -195,14 +197,15 @@ fn tracing(case: &Case, workers: u32) -> Result<Tracing, AllocError> {
 }
 
 // What `execute_trace` writes for a case and an input, and how many rounds were made.
-fn trace_of<H: Threads + Wait + Sync>(
+pub(crate) fn trace_of<H: Threads + Wait + Sync>(
     rt: &H,
     alloc: Global,
     case: &Case,
+    form: TraceForm,
     input: &[u8],
     workers: u32,
 ) -> Result<(Result<u64, Refusal>, Vec<u8>), AllocError> {
-    let how = tracing(case, workers)?;
+    let how = tracing(case, form, workers)?;
     let (mut text, mut input) = (case.text, input);
     let mut out = Vec::new(alloc);
     let answer = execute_trace(
@@ -219,7 +222,7 @@ fn trace_of<H: Threads + Wait + Sync>(
 fn each_round_tells_its_changes(rt: HostRuntime) -> Result<(), Fail> {
     for case in &cases() {
         for workers in [1, 3] {
-            let (made, out) = trace_of(&rt, rt.alloc(), case, b"", workers)?;
+            let (made, out) = trace_of(&rt, rt.alloc(), case, TraceForm::Lines, b"", workers)?;
             assert!(rt; made == Ok(u64::from(case.rounds)));
             assert!(rt; out.as_slice() == case.told);
         }
@@ -230,10 +233,10 @@ fn each_round_tells_its_changes(rt: HostRuntime) -> Result<(), Fail> {
 #[test]
 fn a_trace_is_refused_as_a_run_is(rt: HostRuntime) -> Result<(), Fail> {
     let case = due(b"begin x := 1 end.\n", 1, 1, 3, &[], b"");
-    let (made, out) = trace_of(&rt, rt.alloc(), &case, b"", 1)?;
+    let (made, out) = trace_of(&rt, rt.alloc(), &case, TraceForm::Lines, b"", 1)?;
     assert!(rt; matches!(made, Err(Refusal::Check { at: 6, .. })) && out.is_empty());
     let case = due(STEPS, 1, 1, 3, &[], b"");
-    let (made, out) = trace_of(&rt, rt.alloc(), &case, b"ab\x80", 1)?;
+    let (made, out) = trace_of(&rt, rt.alloc(), &case, TraceForm::Lines, b"ab\x80", 1)?;
     assert!(rt; made == Err(Refusal::InputByte { at: 2 }) && out.is_empty());
     Ok(())
 }
@@ -241,7 +244,7 @@ fn a_trace_is_refused_as_a_run_is(rt: HostRuntime) -> Result<(), Fail> {
 #[test]
 fn the_beginning_of_a_trace_is_written(rt: HostRuntime) -> Result<(), Fail> {
     let case = due(STEPS, 1, 1, 9, &["a"], b"");
-    let how = tracing(&case, 1)?;
+    let how = tracing(&case, TraceForm::Lines, 1)?;
     let mut out = Narrow {
         taken: Vec::new(rt.alloc()),
         fails_at: 12,

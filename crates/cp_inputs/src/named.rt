@@ -9,11 +9,12 @@ use cp_accept::checking::tree_of;
 use cp_accept::cutting::LONGEST_INPUT;
 use cp_accept::reading::{ReadError, read_text};
 use cp_accept::refusal::Refusal;
+use cp_check::checking::tables_of;
 use cp_model::tree::{Sort, Tree};
 use cp_report::listing::components;
 use cp_report::roster::INITIAL;
 use cp_rules::text::{RuleError, judge};
-use cp_scope::{CompileError, Field, Tables, small_number};
+use cp_scope::{CompileError, Field, small_number};
 use std::alloc::{AllocError, AllocFailed, Global};
 use std::io::Read;
 use thiserror::Error;
@@ -83,7 +84,7 @@ fn processes<'t>(alloc: Global, tree: &'t Tree) -> Result<Vec<Field<'t>>, Refusa
         Err(RuleError::Broken(violation)) => return Err(Refusal::from(violation)),
         Err(RuleError::Memory) => return Err(Refusal::Memory),
     }
-    let tables = Tables::of_tree(alloc, tree)?;
+    let tables = tables_of(alloc, tree)?;
     Ok(components(alloc, &tables, Sort::Process)?)
 }
 

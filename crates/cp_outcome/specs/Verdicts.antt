@@ -4,10 +4,10 @@ use Rattle.cp_model.specs.Configurations as status
 use Rattle.cp_model.specs.Configurations.{Status}
 use Rattle.cp_model.specs.States.{Setup, State, processes}
 use Rattle.cp_machine_model.specs.InState.{IsIn}
-use Rattle.cp_machine_model.specs.PrivateStates as activity
-use Rattle.cp_machine_model.specs.PrivateStates.{Activity}
 use Rattle.cp_rounds.specs.Views.{machine_of}
 use Rattle.cp_rounds.specs.declared.machine.Machine.{Machine}
+use Rattle.cp_rounds.specs.declared.state.ProcState.{ProcState}
+use Rattle.cp_rounds.specs.declared.state.ProcState.TheVariants as state
 use Rattle.cp_stillness.specs.Stillness.{is_still}
 use Rattle.cp_outcome.specs.declared.verdict.Verdict.{Verdict}
 use Rattle.cp_outcome.specs.declared.verdict.Verdict.TheVariants.{Ended, Fault, Running, Stuck}
@@ -36,12 +36,12 @@ verdict_of setup s =
 
 -- ---- In a machine
 
-abbrev pub ended : Activity → Bool
-ended activity.Ended = true
+abbrev pub ended : ProcState → Bool
+ended state.Ended = true
 ended _ = false
 
-abbrev pub sound : Activity → Bool
-sound (activity.Faulted f) = false
+abbrev pub sound : ProcState → Bool
+sound (state.Faulted f) = false
 sound _ = true
 
 -- It is the verdict on every state that the machine is in.

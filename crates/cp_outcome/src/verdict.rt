@@ -1,11 +1,10 @@
 //! What became of the processes of a machine.
 
 ghost use Rattle.std.specs.Prelude.{◌≡◌};
-ghost use Rattle.cp_private.specs.States.{activity as activity_view};
 ghost use Rattle.cp_outcome.specs.Verdicts.{IsVerdictOn, TellsAll, ended, has_ended, has_no_fault, sound};
 
-use cp_private::private::Activity;
 use cp_rounds::machine::Machine;
+use cp_rounds::state::ProcState;
 
 /// What became of the processes of a machine.
 #[derive(Clone, Copy, Debug, PartialEq, Eq)]
@@ -20,26 +19,24 @@ pub enum Verdict {
     Running,
 }
 
-fn is_sound(activity: Activity) -> bool
-    ensures { result ≡ sound (activity_view activity) }
+fn is_sound(state: ProcState) -> bool
+    ensures { result ≡ sound state }
 {
-    !matches!(activity, Activity::Faulted(_))
+    !matches!(state, ProcState::Faulted(_))
 }
 
-fn is_ended(activity: Activity) -> bool
-    ensures { result ≡ ended (activity_view activity) }
+fn is_ended(state: ProcState) -> bool
+    ensures { result ≡ ended state }
 {
-    matches!(activity, Activity::Ended)
+    matches!(state, ProcState::Ended)
 }
 
 fn none_has_faulted(machine: &Machine) -> bool
     ensures { TellsAll has_no_fault machine.now result }
 {
     for i in 0..machine.processes() {
-        if let Some(private) = machine.private(i + 1) {
-            if !is_sound(private.activity()) {
-                return false;
-            }
+        if !is_sound(machine.state(i as u32 + 1)) {
+            return false;
         }
     }
     true
@@ -49,10 +46,8 @@ fn all_have_ended(machine: &Machine) -> bool
     ensures { TellsAll has_ended machine.now result }
 {
     for i in 0..machine.processes() {
-        if let Some(private) = machine.private(i + 1) {
-            if !is_ended(private.activity()) {
-                return false;
-            }
+        if !is_ended(machine.state(i as u32 + 1)) {
+            return false;
         }
     }
     true

@@ -4,6 +4,7 @@
 //! - `opening`: what a command reads, by name: a file, standard input, or bytes in memory.
 //! - `inputs`: the inputs of a run.
 //! - `running`: checks, runs, outcomes, traces and replays. `explaining`: explanations.
+//! - `progress`: the round that is being made, on standard error.
 //! - `printing`: standard output. `status`: why a command has no result, and the exit statuses.
 //!
 //! `specs/Statuses.antt` defines the exit status of a verdict, `specs/Sources.antt` what is left to
@@ -15,6 +16,7 @@ mod inputs;
 mod opening;
 pub mod perform;
 mod printing;
+mod progress;
 mod running;
 pub mod status;
 

@@ -8,13 +8,14 @@ use cp_command::command::Command;
 use std::alloc::Global;
 use std::fs::Files;
 use std::io::{Input, Print, Write};
+use std::rt::Clock;
 use std::sync::Wait;
 use std::thread::Threads;
 
 /// Carries out a command, and returns the exit status: 0, or that of a refusal that was explained
 /// or of a verdict. Opens the text, then the inputs and then the order before it reads any of them,
 /// and prints the result to standard output, which it flushes. An explanation in place of a graph
-/// for Graphviz is written to `errors`.
+/// for Graphviz is written to `errors`, and progress, if it is asked for, to standard error.
 ///
 /// # Errors
 ///
@@ -23,7 +24,7 @@ use std::thread::Threads;
 /// `NoMember` if a name of a trace is unknown, and the refusals of `execute`, `execute_outcome`,
 /// `execute_trace` and `execute_order` of cp_execute, and of `explain_text`, `explain_all_text` and
 /// `explain_object` of cp_explain.
-pub fn perform<'a, H: Files + Input + Print + Threads + Wait + Sync, E: Write>(
+pub fn perform<'a, H: Clock + Eprint + Files + Input + Print + Threads + Wait + Sync, E: Write>(
     rt: &H,
     alloc: Global,
     command: &Command<'a>,
@@ -46,21 +47,25 @@ pub fn perform<'a, H: Files + Input + Print + Threads + Wait + Sync, E: Write>(
             file,
             run: how,
             input,
-        } => run(rt, alloc, *file, input, *how)?,
+            progress,
+        } => run(rt, alloc, *file, input, *how, *progress)?,
         Command::Outcome {
             file,
             how,
             form,
             input,
+            progress,
         } => {
-            return Ok(status_of(outcome(rt, alloc, file, input, how, *form)?));
+            let verdict = outcome(rt, alloc, file, input, how, *form, *progress)?;
+            return Ok(status_of(verdict));
         }
         Command::Trace {
             file,
             how,
             only,
             input,
-        } => trace(rt, alloc, file, only, input, how)?,
+            progress,
+        } => trace(rt, alloc, file, only, input, how, *progress)?,
         Command::Replay {
             file,
             order,

@@ -5,6 +5,7 @@
 use crate::inputs::open_inputs;
 use crate::opening::{Source, open, read_bytes};
 use crate::printing::flush;
+use crate::progress::Progress;
 use crate::status::Failure;
 use cp_accept::refusal::Refusal;
 use cp_command::command::{Inputs, STANDARD_INPUT};
@@ -19,48 +20,55 @@ use cp_execute::tracing::Tracing;
 use cp_execute::until_still::UntilStill;
 use cp_inputs::named::process_number;
 use cp_outcome::verdict::Verdict;
-use cp_rounds::gate::Open;
 use std::alloc::Global;
 use std::fs::Files;
 use std::io::{self, Input, Print, Read};
+use std::rt::Clock;
 use std::sync::Wait;
 use std::thread::Threads;
 
 // Does a job, and prints its result.
-fn print_job<H: Print + Threads + Wait + Sync, R: Read, S: Read>(
+fn print_job<H: Clock + Eprint + Print + Threads + Wait + Sync, R: Read, S: Read>(
     rt: &H,
     alloc: Global,
     text: &mut R,
     input: &mut S,
     job: &Job,
+    progress: bool,
 ) -> Result<(), Refusal> {
-    let mut out = io::writer(rt);
-    execute(rt, alloc, text, input, job, &Open, &mut out)?;
+    let progress = Progress::of(rt, progress);
+    let mut out = progress.beside(io::writer(rt));
+    let done = execute(rt, alloc, text, input, job, &progress, &mut out);
+    progress.erase();
+    done?;
     flush(&mut out)
 }
 
 /// Checks a text.
-pub(crate) fn check<H: Files + Input + Print + Threads + Wait + Sync>(
+pub(crate) fn check<H: Clock + Eprint + Files + Input + Print + Threads + Wait + Sync>(
     rt: &H,
     alloc: Global,
     file: &str,
 ) -> Result<(), Refusal> {
     let mut text = open(rt, file)?;
-    print_job(rt, alloc, &mut text, &mut b"".as_slice(), &Job::Check)
+    let mut input = b"".as_slice();
+    print_job(rt, alloc, &mut text, &mut input, &Job::Check, false)
 }
 
 /// Runs a text, and prints the report.
-pub(crate) fn run<'a, H: Files + Input + Print + Threads + Wait + Sync>(
+pub(crate) fn run<'a, H: Clock + Eprint + Files + Input + Print + Threads + Wait + Sync>(
     rt: &H,
     alloc: Global,
     file: Option<&str>,
     input: &Inputs<'a>,
     run: Run,
+    progress: bool,
 ) -> Result<(), Failure<'a>> {
     let mut text = open(rt, file.unwrap_or(STANDARD_INPUT))?;
     let input = open_inputs(rt, alloc, input)?;
     let mut input = input.joined(alloc, &mut text)?;
-    print_job(rt, alloc, &mut text, &mut input, &Job::Run(run))?;
+    let job = Job::Run(run);
+    print_job(rt, alloc, &mut text, &mut input, &job, progress)?;
     Ok(())
 }
 
@@ -92,20 +100,26 @@ fn numbered<'a, F: Read + Drop, I: Read + Drop>(
 }
 
 /// Runs a text until nothing can move, prints the outcome, and returns the verdict.
-pub(crate) fn outcome<'a, H: Files + Input + Print + Threads + Wait + Sync>(
+pub(crate) fn outcome<'a, H: Clock + Eprint + Files + Input + Print + Threads + Wait + Sync>(
     rt: &H,
     alloc: Global,
     file: &str,
     input: &Inputs<'a>,
     how: &UntilStill,
     form: OutcomeForm<&'a str>,
+    progress: bool,
 ) -> Result<Verdict, Failure<'a>> {
     let mut text = open(rt, file)?;
     let input = open_inputs(rt, alloc, input)?;
     let mut input = input.joined(alloc, &mut text)?;
     let form = numbered(alloc, &mut text, form)?;
-    let mut out = io::writer(rt);
-    let verdict = execute_outcome(rt, alloc, &mut text, &mut input, how, form, &Open, &mut out)?;
+    let progress = Progress::of(rt, progress);
+    let mut out = progress.beside(io::writer(rt));
+    let told = execute_outcome(
+        rt, alloc, &mut text, &mut input, how, form, &progress, &mut out,
+    );
+    progress.erase();
+    let verdict = told?;
     flush(&mut out)?;
     Ok(verdict)
 }
@@ -125,15 +139,16 @@ fn find_names<'a, F: Read + Drop, I: Read + Drop>(
     Ok(())
 }
 
-/// Runs a text, and prints what each round changed of the processes and monitors with these names,
+/// Runs a text, and prints what became in each round of the processes and monitors with these names,
 /// or of all if there are none.
-pub(crate) fn trace<'a, H: Files + Input + Print + Threads + Wait + Sync>(
+pub(crate) fn trace<'a, H: Clock + Eprint + Files + Input + Print + Threads + Wait + Sync>(
     rt: &H,
     alloc: Global,
     file: &str,
     only: &[&'a str],
     input: &Inputs<'a>,
     how: &Tracing,
+    progress: bool,
 ) -> Result<(), Failure<'a>> {
     let mut text = open(rt, file)?;
     let input = open_inputs(rt, alloc, input)?;
@@ -141,8 +156,13 @@ pub(crate) fn trace<'a, H: Files + Input + Print + Threads + Wait + Sync>(
     if !only.is_empty() {
         find_names(alloc, &mut text, only)?;
     }
-    let mut out = io::writer(rt);
-    execute_trace(rt, alloc, &mut text, &mut input, only, how, &Open, &mut out)?;
+    let progress = Progress::of(rt, progress);
+    let mut out = progress.beside(io::writer(rt));
+    let told = execute_trace(
+        rt, alloc, &mut text, &mut input, only, how, &progress, &mut out,
+    );
+    progress.erase();
+    told?;
     flush(&mut out)?;
     Ok(())
 }

@@ -5,3 +5,4 @@ pub mod Calls
 pub mod Kinds
 pub mod Promises
 pub mod Resting
+pub mod Quick

@@ -70,7 +70,7 @@ impl Private {
 
     // The bounds and the next counter are read once the value is known, so that they needn't be
     // kept while it is evaluated.
-    #[inline(always)]
+    #[inline(never)]
     pub(crate) fn set(
         &mut self,
         shared: &mut [i32],
@@ -89,13 +89,12 @@ impl Private {
         ensures kept { KeepsRest self.old shared.old self.new shared.new }
         ensures ready { IsReady self.old → IsReady self.new }
     {
-        let reach = self.reach(shared, outside);
-        let at = to.place(&reach)?;
-        let n = value.value_here(&reach)?;
+        let at = self.place(shared, outside, to)?;
+        let n = self.evaluate(shared, outside, value)?;
         self.set_within(shared, at, n, Bounds::new(*low, *high), *next)
     }
 
-    #[inline(always)]
+    #[inline(never)]
     pub(crate) fn set_result(
         &mut self,
         shared: &mut [i32],
@@ -111,7 +110,7 @@ impl Private {
             low.now high.now o.base n next.now)) }
         ensures kept { KeepsRest self.old shared.old self.new shared.new }
     {
-        let n = self.evaluate_here(shared, outside, value)?;
+        let n = self.evaluate(shared, outside, value)?;
         let at = self.memory.base as usize;
         self.set_within(shared, at, n, Bounds::new(*low, *high), *next)
     }
@@ -138,7 +137,7 @@ impl Private {
         Ok(Effect::None)
     }
 
-    #[inline(always)]
+    #[inline(never)]
     pub(crate) fn test(
         &mut self,
         shared: &[i32],

@@ -13,6 +13,7 @@
 //! - `words`, `changing`, `reading`, `frames`, `starting`: words, temps and frames.
 //! - `assignments`, `counting`, `standards`, `targets`, `passing`, `called`, `calls`, `returns`,
 //!   `initialisation`: the steps of operations.
+//! - `quick`: the commonest private steps, made in registers.
 //! - `step`, `turn`, `turns`, `kind`, `resting`: a step of any operation, turns, whether the next step
 //!   is private or the kernel's, and processes that have no private step to make.
 //! - `limits`: which number of a plan is out of its range.
@@ -33,6 +34,7 @@ mod making;
 pub mod outside;
 mod passing;
 pub mod private;
+mod quick;
 mod reading;
 mod resting;
 mod returns;

@@ -29,6 +29,7 @@ pub(crate) struct Destination {
 impl Private {
     // The bounds are read once the value is known, so that they needn't be kept while it is
     // evaluated.
+    #[inline(always)]
     fn pass_value(
         &mut self,
         shared: &mut [i32],
@@ -46,7 +47,7 @@ impl Private {
             (λ n. plain.pass_value o at low.now high.now n) }
         ensures kept { ChangesOnlyWords self.old shared.old self.new shared.new }
     {
-        let n = self.evaluate_here(shared, outside, term)?;
+        let n = self.evaluate(shared, outside, term)?;
         if !Bounds::new(*low, *high).contain(n) {
             return Err(Fault::Range);
         }
@@ -54,6 +55,7 @@ impl Private {
         Ok(())
     }
 
+    #[inline(never)]
     fn pass_copy(
         &mut self,
         shared: &mut [i32],
@@ -88,6 +90,7 @@ impl Private {
         }
     }
 
+    #[inline(never)]
     fn pass_reference(
         &mut self,
         shared: &mut [i32],
@@ -109,6 +112,7 @@ impl Private {
         Ok(())
     }
 
+    #[inline(never)]
     fn pass_right(&mut self, shared: &mut [i32], at: usize, home: usize, of: Target)
         requires shared { IsAddressable shared.old }
         requires at { at < 2 ^ 36 }
@@ -121,6 +125,7 @@ impl Private {
         self.set_word(shared, at, word);
     }
 
+    #[inline(always)]
     fn pass_one(
         &mut self,
         shared: &mut [i32],
@@ -159,6 +164,7 @@ impl Private {
 
     /// Passes arguments from the first one on. A fault ends the passing, and the words passed
     /// before it stay.
+    #[inline(always)]
     pub(crate) fn pass_all(
         &mut self,
         shared: &mut [i32],

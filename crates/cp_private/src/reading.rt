@@ -41,6 +41,27 @@ impl Private {
         words::read(&self.memory.words, shared, at)
     }
 
+    // Terms that go deeper, or have a fault, are rare enough for a call and a result in memory.
+    #[inline(never)]
+    fn deep_value(&self, shared: &[i32], outside: &Outside, term: &Term) -> Result<i32, Fault>
+        requires { IsAddressable shared.now }
+        ensures { (input : List ℕ) (own : ℕ) → result ≡ value_of
+            (plain.view_of (outside_of outside.now own) (join self.now input shared.now))
+            (view.term term.now) }
+    {
+        term.value(&self.reach(shared, outside))
+    }
+
+    #[inline(never)]
+    fn deep_place(&self, shared: &[i32], outside: &Outside, spot: &Spot) -> Result<usize, Fault>
+        requires { IsAddressable shared.now }
+        ensures { (input : List ℕ) (own : ℕ) → result ≡ capped_result (place_of
+            (plain.view_of (outside_of outside.now own) (join self.now input shared.now))
+            (view.spot spot.now)) }
+    {
+        spot.place(&self.reach(shared, outside))
+    }
+
     /// Returns the value of a term.
     #[inline(always)]
     pub(crate) fn evaluate(
@@ -54,23 +75,10 @@ impl Private {
             (plain.view_of (outside_of outside.now own) (join self.now input shared.now))
             (view.term term.now) }
     {
-        term.value(&self.reach(shared, outside))
-    }
-
-    /// Returns the same value as `evaluate`, without a call if the operands are numbers and words.
-    #[inline(always)]
-    pub(crate) fn evaluate_here(
-        &self,
-        shared: &[i32],
-        outside: &Outside,
-        term: &Term,
-    ) -> Result<i32, Fault>
-        requires { IsAddressable shared.now }
-        ensures { (input : List ℕ) (own : ℕ) → result ≡ value_of
-            (plain.view_of (outside_of outside.now own) (join self.now input shared.now))
-            (view.term term.now) }
-    {
-        term.value_here(&self.reach(shared, outside))
+        match term.near_value(&self.memory, shared) {
+            Some(n) => Ok(n),
+            None => self.deep_value(shared, outside, term),
+        }
     }
 
     /// Returns the address of a spot. An address beyond all words may be capped to the largest
@@ -87,6 +95,9 @@ impl Private {
             (plain.view_of (outside_of outside.now own) (join self.now input shared.now))
             (view.spot spot.now)) }
     {
-        spot.place(&self.reach(shared, outside))
+        match spot.near_place(&self.memory, shared) {
+            Some(at) => Ok(at),
+            None => self.deep_place(shared, outside, spot),
+        }
     }
 }

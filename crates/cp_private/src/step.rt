@@ -1,11 +1,10 @@
 //! One step of a process.
 
 ghost use Rattle.std.specs.Prelude.{◌≡◌, false, true, ℕ, List, [], length};
-ghost use Rattle.cp_private.specs.Keeping.{IsAddressable, KeepsOwn, KeepsOwnButOutput, KeepsRestButOutput};
+ghost use Rattle.cp_private.specs.Keeping.{IsAddressable, KeepsOwnButOutput, KeepsRestButOutput};
 ghost use Rattle.cp_private.specs.Rooms.{HasRoomFor};
-ghost use Rattle.cp_private.specs.States.{IsAlone, IsReady, IsStep, activity, effect, join, outside_of, private_of};
+ghost use Rattle.cp_private.specs.States.{IsAlone, IsReady, IsStep, effect, join, outside_of, private_of};
 ghost use Rattle.cp_program_model.specs.Programs as code;
-ghost use Rattle.cp_machine_model.specs.PrivateStates.{is_running};
 ghost use Rattle.cp_machine_model.specs.Steps as plain;
 ghost use Rattle.cp_program.specs.View as view;
 
@@ -17,7 +16,6 @@ use crate::private::{Activity, Private};
 use cp_model::state::Fault;
 use cp_program::operation::{Operation, Target};
 use cp_program::program::Program;
-use cp_program::term::{Spot, Term};
 
 impl Private {
     // Makes the step of an operation. If it faults, nothing has changed except what was passed to a
@@ -131,35 +129,6 @@ impl Private {
         }
     }
 
-    // Makes a private step that assigns a value. This is the most common step, so it is tested for
-    // before all other operations. Returns whether the process is as ready as before: if not, a
-    // fault has ended it.
-    #[inline(always)]
-    fn assign(
-        &mut self,
-        outside: &Outside,
-        to: &Spot,
-        value: &Term,
-        low: &i32,
-        high: &i32,
-        next: &u32,
-    ) -> bool
-        ensures step { let input = outside.now.input.now in let o = join self.old input [] in
-            let w = outside_of outside.now (length self.old.memory.words.items) in
-            join self.new input []
-            ≡ (plain.with_place w o (view.spot to.now) (λ at. plain.with_value w o
-            (view.term value.now) (λ n. plain.set_within o low.now high.now at n next.now))).0 }
-        ensures kept { KeepsOwn self.old self.new }
-        ensures ready { IsReady self.old → result ≡ true → IsReady self.new }
-        ensures faulted { result ≡ false → is_running (activity self.new.activity) ≡ false }
-    {
-        if let Err(fault) = self.set(&mut [], outside, to, value, low, high, next) {
-            self.activity = Activity::Faulted(fault);
-            return false;
-        }
-        true
-    }
-
     /// Whether the process runs and holds no gate, so that its next step may be private.
     #[inline(always)]
     pub(crate) fn is_ready(&self) -> bool
@@ -190,15 +159,8 @@ impl Private {
         let Some(operation) = program.operation(self.counter) else {
             return false;
         };
-        if let Operation::Set {
-            to,
-            low,
-            high,
-            value,
-            next,
-        } = operation
-        {
-            return self.assign(outside, to, value, low, high, next);
+        if self.take_quick_step(operation) {
+            return true;
         }
         if needs_kernel(operation) {
             return false;

@@ -1,3 +1,4 @@
 pub mod Wide
 pub mod SameIntegers
 pub mod Chains
+mod Found

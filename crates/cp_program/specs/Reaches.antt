@@ -7,18 +7,22 @@ use Rattle.cp_model.specs.Places.{within}
 use Rattle.cp_program_model.specs.Functions.{unless}
 use Rattle.cp_program_model.specs.Layout.{distance}
 use Rattle.cp_machine_model.specs.Values.{View, apply, bind, value_of}
+use Rattle.cp_program.specs.declared.reach.Memory.{Memory}
 use Rattle.cp_program.specs.declared.reach.Reach.{Reach}
 use Rattle.cp_program.specs.View.{PlainApplication, PlainIndex}
 
-abbrev pub view_of : Reach → View
-view_of r = record {
-  words = r.memory.now.words.items ++ r.shared.now;
-  temps = r.memory.now.temps.items;
-  base = r.memory.now.base;
-  temp = r.memory.now.temp;
-  component = r.memory.now.component;
-  clock = r.clock;
+abbrev pub view_with : Memory → List ℤ → ℕ → View
+view_with m shared clock = record {
+  words = m.words.items ++ shared;
+  temps = m.temps.items;
+  base = m.base;
+  temp = m.temp;
+  component = m.component;
+  clock = clock;
 }
+
+abbrev pub view_of : Reach → View
+view_of r = view_with r.memory.now r.shared.now r.clock
 
 -- A place that doesn't fit in 64 bits is represented by the greatest number that does.
 abbrev pub cap_place : ℕ → ℕ

@@ -16,6 +16,7 @@ ghost use Rattle.cp_machine_model.specs.Values as values;
 ghost use Rattle.cp_program.specs.Reaches.{apply_operation, cap_place, capped_result, chain_value, elements_place, offset_of, view_of};
 ghost use Rattle.cp_program.specs.View as view;
 
+use crate::memory::{natural, word};
 use crate::reach::Reach;
 use crate::term::{Application, Function, Index, Operand, Root, Spot, Term};
 use cp_model::state::Fault;
@@ -31,7 +32,8 @@ fn in_range(n: i64) -> Result<i32, Fault>
     }
 }
 
-fn truth(b: bool) -> i32
+#[inline(always)]
+pub(crate) fn truth(b: bool) -> i32
     ensures { result ≡ values.truth b }
 {
     if b { 1 } else { 0 }
@@ -114,25 +116,6 @@ fn standard(function: Function, n: i32) -> Result<i32, Fault>
     }
 }
 
-// The word at an index, or 0 if there is no such word.
-#[inline(always)]
-fn word(words: &[i32], at: usize) -> i32
-    ensures { result ≡ starts.word words.now at }
-{
-    match words.get(at) {
-        Some(n) => *n,
-        None => 0,
-    }
-}
-
-// A word as a number that isn't negative. A negative word counts as 0.
-fn natural(n: i32) -> usize
-    ensures natural { result ≡ layout.natural n }
-    ensures small { result < 2 ^ 32 }
-{
-    if n < 0 { 0 } else { n as usize }
-}
-
 impl<'a> Reach<'a> {
     // The word at a place, or 0 if there is no such word. A place that is too large may be given as
     // the greatest `usize`.
@@ -154,7 +137,7 @@ impl<'a> Reach<'a> {
         ensures place { result ≡ values.root_place (view_of self.now) (terms.Local at) }
         ensures small { result < 2 ^ 33 }
     {
-        self.memory.base as usize + at as usize
+        self.memory.local(at)
     }
 
     #[inline(always)]
@@ -162,7 +145,7 @@ impl<'a> Reach<'a> {
         ensures place { result ≡ values.root_place (view_of self.now) (terms.Member at) }
         ensures small { result < 2 ^ 33 }
     {
-        self.memory.component as usize + at as usize
+        self.memory.member(at)
     }
 
     // The temp with this number, counted from the first temp of the running activation.
@@ -171,10 +154,7 @@ impl<'a> Reach<'a> {
         ensures { result ≡ starts.word self.now.memory.now.temps.items
             (self.now.memory.now.temp + temp) }
     {
-        word(
-            &self.memory.temps,
-            self.memory.temp as usize + temp as usize,
-        )
+        self.memory.made(temp)
     }
 
     fn through(&self, parameter: u32, plus: u32) -> usize

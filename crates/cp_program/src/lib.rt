@@ -7,6 +7,7 @@
 //! - `program`: units of code, the words of components, and the program. What components of one
 //!   type share is kept once.
 //! - `evaluation`: the values of terms and the places of spots, over the words that `reach` has.
+//! - `flat`: the same for the commonest terms and spots, in registers. `memory`: the words that both read.
 //!
 //! `specs/View.antt` defines these forms as plain data of `cp_program_model`, which the definitions of steps
 //! are about.
@@ -15,6 +16,8 @@
 pub mod arm;
 pub mod arms;
 pub mod evaluation;
+pub mod flat;
+mod memory;
 pub mod operation;
 pub mod program;
 pub mod reach;

@@ -37,7 +37,7 @@ fn extent_of(operation: Option<&Operation>) -> Extent {
     }
 }
 
-impl<'r, 't> Subject<'r, 't> {
+impl<'r, 'm, 't> Subject<'r, 'm, 't> {
     /// Adds a fault that stopped a process at the operation with this number.
     pub(crate) fn push_fault(
         &self,

@@ -6,22 +6,21 @@ use cp_model::token::Token;
 use cp_model::tree::{Statement, System, Tree};
 use cp_page::page::Page;
 use cp_page::position::Position;
-use cp_private::private::Activity;
 use cp_report::roster::Roster;
-use cp_report::status::{activity_of, push_queue};
+use cp_report::status::push_queue;
 use cp_report::walk::Walk;
 use cp_rounds::machine::Machine;
+use cp_rounds::state::ProcState;
 use cp_scan::scan;
 use cp_scope::{Tables, TypeRow};
 use std::alloc::{AllocError, Global};
 
 /// A machine that runs the program of a text, and what the text says.
 #[derive(Drop)]
-pub(crate) struct Subject<'r, 't> {
+pub(crate) struct Subject<'r, 'm, 't> {
     pub(crate) alloc: Global,
     pub(crate) text: &'r [u8],
-    pub(crate) machine: &'r Machine,
-    pub(crate) tables: Tables<'t>,
+    pub(crate) machine: &'r Machine<'m, 't>,
     /// The tokens of the text, if a process has faulted.
     pub(crate) tokens: Vec<Token>,
     pub(crate) roster: Roster<'t>,
@@ -32,7 +31,7 @@ pub(crate) struct Subject<'r, 't> {
 
 fn has_fault(machine: &Machine) -> bool {
     for index in 0..machine.processes() {
-        if let Activity::Faulted(_) = activity_of(machine, index.saturating_add(1)) {
+        if let ProcState::Faulted(_) = machine.state(index as u32 + 1) {
             return true;
         }
     }
@@ -50,31 +49,23 @@ fn tokens_of(alloc: Global, text: &[u8], machine: &Machine) -> Result<Vec<Token>
     }
 }
 
-fn tables_of(alloc: Global, tree: &Tree) -> Result<Tables<'_>, AllocError> {
-    match Tables::of_tree(alloc, tree) {
-        Ok(tables) => Ok(tables),
-        Err(_) => Err(AllocError),
-    }
-}
-
-impl<'r, 't> Subject<'r, 't> {
+impl<'r, 'm, 't> Subject<'r, 'm, 't> {
     /// Collects what the reasons are told of. Fails only if memory runs out.
     pub(crate) fn of(
         alloc: Global,
         text: &'r [u8],
         tree: &'t Tree,
-        machine: &'r Machine,
-    ) -> Result<Subject<'r, 't>, AllocError> {
-        let tables = tables_of(alloc, tree)?;
-        let roster = Roster::of(alloc, &tables)?;
+        machine: &'r Machine<'m, 't>,
+    ) -> Result<Subject<'r, 'm, 't>, AllocError> {
+        let tables = machine.tables();
+        let roster = Roster::of(alloc, tables)?;
         let mut parts = Parts::new(alloc);
         parts.add(&tree.body.statements)?;
-        let rights = Rights::of(alloc, &tables, &parts.statements, roster.monitors.len())?;
+        let rights = Rights::of(alloc, tables, &parts.statements, roster.monitors.len())?;
         Ok(Subject {
             alloc,
             text,
             machine,
-            tables,
             tokens: tokens_of(alloc, text, machine)?,
             roster,
             statements: parts.statements,
@@ -82,10 +73,14 @@ impl<'r, 't> Subject<'r, 't> {
         })
     }
 
+    fn tables(&self) -> &'m Tables<'t> {
+        self.machine.tables()
+    }
+
     /// The type of a monitor by its number, from 1.
     pub(crate) fn monitor_type(&self, number: u32) -> Option<&'t System> {
-        match self.tables.types.row(self.roster.monitor(number)?.of) {
-            Some(TypeRow::Component { system, .. }) => self.tables.types.system(*system),
+        match self.tables().types.row(self.roster.monitor(number)?.of) {
+            Some(TypeRow::Component { system, .. }) => self.tables().types.system(*system),
             _ => None,
         }
     }
@@ -96,7 +91,7 @@ impl<'r, 't> Subject<'r, 't> {
         let mut name = Vec::new(self.alloc);
         push_queue(
             &mut walk,
-            &self.tables,
+            self.tables(),
             self.machine.program(),
             &self.roster.monitors,
             address as usize,

@@ -10,8 +10,9 @@ use cp_model::tree::Tree;
 use cp_outcome::verdict::Verdict;
 use cp_page::page::Page;
 use cp_page::position::Position;
-use cp_private::private::{Activity, Private};
+use cp_private::private::Private;
 use cp_rounds::machine::Machine;
+use cp_rounds::state::ProcState;
 use cp_scope::small_number;
 use serde::Serialize;
 use std::alloc::{AllocError, Global};
@@ -47,10 +48,10 @@ fn word_of_verdict(verdict: Verdict) -> &'static str {
     }
 }
 
-impl<'r, 't> Subject<'r, 't> {
+impl<'r, 'm, 't> Subject<'r, 'm, 't> {
     // Why a process is where it is, unless it has ended.
     fn reason(&self, number: u32, private: &Private) -> Result<Option<String>, AllocError> {
-        if matches!(private.activity(), Activity::Ended) {
+        if matches!(self.machine.state(number), ProcState::Ended) {
             return Ok(None);
         }
         let mut page = Page::new(self.alloc);
@@ -65,7 +66,7 @@ impl<'r, 't> Subject<'r, 't> {
         Ok(ProcessObject {
             process: number,
             name: String::from_utf8_lossy(self.alloc, self.roster.process_name(number))?,
-            state: word_of(self.machine.kernel().stage(number), private.activity()),
+            state: word_of(self.machine.state(number)),
             line: position.map(|position| position.line),
             column: position.map(|position| position.column),
             reason: self.reason(number, private)?,
@@ -92,11 +93,11 @@ impl<'r, 't> Subject<'r, 't> {
 /// # Errors
 ///
 /// `AllocError` if memory runs out.
-pub fn object(
+pub fn object<'t>(
     alloc: Global,
     text: &[u8],
-    tree: &Tree,
-    machine: &Machine,
+    tree: &'t Tree,
+    machine: &Machine<'_, 't>,
     verdict: Verdict,
 ) -> Result<Vec<u8>, AllocError>
     ensures { IfOk result (λ bytes. IsJsonLine bytes.items) }

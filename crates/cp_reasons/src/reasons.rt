@@ -5,11 +5,11 @@ use crate::queues::entries_that_continue;
 use crate::starts::places_of_init;
 use cp_model::tree::{Identifier, Tree};
 use cp_page::page::Page;
-use cp_private::outside::{Holder, Stage};
-use cp_private::private::{Activity, Private};
+use cp_private::outside::Holder;
+use cp_private::private::Private;
 use cp_program::operation::Operation;
-use cp_report::status::activity_of;
 use cp_rounds::machine::Machine;
+use cp_rounds::state::ProcState;
 use cp_scope::small_number;
 use std::alloc::{AllocError, Global};
 
@@ -34,12 +34,12 @@ fn without_indices(name: &[u8]) -> &[u8] {
     name
 }
 
-impl<'r, 't> Subject<'r, 't> {
+impl<'r, 'm, 't> Subject<'r, 'm, 't> {
     // Whether a process can still make a step, now or later.
-    fn is_alive(&self, number: usize) -> bool {
+    fn is_alive(&self, number: u32) -> bool {
         !matches!(
-            activity_of(self.machine, number),
-            Activity::Ended | Activity::Faulted(_)
+            self.machine.state(number),
+            ProcState::Ended | ProcState::Faulted(_)
         )
     }
 
@@ -53,9 +53,10 @@ impl<'r, 't> Subject<'r, 't> {
         let processes = self.machine.processes();
         let can = self.rights.callers(monitor as usize, entries, processes)?;
         let mut callers = Vec::new(self.alloc);
-        for number in 1..can.len() {
-            if can[number] && number != other as usize && self.is_alive(number) {
-                callers.push(small_number(number)?)?;
+        for index in 1..can.len() {
+            let number = small_number(index)?;
+            if can[index] && number != other && self.is_alive(number) {
+                callers.push(number)?;
             }
         }
         Ok(callers)
@@ -138,20 +139,17 @@ impl<'r, 't> Subject<'r, 't> {
 
     // Adds why the holder of a gate doesn't leave the monitor, if it can't.
     fn push_why_held(&self, page: &mut Page, holder: u32) -> Result<(), AllocError> {
-        match self.machine.kernel().stage(holder) {
-            Stage::Delayed { monitor, queue } => {
+        match self.machine.state(holder) {
+            ProcState::Delayed { monitor, queue } => {
                 page.text(", which is ")?;
                 self.push_queue(page, monitor, &self.queue_name(queue)?)
             }
-            Stage::Asking(monitor) => {
+            ProcState::Asking(monitor) => {
                 page.text(", which asks for ")?;
                 page.bytes(self.roster.monitor_name(monitor))
             }
-            Stage::Begun => match activity_of(self.machine, holder as usize) {
-                Activity::Faulted(_) => page.text(", which has faulted"),
-                _ => Ok(()),
-            },
-            Stage::Unstarted | Stage::Fresh => Ok(()),
+            ProcState::Faulted(_) => page.text(", which has faulted"),
+            _ => Ok(()),
         }
     }
 
@@ -159,7 +157,7 @@ impl<'r, 't> Subject<'r, 't> {
         page.text("asks for ")?;
         page.bytes(self.roster.monitor_name(monitor))?;
         self.push_origin(page, pause)?;
-        match self.machine.kernel().holder(monitor) {
+        match self.machine.gate(monitor) {
             Holder::Process(holder) => {
                 page.text(", held by ")?;
                 page.bytes(self.roster.process_name(holder))?;
@@ -192,17 +190,9 @@ impl<'r, 't> Subject<'r, 't> {
         })
     }
 
-    // Adds what a process that has begun does next.
-    fn push_begun(&self, page: &mut Page, private: &Private) -> Result<(), AllocError> {
-        match private.activity() {
-            Activity::Running | Activity::NotBegun => self.push_ready(page, private),
-            Activity::Waiting => {
-                page.text("waits for the clock")?;
-                self.push_origin(page, private.pause())
-            }
-            Activity::Ended => page.text("ended"),
-            Activity::Faulted(fault) => self.push_fault(page, fault, private.counter()),
-        }
+    fn push_waiting(&self, page: &mut Page, private: &Private) -> Result<(), AllocError> {
+        page.text("waits for the clock")?;
+        self.push_origin(page, private.pause())
     }
 
     fn push_ready(&self, page: &mut Page, private: &Private) -> Result<(), AllocError> {
@@ -221,14 +211,16 @@ impl<'r, 't> Subject<'r, 't> {
         number: u32,
         private: &Private,
     ) -> Result<(), AllocError> {
-        match self.machine.kernel().stage(number) {
-            Stage::Unstarted => self.push_unstarted(page, number),
-            Stage::Fresh => self.push_ready(page, private),
-            Stage::Asking(monitor) => self.push_asking(page, monitor, private.pause()),
-            Stage::Delayed { monitor, queue } => {
+        match self.machine.state(number) {
+            ProcState::Unstarted => self.push_unstarted(page, number),
+            ProcState::Fresh | ProcState::Ready => self.push_ready(page, private),
+            ProcState::Asking(monitor) => self.push_asking(page, monitor, private.pause()),
+            ProcState::Delayed { monitor, queue } => {
                 self.push_delay(page, number, monitor, queue, private.pause())
             }
-            Stage::Begun => self.push_begun(page, private),
+            ProcState::Waiting => self.push_waiting(page, private),
+            ProcState::Ended => page.text("ended"),
+            ProcState::Faulted(fault) => self.push_fault(page, fault, private.counter()),
         }
     }
 
@@ -237,7 +229,7 @@ impl<'r, 't> Subject<'r, 't> {
         let Some(private) = self.machine.private(number as usize) else {
             return Ok(());
         };
-        if matches!(private.activity(), Activity::Ended) {
+        if matches!(self.machine.state(number), ProcState::Ended) {
             return Ok(());
         }
         page.text("process ")?;
@@ -257,11 +249,11 @@ impl<'r, 't> Subject<'r, 't> {
 /// # Errors
 ///
 /// `AllocError` if memory runs out.
-pub fn reasons(
+pub fn reasons<'t>(
     alloc: Global,
     text: &[u8],
-    tree: &Tree,
-    machine: &Machine,
+    tree: &'t Tree,
+    machine: &Machine<'_, 't>,
 ) -> Result<Page, AllocError> {
     let subject = Subject::of(alloc, text, tree, machine)?;
     let mut page = Page::new(alloc);

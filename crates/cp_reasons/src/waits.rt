@@ -9,14 +9,13 @@ use crate::states::word_of;
 use cp_formats::graphviz::{push_arrow, push_node};
 use cp_model::tree::Tree;
 use cp_page::page::Page;
-use cp_private::outside::{Holder, Stage};
-use cp_private::private::Activity;
-use cp_report::status::activity_of;
+use cp_private::outside::Holder;
 use cp_rounds::machine::Machine;
+use cp_rounds::state::ProcState;
 use cp_scope::small_number;
 use std::alloc::{AllocError, Global};
 
-impl<'r, 't> Subject<'r, 't> {
+impl<'r, 'm, 't> Subject<'r, 'm, 't> {
     // The node of a process. That of process 1 has a blank, which no name of a text has.
     fn node_of(&self, number: u32) -> &[u8] {
         if number == 1 {
@@ -25,21 +24,17 @@ impl<'r, 't> Subject<'r, 't> {
         self.roster.process_name(number)
     }
 
-    fn has_ended(&self, number: u32) -> bool {
-        matches!(activity_of(self.machine, number as usize), Activity::Ended)
-    }
-
     fn add_process(&self, page: &mut Page, number: u32) -> Result<(), AllocError> {
-        if self.has_ended(number) {
+        let state = self.machine.state(number);
+        if matches!(state, ProcState::Ended) {
             return Ok(());
         }
-        let stage = self.machine.kernel().stage(number);
         page.text("  ")?;
         push_node(page, self.node_of(number))?;
         page.text(" [label=\"")?;
         page.bytes(self.roster.process_name(number))?;
         page.text("\\n")?;
-        page.text(word_of(stage, activity_of(self.machine, number as usize)))?;
+        page.text(word_of(state))?;
         page.text("\", shape=ellipse];\n")
     }
 
@@ -47,8 +42,8 @@ impl<'r, 't> Subject<'r, 't> {
     fn has_delayed(&self, monitor: u32) -> Result<bool, AllocError> {
         for index in 0..self.machine.processes() {
             let number = small_number(index.saturating_add(1))?;
-            match self.machine.kernel().stage(number) {
-                Stage::Delayed { monitor: of, .. } if of == monitor => return Ok(true),
+            match self.machine.state(number) {
+                ProcState::Delayed { monitor: of, .. } if of == monitor => return Ok(true),
                 _ => {}
             }
         }
@@ -57,9 +52,9 @@ impl<'r, 't> Subject<'r, 't> {
 
     // Whether a monitor is held, or processes ask for it or are delayed in it.
     fn is_used(&self, monitor: u32) -> Result<bool, AllocError> {
-        let kernel = self.machine.kernel();
-        let is_held = matches!(kernel.holder(monitor), Holder::Process(_));
-        Ok(is_held || !kernel.askers(monitor).is_empty() || self.has_delayed(monitor)?)
+        let is_held = matches!(self.machine.gate(monitor), Holder::Process(_));
+        let is_asked = !self.machine.askers(monitor).is_empty();
+        Ok(is_held || is_asked || self.has_delayed(monitor)?)
     }
 
     fn add_monitor(&self, page: &mut Page, monitor: u32) -> Result<(), AllocError> {
@@ -73,8 +68,8 @@ impl<'r, 't> Subject<'r, 't> {
 
     // Adds what a process waits for.
     fn add_wait(&self, page: &mut Page, number: u32) -> Result<(), AllocError> {
-        match self.machine.kernel().stage(number) {
-            Stage::Asking(monitor) => {
+        match self.machine.state(number) {
+            ProcState::Asking(monitor) => {
                 push_arrow(
                     page,
                     self.node_of(number),
@@ -82,7 +77,7 @@ impl<'r, 't> Subject<'r, 't> {
                 )?;
                 page.text(";\n")
             }
-            Stage::Delayed { monitor, queue } => {
+            ProcState::Delayed { monitor, queue } => {
                 push_arrow(
                     page,
                     self.node_of(number),
@@ -92,12 +87,12 @@ impl<'r, 't> Subject<'r, 't> {
                 page.bytes(&self.queue_name(queue)?)?;
                 page.text("\", style=dashed];\n")
             }
-            Stage::Unstarted | Stage::Fresh | Stage::Begun => Ok(()),
+            _ => Ok(()),
         }
     }
 
     fn add_holder(&self, page: &mut Page, monitor: u32) -> Result<(), AllocError> {
-        match self.machine.kernel().holder(monitor) {
+        match self.machine.gate(monitor) {
             Holder::Process(number) => {
                 push_arrow(
                     page,
@@ -168,11 +163,11 @@ fn graph_of(alloc: Global, body: &[u8]) -> Result<Vec<u8>, AllocError>
 /// # Errors
 ///
 /// `AllocError` if memory runs out.
-pub fn waits(
+pub fn waits<'t>(
     alloc: Global,
     text: &[u8],
-    tree: &Tree,
-    machine: &Machine,
+    tree: &'t Tree,
+    machine: &Machine<'_, 't>,
 ) -> Result<Vec<u8>, AllocError>
     ensures some { IfOk result (λ bytes. 0 < length bytes.items) }
 {

@@ -14,3 +14,4 @@ pub mod ProcessesTold
 pub mod MonitorsTold
 pub mod Initial
 pub mod ChainsTold
+pub mod StatesTold

@@ -1,5 +1,5 @@
 -- What is reported of the processes and monitors of a machine.
-use Rattle.std.specs.Prelude.{◌≡◌, ◌++◌, ℕ, List, [], codes, map}
+use Rattle.std.specs.Prelude.{◌≡◌, ◌++◌, ℕ, List, codes, map}
 use Rattle.cp_model.specs.Abstract.{Monitor, Name, Process}
 use Rattle.cp_model.specs.Declarations.{Variable, globals, reported_members}
 use Rattle.cp_model.specs.Erase as erase
@@ -11,11 +11,9 @@ use Rattle.cp_model.specs.declared.tree.Tree as tree
 use Rattle.cp_program_model.specs.Layout.{head_words}
 use Rattle.cp_machine_model.specs.KernelSteps.{stage_of}
 use Rattle.cp_machine_model.specs.Machines as plain
-use Rattle.cp_machine_model.specs.PrivateStates.{Activity}
 use Rattle.cp_machine_model.specs.Reports.{head_of, machine_report, monitor_lines, monitors_lines, process_lines, processes_lines, stage_text}
-use Rattle.cp_private.specs.States.{private_of}
-use Rattle.cp_private.specs.declared.private.Private.{Private}
-use Rattle.cp_rounds.specs.Views.{machine_of}
+use Rattle.cp_rounds.specs.ProcessStates.{activity_at}
+use Rattle.cp_rounds.specs.Views.{machine_of, output_of}
 use Rattle.cp_scope.specs.Standing.{ScopeStands, Stands, entry}
 use Rattle.cp_scope.specs.Texts.{TablesStand}
 use Rattle.cp_report.specs.Lines.{front_lines}
@@ -33,16 +31,16 @@ IsOf s setup =
 
 -- ---- Processes
 
--- The status of process p, with this activity, is added.
-abbrev pub TellsStatus : Subject → ℕ → Activity → Text → Text → Type 0
-TellsStatus s p a out after =
-    (setup : Setup) → IsOf s setup → after ≡ out ++ stage_text setup (machine_in s).program (stage_of (machine_in s).kernel.stages p) a
+-- The status of process p is added.
+abbrev pub TellsStatus : Subject → ℕ → Text → Text → Type 0
+TellsStatus s p out after =
+    (setup : Setup) → IsOf s setup
+    → after ≡ out ++ stage_text setup (machine_in s).program (stage_of (machine_in s).kernel.stages p) (activity_at (machine_in s) p)
 
 -- The lines before the variables of a process are added.
-abbrev pub TellsFront : Subject → ℕ → Name → Private → Text → Text → Type 0
-TellsFront s p x private out after =
-    (setup : Setup) → IsOf s setup
-    → after ≡ out ++ front_lines setup (machine_in s) p x (private_of private []).activity (private_of private []).output
+abbrev pub TellsFront : Subject → ℕ → Name → Text → Text → Type 0
+TellsFront s p x out after =
+    (setup : Setup) → IsOf s setup → after ≡ out ++ front_lines setup (machine_in s) p x (activity_at (machine_in s) p) (output_of (machine_in s) p)
 
 -- The lines of the process with this number, this name and this type number are added.
 abbrev pub TellsProcess : Subject → ℕ → Name → ℕ → Text → Text → Type 0

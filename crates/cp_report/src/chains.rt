@@ -1,15 +1,17 @@
 //! The lines of chains of askers, which stand after the report where they are wanted.
 
 ghost use Rattle.std.specs.Prelude.{◌≡◌, ◌++◌, OnOk, flat_map};
-ghost use Rattle.cp_machine_model.specs.Chains.{chain_line_of, machine_chains};
+ghost use Rattle.cp_machine_model.specs.Chains.{chain_line_of, is_asker, machine_chains};
+ghost use Rattle.cp_machine_model.specs.KernelSteps.{stage_of};
 ghost use Rattle.cp_kernel.specs.ChainOf.{processes_left};
 ghost use Rattle.cp_rounds.specs.Views.{machine_of};
 ghost use Rattle.cp_report.specs.Lines.{number_text};
+ghost use Rattle.cp_report.specs.Statuses.{asks_for_gate};
 
 use crate::gates::push_number;
 use cp_kernel::chain::Chain;
-use cp_private::outside::Stage;
 use cp_rounds::machine::Machine;
+use cp_rounds::state::ProcState;
 use cp_scope::small_number;
 use std::alloc::AllocError;
 
@@ -23,19 +25,30 @@ fn push_chain(out: &mut Vec<u8>, chain: Chain<'_>) -> Result<(), AllocError>
     Ok(())
 }
 
+fn asks(state: ProcState) -> bool
+    ensures { result ≡ asks_for_gate state }
+{
+    matches!(state, ProcState::Asking(_))
+}
+
+// Whether process p asks for a gate.
+fn is_asking(machine: &Machine, p: u32) -> bool
+    ensures { result ≡ is_asker (stage_of (machine_of machine.now).kernel.stages p) }
+{
+    asks(machine.state(p))
+}
+
 // Adds the line of the chain from process p, if it asks for a gate.
 fn push_chain_of(out: &mut Vec<u8>, machine: &Machine, p: u32) -> Result<(), AllocError>
     ensures { OnOk result (out.new.items ≡ out.old.items ++
         chain_line_of (machine_of machine.now).kernel p) }
 {
-    match machine.kernel().stage(p) {
-        Stage::Asking(_) => {
-            out.extend_from_slice(b"chain")?;
-            push_chain(out, machine.chain(p))?;
-            out.extend_from_slice(b"\n")
-        }
-        _ => Ok(()),
+    if !is_asking(machine, p) {
+        return Ok(());
     }
+    out.extend_from_slice(b"chain")?;
+    push_chain(out, machine.chain(p))?;
+    out.extend_from_slice(b"\n")
 }
 
 /// Adds a line for each process that asks for a gate, by number: its chain.

@@ -4,14 +4,14 @@ ghost use Rattle.std.specs.Prelude.{◌≡◌, OnOk};
 ghost use Rattle.cp_report.specs.Subjects.{TellsMonitor, TellsMonitors};
 
 use crate::gates::push_gate_line;
-use crate::status::monitor_start;
 use crate::subject::Subject;
 use crate::telling::{Telling, Words};
 use crate::walk::Walk;
+use cp_rounds::place::monitor_start;
 use cp_scope::small_number;
 use std::alloc::AllocError;
 
-impl<'r, 't> Subject<'r, 't> {
+impl<'r, 'm, 't> Subject<'r, 'm, 't> {
     // Reports a monitor by its number: its gate and its variables.
     fn push_monitor(
         &self,
@@ -24,10 +24,10 @@ impl<'r, 't> Subject<'r, 't> {
         ensures { OnOk result (TellsMonitor self.now number name.now row
             out.old.items out.new.items) }
     {
-        let kernel = self.machine.kernel();
-        push_gate_line(out, name, kernel.holder(number), kernel.askers(number))?;
+        let askers = self.machine.askers(number);
+        push_gate_line(out, name, self.machine.gate(number), askers)?;
         let start = monitor_start(self.machine.program(), number as usize);
-        let lines = Telling::Lines(Words::Shared(kernel));
+        let lines = Telling::Lines(Words::Shared(self.machine.kernel()));
         walk.component(self.tables, &lines, out, row, start)
     }
 

@@ -1,7 +1,11 @@
 //! The places of the variables of a component, in the order in which a report tells them.
 
+ghost use Rattle.std.specs.Prelude.{◌≡◌};
+
 use crate::telling::Telling;
 use crate::walk::Walk;
+use cp_rounds::place as machine;
+use cp_rounds::place::{Kind, Owner};
 use cp_scope::Tables;
 use std::alloc::{AllocError, Global};
 
@@ -12,8 +16,24 @@ pub struct Place {
     pub path: Vec<u8>,
     /// The address of its word. The first word of the component has the address 0.
     pub at: usize,
+    pub kind: Kind,
     /// The number of its type.
     pub of: usize,
+}
+
+impl Place {
+    /// Returns the place in a machine of this part of a process or a monitor.
+    pub fn in_owner(&self, owner: Owner) -> machine::Place
+        ensures owner { result.owner ≡ owner }
+        ensures place { result.at ≡ self.now.at }
+        ensures kind { result.kind ≡ self.now.kind }
+    {
+        machine::Place {
+            owner,
+            at: self.at,
+            kind: self.kind,
+        }
+    }
 }
 
 impl Walk {

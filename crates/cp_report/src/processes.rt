@@ -1,43 +1,26 @@
 //! The lines of processes.
 
 ghost use Rattle.std.specs.Prelude.{◌≡◌, OnOk, map};
-ghost use Rattle.cp_private.specs.States as states;
 ghost use Rattle.cp_scope.specs.Standing.{entry};
 ghost use Rattle.cp_report.specs.Subjects.{TellsFront, TellsInitial, TellsStatus};
 ghost use Rattle.cp_report.specs.Subjects.{TellsProcess, TellsProcesses};
 
 use crate::lines::{push_title, push_transcript_line};
-use crate::status::push_stage;
+use crate::status::push_state;
 use crate::subject::Subject;
 use crate::telling::{Telling, Words};
 use crate::walk::Walk;
-use cp_private::private::{Activity, Private};
 use cp_scope::{Field, small_number};
 use std::alloc::AllocError;
 
-impl<'r, 't> Subject<'r, 't> {
-    // Adds the status of a process with this activity.
-    fn push_status(
-        &self,
-        walk: &mut Walk,
-        out: &mut Vec<u8>,
-        number: u32,
-        activity: Activity,
-    ) -> Result<(), AllocError>
-        ensures { OnOk result (TellsStatus self.now number (states.activity activity)
-            out.old.items out.new.items) }
+impl<'r, 'm, 't> Subject<'r, 'm, 't> {
+    // Adds the status of a process.
+    fn push_status(&self, walk: &mut Walk, out: &mut Vec<u8>, number: u32) -> Result<(), AllocError>
+        ensures { OnOk result (TellsStatus self.now number out.old.items out.new.items) }
     {
         let program = self.machine.program();
-        let stage = self.machine.kernel().stage(number);
-        push_stage(
-            walk,
-            self.tables,
-            program,
-            self.monitors,
-            stage,
-            activity,
-            out,
-        )
+        let state = self.machine.state(number);
+        push_state(walk, self.tables, program, self.monitors, state, out)
     }
 
     // Adds the two lines before the variables of a process.
@@ -47,16 +30,14 @@ impl<'r, 't> Subject<'r, 't> {
         out: &mut Vec<u8>,
         number: u32,
         name: &[u8],
-        private: &Private,
     ) -> Result<(), AllocError>
-        ensures { OnOk result (TellsFront self.now number name.now private.now
-            out.old.items out.new.items) }
+        ensures { OnOk result (TellsFront self.now number name.now out.old.items out.new.items) }
     {
         push_title(out, number, name)?;
-        self.push_status(walk, out, number, private.activity())?;
+        self.push_status(walk, out, number)?;
         out.extend_from_slice(b"\n")?;
-        let transcript = self.machine.kernel().transcript(number as usize);
-        push_transcript_line(out, transcript, private.output())
+        let (kernel, own) = self.machine.transcript(number as usize);
+        push_transcript_line(out, kernel, own)
     }
 
     // Reports a process by its number: its status, its output and its variables.
@@ -74,7 +55,7 @@ impl<'r, 't> Subject<'r, 't> {
         let Some(private) = self.machine.private(number as usize) else {
             return Ok(());
         };
-        self.push_front(walk, out, number, name, private)?;
+        self.push_front(walk, out, number, name)?;
         let lines = Telling::Lines(Words::Own(private));
         walk.component(self.tables, &lines, out, row, 0)
     }
@@ -86,7 +67,7 @@ impl<'r, 't> Subject<'r, 't> {
         let Some(private) = self.machine.private(1) else {
             return Ok(());
         };
-        self.push_front(walk, out, 1, b"initial", private)?;
+        self.push_front(walk, out, 1, b"initial")?;
         let lines = Telling::Lines(Words::Own(private));
         walk.initial(self.tables, &lines, out)
     }

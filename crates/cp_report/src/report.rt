@@ -12,10 +12,10 @@ use crate::roster::Roster;
 use crate::subject::Subject;
 use crate::walk::Walk;
 use cp_rounds::machine::Machine;
-use cp_scope::{Field, Tables};
+use cp_scope::Field;
 use std::alloc::{AllocError, Global};
 
-impl<'r, 't> Subject<'r, 't> {
+impl<'r, 'm, 't> Subject<'r, 'm, 't> {
     // Reports everything. `processes` are all processes except the initial one.
     fn push_all(
         &self,
@@ -33,14 +33,16 @@ impl<'r, 't> Subject<'r, 't> {
     }
 }
 
-/// Returns the report, as bytes, of a machine that runs the program of a text with these tables.
+/// Returns the report of a machine, as bytes.
 ///
 /// # Errors
 ///
 /// `AllocError` if memory runs out.
-pub fn report(alloc: Global, tables: &Tables, machine: &Machine) -> Result<Vec<u8>, AllocError>
-    ensures { IfOk result (λ bytes. IsReport tables.now (machine_of machine.now) bytes.items) }
+pub fn report(alloc: Global, machine: &Machine) -> Result<Vec<u8>, AllocError>
+    ensures { IfOk result
+        (λ bytes. IsReport machine.now.tables.now (machine_of machine.now) bytes.items) }
 {
+    let tables = machine.tables();
     let roster = Roster::of(alloc, tables)?;
     let subject = Subject {
         tables,
@@ -58,15 +60,11 @@ pub fn report(alloc: Global, tables: &Tables, machine: &Machine) -> Result<Vec<u
 /// # Errors
 ///
 /// `AllocError` if memory runs out.
-pub fn report_with_chains(
-    alloc: Global,
-    tables: &Tables,
-    machine: &Machine,
-) -> Result<Vec<u8>, AllocError>
+pub fn report_with_chains(alloc: Global, machine: &Machine) -> Result<Vec<u8>, AllocError>
     ensures { IfOk result
-        (λ bytes. IsReportWithChains tables.now (machine_of machine.now) bytes.items) }
+        (λ bytes. IsReportWithChains machine.now.tables.now (machine_of machine.now) bytes.items) }
 {
-    let mut bytes = report(alloc, tables, machine)?;
+    let mut bytes = report(alloc, machine)?;
     push_chains(&mut bytes, machine)?;
     Ok(bytes)
 }

@@ -8,18 +8,12 @@ ghost use Rattle.cp_report.specs.Lists.{Lists};
 
 use crate::listing::components;
 use cp_model::tree::Sort;
+pub use cp_rounds::place::Owner as Member;
 use cp_scope::{Field, Tables, small_number};
 use std::alloc::{AllocError, Global};
 
 /// The name of process 1, unless another process or a monitor has it.
 pub const INITIAL: &[u8] = b"initial";
-
-/// A process or a monitor, by its number from 1.
-#[derive(Clone, Copy, Debug, PartialEq, Eq)]
-pub enum Member {
-    Process(u32),
-    Monitor(u32),
-}
 
 /// The processes and the monitors of a text.
 #[derive(Drop)]

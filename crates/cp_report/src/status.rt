@@ -2,33 +2,19 @@
 
 ghost use Rattle.std.specs.Prelude.{◌≡◌, ◌++◌, ◌-◌, OnOk, map, option_map, slice_get};
 ghost use Rattle.cp_model.specs.StateViews as state;
-ghost use Rattle.cp_private.specs.States as states;
 ghost use Rattle.cp_scope.specs.Standing.{entry};
-ghost use Rattle.cp_machine_model.specs.Passing as plain;
-ghost use Rattle.cp_machine_model.specs.Reports.{activity_text};
 ghost use Rattle.cp_program.specs.View as view;
-ghost use Rattle.cp_report.specs.Statuses.{NamesMonitor, TellsQueue, TellsStage};
+ghost use Rattle.cp_report.specs.Statuses.{NamesMonitor, TellsQueue, TellsState, fault_text};
 
 use crate::telling::Telling;
 use crate::walk::Walk;
 use cp_digits::decimal::push_natural;
 use cp_model::state::Fault;
-use cp_private::outside::Stage;
-use cp_private::private::Activity;
 use cp_program::program::Program;
-use cp_rounds::machine::Machine;
+use cp_rounds::place::monitor_start;
+use cp_rounds::state::ProcState;
 use cp_scope::{Field, Tables};
 use std::alloc::AllocError;
-
-/// Returns where the words of a monitor begin among the shared words.
-pub fn monitor_start(program: &Program, number: usize) -> usize
-    ensures { result ≡ plain.monitor_start (view.program program.now) number }
-{
-    match program.monitor(number) {
-        Some(monitor) => monitor.start as usize,
-        None => 0,
-    }
-}
 
 /// Adds the path of the queue at an address of the shared words.
 ///
@@ -76,14 +62,6 @@ pub(crate) fn push_monitor(
     }
 }
 
-/// Returns the activity of the process with this number, from 1. A missing process has ended.
-pub fn activity_of(machine: &Machine, number: usize) -> Activity {
-    match machine.private(number) {
-        Some(private) => private.activity(),
-        None => Activity::Ended,
-    }
-}
-
 /// Returns the number of a fault, from 1 to 9.
 pub fn fault_number(fault: Fault) -> u64
     ensures { result ≡ state.fault_number fault }
@@ -101,50 +79,41 @@ pub fn fault_number(fault: Fault) -> u64
     }
 }
 
-fn push_activity(out: &mut Vec<u8>, activity: Activity) -> Result<(), AllocError>
-    ensures { OnOk result (out.new.items ≡ out.old.items ++
-        activity_text (states.activity activity)) }
+fn push_fault(out: &mut Vec<u8>, fault: Fault) -> Result<(), AllocError>
+    ensures { OnOk result (out.new.items ≡ out.old.items ++ fault_text fault) }
 {
-    match activity {
-        Activity::NotBegun => out.extend_from_slice(b"unstarted"),
-        Activity::Running => out.extend_from_slice(b"ready"),
-        Activity::Waiting => out.extend_from_slice(b"waiting"),
-        Activity::Ended => out.extend_from_slice(b"ended"),
-        Activity::Faulted(fault) => {
-            out.extend_from_slice(b"fault ")?;
-            push_natural(out, fault_number(fault))
-        }
-    }
+    out.extend_from_slice(b"fault ")?;
+    push_natural(out, fault_number(fault))
 }
 
-/// Adds the status of a process: the stage that the kernel knows or, if the process has begun, its
-/// activity.
+/// Adds the status of a process that is in this state.
 ///
 /// # Errors
 ///
 /// `AllocError` if memory runs out.
-pub fn push_stage(
+pub fn push_state(
     walk: &mut Walk,
     tables: &Tables,
     program: &Program,
     monitors: &[Field],
-    stage: Stage,
-    activity: Activity,
+    state: ProcState,
     out: &mut Vec<u8>,
 ) -> Result<(), AllocError>
-    ensures { OnOk result (TellsStage tables.now (view.program program.now)
-        (map entry monitors.now) (states.stage stage) (states.activity activity)
-        out.old.items out.new.items) }
+    ensures { OnOk result (TellsState tables.now (view.program program.now)
+        (map entry monitors.now) state out.old.items out.new.items) }
 {
-    match stage {
-        Stage::Unstarted => out.extend_from_slice(b"unstarted"),
-        Stage::Fresh => out.extend_from_slice(b"fresh"),
-        Stage::Begun => push_activity(out, activity),
-        Stage::Asking(monitor) => {
+    match state {
+        ProcState::Unstarted => out.extend_from_slice(b"unstarted"),
+        ProcState::Fresh => out.extend_from_slice(b"fresh"),
+        ProcState::Ready => out.extend_from_slice(b"ready"),
+        ProcState::Waiting => out.extend_from_slice(b"waiting"),
+        ProcState::Ended => out.extend_from_slice(b"ended"),
+        ProcState::Faulted(fault) => push_fault(out, fault),
+        ProcState::Asking(monitor) => {
             out.extend_from_slice(b"asking ")?;
             push_monitor(out, monitors, monitor)
         }
-        Stage::Delayed { monitor, queue } => {
+        ProcState::Delayed { monitor, queue } => {
             out.extend_from_slice(b"delayed ")?;
             push_monitor(out, monitors, monitor)?;
             out.extend_from_slice(b" ")?;

@@ -3,11 +3,11 @@
 use cp_rounds::machine::Machine;
 use cp_scope::{Field, Tables};
 
-/// A machine that runs the program of a text with these tables.
+/// A machine, the tables of its text, and the monitors of the text.
 #[derive(Clone, Copy)]
-pub(crate) struct Subject<'r, 't> {
+pub(crate) struct Subject<'r, 'm, 't> {
     pub(crate) tables: &'r Tables<'t>,
-    pub(crate) machine: &'r Machine,
+    pub(crate) machine: &'r Machine<'m, 't>,
     /// The monitors by number.
     pub(crate) monitors: &'r [Field<'t>],
 }

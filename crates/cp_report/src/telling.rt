@@ -4,20 +4,15 @@ ghost use Rattle.std.specs.Prelude.{◌≡◌, ◌++◌, [], OnOk, if◌then◌e
 ghost use Rattle.cp_program_model.specs.Starts.{word};
 ghost use Rattle.cp_model.specs.Locations.{Path};
 ghost use Rattle.cp_model.specs.Report.{path_text};
-ghost use Rattle.cp_report.specs.Tellings.{queue_line_of, tell_leaf, value_line_of, visit_of, words_in};
+ghost use Rattle.cp_report.specs.Tellings.{line_of, queue_line_of, tell_leaf, value_line_of, visit_of, words_in};
+ghost use Rattle.cp_rounds.specs.Values.{value_in};
 
 use crate::text::push_occupant;
 use cp_digits::decimal::push_integer;
 use cp_kernel::kernel::Kernel;
 use cp_private::private::Private;
+use cp_rounds::place::{Kind, Value};
 use std::alloc::AllocError;
-
-/// What is visited.
-#[derive(Clone, Copy, Debug)]
-pub enum Leaf {
-    Simple,
-    Queue,
-}
 
 /// Words that are read by their addresses.
 #[derive(Clone, Copy)]
@@ -37,6 +32,13 @@ impl<'w> Words<'w> {
             Words::Own(private) => private.value(place),
             Words::Shared(kernel) => kernel.word(place),
         }
+    }
+
+    // Returns the value of the variable of this kind at an address.
+    fn value(&self, kind: Kind, place: usize) -> Value
+        ensures { result ≡ value_in kind (word (words_in self.now) place) }
+    {
+        Value::of(kind, self.at(place))
     }
 }
 
@@ -61,14 +63,23 @@ fn push_value_line(out: &mut Vec<u8>, path: &[u8], n: i32) -> Result<(), AllocEr
     out.extend_from_slice(b"\n")
 }
 
-fn push_queue_line(out: &mut Vec<u8>, path: &[u8], n: i32) -> Result<(), AllocError>
-    ensures { OnOk result (out.new.items ≡ out.old.items ++ queue_line_of path.now n) }
+fn push_queue_line(out: &mut Vec<u8>, path: &[u8], process: Option<u32>) -> Result<(), AllocError>
+    ensures { OnOk result (out.new.items ≡ out.old.items ++ queue_line_of path.now process) }
 {
     out.extend_from_slice(b"queue ")?;
     out.extend_from_slice(path)?;
     out.extend_from_slice(b" = ")?;
-    push_occupant(out, n)?;
+    push_occupant(out, process)?;
     out.extend_from_slice(b"\n")
+}
+
+fn push_line(out: &mut Vec<u8>, path: &[u8], value: Value) -> Result<(), AllocError>
+    ensures { OnOk result (out.new.items ≡ out.old.items ++ line_of path.now value) }
+{
+    match value {
+        Value::Ordinal(n) => push_value_line(out, path, n),
+        Value::Queue(process) => push_queue_line(out, path, process),
+    }
 }
 
 impl<'w> Telling<'w> {
@@ -77,21 +88,18 @@ impl<'w> Telling<'w> {
     pub fn tell(
         &self,
         out: &mut Vec<u8>,
-        leaf: Leaf,
+        kind: Kind,
         path: &[u8],
         at: usize,
     ) -> Result<(), AllocError>
         ensures { OnOk result ((p : Path) → path_text p ≡ path.now
-            → out.new.items ≡ out.old.items ++ tell_leaf (visit_of self.now) leaf p at) }
+            → out.new.items ≡ out.old.items ++ tell_leaf (visit_of self.now) kind p at) }
     {
         match *self {
-            Telling::Lines(words) => match leaf {
-                Leaf::Simple => push_value_line(out, path, words.at(at)),
-                Leaf::Queue => push_queue_line(out, path, words.at(at)),
-            },
-            Telling::PathOf(target) => match leaf {
-                Leaf::Simple => Ok(()),
-                Leaf::Queue => push_path_if(out, at == target, path),
+            Telling::Lines(words) => push_line(out, path, words.value(kind, at)),
+            Telling::PathOf(target) => match kind {
+                Kind::Simple => Ok(()),
+                Kind::Queue => push_path_if(out, at == target, path),
             },
             Telling::Places => Ok(()),
         }

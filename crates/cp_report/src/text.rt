@@ -2,20 +2,18 @@
 
 ghost use Rattle.std.specs.Prelude.{◌≡◌, ◌++◌, OnOk, false, flat_map};
 ghost use Rattle.cp_model.specs.Report.{escape, occupant_text};
-ghost use Rattle.cp_machine_model.specs.Means.{process_of_word};
 
 use cp_digits::decimal::push_natural;
 use cp_digits::hexadecimal::hex;
 use std::alloc::AllocError;
 
 /// Adds the number of the process that waits in a queue, or a dash.
-pub(crate) fn push_occupant(out: &mut Vec<u8>, n: i32) -> Result<(), AllocError>
-    ensures { OnOk result (out.new.items ≡ out.old.items ++ occupant_text (process_of_word n)) }
+pub(crate) fn push_occupant(out: &mut Vec<u8>, process: Option<u32>) -> Result<(), AllocError>
+    ensures { OnOk result (out.new.items ≡ out.old.items ++ occupant_text process) }
 {
-    if n > 0 {
-        push_natural(out, n as u64)
-    } else {
-        out.extend_from_slice(b"-")
+    match process {
+        Some(number) => push_natural(out, u64::from(number)),
+        None => out.extend_from_slice(b"-"),
     }
 }
 

@@ -20,8 +20,9 @@ ghost use Rattle.cp_report.specs.Walks.{Continues, Enters, Finishes, Visits, cur
 
 use crate::heads::class_head;
 use crate::places::Place;
-use crate::telling::{Leaf, Telling};
+use crate::telling::Telling;
 use cp_digits::decimal::push_integer;
+use cp_rounds::place::Kind;
 use cp_scope::{Field, Tables, TypeRow, count_between};
 use std::alloc::{AllocError, Global};
 
@@ -96,7 +97,7 @@ impl Walk {
     }
 
     // Keeps the place of a part whose type has the number `row`.
-    fn keep(&mut self, row: usize) -> Result<(), AllocError>
+    fn keep(&mut self, kind: Kind, row: usize) -> Result<(), AllocError>
         ensures stack { self.new.stack ≡ self.old.stack }
         ensures path { self.new.path ≡ self.old.path }
         ensures place { self.new.at ≡ self.old.at }
@@ -104,6 +105,7 @@ impl Walk {
         self.places.push(Place {
             path: self.path.clone()?,
             at: self.at,
+            kind,
             of: row,
         })?;
         Ok(())
@@ -115,20 +117,20 @@ impl Walk {
         &mut self,
         telling: &Telling,
         out: &mut Vec<u8>,
-        leaf: Leaf,
+        kind: Kind,
         row: usize,
     ) -> Result<(), AllocError>
         ensures told { OnOk result ((p : Path) → path_text p ≡ self.old.path.items
             → out.new.items
-            ≡ out.old.items ++ tell_leaf (visit_of telling.now) leaf p self.old.at) }
+            ≡ out.old.items ++ tell_leaf (visit_of telling.now) kind p self.old.at) }
         ensures place { OnOk result (self.new.at ≡ self.old.at + 1) }
         ensures stack { self.new.stack ≡ self.old.stack }
         ensures path { self.new.path ≡ self.old.path }
     {
         if let Telling::Places = telling {
-            self.keep(row)?;
+            self.keep(kind, row)?;
         }
-        telling.tell(out, leaf, &self.path, self.at)?;
+        telling.tell(out, kind, &self.path, self.at)?;
         self.pass(1)
     }
 
@@ -145,8 +147,8 @@ impl Walk {
             out.old.items out.new.items) }
     {
         match tables.types.row(row) {
-            Some(TypeRow::Simple(_)) => self.tell(telling, out, Leaf::Simple, row),
-            Some(TypeRow::Queue) => self.tell(telling, out, Leaf::Queue, row),
+            Some(TypeRow::Simple(_)) => self.tell(telling, out, Kind::Simple, row),
+            Some(TypeRow::Queue) => self.tell(telling, out, Kind::Queue, row),
             Some(TypeRow::Array { .. }) => self.open(row),
             Some(TypeRow::Record(_)) => self.open(row),
             Some(TypeRow::Component { system, .. }) => match class_head(tables, *system)? {

@@ -187,12 +187,12 @@ none_in_advance law more t d (suc (suc n)) old mid new some after still made =
 
 -- A machine that is put back as it was.
 pub put_back : (t : ℕ) (old new : Machine) → AreSame old.parts.privates.items old.parts.kernel new.parts.privates.items new.parts.kernel
-    → new.rounds ≡ old.rounds → new.setting ≡ old.setting → IsAfter t 0 old new
-put_back t old new same rounds setting =
+    → new.rounds ≡ old.rounds → new.setting ≡ old.setting → new.tables ≡ old.tables → IsAfter t 0 old new
+put_back t old new same rounds setting tables =
     let back = same_machine_with old.setting old.rounds old.parts.privates.items old.parts.kernel new.parts.privates.items new.parts.kernel same in
     record {
       made = (λ i. machine_with (setting i) (rounds i) new.parts.privates.items new.parts.kernel) ∙ back;
       processes = same.count;
       rounds = Prim.omega (arith, rounds);
-      setting = setting;
+      text = record { setting = setting; tables = tables };
     }

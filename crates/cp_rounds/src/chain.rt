@@ -10,7 +10,7 @@ use crate::machine::Machine;
 use cp_kernel::chain::Chain;
 use cp_machine_model::law;
 
-impl Machine {
+impl<'r, 't> Machine<'r, 't> {
     /// Returns the asking chain of process p: p, and then, as long as the last process asks for a
     /// gate, the holder of that gate.
     ///

@@ -5,7 +5,8 @@
 //! the laws of cp_machine_model, the machine is then in the next state of the meaning
 //! (`specs/InStates.antt`).
 //!
-//! - `machine`, `reading`, `chain`, `stillness`, `until_still`: the public calls. `starting`: how a machine starts.
+//! - `machine`, `reading`, `chain`, `stillness`, `until_still`, `halted`: the public calls. `starting`: how a machine starts.
+//! - `state`, `place`: what they tell of processes and variables.
 //! - `setting`, `parts`, `moment`: what no round changes, what rounds change, and the time of a
 //!   round.
 //! - `plan`, `tick`, `gate`: how rounds are made, and what is called before each turn.
@@ -24,10 +25,12 @@ mod desk;
 mod desk_turns;
 mod events;
 pub mod gate;
+pub mod halted;
 mod law;
 pub mod machine;
 mod moment;
 mod parts;
+pub mod place;
 pub mod plan;
 pub mod reading;
 pub mod replay;
@@ -35,6 +38,7 @@ mod round;
 mod run;
 mod setting;
 mod starting;
+pub mod state;
 mod stillness;
 mod task;
 pub mod tick;

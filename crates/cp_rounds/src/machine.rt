@@ -1,5 +1,5 @@
-//! The machine: a program, the private states of its processes, the kernel, and the number of
-//! rounds made.
+//! The machine: a program, the tables of its text, the private states of its processes, the kernel,
+//! and the number of rounds made.
 
 ghost use Rattle.std.specs.Prelude.{◌≡◌, ◌<◌, ◌≤◌, ◌+◌, ◌-◌, ◌^◌, length, IfErr, IfOk};
 ghost use Rattle.cp_model.specs.States.{numbers_from};
@@ -7,7 +7,7 @@ ghost use Rattle.cp_machine_model.specs.Machines as plain;
 ghost use Rattle.cp_program.specs.View as view;
 ghost use Rattle.cp_rounds.specs.InStates.{IsStarted, MakesRound, MakesRounds};
 ghost use Rattle.cp_rounds.specs.MachineOf.{input_of};
-ghost use Rattle.cp_rounds.specs.Views.{IsAfter, machine_of, processes_of};
+ghost use Rattle.cp_rounds.specs.Views.{IsAfter, KeepsText, machine_of, processes_of};
 
 use crate::gate::TurnGate;
 use crate::parts::Parts;
@@ -18,6 +18,7 @@ use crate::starting::first_parts;
 use crate::tick::Tick;
 use cp_machine_model::law;
 use cp_program::program::Program;
+use cp_scope::Tables;
 use std::alloc::{AllocError, Global};
 use std::mem;
 use std::sync::Wait;
@@ -38,10 +39,12 @@ fn rounds_at_once(waves: usize) -> u32
 
 /// A machine. The module `reading` has the calls that read it.
 #[derive(Drop)]
-pub struct Machine {
+pub struct Machine<'r, 't> {
     /// The allocator from which rounds take their memory.
     pub(crate) alloc: Global,
     pub(crate) setting: Setting,
+    /// The tables of the text whose program it runs, for whoever reads it. No round uses them.
+    pub(crate) tables: &'r Tables<'t>,
     pub(crate) parts: Parts,
     /// The number of rounds made so far.
     pub(crate) rounds: u64,
@@ -52,8 +55,9 @@ pub struct Machine {
 #[derive(Clone, Copy, Debug, PartialEq, Eq)]
 pub struct MemoryAt(pub u32);
 
-impl Machine {
-    /// Returns the machine at its start, with an input for each process by number.
+impl<'r, 't> Machine<'r, 't> {
+    /// Returns the machine of a program at its start, with the tables of its text and an input for
+    /// each process by number.
     ///
     /// # Errors
     ///
@@ -61,14 +65,16 @@ impl Machine {
     pub fn new(
         alloc: Global,
         program: Program,
+        tables: &'r Tables<'t>,
         inputs: Vec<Vec<u8>>,
         tick: Tick,
-    ) -> Result<Machine, AllocError>
+    ) -> Result<Machine<'r, 't>, AllocError>
         requires inputs { length inputs.items ≡ length (view.program program).processes }
         ensures start { IfOk result (λ machine. machine_of machine ≡ plain.first_machine
             (view.program program) tick.rounds (input_of inputs.items)) }
         ensures state { IfOk result
             (IsStarted (view.program program) tick.rounds inputs.items) }
+        ensures tables { IfOk result (λ machine. machine.tables ≡ tables.entry) }
     {
         law::rounds();
         let parts = first_parts(alloc, &program)?;
@@ -79,6 +85,7 @@ impl Machine {
                 inputs,
                 tick,
             },
+            tables,
             parts,
             rounds: 0,
         })
@@ -107,6 +114,7 @@ impl Machine {
             (λ _. MakesRounds plan.now.turn.steps 1 self.old self.new) }
         ensures kept { IfErr result (λ _. machine_of self.new ≡ machine_of self.old) }
         ensures processes { processes_of self.new ≡ processes_of self.old }
+        ensures text { KeepsText self.old self.new }
     {
         law::rounds();
         match self.make_rounds(rt, 1, plan, gate) {
@@ -201,6 +209,7 @@ impl Machine {
             × (machine_of self.new ≡ plain.phased_rounds plan.now.turn.steps
             (numbers_from 1 (processes_of self.old)) (e.0 - 1) (machine_of self.old))) }
         ensures processes { processes_of self.new ≡ processes_of self.old }
+        ensures text { KeepsText self.old self.new }
     {
         law::rounds();
         self.make_all(rt, rounds, plan, gate)

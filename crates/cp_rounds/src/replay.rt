@@ -6,7 +6,7 @@ ghost use Rattle.cp_machine_model.specs.Replays.{AreWithin};
 ghost use Rattle.cp_orders.specs.Events.{events_of};
 ghost use Rattle.cp_rounds.specs.InStates.{MakesReplay};
 ghost use Rattle.cp_rounds.specs.MachineOf.{machine_with};
-ghost use Rattle.cp_rounds.specs.Views.{machine_of, processes_of};
+ghost use Rattle.cp_rounds.specs.Views.{KeepsText, machine_of, processes_of};
 
 use crate::closing::close_round;
 use crate::copies::woken_copies;
@@ -46,7 +46,7 @@ fn replayed(
     Ok(Parts { privates, kernel })
 }
 
-impl Machine {
+impl<'r, 't> Machine<'r, 't> {
     /// Makes one round of these events, in their order, whether it is lawful or not: at first the
     /// processes that wait go on if it is time, and at the end those that were started begin. No
     /// gate is called.
@@ -64,6 +64,7 @@ impl Machine {
         ensures rounds { IfOk result (λ _. self.new.rounds ≡ self.old.rounds + 1) }
         ensures kept { IfErr result (λ _. self.new ≡ self.old) }
         ensures processes { processes_of self.new ≡ processes_of self.old }
+        ensures text { KeepsText self.old self.new }
     {
         law::replays();
         let parts = replayed(

@@ -19,7 +19,7 @@ fn can_move(stage: Stage, activity: Activity) -> bool
     }
 }
 
-impl Machine {
+impl<'r, 't> Machine<'r, 't> {
     /// Returns whether the machine is still: no process can move. None is ready, was started in
     /// this round or waits for the clock, so no further round changes anything but the count.
     pub fn is_still(&self) -> bool

@@ -7,7 +7,7 @@
 ghost use Rattle.std.specs.Prelude.{◌≡◌, ◌<◌, ◌≤◌, ◌+◌, ◌-◌, ◌^◌, IfErr, IfOk, true};
 ghost use Rattle.cp_rounds.specs.InStates.{MakesRounds};
 ghost use Rattle.cp_rounds.specs.Stillness.{Advances, NoneStillBefore, TellsStill};
-ghost use Rattle.cp_rounds.specs.Views.{IsAfter, processes_of};
+ghost use Rattle.cp_rounds.specs.Views.{IsAfter, KeepsText, processes_of};
 
 use crate::gate::TurnGate;
 use crate::machine::{Machine, MemoryAt};
@@ -70,7 +70,7 @@ impl Stretch {
     }
 }
 
-impl Machine {
+impl<'r, 't> Machine<'r, 't> {
     // Makes `rounds` rounds. If there is more than one and the machine is still after them, the
     // machine is put back as it was. Returns whether the rounds were made.
     fn advance<R: Threads + Wait + Sync, G: TurnGate>(
@@ -122,6 +122,7 @@ impl Machine {
         ensures partly { IfErr result (λ e. (1 ≤ e.0) × (e.0 ≤ limit)
             × IsAfter plan.now.turn.steps (e.0 - 1) self.old self.new) }
         ensures processes { processes_of self.new ≡ processes_of self.old }
+        ensures text { KeepsText self.old self.new }
     {
         rounds_are_run();
         lasting();

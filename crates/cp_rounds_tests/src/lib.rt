@@ -19,6 +19,8 @@ mod refusals;
 #[cfg(test)]
 mod rounds;
 #[cfg(test)]
+mod states;
+#[cfg(test)]
 mod still;
 #[cfg(test)]
 mod texts;

@@ -3,11 +3,11 @@
 ghost use Rattle.std.specs.Prelude.{◌≡◌, IfOk, length};
 ghost use Rattle.cp_program.specs.View as view;
 
-use crate::texts::program;
 use cp_private::private::Activity;
 use cp_program::program::Program;
 use cp_rounds::machine::Machine;
 use cp_rounds::tick::Tick;
+use cp_scope::Tables;
 use std::alloc::Global;
 use std::test::Fail;
 
@@ -33,21 +33,25 @@ pub(crate) fn inputs_for(
     Ok(all)
 }
 
-// Returns the machine of a text, with the inputs of its first processes.
-pub(crate) fn machine_with(
+// Returns the machine of a compiled text, with the inputs of its first processes.
+pub(crate) fn machine_with<'r, 't>(
     alloc: Global,
-    text: &str,
+    program: Program,
+    tables: &'r Tables<'t>,
     tick: u32,
     inputs: &[&[u8]],
-) -> Result<Machine, Fail> {
-    let program = program(alloc, text)?;
+) -> Result<Machine<'r, 't>, Fail> {
     let inputs = inputs_for(alloc, &program, inputs)?;
-    Ok(Machine::new(alloc, program, inputs, Tick::new(tick)?)?)
+    Ok(Machine::new(alloc, program, tables, inputs, Tick::new(tick)?)?)
 }
 
-// Returns the machine of a text, with a tick of one round and without input.
-pub(crate) fn machine_of(alloc: Global, text: &str) -> Result<Machine, Fail> {
-    machine_with(alloc, text, 1, &[])
+// Returns the machine of a compiled text, with a tick of one round and without input.
+pub(crate) fn machine_of<'r, 't>(
+    alloc: Global,
+    program: Program,
+    tables: &'r Tables<'t>,
+) -> Result<Machine<'r, 't>, Fail> {
+    machine_with(alloc, program, tables, 1, &[])
 }
 
 pub(crate) fn activity(machine: &Machine, p: usize) -> Result<Activity, Fail> {

@@ -2,7 +2,9 @@
 //! initial one, and monitor 1 is the first one declared.
 
 use crate::machines::{activity, has_written, machine_of};
+use crate::texts::{compiled, tree_of};
 use crate::ways::{Way, ways};
+use cp_check::checking::CompiledText;
 use cp_model::state::Fault;
 use cp_private::outside::{Holder, Stage};
 use cp_private::private::Activity;
@@ -21,11 +23,8 @@ fn expect_gate(
     askers: &[u32],
     way: Way,
 ) {
-    assert_eq!(rt; machine.kernel().holder(m), holder, "monitor {m}, {way:?}");
-    assert!(rt;
-        machine.kernel().askers(m) == askers,
-        "monitor {m}, {way:?}"
-    );
+    assert_eq!(rt; machine.gate(m), holder, "monitor {m}, {way:?}");
+    assert!(rt; machine.askers(m) == askers, "monitor {m}, {way:?}");
 }
 
 // Expects a process to be in a stage. Processes that ask or are delayed aren't begun.
@@ -48,7 +47,9 @@ const NESTED: &str =
 #[test]
 fn a_delay_in_a_nested_call_leaves_the_innermost_gate_alone(rt: HostRuntime) -> Result<(), Fail> {
     for way in ways() {
-        let mut machine = machine_of(rt.alloc(), NESTED)?;
+        let tree = tree_of(rt.alloc(), NESTED)?;
+        let CompiledText { program, tables } = compiled(rt.alloc(), &tree)?;
+        let mut machine = machine_of(rt.alloc(), program, &tables)?;
         way.make(&rt, &mut machine, 1, 10, &Open)?;
         expect_gate(&rt, &machine, 1, Holder::Free, &[], way);
         expect_gate(&rt, &machine, 2, Holder::Free, &[], way);
@@ -79,7 +80,9 @@ const RESUMED: &str = "type m = monitor; var q: queue;
 #[test]
 fn a_continue_hands_the_gate_to_the_delayed_process(rt: HostRuntime) -> Result<(), Fail> {
     for way in ways() {
-        let mut machine = machine_of(rt.alloc(), RESUMED)?;
+        let tree = tree_of(rt.alloc(), RESUMED)?;
+        let CompiledText { program, tables } = compiled(rt.alloc(), &tree)?;
+        let mut machine = machine_of(rt.alloc(), program, &tables)?;
         way.make(&rt, &mut machine, 2, 10, &Open)?;
         expect_gate(&rt, &machine, 1, Holder::Process(2), &[], way);
         expect_stage(&rt, &machine, 2, Stage::Begun, way);
@@ -106,14 +109,16 @@ const ASKERS: &str = "type m = monitor;
 #[test]
 fn askers_are_served_first_come(rt: HostRuntime) -> Result<(), Fail> {
     for way in ways() {
-        let mut machine = machine_of(rt.alloc(), ASKERS)?;
+        let tree = tree_of(rt.alloc(), ASKERS)?;
+        let CompiledText { program, tables } = compiled(rt.alloc(), &tree)?;
+        let mut machine = machine_of(rt.alloc(), program, &tables)?;
         way.make(&rt, &mut machine, 4, 2, &Open)?;
         expect_gate(&rt, &machine, 1, Holder::Process(2), &[3, 4], way);
         expect_stage(&rt, &machine, 3, Stage::Asking(1), way);
         expect_stage(&rt, &machine, 4, Stage::Asking(1), way);
         assert!(rt; has_written(&machine, 2, b"111"), "{way:?}");
         assert!(rt; has_written(&machine, 3, b""), "{way:?}");
-        assert_eq!(rt; machine.value(4, 2), 3, "{way:?}");
+        assert_eq!(rt; machine.word(4, 2), 3, "{way:?}");
         way.make(&rt, &mut machine, 3, 2, &Open)?;
         expect_gate(&rt, &machine, 1, Holder::Free, &[], way);
         assert!(rt; has_written(&machine, 3, b"222"), "{way:?}");
@@ -142,7 +147,9 @@ pub(crate) const AHEAD: &str = "type m = monitor; var q: queue;
 #[test]
 fn the_resumed_process_goes_ahead_of_askers(rt: HostRuntime) -> Result<(), Fail> {
     for way in ways() {
-        let mut machine = machine_of(rt.alloc(), AHEAD)?;
+        let tree = tree_of(rt.alloc(), AHEAD)?;
+        let CompiledText { program, tables } = compiled(rt.alloc(), &tree)?;
+        let mut machine = machine_of(rt.alloc(), program, &tables)?;
         way.make(&rt, &mut machine, 5, 2, &Open)?;
         expect_gate(&rt, &machine, 1, Holder::Process(3), &[4], way);
         expect_stage(&rt, &machine, 3, Stage::Begun, way);
@@ -165,7 +172,9 @@ const STUCK: &str =
 #[test]
 fn a_fault_in_an_entry_keeps_the_gate_for_good(rt: HostRuntime) -> Result<(), Fail> {
     for way in ways() {
-        let mut machine = machine_of(rt.alloc(), STUCK)?;
+        let tree = tree_of(rt.alloc(), STUCK)?;
+        let CompiledText { program, tables } = compiled(rt.alloc(), &tree)?;
+        let mut machine = machine_of(rt.alloc(), program, &tables)?;
         for rounds in [2, 1, 5] {
             way.make(&rt, &mut machine, rounds, 10, &Open)?;
             let fault = Activity::Faulted(Fault::DivisionByZero);
@@ -186,7 +195,9 @@ fn a_delay_in_a_taken_queue_is_a_fault(rt: HostRuntime) -> Result<(), Fail> {
         p = process(a: m); begin a.w end;
         var g: m; b, c, d: p; begin init g, b(g), c(g), d(g) end.";
     for way in ways() {
-        let mut machine = machine_of(rt.alloc(), text)?;
+        let tree = tree_of(rt.alloc(), text)?;
+        let CompiledText { program, tables } = compiled(rt.alloc(), &tree)?;
+        let mut machine = machine_of(rt.alloc(), program, &tables)?;
         way.make(&rt, &mut machine, 2, 10, &Open)?;
         let delayed = Stage::Delayed {
             monitor: 1,
@@ -230,7 +241,9 @@ fn expect_chain(
 #[test]
 fn a_chain_leads_to_a_process_that_asks_for_no_gate(rt: HostRuntime) -> Result<(), Fail> {
     for way in ways() {
-        let mut machine = machine_of(rt.alloc(), CHAINED)?;
+        let tree = tree_of(rt.alloc(), CHAINED)?;
+        let CompiledText { program, tables } = compiled(rt.alloc(), &tree)?;
+        let mut machine = machine_of(rt.alloc(), program, &tables)?;
         way.make(&rt, &mut machine, 2, 10, &Open)?;
         expect_chain(&rt, rt.alloc(), &machine, 2, &[2], way)?;
         expect_chain(&rt, rt.alloc(), &machine, 3, &[3, 2], way)?;

@@ -2,7 +2,9 @@
 //! make the same machine.
 
 use crate::machines::{activity, has_written, machine_of};
+use crate::texts::{compiled, tree_of};
 use crate::ways::Way;
+use cp_check::checking::CompiledText;
 use cp_private::limits::L1;
 use cp_private::outside::Holder;
 use cp_private::private::Activity;
@@ -78,7 +80,7 @@ fn squarers(alloc: Global) -> Result<String, AllocError> {
 fn has_squared(machine: &Machine, p: usize) -> Result<bool, Fail> {
     Ok(
         activity(machine, p)? == Activity::Ended
-            && machine.value(p, 2) == 36
+            && machine.word(p, 2) == 36
             && has_written(machine, p, b"36"),
     )
 }
@@ -105,7 +107,9 @@ fn squares_by<R: Threads + Wait + Sync>(
     text: &str,
     way: Way,
 ) -> Result<bool, Fail> {
-    let mut machine = machine_of(alloc, text)?;
+    let tree = tree_of(alloc, text)?;
+    let CompiledText { program, tables } = compiled(alloc, &tree)?;
+    let mut machine = machine_of(alloc, program, &tables)?;
     way.make(rt, &mut machine, 3, 300, &Open)?;
     all_have_squared(&machine)
 }

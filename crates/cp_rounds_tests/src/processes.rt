@@ -1,7 +1,9 @@
 //! What processes do: what they compute, start and read, and how they wait for the clock.
 
 use crate::machines::{activity, has_written, machine_of, machine_with};
+use crate::texts::{compiled, tree_of};
 use crate::ways::ways;
+use cp_check::checking::CompiledText;
 use cp_model::state::Fault;
 use cp_private::outside::Stage;
 use cp_private::private::Activity;
@@ -14,10 +16,12 @@ const SQUARES: &str = "var x: integer; begin x := 2; cycle display(x); x := x * 
 #[test]
 fn six_steps_display_two_squares(rt: HostRuntime) -> Result<(), Fail> {
     for way in ways() {
-        let mut machine = machine_of(rt.alloc(), SQUARES)?;
+        let tree = tree_of(rt.alloc(), SQUARES)?;
+        let CompiledText { program, tables } = compiled(rt.alloc(), &tree)?;
+        let mut machine = machine_of(rt.alloc(), program, &tables)?;
         way.make(&rt, &mut machine, 1, 6, &Open)?;
         assert!(rt; has_written(&machine, 1, b"24"), "{way:?}");
-        assert_eq!(rt; machine.value(1, 1), 4, "{way:?}");
+        assert_eq!(rt; machine.word(1, 1), 4, "{way:?}");
         assert_eq!(rt; activity(&machine, 1)?, Activity::Running, "{way:?}");
     }
     Ok(())
@@ -27,10 +31,12 @@ fn six_steps_display_two_squares(rt: HostRuntime) -> Result<(), Fail> {
 #[test]
 fn a_square_overflows(rt: HostRuntime) -> Result<(), Fail> {
     for way in ways() {
-        let mut machine = machine_of(rt.alloc(), SQUARES)?;
+        let tree = tree_of(rt.alloc(), SQUARES)?;
+        let CompiledText { program, tables } = compiled(rt.alloc(), &tree)?;
+        let mut machine = machine_of(rt.alloc(), program, &tables)?;
         way.make(&rt, &mut machine, 1, 10_000, &Open)?;
         assert!(rt; has_written(&machine, 1, b"2416256"), "{way:?}");
-        assert_eq!(rt; machine.value(1, 1), 256, "{way:?}");
+        assert_eq!(rt; machine.word(1, 1), 256, "{way:?}");
         assert_eq!(rt;
             activity(&machine, 1)?,
             Activity::Faulted(Fault::Overflow),
@@ -44,10 +50,12 @@ fn a_square_overflows(rt: HostRuntime) -> Result<(), Fail> {
 fn division_cuts_toward_zero(rt: HostRuntime) -> Result<(), Fail> {
     let text = "var q, r: integer; begin q := (-7) div 2; r := (-7) mod 2 end.";
     for way in ways() {
-        let mut machine = machine_of(rt.alloc(), text)?;
+        let tree = tree_of(rt.alloc(), text)?;
+        let CompiledText { program, tables } = compiled(rt.alloc(), &tree)?;
+        let mut machine = machine_of(rt.alloc(), program, &tables)?;
         way.make(&rt, &mut machine, 1, 2, &Open)?;
-        assert_eq!(rt; machine.value(1, 1), -3, "{way:?}");
-        assert_eq!(rt; machine.value(1, 2), -1, "{way:?}");
+        assert_eq!(rt; machine.word(1, 1), -3, "{way:?}");
+        assert_eq!(rt; machine.word(1, 2), -1, "{way:?}");
     }
     Ok(())
 }
@@ -56,7 +64,9 @@ fn division_cuts_toward_zero(rt: HostRuntime) -> Result<(), Fail> {
 fn a_process_is_started_once(rt: HostRuntime) -> Result<(), Fail> {
     let text = "type p = process; begin end; var a: p; begin init a; init a end.";
     for way in ways() {
-        let mut machine = machine_of(rt.alloc(), text)?;
+        let tree = tree_of(rt.alloc(), text)?;
+        let CompiledText { program, tables } = compiled(rt.alloc(), &tree)?;
+        let mut machine = machine_of(rt.alloc(), program, &tables)?;
         way.make(&rt, &mut machine, 1, 1, &Open)?;
         assert_eq!(rt; activity(&machine, 1)?, Activity::Running, "{way:?}");
         assert_eq!(rt; machine.kernel().stage(2), Stage::Begun, "{way:?}");
@@ -76,12 +86,14 @@ fn each_process_reads_its_own_input(rt: HostRuntime) -> Result<(), Fail> {
         var a, b: p; begin init a, b end.";
     let inputs: [&[u8]; 2] = [b"y", b"zA"];
     for way in ways() {
-        let mut machine = machine_with(rt.alloc(), text, 1, &inputs)?;
+        let tree = tree_of(rt.alloc(), text)?;
+        let CompiledText { program, tables } = compiled(rt.alloc(), &tree)?;
+        let mut machine = machine_with(rt.alloc(), program, &tables, 1, &inputs)?;
         way.make(&rt, &mut machine, 2, 10, &Open)?;
         assert!(rt; has_written(&machine, 1, b""), "{way:?}");
         assert!(rt; has_written(&machine, 2, b"z65"), "{way:?}");
         assert!(rt; has_written(&machine, 3, b"\x1925"), "{way:?}");
-        assert_eq!(rt; machine.value(2, 1), 65, "{way:?}");
+        assert_eq!(rt; machine.word(2, 1), 65, "{way:?}");
     }
     Ok(())
 }
@@ -97,7 +109,9 @@ fn a_process_waits_for_each_second_round(rt: HostRuntime) -> Result<(), Fail> {
         (b"012".as_slice(), Activity::Ended),
     ];
     for way in ways() {
-        let mut machine = machine_with(rt.alloc(), text, 2, &[])?;
+        let tree = tree_of(rt.alloc(), text)?;
+        let CompiledText { program, tables } = compiled(rt.alloc(), &tree)?;
+        let mut machine = machine_with(rt.alloc(), program, &tables, 2, &[])?;
         for (transcript, state) in told {
             way.make(&rt, &mut machine, 1, 10, &Open)?;
             assert!(rt; has_written(&machine, 1, transcript), "{way:?}");

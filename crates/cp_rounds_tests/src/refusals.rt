@@ -5,8 +5,9 @@
 //! library, the last three tests report it and look at the machine.
 
 use crate::machines::{activity, describe, has_written, inputs_for, machine_of};
-use crate::texts;
+use crate::texts::{compiled, tree_of};
 use crate::ways::{Way, is_young};
+use cp_check::checking::CompiledText;
 use cp_private::outside::{Holder, Stage};
 use cp_private::private::Activity;
 use cp_program::operation::Operation;
@@ -61,9 +62,11 @@ fn activity_after_round<R: Threads + Wait + Sync>(
     words: u32,
     shared: u32,
 ) -> Result<Option<Activity>, Fail> {
+    let tree = tree_of(alloc, "begin end.")?;
+    let CompiledText { program: _, tables } = compiled(alloc, &tree)?;
     let program = ending_program(alloc, words, shared)?;
     let inputs = inputs_for(alloc, &program, &[])?;
-    let Ok(mut machine) = Machine::new(alloc, program, inputs, Tick::new(1)?) else {
+    let Ok(mut machine) = Machine::new(alloc, program, &tables, inputs, Tick::new(1)?) else {
         return Ok(None);
     };
     Way::new(true, 1, 1, 1).make(rt, &mut machine, 1, 1, &Open)?;
@@ -109,7 +112,7 @@ fn have_counted(machine: &Machine) -> Result<bool, Fail> {
             && kernel.word(1) == 2
             && has_written(machine, 3, COUNTED)
             && has_written(machine, 4, COUNTED)
-            && machine.value(4, 1) == 8,
+            && machine.word(4, 1) == 8,
     )
 }
 
@@ -122,13 +125,15 @@ fn plan_of(workers: u32, wave: u32) -> Result<Plan, Fail> {
 #[test]
 fn a_refused_machine_is_made_again(rt: HostRuntime) -> Result<(), Fail> {
     let alloc = rt.alloc();
-    let program = texts::program(alloc, COUNTERS)?;
+    let tree = tree_of(alloc, COUNTERS)?;
+    let CompiledText { program, tables } = compiled(alloc, &tree)?;
     let inputs = inputs_for(alloc, &program, &[])?;
-    let mut machine = match Machine::new(alloc, program, inputs, Tick::new(1)?) {
+    let mut machine = match Machine::new(alloc, program, &tables, inputs, Tick::new(1)?) {
         Ok(machine) => machine,
         Err(_) => {
             println!(rt; "a machine is refused")?;
-            machine_of(alloc, COUNTERS)?
+            let CompiledText { program, tables: _ } = compiled(alloc, &tree)?;
+            machine_of(alloc, program, &tables)?
         }
     };
     assert_eq!(rt; machine.rounds(), 0);
@@ -141,7 +146,9 @@ fn a_refused_machine_is_made_again(rt: HostRuntime) -> Result<(), Fail> {
 fn a_refused_round_leaves_the_machine_as_it_was(rt: HostRuntime) -> Result<(), Fail> {
     for (workers, wave) in WAYS {
         let plan = plan_of(workers, wave)?;
-        let mut machine = machine_of(rt.alloc(), COUNTERS)?;
+        let tree = tree_of(rt.alloc(), COUNTERS)?;
+        let CompiledText { program, tables } = compiled(rt.alloc(), &tree)?;
+        let mut machine = machine_of(rt.alloc(), program, &tables)?;
         for round in 0..ROUNDS {
             let before = describe(rt.alloc(), &machine)?;
             is_young(&machine)?;
@@ -161,13 +168,17 @@ fn a_refused_round_leaves_the_machine_as_it_was(rt: HostRuntime) -> Result<(), F
 fn a_refused_run_has_made_the_rounds_before(rt: HostRuntime) -> Result<(), Fail> {
     for (workers, wave) in WAYS {
         let plan = plan_of(workers, wave)?;
-        let mut machine = machine_of(rt.alloc(), COUNTERS)?;
+        let tree = tree_of(rt.alloc(), COUNTERS)?;
+        let CompiledText { program, tables } = compiled(rt.alloc(), &tree)?;
+        let mut machine = machine_of(rt.alloc(), program, &tables)?;
         is_young(&machine)?;
         if let Err(MemoryAt(round)) = machine.run(&rt, ROUNDS, &plan, &Open) {
             println!(rt; "round {round} of a run is refused")?;
             let made = round - 1;
             assert_eq!(rt; machine.rounds(), u64::from(made));
-            let mut other = machine_of(rt.alloc(), COUNTERS)?;
+            let tree = tree_of(rt.alloc(), COUNTERS)?;
+            let CompiledText { program, tables } = compiled(rt.alloc(), &tree)?;
+            let mut other = machine_of(rt.alloc(), program, &tables)?;
             Way::new(true, 1, 1, 255).make(&rt, &mut other, made, 3, &Open)?;
             assert!(rt; describe(rt.alloc(), &machine)? == describe(rt.alloc(), &other)?);
             is_young(&machine)?;

@@ -1,15 +1,19 @@
-//! The program of a text.
+//! Compiled texts.
 
-use cp_check::checking::check;
-use cp_program::program::Program;
+use cp_check::checking::{CompiledText, check};
+use cp_model::tree::Tree;
 use cp_scan::scan;
 use cp_syntax::parse;
 use std::alloc::Global;
 use std::test::Fail;
 
-/// Returns the program of an accepted text.
-pub fn program(alloc: Global, text: &str) -> Result<Program, Fail> {
+/// Returns the syntax tree of a text.
+pub(crate) fn tree_of(alloc: Global, text: &str) -> Result<Tree, Fail> {
     let tokens = scan(alloc, text.as_bytes()).map_err(|_| "the text has no tokens")?;
-    let tree = parse(alloc, tokens.as_slice(), text.len()).map_err(|_| "the text has no tree")?;
-    Ok(check(alloc, &tree).map_err(|_| "the text is refused")?)
+    Ok(parse(alloc, tokens.as_slice(), text.len()).map_err(|_| "the text has no tree")?)
+}
+
+/// Returns the program and the tables of an accepted text.
+pub(crate) fn compiled<'t>(alloc: Global, tree: &'t Tree) -> Result<CompiledText<'t>, Fail> {
+    Ok(check(alloc, tree).map_err(|_| "the text is refused")?)
 }

@@ -1,39 +1,56 @@
-//! The text of changes.
+//! What changed of a process or a monitor.
 
-use std::alloc::{AllocError, Global};
+use cp_report::roster::Member;
+use serde::Serialize;
 
-/// The changes of one process or monitor, in the order in which they are told.
-#[derive(Drop)]
-pub(crate) struct Changes {
-    /// The changes that are told, with `; ` between them.
-    pub(crate) text: Vec<u8>,
+/// The value of a simple variable or of a queue.
+#[derive(Drop, Serialize)]
+#[serde(untagged)]
+pub(crate) enum Value<'t> {
+    Integer(i32),
+    Boolean(bool),
+    Character(char),
+    /// The name of a value of an enumeration, or of the process that waits in a queue.
+    Name(&'t str),
+    /// A queue in which no process waits.
+    Empty,
 }
 
-impl Changes {
-    /// Returns no changes.
-    pub(crate) fn new(alloc: Global) -> Changes {
-        Changes {
-            text: Vec::new(alloc),
-        }
-    }
+/// A change: what was, and what is now.
+#[derive(Drop, Serialize)]
+#[serde(tag = "change", rename_all = "lowercase")]
+pub(crate) enum Change<'t> {
+    /// The status of a process, in the words of a report.
+    Status {
+        from: String,
+        to: String,
+    },
+    /// What a process wrote.
+    Out {
+        text: String,
+    },
+    /// A variable or a queue.
+    Variable {
+        variable: &'t str,
+        from: Value<'t>,
+        to: Value<'t>,
+    },
+    /// The gate of a monitor: the name of its holder, `free` or `unset`.
+    Gate {
+        from: &'t str,
+        to: &'t str,
+    },
+    /// The processes that ask for the gate of a monitor, by name.
+    Askers {
+        from: Vec<&'t str>,
+        to: Vec<&'t str>,
+    },
+}
 
-    /// Begins a change of what needs no name.
-    pub(crate) fn begin_unnamed(&mut self) -> Result<(), AllocError> {
-        if self.text.is_empty() {
-            return Ok(());
-        }
-        self.text.extend_from_slice(b"; ")
-    }
-
-    /// Begins a change of what has this name.
-    pub(crate) fn begin(&mut self, name: &[u8]) -> Result<(), AllocError> {
-        self.begin_unnamed()?;
-        self.text.extend_from_slice(name)?;
-        self.text.extend_from_slice(b" ")
-    }
-
-    /// Adds the sign between what was and what is.
-    pub(crate) fn push_arrow(&mut self) -> Result<(), AllocError> {
-        self.text.extend_from_slice(b" -> ")
-    }
+/// What changed of a process or a monitor, in the order in which it is told.
+#[derive(Drop)]
+pub(crate) struct Changes<'t> {
+    pub(crate) member: Member,
+    pub(crate) name: &'t str,
+    pub(crate) changes: Vec<Change<'t>>,
 }

@@ -1,18 +1,33 @@
-//! A trace: what each round of a machine changes, a line a process or monitor.
+//! A trace: what becomes of each process and monitor of a machine, round by round.
 //!
-//! - `trace`: what is told of a round, and what was seen of the machine before it.
-//! - `process`, `monitor`: what was seen of one of them, and what changed since.
-//! - `values`: the values of variables. `shapes`: where they lie.
-//! - `vocabulary`: names in place of numbers, and values as text. `changes`: the text of changes.
+//! - `tracer`: follows a machine, and tells of it in one of four forms.
+//! - `members`: of whom is told.
+//! - `trace`: what was seen of a machine, and what changed since: of a `process`, of a `monitor`, and
+//!   of the `values` of variables, whose places are their `shapes`. `vocabulary`: names in place of
+//!   numbers.
+//! - `changes`: what changed; as `lines` for people, as `objects` for programs.
+//! - `grid`: what each process and monitor is after each of some rounds; as a `timeline` of text, and
+//!   in `svg` as a picture of `bars`, with its `markup` and `colours`.
 //!
 //! What is seen of a machine takes memory once: it doesn't grow with the rounds. All of this serves
-//! people, and is tested. `specs/Adding.antt` defines what becomes of the buffer.
+//! people, and is tested. `specs/Telling.antt` and `specs/Tracers.antt` say what is
+//! added to the buffer.
 #![tactic(auto)]
 
+mod bars;
 mod changes;
+mod colours;
+mod grid;
+mod lines;
+mod markup;
+mod members;
 mod monitor;
+mod objects;
 mod process;
 mod shapes;
-pub mod trace;
+mod svg;
+mod timeline;
+mod trace;
+pub mod tracer;
 mod values;
 mod vocabulary;

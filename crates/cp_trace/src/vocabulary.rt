@@ -1,16 +1,16 @@
-//! The words in which changes are told: names in place of numbers, and values as their types have
-//! them.
+//! What a text calls its components and its values: names in place of numbers.
 
-use cp_digits::decimal::push_integer;
+use crate::changes::Value;
+use crate::members::{name_of, word};
 use cp_model::tree::{Defined, Identifier, Section, Tree, TypeDefinition};
 use cp_names::NameTable;
-use cp_private::outside::{Holder, Stage};
-use cp_private::private::Activity;
+use cp_private::outside::Holder;
 use cp_program::program::Program;
-use cp_report::roster::Roster;
-use cp_report::status::push_stage;
-use cp_report::text::push_all_escaped;
+use cp_report::roster::{Member, Roster};
+use cp_report::status::push_state;
 use cp_report::walk::Walk;
+use cp_rounds::place;
+use cp_rounds::state::ProcState;
 use cp_scope::{Base, Tables, TypeRow};
 use std::alloc::{AllocError, Global};
 
@@ -51,24 +51,6 @@ fn enumerations<'t>(alloc: Global, tree: &'t Tree) -> Result<Enumerations<'t>, A
     Ok(enumerations)
 }
 
-// Adds a character between apostrophes, or its escape.
-fn push_character(out: &mut Vec<u8>, ordinal: i32) -> Result<(), AllocError> {
-    let Ok(byte) = u8::try_from(ordinal) else {
-        return push_integer(out, i64::from(ordinal));
-    };
-    out.extend_from_slice(b"'")?;
-    push_all_escaped(out, &[byte])?;
-    out.extend_from_slice(b"'")
-}
-
-fn push_boolean(out: &mut Vec<u8>, ordinal: i32) -> Result<(), AllocError> {
-    if ordinal == 0 {
-        out.extend_from_slice(b"false")
-    } else {
-        out.extend_from_slice(b"true")
-    }
-}
-
 impl<'r, 't> Vocabulary<'r, 't> {
     /// Returns the vocabulary of a text with this tree and these tables.
     pub(crate) fn of(
@@ -84,106 +66,90 @@ impl<'r, 't> Vocabulary<'r, 't> {
         })
     }
 
-    /// The tables of the text.
-    pub(crate) fn tables(&self) -> &'r Tables<'t> {
-        self.tables
-    }
-
-    /// Adds the status of a process.
-    pub(crate) fn push_status(
-        &self,
-        out: &mut Vec<u8>,
-        program: &Program,
-        stage: Stage,
-        activity: Activity,
-    ) -> Result<(), AllocError> {
-        let mut walk = Walk::new(self.alloc, 0);
-        let monitors = &self.roster.monitors;
-        push_stage(
-            &mut walk,
-            self.tables,
-            program,
-            monitors,
-            stage,
-            activity,
-            out,
-        )
-    }
-
-    fn push_process(&self, out: &mut Vec<u8>, number: u32) -> Result<(), AllocError> {
-        out.extend_from_slice(self.roster.process_name(number))
-    }
-
-    /// Adds the processes with these numbers, or a dash if there are none.
-    pub(crate) fn push_processes(
-        &self,
-        out: &mut Vec<u8>,
-        numbers: &[u32],
-    ) -> Result<(), AllocError> {
-        if numbers.is_empty() {
-            return out.extend_from_slice(b"-");
-        }
-        for (index, number) in numbers.iter().enumerate() {
-            if index > 0 {
-                out.extend_from_slice(b" ")?;
+    /// Returns the number of the type of a process or monitor, or `None` for the initial process.
+    pub(crate) fn type_of(&self, member: Member) -> Option<usize> {
+        let component = match member {
+            Member::Process(number) => {
+                let index = usize::try_from(number).ok()?.checked_sub(2)?;
+                self.roster.processes.get(index)?
             }
-            self.push_process(out, *number)?;
-        }
-        Ok(())
+            Member::Monitor(number) => self.roster.monitor(number)?,
+        };
+        Some(component.of)
     }
 
-    /// Adds who holds a gate.
-    pub(crate) fn push_holder(&self, out: &mut Vec<u8>, holder: Holder) -> Result<(), AllocError> {
+    /// Returns the status of a process, in the words of a report.
+    pub(crate) fn status(&self, program: &Program, state: ProcState) -> Result<String, AllocError> {
+        let mut walk = Walk::new(self.alloc, 0);
+        let mut words = Vec::new(self.alloc);
+        let monitors = &self.roster.monitors;
+        push_state(&mut walk, self.tables, program, monitors, state, &mut words)?;
+        String::from_utf8_lossy(self.alloc, &words)
+    }
+
+    /// Returns the name of the process with a number.
+    pub(crate) fn process(&self, number: u32) -> &'t str {
+        name_of(&self.roster, Member::Process(number))
+    }
+
+    /// Returns the names of the processes with these numbers.
+    pub(crate) fn processes(&self, numbers: &[u32]) -> Result<Vec<&'t str>, AllocError> {
+        let mut names = Vec::with_capacity(self.alloc, numbers.len())?;
+        for number in numbers {
+            names.push(self.process(*number))?;
+        }
+        Ok(names)
+    }
+
+    /// Returns the name of the holder of a gate, `free` or `unset`.
+    pub(crate) fn holder(&self, holder: Holder) -> &'t str {
         match holder {
-            Holder::Unset => out.extend_from_slice(b"unset"),
-            Holder::Free => out.extend_from_slice(b"free"),
-            Holder::Process(number) => self.push_process(out, number),
+            Holder::Unset => "unset",
+            Holder::Free => "free",
+            Holder::Process(number) => self.process(number),
         }
     }
 
-    // Adds the process that waits in a queue, or a dash.
-    fn push_occupant(&self, out: &mut Vec<u8>, word: i32) -> Result<(), AllocError> {
-        match u32::try_from(word) {
-            Ok(number) if number > 0 => self.push_process(out, number),
-            _ => out.extend_from_slice(b"-"),
-        }
-    }
-
-    // Adds the value of an enumeration with this name.
-    fn push_enumerated(
-        &self,
-        out: &mut Vec<u8>,
-        name: &[u8],
-        ordinal: i32,
-    ) -> Result<(), AllocError> {
+    // Returns the value with an ordinal of the enumeration with this name.
+    fn enumerated(&self, name: &[u8], ordinal: i32) -> Value<'t> {
         let values = self.enumerations.find(name).unwrap_or(&[]);
         let value = match usize::try_from(ordinal) {
             Ok(index) => values.get(index),
             Err(_) => None,
         };
         match value {
-            Some(value) => out.extend_from_slice(value.name.as_bytes()),
-            None => push_integer(out, i64::from(ordinal)),
+            Some(value) => Value::Name(word(value.name.as_bytes())),
+            None => Value::Integer(ordinal),
         }
     }
 
-    /// Adds the value that a word stands for, of a type with the number `of`.
-    pub(crate) fn push_value(
-        &self,
-        out: &mut Vec<u8>,
-        of: usize,
-        word: i32,
-    ) -> Result<(), AllocError> {
-        let simple = match self.tables.types.row(of) {
-            Some(TypeRow::Simple(simple)) => simple,
-            Some(TypeRow::Queue) => return self.push_occupant(out, word),
-            _ => return push_integer(out, i64::from(word)),
+    // Returns the value with an ordinal, of a type with the number `of`.
+    fn ordinal(&self, of: usize, ordinal: i32) -> Value<'t> {
+        let Some(TypeRow::Simple(simple)) = self.tables.types.row(of) else {
+            return Value::Integer(ordinal);
         };
         match simple.base {
-            Base::Integer => push_integer(out, i64::from(word)),
-            Base::Char => push_character(out, word),
-            Base::Boolean => push_boolean(out, word),
-            Base::Enumeration { name, .. } => self.push_enumerated(out, name, word),
+            Base::Integer => Value::Integer(ordinal),
+            Base::Char => character(ordinal),
+            Base::Boolean => Value::Boolean(ordinal != 0),
+            Base::Enumeration { name, .. } => self.enumerated(name, ordinal),
         }
+    }
+
+    /// Returns the value of a variable of a type with the number `of`, as it is told.
+    pub(crate) fn value(&self, of: usize, value: place::Value) -> Value<'t> {
+        match value {
+            place::Value::Ordinal(ordinal) => self.ordinal(of, ordinal),
+            place::Value::Queue(Some(process)) => Value::Name(self.process(process)),
+            place::Value::Queue(None) => Value::Empty,
+        }
+    }
+}
+
+// Returns the character with an ordinal.
+fn character<'t>(ordinal: i32) -> Value<'t> {
+    match u8::try_from(ordinal) {
+        Ok(byte) => Value::Character(char::from(byte)),
+        Err(_) => Value::Integer(ordinal),
     }
 }

@@ -48,8 +48,15 @@ fn numbers_are_digits_alone(rt: HostRuntime) {
 #[test]
 fn no_words_run_standard_input(rt: HostRuntime) {
     match read_command(rt.alloc(), &["cpm"]) {
-        Ok(Command::Run { file, run, input }) => {
-            assert!(rt; file == None && is_empty(&input));
+        Ok(
+            Command::Run {
+                file,
+                run,
+                input,
+                progress,
+            },
+        ) => {
+            assert!(rt; file == None && is_empty(&input) && !progress);
             assert!(rt; numbers(run) == [2, 100, 2, 1, 255, 1]);
         }
         _ => panic!(rt; "a run"),
@@ -148,10 +155,19 @@ fn run_takes_numbers(rt: HostRuntime) {
         "--input",
         "in.txt",
         "--chains",
+        "--progress",
     ];
     match read_command(rt.alloc(), words.as_slice()) {
-        Ok(Command::Run { file, run, input }) => {
+        Ok(
+            Command::Run {
+                file,
+                run,
+                input,
+                progress,
+            },
+        ) => {
             assert!(rt; file == Some("a.cp") && is_joined(&input, "in.txt") && run.chains);
+            assert!(rt; progress);
             assert!(rt; numbers(run) == [1_000_000, 7, 64, 3, 4, 5]);
         }
         _ => panic!(rt; "a run"),
@@ -187,16 +203,26 @@ fn outcome_has_a_limit(rt: HostRuntime) {
                 how,
                 form,
                 input,
+                progress,
             },
         ) => {
             assert!(rt; file == "a.cp" && is_empty(&input) && form == OutcomeForm::Verdict);
+            assert!(rt; !progress);
             assert!(rt; how.limit == 7 && how.plan.workers == 3 && how.tick.rounds == 5);
         }
         _ => panic!(rt; "an outcome"),
     }
-    match read_command(rt.alloc(), &["cpm", "outcome", "a.cp", "--input", "in.txt"]) {
-        Ok(Command::Outcome { how, input, .. }) => {
-            assert!(rt; is_joined(&input, "in.txt") && how.limit == 10_000);
+    let words = ["cpm", "outcome", "a.cp", "--progress", "--input", "in.txt"];
+    match read_command(rt.alloc(), words.as_slice()) {
+        Ok(
+            Command::Outcome {
+                how,
+                input,
+                progress,
+                ..
+            },
+        ) => {
+            assert!(rt; is_joined(&input, "in.txt") && how.limit == 10_000 && progress);
             assert!(rt; how.plan.turn.steps == 100 && how.plan.workers == 2);
         }
         _ => panic!(rt; "an outcome"),

@@ -1,8 +1,8 @@
 //! Command lines of traces.
 
-use cp_perform::command::Tracing;
 use cp_perform::command::command::{Command, CommandError, Inputs};
 use cp_perform::command::reading::read_command;
+use cp_perform::command::{TraceForm, Tracing};
 use cp_perform::status::Failure;
 use std::alloc::Global;
 use std::test::*;
@@ -43,6 +43,7 @@ fn a_trace_takes_the_options_of_a_run(rt: HostRuntime) {
         "a,printer",
         "--input",
         "in.txt",
+        "--progress",
     ];
     match read_command(rt.alloc(), words.as_slice()) {
         Ok(
@@ -51,10 +52,12 @@ fn a_trace_takes_the_options_of_a_run(rt: HostRuntime) {
                 how,
                 only,
                 input,
+                progress,
             },
         ) => {
             assert!(rt; file == "a.cp" && only.as_slice() == ["a", "printer"].as_slice());
             assert!(rt; numbers(how) == [9, 2, 1, 3, 4, 6, 5]);
+            assert!(rt; how.form == TraceForm::Lines && progress);
             assert!(rt; matches!(input, Inputs::Joined("in.txt")));
         }
         _ => panic!(rt; "a trace"),
@@ -69,6 +72,24 @@ fn a_trace_ends_with_the_last_round_that_is_told(rt: HostRuntime) {
             Ok(Command::Trace { how, only, .. }) => {
                 assert!(rt; numbers(how) == [rounds, 1, 100, 2, 1, 255, 1]);
                 assert!(rt; only.is_empty());
+            }
+            _ => panic!(rt; "a trace"),
+        }
+    }
+}
+
+#[test]
+fn a_trace_has_one_of_four_forms(rt: HostRuntime) {
+    for (option, form) in [
+        ("--timeline", TraceForm::Timeline),
+        ("--svg", TraceForm::Svg),
+        ("--json", TraceForm::Json),
+        ("--to=9", TraceForm::Lines),
+    ] {
+        let words = ["cpm", "trace", "a.cp", "--rounds", "9", option];
+        match read_command(rt.alloc(), words.as_slice()) {
+            Ok(Command::Trace { how, .. }) => {
+                assert!(rt; how.form == form && numbers(how) == [9, 1, 100, 2, 1, 255, 1]);
             }
             _ => panic!(rt; "a trace"),
         }
@@ -103,6 +124,14 @@ fn wrong_words_of_a_trace_are_told(rt: HostRuntime) -> Result<(), Fail> {
             "--only takes names with commas between them, not a,",
         ),
         (&["--chains"], "unexpected argument '--chains'"),
+        (
+            &["--timeline", "--svg"],
+            "the argument '--timeline' cannot be used with '--svg'",
+        ),
+        (
+            &["--json", "--timeline"],
+            "the argument '--json' cannot be used with '--timeline'",
+        ),
     ] {
         let mut words = Vec::new(rt.alloc());
         words.extend_from_slice(&["cpm", "trace", "a.cp", "--rounds", "9"])?;

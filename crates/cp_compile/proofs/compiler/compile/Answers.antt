@@ -7,12 +7,11 @@ use Rattle.cp_compile.proofs.ProgramsCompiled.{planner_is, same_program}
 use Rattle.cp_compile.proofs.compiler.compile.Goals as goal
 
 pub returns-clause-program : goal.returns-clause-program
-returns-clause-program c = λ accepted.
+returns-clause-program c = λ accepted stands.
     let tree = c.args.tree.now in
     let t = text_of tree in
     let g = globals t in
-    let stands = c.in_ok-tables.ensures in
-    let planner = planner_is c.in_ok-tables.tables c.in_ok-planner.planner g tree (ap (λ b. b.now) c.in_ok-planner.ensures.tables) c.in_ok-planner.ensures.knows stands in
+    let planner = planner_is c.args.tables.now c.in_ok-planner.planner g tree (ap (λ b. b.now) c.in_ok-planner.ensures.tables) c.in_ok-planner.ensures.knows stands in
     let made = c.in_ok-code.ensures accepted stands planner in
     let plans = c.in_ok-plans.ensures g tree stands planner in
     let components = c.in_ok-components.ensures stands made plans in

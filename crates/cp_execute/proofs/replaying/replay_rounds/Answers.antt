@@ -3,6 +3,7 @@ use Rattle.std.specs.Prelude.{slice_get}
 use Rattle.cp_model.specs.Rounds.{Event}
 use Rattle.cp_orders.specs.Events.{events_of}
 use Rattle.cp_orders.specs.Rounds.{rounds_of}
+use Rattle.cp_rounds.proofs.After.{text_kept_more}
 use Rattle.cp_execute.specs.Replayed.{MakesReplays}
 use Rattle.cp_execute.proofs.Replays.{none_past, one_more}
 use Rattle.cp_execute.proofs.replaying.replay_rounds.Goals as goal
@@ -24,6 +25,7 @@ loop-k-preserved c =
             made = subst (λ (n : ℕ). MakesReplays t (take n rounds) old w.replay.new.self) (sym next) made;
             count = search rules;
             processes = search rules;
+            text = text_kept_more old c.loop-k.machine w.replay.new.self c.loop-k.invariant.text w.in_ok-replay.ensures.text;
           })
       | in_default w ↦
           let none : slice_get rounds k ≡ None = search rules in
@@ -31,8 +33,8 @@ loop-k-preserved c =
           absurd (none_past k rounds below none)
     ]
 
-pub returns : goal.returns
-returns c =
+pub returns-clause-state : goal.returns-clause-state
+returns-clause-state c =
     let rounds = rounds_of c.args.orders.now in
     let all : length rounds ≤ c.loop-k.k = search rules in
     subst (λ (rs : List (List Event)). MakesReplays c.args.turn.steps rs c.args.machine.now c.loop-k.machine) (take_all c.loop-k.k rounds all) c.loop-k.invariant.made

@@ -12,7 +12,7 @@ pub returns-in_err-orders-clause-refused : goal.returns-in_err-orders-clause-ref
 returns-in_err-orders-clause-refused c =
     let p = err_from_is_err_and c.from_residual-in_err-orders.result c.from_residual-in_err-orders.ensures.1 in
     let t = view.tree c.args.tree.now in
-    let stands : StandsFor (program_view.program c.in_ok-program.program) (setup_of t [] 1) = c.in_ok-program.ensures (setup_of t [] 1) refl in
+    let stands : StandsFor (program_view.program c.in_ok-text.text.program) (setup_of t [] 1) = c.in_ok-text.ensures.program (setup_of t [] 1) refl in
     let count = c.processes.ensures ∙ stands.process_rows in
     rw (p.1, p.2) (subst (λ n. RefusesOrderFor n c.args.order.now c.in_err-orders.field-0.0) count c.in_err-orders.ensures.refused)
 
@@ -24,7 +24,7 @@ returns-clause-report c =
     let t = view.tree c.args.tree.now in
     let order = c.args.order.now in
     let rounds = rounds_of c.in_ok-orders.orders in
-    let stands : StandsFor (program_view.program c.in_ok-program.program) (setup_of t [] 1) = c.in_ok-program.ensures (setup_of t [] 1) refl in
+    let stands : StandsFor (program_view.program c.in_ok-text.text.program) (setup_of t [] 1) = c.in_ok-text.ensures.program (setup_of t [] 1) refl in
     let count = c.processes.ensures ∙ stands.process_rows in
     let told : judge_order t order ≡ Ok rounds = subst (λ n. judge_order_of n order ≡ Ok rounds) count c.in_ok-orders.ensures.order in
     (rounds, told, c.in_ok-bytes.ensures)

@@ -1,8 +1,8 @@
 use Rattle.std.proofs.Common.{ap, refl, subst}
 use Rattle.cp_machine_model.specs.Machines as plain
-use Rattle.cp_model.specs.View as view
 use Rattle.cp_program.specs.View as program_view
 use Rattle.cp_program_model.specs.StandsFor.{StandsFor}
+use Rattle.cp_rounds.proofs.Outcomes.{of_ok}
 use Rattle.cp_accept.specs.Cutting.{AreParts}
 use Rattle.cp_execute.specs.Executed.{setup_of}
 use Rattle.cp_execute.proofs.Starts.{have_inputs}
@@ -10,13 +10,16 @@ use Rattle.cp_execute.proofs.running.machine_at_start.Goals as goal
 
 pub returns-clause-state : goal.returns-clause-state
 returns-clause-state c =
+    of_ok c.new.result
+    (λ machine started t is.
     let input = c.args.input.now in
-    let setup = setup_of (view.tree c.args.tree.now) input c.args.tick.rounds in
-    let program = program_view.program c.in_ok-program.program in
-    let stands : StandsFor program setup = c.in_ok-program.ensures setup refl in
+    let setup = setup_of t input c.args.tick.rounds in
+    let program = program_view.program c.args.program in
+    let stands : StandsFor program setup = is setup refl in
     let inputs = c.in_ok-inputs.inputs.items in
     let parts = subst (λ n. AreParts input n inputs) c.processes.ensures c.in_ok-inputs.ensures.parts in
-    c.in_ok-machine.ensures.state setup stands refl (have_inputs program setup input inputs parts refl)
+    started setup stands refl (have_inputs program setup input inputs parts refl))
+    c.new.ensures.state
 
 pub returns-clause-rounds : goal.returns-clause-rounds
-returns-clause-rounds c = ap (λ (m : plain.Machine). m.rounds) c.in_ok-machine.ensures.start
+returns-clause-rounds c = of_ok c.new.result (λ machine start. ap (λ (m : plain.Machine). m.rounds) start) c.new.ensures.start

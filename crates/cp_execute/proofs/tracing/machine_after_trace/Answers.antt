@@ -1,6 +1,9 @@
 use Rattle.std.proofs.Common.{◌≡◌, ◌∙◌, ◌+◌, ◌-◌, ℕ, ap, arith, subst, sym}
+use Rattle.std.proofs.lemmas.Result.{err_from_is_err_and}
 use Rattle.cp_accept.proofs.Faults.{from_ok}
 use Rattle.cp_machine_model.specs.Machines as plain
+use Rattle.cp_machine_model.specs.InState.{IsIn}
+use Rattle.cp_model.specs.Rounds.{run}
 use Rattle.cp_model.specs.Start.{start}
 use Rattle.cp_model.specs.States.{numbers_from}
 use Rattle.cp_model.specs.View as view
@@ -30,4 +33,11 @@ returns-clause-state g c =
     let told = c.in_ok-trace_rounds.ensures.state in
     let all = more_made t n (how.rounds - n) c.in_ok-machine.machine c.run.new.self c.trace_rounds.new.machine first told in
     let sum : n + (how.rounds - n) ≡ how.rounds = Prim.omega (arith, c.min-untold.ensures) in
-    subst (λ (k : ℕ). MakesRounds t k c.in_ok-machine.machine c.trace_rounds.new.machine) sum all setup (start setup) c.in_ok-machine.ensures.state
+    let begun = c.in_ok-machine.ensures.state (view.tree c.args.tree.now) c.in_ok-compiled.ensures.program in
+    let I = subst (λ (k : ℕ). MakesRounds t k c.in_ok-machine.machine c.trace_rounds.new.machine) sum all setup (start setup) begun in
+    subst (λ m. IsIn m setup (run setup t how.rounds (start setup))) (sym c.halt.ensures) I
+
+pub returns-in_err-trace_rounds-clause-fault : goal.returns-in_err-trace_rounds-clause-fault
+returns-in_err-trace_rounds-clause-fault g c =
+    let p = err_from_is_err_and c.from_residual-in_err-trace_rounds.result c.from_residual-in_err-trace_rounds.ensures.1 in
+    rw (p.1, p.2) c.in_err-trace_rounds.ensures.fault

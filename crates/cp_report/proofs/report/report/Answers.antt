@@ -1,17 +1,20 @@
-use Rattle.std.proofs.Common.{rules, ◌≡◌, ◌++◌, [], map, ap, subst, ◌∙◌}
+use Rattle.std.proofs.Common.{rules, ◌≡◌, ◌++◌, [], map, ap, subst, sym, ◌∙◌}
 use Rattle.cp_rounds.specs.Views.{machine_of}
 use Rattle.cp_model.specs.Abstract.{Monitor, Process}
+use Rattle.cp_model.specs.Declarations.{globals}
 use Rattle.cp_model.specs.Report.{components_of}
 use Rattle.cp_machine_model.specs.Reports.{machine_report}
 use Rattle.cp_scope.specs.Standing.{entry}
+use Rattle.cp_scope.specs.Texts.{TablesStand}
 use Rattle.cp_report.specs.Lists.{AreListed}
 use Rattle.cp_report.proofs.Initial.{listed}
 use Rattle.cp_report.proofs.report.report.Goals as goal
 
 pub returns : goal.returns
 returns c =
-    λ setup text is stand.
-    let tables = c.args.tables.now in
+    λ setup text is stands.
+    let tables = c.tables-tables.result.now in
+    let stand = subst (λ t. TablesStand (globals setup.tree) t text) (sym c.tables-tables.ensures) stands in
     let ms = c.in_ok-roster.roster.monitors.items in
     let ps = c.in_ok-roster.roster.processes.items in
     let same_ms : ms ≡ c.deref.result.now = search rules in

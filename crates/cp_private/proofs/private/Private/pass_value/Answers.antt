@@ -7,13 +7,13 @@ pub returns-in_err-n-clause-step : goal.returns-in_err-n-clause-step
 returns-in_err-n-clause-step c =
     λ own.
     let given : c.from_residual.result ≡ Err c.in_err-n.field-0.0 = search rules in
-    let is = sym c.in_err-n.was ∙ c.evaluate_here.ensures c.args.outside.now.input.now own in
+    let is = sym c.in_err-n.was ∙ c.evaluate.ensures c.args.outside.now.input.now own in
     rw (given, ← is) refl
 
 pub returns-then-not-contain-clause-step : goal.returns-then-not-contain-clause-step
 returns-then-not-contain-clause-step c =
     λ own.
-    let is = sym c.in_ok-n.was ∙ c.evaluate_here.ensures c.args.outside.now.input.now own in
+    let is = sym c.in_ok-n.was ∙ c.evaluate.ensures c.args.outside.now.input.now own in
     let outside : within c.args.low.now c.args.high.now c.in_ok-n.n ≡ false = search rules in
     rw (← is, outside) refl
 
@@ -21,7 +21,7 @@ pub returns-clause-step : goal.returns-clause-step
 returns-clause-step c =
     λ own.
     let input = c.args.outside.now.input.now in
-    let is = sym c.in_ok-n.was ∙ c.evaluate_here.ensures input own in
+    let is = sym c.in_ok-n.was ∙ c.evaluate.ensures input own in
     let inside : within c.args.low.now c.args.high.now c.in_ok-n.n ≡ true = search rules in
     let whole : to_z w32 (of_z w32 c.in_ok-n.n) ≡ c.in_ok-n.n = search rules in
     let written = rw whole at (c.set_word.ensures.step input c.args.at (omega (arith, c.requires.at))) in

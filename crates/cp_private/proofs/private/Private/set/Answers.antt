@@ -1,9 +1,6 @@
 use Rattle.std.proofs.Common.{rules, ◌≡◌, to_z, of_z, Err, length, refl, ap, sym, ◌∙◌}
 use Rattle.std.specs.Int.{w32}
 use Rattle.cp_machine_model.specs.Steps.{set_within}
-use Rattle.cp_machine_model.specs.Values.{place_of, value_of}
-use Rattle.cp_program.specs.Reaches.{capped_result}
-use Rattle.cp_program.specs.View as view
 use Rattle.cp_private.specs.States.{join, outcome}
 use Rattle.cp_private.proofs.Results.{placed, unplaced}
 use Rattle.cp_private.proofs.private.Private.set.Goals as goal
@@ -12,7 +9,7 @@ pub returns-in_err-at-clause-step : goal.returns-in_err-at-clause-step
 returns-in_err-at-clause-step c =
     let own = length c.args.self.now.memory.words.items in
     let input = c.args.outside.now.input.now in
-    let place = c.place.ensures ∙ ap (λ v. capped_result (place_of v (view.spot c.args.to.now))) (c.reach-reach.ensures input own) in
+    let place = c.place.ensures input own in
     let given : c.from_residual.result ≡ Err c.in_err-at.field-0.0 = search rules in
     let is = unplaced _ _ (sym c.in_err-at.was ∙ place) in
     rw (given, is) refl
@@ -21,19 +18,19 @@ pub returns-in_err-n-clause-step : goal.returns-in_err-n-clause-step
 returns-in_err-n-clause-step c =
     let own = length c.args.self.now.memory.words.items in
     let input = c.args.outside.now.input.now in
-    let place = c.place.ensures ∙ ap (λ v. capped_result (place_of v (view.spot c.args.to.now))) (c.reach-reach.ensures input own) in
+    let place = c.place.ensures input own in
     let given : c.from_residual-in_err-n.result ≡ Err c.in_err-n.field-0.0 = search rules in
     let found = placed _ _ (sym c.in_ok-at.was ∙ place) in
-    let is = sym c.in_err-n.was ∙ (c.value_here.ensures ∙ ap (λ v. value_of v (view.term c.args.value.now)) (c.reach-reach.ensures input own)) in
+    let is = sym c.in_err-n.was ∙ c.evaluate.ensures input own in
     rw (given, found.1, ← is) refl
 
 pub returns-clause-step : goal.returns-clause-step
 returns-clause-step c =
     let own = length c.args.self.now.memory.words.items in
     let input = c.args.outside.now.input.now in
-    let place = c.place.ensures ∙ ap (λ v. capped_result (place_of v (view.spot c.args.to.now))) (c.reach-reach.ensures input own) in
+    let place = c.place.ensures input own in
     let found = placed _ _ (sym c.in_ok-at.was ∙ place) in
-    let is = sym c.in_ok-n.was ∙ (c.value_here.ensures ∙ ap (λ v. value_of v (view.term c.args.value.now)) (c.reach-reach.ensures input own)) in
+    let is = sym c.in_ok-n.was ∙ c.evaluate.ensures input own in
     let whole : to_z w32 (of_z w32 c.in_ok-n.n) ≡ c.in_ok-n.n = search rules in
     let o = join c.args.self.now input c.args.shared.now in
     let low = c.args.low.now in

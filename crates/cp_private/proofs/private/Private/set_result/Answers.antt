@@ -9,7 +9,7 @@ returns-in_err-n-clause-step c =
     let own = length c.args.self.now.memory.words.items in
     let input = c.args.outside.now.input.now in
     let given : c.from_residual.result ≡ Err c.in_err-n.field-0.0 = search rules in
-    let is = sym c.in_err-n.was ∙ c.evaluate_here.ensures input own in
+    let is = sym c.in_err-n.was ∙ c.evaluate.ensures input own in
     rw (given, ← is) refl
 
 pub returns-clause-step : goal.returns-clause-step
@@ -17,7 +17,7 @@ returns-clause-step c =
     let own = length c.args.self.now.memory.words.items in
     let input = c.args.outside.now.input.now in
     let base = c.args.self.now.memory.base in
-    let is = sym c.in_ok-n.was ∙ c.evaluate_here.ensures input own in
+    let is = sym c.in_ok-n.was ∙ c.evaluate.ensures input own in
     let whole : to_z w32 (of_z w32 c.in_ok-n.n) ≡ c.in_ok-n.n = search rules in
     let o = join c.args.self.now input c.args.shared.now in
     let low = c.args.low.now in

@@ -1,8 +1,9 @@
-use Rattle.std.proofs.Common.{rules, ◌≡◌, ◌++◌}
+use Rattle.std.proofs.Common.{rules, ◌≡◌, ◌++◌, ap, sym, ◌∙◌}
 use Rattle.std.proofs.lemmas.Result.{on_ok_weaker}
 use Rattle.cp_kernel.specs.KernelOf.{kernel_of}
 use Rattle.cp_model.specs.Declarations.{globals}
 use Rattle.cp_private.specs.States.{holder}
+use Rattle.cp_machine_model.specs.KernelSteps.{gate_of}
 use Rattle.cp_program.specs.View as view
 use Rattle.cp_report.specs.Lines.{gate_line_of}
 use Rattle.cp_report.specs.Subjects.{machine_in}
@@ -14,10 +15,14 @@ returns c =
     on_ok_weaker c.component.result
     (λ told setup t of stands.
     let m = machine_in c.args.self.now in
+    let n = c.args.number in
     let x = c.args.name.now in
     let out = c.args.out.now.items in
-    let line : c.push_gate_line.new.out.items ≡ out ++ gate_line_of x (holder c.holder.result) c.askers.result.now = search rules in
-    monitor_told setup m c.args.number x t (kernel_of c.kernel-kernel.result.now) (view.program c.program.result.now) (holder c.holder.result) c.askers.result.now c.monitor_start-start.result out
-    c.push_gate_line.new.out.items c.component.new.out.items c.kernel-kernel.ensures.kernel c.program.ensures c.holder.ensures c.askers.ensures c.monitor_start-start.ensures line
+    let k = kernel_of c.kernel.result.now in
+    let is = c.kernel.ensures.kernel in
+    let line : c.push_gate_line.new.out.items ≡ out ++ gate_line_of x (holder c.gate.result) c.askers-askers.result.now = search rules in
+    monitor_told setup m n x t k (view.program c.program.result.now) (holder c.gate.result) c.askers-askers.result.now c.monitor_start-start.result out c.push_gate_line.new.out.items
+    c.component.new.out.items is c.program.ensures (c.gate.ensures.part ∙ sym (ap (λ j. (gate_of j.gates n).holder) is))
+    (c.askers-askers.ensures.part ∙ sym (ap (λ j. (gate_of j.gates n).askers) is)) c.monitor_start-start.ensures line
     (told (globals setup.tree) t of.0 stands))
     c.component.ensures

@@ -16,7 +16,7 @@ returns-in-Ok-clause-made g c =
           (subst (λ (p : Parts). IfOk c.make_rounds_of-parts.result.1 (λ x. PartsAfter old.setting t old.rounds n p after)) taken c.make_rounds_of-parts.ensures.made);
       processes = subst (λ (p : Parts). length after.privates.items ≡ length p.privates.items) taken c.make_rounds_of-parts.ensures.count;
       rounds = refl;
-      setting = refl;
+      text = record { setting = refl; tables = refl };
     }
 
 pub returns-in-Err-clause-partly : goal.returns-in-Err-clause-partly
@@ -33,6 +33,6 @@ returns-in-Err-clause-partly g c =
         made = partly.1;
         processes = subst (λ (p : Parts). length after.privates.items ≡ length p.privates.items) taken c.make_rounds_of-parts.ensures.count;
         rounds = refl;
-        setting = refl;
+        text = record { setting = refl; tables = refl };
       },
     )

@@ -1,0 +1,114 @@
+//! Progress: the round that is being made, on a line of standard error, once a second.
+
+use cp_rounds::gate::TurnGate;
+use std::io::{self, Write};
+use std::rt::Clock;
+use std::sync::atomic::{AtomicBool, AtomicU64, Ordering};
+
+// How often the round is shown, in milliseconds.
+const PERIOD: u64 = 1_000;
+
+/// A gate that counts rounds and shows the round that is being made, if that is asked for. An
+/// outcome may go back and make some rounds again, which count again.
+#[derive(Drop)]
+pub(crate) struct Progress<'a, H> {
+    rt: &'a H,
+    is_asked_for: bool,
+    /// The number of rounds that were begun.
+    round: AtomicU64,
+    /// When the round is to be shown next, in milliseconds of the clock.
+    next: AtomicU64,
+    /// Whether the line shows a round now.
+    is_shown: AtomicBool,
+}
+
+// The time in milliseconds from an arbitrary start, or 0 if there is no clock.
+fn now(clock: &impl Clock) -> u64 {
+    match clock.monotonic() {
+        Ok(time) => u64::try_from(time.as_millis()).unwrap_or(0),
+        Err(_) => 0,
+    }
+}
+
+impl<'a, H: Clock + Eprint> Progress<'a, H> {
+    /// Returns the gate of a run that begins now.
+    pub(crate) fn of(rt: &'a H, is_asked_for: bool) -> Progress<'a, H> {
+        let next = if is_asked_for {
+            now(rt).saturating_add(PERIOD)
+        } else {
+            u64::MAX
+        };
+        Progress {
+            rt,
+            is_asked_for,
+            round: AtomicU64::new(0),
+            next: AtomicU64::new(next),
+            is_shown: AtomicBool::new(false),
+        }
+    }
+
+    // A round begins. Only one thread begins rounds.
+    fn count(&self) {
+        let round = self.round.fetch_add(1, Ordering::SeqCst).saturating_add(1);
+        let now = now(self.rt);
+        if self.next.load(Ordering::SeqCst) <= now {
+            self.next
+                .store(now.saturating_add(PERIOD), Ordering::SeqCst);
+            self.is_shown.store(true, Ordering::SeqCst);
+            // Nobody misses what can't be written there.
+            let _ = eprint!(self.rt; "\rround {round}");
+        }
+    }
+
+    /// Erases the line.
+    pub(crate) fn erase(&self) {
+        if self.is_shown.swap(false, Ordering::SeqCst) {
+            let _ = eprint!(self.rt; "\r\x1b[K");
+        }
+    }
+
+    /// Returns a writer that erases the line whenever it writes to another, since both may be shown
+    /// on one terminal.
+    pub(crate) fn beside<'p, W: Write>(&'p self, out: W) -> Beside<'p, 'a, H, W> {
+        Beside {
+            progress: self,
+            out,
+        }
+    }
+}
+
+impl<H: Clock + Eprint + Sync> TurnGate for Progress<'_, H> {
+    fn begin(&self, _p: usize) {}
+
+    fn kernel(&self, p: usize) {
+        if p == 1 && self.is_asked_for {
+            self.count();
+        }
+    }
+
+    // No thread waits for these calls.
+    fn does_nothing(&self) -> bool {
+        true
+    }
+}
+
+/// A writer beside a line of progress.
+#[derive(Drop)]
+pub(crate) struct Beside<'p, 'a, H, W> {
+    progress: &'p Progress<'a, H>,
+    out: W,
+}
+
+impl<H: Clock + Eprint, W: Write> Write for Beside<'_, '_, H, W> {
+    ghost contents = { λ beside. W.contents beside.out };
+
+    fn write(&mut self, bytes: &[u8]) -> io::Result<usize> {
+        self.progress.erase();
+        self.out.write(bytes)
+    }
+
+    fn flush(&mut self) -> io::Result<()> {
+        self.progress.erase();
+        self.out.flush()
+    }
+}

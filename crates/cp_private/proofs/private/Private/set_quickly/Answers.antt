@@ -1,0 +1,20 @@
+use Rattle.std.proofs.Common.{rules, ◌≡◌, [], Ok, to_z, of_z, ap, ◌∙◌}
+use Rattle.std.specs.Int.{w32}
+use Rattle.cp_machine_model.specs.PrivateStates.{view_of}
+use Rattle.cp_machine_model.specs.Steps.{set_within}
+use Rattle.cp_machine_model.specs.Values.{place_of, value_of}
+use Rattle.cp_program.specs.View as view
+use Rattle.cp_private.specs.States.{join}
+use Rattle.cp_private.proofs.private.Private.set_quickly.Goals as goal
+
+pub returns-clause-step : goal.returns-clause-step
+returns-clause-step c =
+    λ yes w input.
+    let o = join c.args.self.now input [] in
+    let at = c.in-Some-near_place.at in
+    let n = c.in-Some.n in
+    let placed : place_of (view_of w o) (view.spot c.args.to.now) ≡ Ok at = c.in-Some-near_place.ensures w.clock in
+    let valued : value_of (view_of w o) (view.term c.args.value.now) ≡ Ok n = c.in-Some.ensures w.clock in
+    let whole : to_z w32 (of_z w32 n) ≡ n = search rules in
+    rw (placed, valued)
+    (c.write_within.ensures.step yes input ∙ ap (λ k. (set_within o c.args.low.now c.args.high.now at k c.args.next.now).0) whole)

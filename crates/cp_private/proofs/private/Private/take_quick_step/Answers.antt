@@ -1,0 +1,20 @@
+use Rattle.std.proofs.Common.{ap, sym, ◌∙◌, []}
+use Rattle.cp_machine_model.specs.Steps.{act}
+use Rattle.cp_program.specs.View as view
+use Rattle.cp_private.specs.States.{join}
+use Rattle.cp_private.proofs.private.Private.take_quick_step.Goals as goal
+
+pub returns-in-Set-clause-step : goal.returns-in-Set-clause-step
+returns-in-Set-clause-step c =
+    λ yes program w input.
+    c.set_quickly.ensures.step yes w input ∙ sym (ap (λ x. (act program w (join c.args.self.now input []) (view.operation x)).0) c.in-Set.is)
+
+pub returns-in-SetResult-clause-step : goal.returns-in-SetResult-clause-step
+returns-in-SetResult-clause-step c =
+    λ yes program w input.
+    c.set_result_quickly.ensures.step yes w input ∙ sym (ap (λ x. (act program w (join c.args.self.now input []) (view.operation x)).0) c.in-SetResult.is)
+
+pub returns-in-Test-clause-step : goal.returns-in-Test-clause-step
+returns-in-Test-clause-step c =
+    λ yes program w input.
+    c.test_quickly.ensures.step yes w input ∙ sym (ap (λ x. (act program w (join c.args.self.now input []) (view.operation x)).0) c.in-Test.is)

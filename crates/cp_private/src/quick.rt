@@ -1,0 +1,126 @@
+//! The commonest private steps, made in registers.
+//!
+//! A step that isn't made here, since it faults or since its terms go deeper, has changed nothing,
+//! and is made as any other step is.
+
+ghost use Rattle.std.specs.Prelude.{◌≡◌, false, true, ℕ, List, [], pos, if◌then◌else◌};
+ghost use Rattle.cp_private.specs.Keeping.{KeepsOwn};
+ghost use Rattle.cp_private.specs.Quick.{Makes};
+ghost use Rattle.cp_private.specs.States.{IsReady, join};
+ghost use Rattle.cp_model.specs.Integers.{same_integer};
+ghost use Rattle.cp_machine_model.specs.PrivateStates.{Outside, go_to, private_outcome};
+ghost use Rattle.cp_machine_model.specs.Steps as plain;
+ghost use Rattle.cp_program.specs.View as view;
+
+use crate::assignments::Bounds;
+use crate::private::Private;
+use cp_program::operation::Operation;
+use cp_program::term::{Spot, Term};
+
+impl Private {
+    // Writes a word, if the value is within its bounds.
+    #[inline(always)]
+    fn write_within(&mut self, at: usize, n: i32, low: &i32, high: &i32, next: &u32) -> bool
+        ensures step { result ≡ true → (input : List ℕ)
+            → join self.new input [] ≡ (plain.set_within (join self.old input []) low.now high.now
+            at n next.now).0 }
+        ensures same { result ≡ false → self.new ≡ self.old }
+        ensures kept { KeepsOwn self.old self.new }
+        ensures ready { IsReady self.old → IsReady self.new }
+    {
+        if !Bounds::new(*low, *high).contain(n) {
+            return false;
+        }
+        self.set_word(&mut [], at, n);
+        self.counter = *next;
+        true
+    }
+
+    #[inline(always)]
+    fn set_quickly(&mut self, to: &Spot, value: &Term, low: &i32, high: &i32, next: &u32) -> bool
+        ensures step { result ≡ true → (w : Outside) (input : List ℕ)
+            → let o = join self.old input [] in join self.new input []
+            ≡ (plain.with_place w o (view.spot to.now) (λ at. plain.with_value w o
+            (view.term value.now) (λ n. plain.set_within o low.now high.now at n next.now))).0 }
+        ensures same { result ≡ false → self.new ≡ self.old }
+        ensures kept { KeepsOwn self.old self.new }
+        ensures ready { IsReady self.old → IsReady self.new }
+    {
+        // Both are found or nothing is done, so the place needn't be kept while the value is found.
+        let Some(n) = value.near_value(&self.memory, &[]) else {
+            return false;
+        };
+        let Some(at) = to.near_place(&self.memory, &[]) else {
+            return false;
+        };
+        self.write_within(at, n, low, high, next)
+    }
+
+    #[inline(always)]
+    fn set_result_quickly(&mut self, value: &Term, low: &i32, high: &i32, next: &u32) -> bool
+        ensures step { result ≡ true → (w : Outside) (input : List ℕ)
+            → let o = join self.old input [] in join self.new input []
+            ≡ (plain.with_value w o (view.term value.now) (λ n. plain.set_within o low.now high.now
+            o.base n next.now)).0 }
+        ensures same { result ≡ false → self.new ≡ self.old }
+        ensures kept { KeepsOwn self.old self.new }
+        ensures ready { IsReady self.old → IsReady self.new }
+    {
+        let Some(n) = value.near_value(&self.memory, &[]) else {
+            return false;
+        };
+        let at = self.memory.base as usize;
+        self.write_within(at, n, low, high, next)
+    }
+
+    #[inline(always)]
+    fn test_quickly(&mut self, value: &Term, yes: &u32, no: &u32) -> bool
+        ensures step { result ≡ true → (w : Outside) (input : List ℕ)
+            → let o = join self.old input [] in join self.new input []
+            ≡ (plain.with_value w o (view.term value.now) (λ n. private_outcome (go_to (if
+            same_integer n (pos 1) then yes.now else no.now) o))).0 }
+        ensures same { result ≡ false → self.new ≡ self.old }
+        ensures kept { KeepsOwn self.old self.new }
+        ensures ready { IsReady self.old → IsReady self.new }
+    {
+        let Some(n) = value.near_value(&self.memory, &[]) else {
+            return false;
+        };
+        self.counter = if n == 1 { *yes } else { *no };
+        true
+    }
+
+    /// Makes the step of an assignment or of a choice where that takes no more than registers.
+    /// Returns whether it did, and otherwise changes nothing.
+    #[inline(always)]
+    pub(crate) fn take_quick_step(&mut self, operation: &Operation) -> bool
+        ensures step { result ≡ true → Makes (view.operation operation.now) self.old self.new }
+        ensures private { result ≡ true
+            → plain.is_kernel_operation (view.operation operation.now) ≡ false }
+        ensures same { result ≡ false → self.new ≡ self.old }
+        ensures kept { KeepsOwn self.old self.new }
+        ensures ready { IsReady self.old → IsReady self.new }
+    {
+        match operation {
+            Operation::Set {
+                to,
+                low,
+                high,
+                value,
+                next,
+            } => self.set_quickly(to, value, low, high, next),
+            Operation::SetResult {
+                low,
+                high,
+                value,
+                next,
+            } => self.set_result_quickly(value, low, high, next),
+            Operation::Test { value, yes, no } => self.test_quickly(value, yes, no),
+            Operation::Cycle { body } => {
+                self.counter = *body;
+                true
+            }
+            _ => false,
+        }
+    }
+}

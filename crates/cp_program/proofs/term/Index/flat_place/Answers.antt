@@ -1,0 +1,21 @@
+use Rattle.std.proofs.Common.{rules, ◌≡◌, ap, sym, ◌∙◌, ◌+◌, Ok}
+use Rattle.cp_machine_model.specs.Values.{bind, value_of}
+use Rattle.cp_program.specs.Reaches.{offset_of, view_with}
+use Rattle.cp_program.specs.View as view
+use Rattle.cp_program.proofs.Chains.{index_is}
+use Rattle.cp_program.proofs.Found.{found, told}
+use Rattle.cp_program.proofs.term.Index.flat_place.Goals as goal
+
+pub returns : goal.returns
+returns c clock =
+    let v = view_with c.args.memory.now c.args.shared.now clock in
+    let from = c.args.from in
+    let i = view.index c.args.self.now in
+    let n = c.in_ok-n.n in
+    let far = c.in_ok-far.far in
+    let valued : value_of v i.value ≡ Ok n = ap (λ x. value_of v x.value) (index_is c.args.self.now) ∙ told _ n _ c.in_ok-n.was (c.flat_value.ensures clock) in
+    let moved : offset_of i n ≡ Ok far = search rules in
+    found c.checked_add.result (Ok (from + far)) _
+    (ap (λ r. bind r (λ k. Ok (from + k))) (sym moved)
+    ∙ ap (λ r. bind r (λ m. bind (offset_of i m) (λ k. Ok (from + k)))) (sym valued))
+    (search rules)

@@ -1,0 +1,21 @@
+use Rattle.std.proofs.Common.{ap, sym, ◌∙◌, map}
+use Rattle.cp_program_model.specs.Terms as terms
+use Rattle.cp_machine_model.specs.Values.{place_of}
+use Rattle.cp_program.specs.declared.term.Spot.{out-Spot}
+use Rattle.cp_program.specs.Reaches.{elements_place, view_with}
+use Rattle.cp_program.specs.View as view
+use Rattle.cp_program.proofs.Chains.{place_elements, spot_is}
+use Rattle.cp_program.proofs.Found.{found}
+use Rattle.cp_program.proofs.term.Spot.place_of_indices.Goals as goal
+
+pub returns : goal.returns
+returns c clock =
+    let v = view_with c.args.memory.now c.args.shared.now clock in
+    let s = c.args.self.now in
+    let is = map view.index (out-Spot s).indices.items in
+    found c.flat_place_of_element.result _ _
+    (ap (λ xs. elements_place v c.root_place-from.result (map view.index xs)) c.deref.ensures.value
+    ∙ (ap (λ n. elements_place v n is) (c.root_place-from.ensures.place clock)
+    ∙ (sym (place_elements v (terms.Rooted (view.root (out-Spot s).root)) is)
+    ∙ ap (place_of v) (sym (spot_is s)))))
+    (c.flat_place_of_element.ensures clock)

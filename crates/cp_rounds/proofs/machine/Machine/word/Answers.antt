@@ -1,0 +1,17 @@
+use Rattle.std.proofs.Common.{rules, ◌≡◌, ◌-◌, List, [], ℤ, None, Option, Some, slice_get, sym, ap, ◌∙◌, of_z, to_z, w32}
+use Rattle.std.specs.Prelude.{option_map}
+use Rattle.cp_program_model.specs.Starts.{word}
+use Rattle.cp_private.specs.States.{private_of}
+use Rattle.cp_machine_model.specs.PrivateStates.{PrivateState}
+use Rattle.cp_rounds.specs.MachineOf.{input_of}
+use Rattle.cp_rounds.specs.Views.{machine_of}
+use Rattle.cp_rounds.proofs.machine.Machine.word.Goals as goal
+
+pub returns-in-Some : goal.returns-in-Some
+returns-in-Some c =
+    let same : to_z w32 (of_z w32 c.value.result) ≡ c.value.result = search rules in
+    let parts = (machine_of c.args.self.now).parts in
+    let input = input_of c.args.self.now.setting.inputs.items c.args.p in
+    let there : slice_get parts (c.args.p - 1) ≡ Some (private_of c.in-Some.private.now input) =
+    sym c.private.ensures ∙ ap (option_map (λ x. private_of x.now input)) c.in-Some.is in
+    same ∙ (c.value.ensures input ∙ ap (λ (o : Option PrivateState). word (elim o as (λ x. List ℤ) [ None ↦ [] | Some q ↦ q.words ]) c.args.at) (sym there))

@@ -1,0 +1,2 @@
+pub mod ObjectLines
+pub mod Parts

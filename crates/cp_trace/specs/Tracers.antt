@@ -1,0 +1,34 @@
+-- What a tracer tells, by its form.
+use Rattle.std.specs.Prelude.{ℕ, List}
+use Rattle.cp_trace.specs.Telling.{AreObjects, IsAnything, IsRound, IsSomething}
+use Rattle.cp_trace.specs.declared.tracer.TraceForm.{TraceForm}
+use Rattle.cp_trace.specs.declared.tracer.TraceForm.TheVariants as form
+use Rattle.cp_trace.specs.declared.tracer.Tracer.{Tracer}
+use Rattle.cp_trace.specs.declared.tracer.Tracer.TheVariants as tracer
+
+abbrev pub form_of : Tracer → TraceForm
+form_of (tracer.Lines trace) = form.Lines
+form_of (tracer.Json trace) = form.Json
+form_of (tracer.Timeline timeline) = form.Timeline
+form_of (tracer.Svg picture) = form.Svg
+
+-- What is told before the end.
+abbrev pub IsPart : TraceForm → List ℕ → Type 0
+IsPart form.Lines bytes = IsAnything bytes
+IsPart form.Json bytes = AreObjects bytes
+IsPart form.Timeline bytes = IsAnything bytes
+IsPart form.Svg bytes = IsAnything bytes
+
+-- What is told at once of a round.
+abbrev pub TellsRound : TraceForm → ℕ → List ℕ → Type 0
+TellsRound form.Lines n bytes = IsRound n bytes
+TellsRound form.Json n bytes = AreObjects bytes
+TellsRound form.Timeline n bytes = IsAnything bytes
+TellsRound form.Svg n bytes = IsAnything bytes
+
+-- What is told up to the end, and also what is told at the end.
+abbrev pub IsTrace : TraceForm → List ℕ → Type 0
+IsTrace form.Lines bytes = IsAnything bytes
+IsTrace form.Json bytes = AreObjects bytes
+IsTrace form.Timeline bytes = IsSomething bytes
+IsTrace form.Svg bytes = IsSomething bytes

@@ -1,0 +1,125 @@
+//! Stretches of rounds in which a process or a monitor is the same, and what is said of them.
+
+use crate::colours::colour;
+use crate::grid::Cell;
+use cp_page::page::Page;
+use cp_report::roster::Roster;
+use cp_report::status::fault_number;
+use std::alloc::{AllocError, Global};
+
+/// Cells of a row that are the same, from a column up to another.
+#[derive(Clone, Copy, Debug)]
+pub(crate) struct Bar {
+    pub(crate) cell: Cell,
+    pub(crate) from: usize,
+    pub(crate) end: usize,
+}
+
+/// Returns the stretches of cells, in their order. The first cell is that of column 0.
+pub(crate) fn bars(alloc: Global, cells: &[Cell]) -> Result<Vec<Bar>, AllocError> {
+    let mut bars: Vec<Bar> = Vec::new(alloc);
+    for (from, cell) in cells.iter().enumerate() {
+        let end = from.saturating_add(1);
+        match bars.last_mut() {
+            Some(bar) if bar.cell == *cell => bar.end = end,
+            _ => {
+                bars.push(Bar {
+                    cell: *cell,
+                    from,
+                    end,
+                })?;
+            }
+        }
+    }
+    Ok(bars)
+}
+
+// What a cell is, in a word.
+fn word_of(cell: Cell) -> &'static str {
+    match cell {
+        Cell::Unstarted => "unstarted",
+        Cell::Ready => "ready",
+        Cell::Waiting => "waiting",
+        Cell::Asking(_) => "asking",
+        Cell::Delayed(_) => "delayed",
+        Cell::Ended => "ended",
+        Cell::Fault(_) => "fault",
+        Cell::Unset => "unset",
+        Cell::Free => "free",
+        Cell::Held(_) => "held by",
+    }
+}
+
+// The longest text of at most so many characters, or none.
+fn that_fits(long: Page, short: Page, most: usize) -> Option<Page> {
+    if long.as_bytes().len() <= most {
+        Some(long)
+    } else if short.as_bytes().len() <= most {
+        Some(short)
+    } else {
+        None
+    }
+}
+
+impl Bar {
+    /// The class of its colour.
+    pub(crate) fn class(&self) -> &'static [u8] {
+        match self.cell {
+            Cell::Unstarted | Cell::Unset => b"unset",
+            Cell::Ready => b"ready",
+            Cell::Waiting => b"waiting",
+            Cell::Asking(_) => b"asking",
+            Cell::Delayed(_) => b"delayed",
+            Cell::Ended => b"ended",
+            Cell::Fault(_) => b"fault",
+            Cell::Free => b"free",
+            Cell::Held(process) => colour(process),
+        }
+    }
+
+    // Returns the name of the monitor that is asked for or delayed in, that of the holder of a gate,
+    // or the number of a fault. Other cells have nothing of the kind.
+    fn about(&self, alloc: Global, roster: &Roster<'_>) -> Result<Option<Page>, AllocError> {
+        let mut page = Page::new(alloc);
+        match self.cell {
+            Cell::Asking(monitor) | Cell::Delayed(monitor) => {
+                page.bytes(roster.monitor_name(monitor))?;
+            }
+            Cell::Held(process) => page.bytes(roster.process_name(process))?,
+            Cell::Fault(fault) => page.number(fault_number(fault) as usize)?,
+            _ => return Ok(None),
+        }
+        Ok(Some(page))
+    }
+
+    /// Returns what it is in words, such as `delayed table`, `held by a`, `fault 3` or `ready`.
+    pub(crate) fn words(&self, alloc: Global, roster: &Roster<'_>) -> Result<Page, AllocError> {
+        let mut words = Page::new(alloc);
+        words.text(word_of(self.cell))?;
+        if let Some(about) = self.about(alloc, roster)? {
+            words.bytes(b" ")?;
+            words.bytes(about.as_bytes())?;
+        }
+        Ok(words)
+    }
+
+    /// Returns what stands on it, in at most so many characters: of a gate the name or the number of
+    /// its holder, of other cells the words or what they are about. Nothing does if none is short
+    /// enough, or if the colour says all.
+    pub(crate) fn caption(
+        &self,
+        alloc: Global,
+        roster: &Roster<'_>,
+        most: usize,
+    ) -> Result<Option<Page>, AllocError> {
+        let Some(about) = self.about(alloc, roster)? else {
+            return Ok(None);
+        };
+        if let Cell::Held(process) = self.cell {
+            let mut number = Page::new(alloc);
+            number.number(process as usize)?;
+            return Ok(that_fits(about, number, most));
+        }
+        Ok(that_fits(self.words(alloc, roster)?, about, most))
+    }
+}

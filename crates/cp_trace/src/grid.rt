@@ -1,0 +1,142 @@
+//! What the processes and monitors of a machine are after each of some rounds.
+
+use crate::members::{chosen, name_of};
+use cp_model::state::Fault;
+use cp_private::outside::Holder;
+use cp_report::roster::{Member, Roster};
+use cp_rounds::machine::Machine;
+use cp_rounds::state::ProcState;
+use cp_scope::Tables;
+use std::alloc::{AllocError, Global};
+
+/// What a process or a monitor is after a round. The numbers are those of monitors and, in `Held`,
+/// of a process.
+#[derive(Clone, Copy, Debug, PartialEq, Eq)]
+pub(crate) enum Cell {
+    Unstarted,
+    Ready,
+    Waiting,
+    Asking(u32),
+    Delayed(u32),
+    Ended,
+    Fault(Fault),
+    Unset,
+    Free,
+    Held(u32),
+}
+
+/// A process or a monitor, and a cell for each round.
+#[derive(Drop)]
+pub(crate) struct Row<'t> {
+    pub(crate) member: Member,
+    pub(crate) name: &'t str,
+    pub(crate) cells: Vec<Cell>,
+}
+
+/// The processes and monitors of which a trace tells, with what they are after each of some rounds.
+#[derive(Drop)]
+pub(crate) struct Grid<'t> {
+    pub(crate) alloc: Global,
+    pub(crate) roster: Roster<'t>,
+    pub(crate) rows: Vec<Row<'t>>,
+    /// The round of the first cells.
+    pub(crate) first: u64,
+    /// The number of rounds.
+    pub(crate) columns: usize,
+}
+
+fn cell_of_process(machine: &Machine, number: u32) -> Cell {
+    match machine.state(number) {
+        ProcState::Unstarted => Cell::Unstarted,
+        // A process is fresh only within the round that starts it.
+        ProcState::Fresh | ProcState::Ready => Cell::Ready,
+        ProcState::Asking(monitor) => Cell::Asking(monitor),
+        ProcState::Delayed { monitor, queue: _ } => Cell::Delayed(monitor),
+        ProcState::Waiting => Cell::Waiting,
+        ProcState::Ended => Cell::Ended,
+        ProcState::Faulted(fault) => Cell::Fault(fault),
+    }
+}
+
+fn cell_of_monitor(machine: &Machine, number: u32) -> Cell {
+    match machine.gate(number) {
+        Holder::Unset => Cell::Unset,
+        Holder::Free => Cell::Free,
+        Holder::Process(process) => Cell::Held(process),
+    }
+}
+
+fn cell_of(machine: &Machine, member: Member) -> Cell {
+    match member {
+        Member::Process(number) => cell_of_process(machine, number),
+        Member::Monitor(number) => cell_of_monitor(machine, number),
+    }
+}
+
+impl<'t> Grid<'t> {
+    /// Returns the grid of a machine that is to make rounds, without cells. The machine runs the
+    /// program of a text with these tables. The names in `only` are those of a `Tracer`.
+    ///
+    /// # Errors
+    ///
+    /// `AllocError` if memory runs out.
+    pub(crate) fn of(
+        alloc: Global,
+        tables: &Tables<'t>,
+        machine: &Machine,
+        only: &[&str],
+    ) -> Result<Grid<'t>, AllocError> {
+        let roster = Roster::of(alloc, tables)?;
+        let mut rows = Vec::new(alloc);
+        for member in chosen(alloc, &roster, only)? {
+            rows.push(Row {
+                member,
+                name: name_of(&roster, member),
+                cells: Vec::new(alloc),
+            })?;
+        }
+        Ok(Grid {
+            alloc,
+            roster,
+            rows,
+            first: machine.rounds().saturating_add(1),
+            columns: 0,
+        })
+    }
+
+    /// Adds a cell to each row, as the machine is after a round.
+    ///
+    /// # Errors
+    ///
+    /// `AllocError` if memory runs out. The grid is then of no more use.
+    pub(crate) fn see(&mut self, machine: &Machine) -> Result<(), AllocError> {
+        for row in self.rows.iter_mut() {
+            row.cells.push(cell_of(machine, row.member))?;
+        }
+        self.columns = self.columns.saturating_add(1);
+        Ok(())
+    }
+
+    /// Drops all cells. The next ones are those of the round that comes next.
+    pub(crate) fn clear(&mut self) {
+        for row in self.rows.iter_mut() {
+            row.cells.clear();
+        }
+        self.first = self.round(self.columns);
+        self.columns = 0;
+    }
+
+    /// Returns the round of a column.
+    pub(crate) fn round(&self, column: usize) -> u64 {
+        self.first.saturating_add(column as u64)
+    }
+
+    /// Returns the length of the longest name.
+    pub(crate) fn longest_name(&self) -> usize {
+        self.rows
+            .iter()
+            .map(|row| row.name.len())
+            .max()
+            .unwrap_or(0)
+    }
+}

@@ -1,0 +1,54 @@
+//! The processes and monitors of which a trace tells, and their names.
+
+use cp_report::roster::{Member, Roster};
+use cp_scope::small_number;
+use std::alloc::{AllocError, Global};
+
+/// Returns bytes of a name, a path or a transcript as a string. They are ASCII, as texts are.
+pub(crate) fn word(bytes: &[u8]) -> &str {
+    str::from_utf8(bytes).unwrap_or("")
+}
+
+/// Returns the name of a process or monitor.
+pub(crate) fn name_of<'t>(roster: &Roster<'t>, member: Member) -> &'t str {
+    word(match member {
+        Member::Process(number) => roster.process_name(number),
+        Member::Monitor(number) => roster.monitor_name(number),
+    })
+}
+
+// All processes by number, and then all monitors.
+fn all(alloc: Global, roster: &Roster<'_>) -> Result<Vec<Member>, AllocError> {
+    // The roster has no initial process.
+    let processes = small_number(roster.processes.len().saturating_add(1))?;
+    let monitors = small_number(roster.monitors.len())?;
+    (1..=processes)
+        .map(Member::Process)
+        .chain((1..=monitors).map(Member::Monitor))
+        .collect(alloc)
+}
+
+/// Returns the processes by number, and then the monitors: those with names in `only`, or all if it
+/// has none. A name that no process or monitor has stands for none.
+///
+/// # Errors
+///
+/// `AllocError` if memory runs out.
+pub(crate) fn chosen(
+    alloc: Global,
+    roster: &Roster<'_>,
+    only: &[&str],
+) -> Result<Vec<Member>, AllocError> {
+    let mut all = all(alloc, roster)?;
+    if only.is_empty() {
+        return Ok(all);
+    }
+    let mut named = Vec::new(alloc);
+    for name in only {
+        if let Some(member) = roster.member(name.as_bytes())? {
+            named.push(member)?;
+        }
+    }
+    all.retain(|member| named.contains(member));
+    Ok(all)
+}

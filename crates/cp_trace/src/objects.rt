@@ -1,0 +1,68 @@
+//! Changes as objects for programs, a line each.
+
+ghost use Rattle.std.specs.Prelude.{OnOk};
+ghost use Rattle.cp_trace.specs.Telling.{Adds, AreObjects};
+
+use crate::changes::{Change, Changes};
+use cp_formats::object::line;
+use cp_report::roster::Member;
+use serde::Serialize;
+use std::alloc::{AllocError, Global};
+
+// A change, with the process or the monitor whose change it is, by number and by name.
+#[derive(Drop, Serialize)]
+struct ChangeObject<'a, 't> {
+    round: u64,
+    #[serde(skip_serializing_if = "Option::is_none")]
+    process: Option<u32>,
+    #[serde(skip_serializing_if = "Option::is_none")]
+    monitor: Option<u32>,
+    name: &'t str,
+    #[serde(flatten)]
+    change: &'a Change<'t>,
+}
+
+// Adds an object for each change of a process or a monitor.
+fn push_each(
+    alloc: Global,
+    round: u64,
+    changes: &Changes<'_>,
+    out: &mut Vec<u8>,
+) -> Result<(), AllocError>
+    ensures { OnOk result (Adds AreObjects out.old.items out.new.items) }
+{
+    let (process, monitor) = match changes.member {
+        Member::Process(number) => (Some(number), None),
+        Member::Monitor(number) => (None, Some(number)),
+    };
+    for change in &changes.changes {
+        let object = ChangeObject {
+            round,
+            process,
+            monitor,
+            name: changes.name,
+            change,
+        };
+        out.extend_from_slice(&line(alloc, &object)?)?;
+    }
+    Ok(())
+}
+
+/// Adds an object for each change of processes and monitors in a round.
+///
+/// # Errors
+///
+/// `AllocError` if memory runs out.
+pub(crate) fn push_objects(
+    alloc: Global,
+    round: u64,
+    all: &[Changes<'_>],
+    out: &mut Vec<u8>,
+) -> Result<(), AllocError>
+    ensures { OnOk result (Adds AreObjects out.old.items out.new.items) }
+{
+    for changes in all {
+        push_each(alloc, round, changes, out)?;
+    }
+    Ok(())
+}

@@ -1,0 +1,151 @@
+//! A grid as text: a row a process or monitor, a character a round.
+
+ghost use Rattle.std.specs.Prelude.{OnOk};
+ghost use Rattle.cp_trace.specs.Telling.{Adds, IsAnything, IsSomething};
+
+use crate::grid::{Cell, Grid, Row};
+use cp_page::page::Page;
+use cp_report::roster::Member;
+use cp_rounds::machine::Machine;
+use std::alloc::AllocError;
+
+// The longest line.
+const WIDTH: usize = 100;
+
+// A block has a multiple of so many rounds, and each round with such a number has it above it.
+const STEP: usize = 10;
+
+const LEGEND: &[u8] =
+    b"process: . unstarted, r ready, a asking, d delayed, w waiting, e ended, F fault
+monitor: . unset, - free, else the sign of the process that holds it
+";
+
+// The sign of a process, which stands before its name: a digit, or a letter from the tenth on. All
+// above the 61st have one.
+fn sign(number: u32) -> u8 {
+    match u8::try_from(number) {
+        Ok(digit) if digit < 10 => b'0' + digit,
+        Ok(letter) if letter < 36 => b'a' + (letter - 10),
+        Ok(letter) if letter < 62 => b'A' + (letter - 36),
+        _ => b'#',
+    }
+}
+
+fn letter(cell: Cell) -> u8 {
+    match cell {
+        Cell::Unstarted | Cell::Unset => b'.',
+        Cell::Ready => b'r',
+        Cell::Waiting => b'w',
+        Cell::Asking(_) => b'a',
+        Cell::Delayed(_) => b'd',
+        Cell::Ended => b'e',
+        Cell::Fault(_) => b'F',
+        Cell::Free => b'-',
+        Cell::Held(process) => sign(process),
+    }
+}
+
+/// A grid that is told as text, block by block.
+#[derive(Drop)]
+pub struct Timeline<'t> {
+    grid: Grid<'t>,
+    /// The number of characters before the cells: a sign, a name, and blanks around it.
+    margin: usize,
+    /// The number of rounds in a block.
+    block: usize,
+}
+
+impl<'t> Timeline<'t> {
+    /// Returns the timeline that tells a grid.
+    pub(crate) fn of(grid: Grid<'t>) -> Timeline<'t> {
+        let margin = grid.longest_name().max(b"rnd".len()).saturating_add(4);
+        let steps = (WIDTH.saturating_sub(margin) / STEP).max(1);
+        Timeline {
+            grid,
+            margin,
+            block: steps.saturating_mul(STEP),
+        }
+    }
+
+    // Adds the number of the round in a column above it, if there is room.
+    fn push_mark(&self, page: &mut Page, column: usize) -> Result<(), AllocError> {
+        let mut number = Page::new(self.grid.alloc);
+        number.number(self.grid.round(column) as usize)?;
+        let (at, end) = (self.margin.saturating_add(column), page.as_bytes().len());
+        let fits = at.saturating_add(number.as_bytes().len()) <= WIDTH;
+        if end < at && fits {
+            page.blanks(at - end)?;
+            page.bytes(number.as_bytes())?;
+        }
+        Ok(())
+    }
+
+    // Adds the line above a block, which begins with it.
+    fn push_ruler(&self, page: &mut Page) -> Result<(), AllocError> {
+        page.bytes(b"round")?;
+        for column in 0..self.grid.columns {
+            if column == 0 || self.grid.round(column) % STEP as u64 == 0 {
+                self.push_mark(page, column)?;
+            }
+        }
+        page.bytes(b"\n")
+    }
+
+    // Adds the line of a process or monitor.
+    fn push_row(&self, page: &mut Page, row: &Row<'_>) -> Result<(), AllocError> {
+        let sign = match row.member {
+            Member::Process(number) => sign(number),
+            Member::Monitor(_) => b' ',
+        };
+        page.bytes(&[sign, b' '])?;
+        page.text(row.name)?;
+        let end = row.name.len().saturating_add(2);
+        page.blanks(self.margin.saturating_sub(end))?;
+        for cell in &row.cells {
+            page.bytes(&[letter(*cell)])?;
+        }
+        page.bytes(b"\n")
+    }
+
+    // Returns the cells as text.
+    fn block(&self) -> Result<Page, AllocError> {
+        let mut page = Page::new(self.grid.alloc);
+        self.push_ruler(&mut page)?;
+        for row in &self.grid.rows {
+            self.push_row(&mut page, row)?;
+        }
+        page.bytes(b"\n")?;
+        Ok(page)
+    }
+
+    /// Sees the machine after a round, and adds a block once it is full.
+    ///
+    /// # Errors
+    ///
+    /// `AllocError` if memory runs out. The timeline is then of no more use.
+    pub(crate) fn follow(&mut self, machine: &Machine, out: &mut Vec<u8>) -> Result<(), AllocError>
+        ensures { OnOk result (Adds IsAnything out.old.items out.new.items) }
+    {
+        self.grid.see(machine)?;
+        if self.grid.columns < self.block {
+            return Ok(());
+        }
+        let block = self.block()?;
+        self.grid.clear();
+        out.extend_from_slice(block.as_bytes())
+    }
+
+    /// Adds what is left, and what the characters mean.
+    ///
+    /// # Errors
+    ///
+    /// `AllocError` if memory runs out.
+    pub(crate) fn finish(&self, out: &mut Vec<u8>) -> Result<(), AllocError>
+        ensures { OnOk result (Adds IsSomething out.old.items out.new.items) }
+    {
+        if self.grid.columns > 0 {
+            out.extend_from_slice(self.block()?.as_bytes())?;
+        }
+        out.extend_from_slice(LEGEND)
+    }
+}

@@ -1,0 +1,124 @@
+//! Following a machine round by round, and telling of it in the form that is asked for.
+
+ghost use Rattle.std.specs.Prelude.{◌≡◌, IfOk, OnOk};
+ghost use Rattle.cp_trace.specs.Telling.{Adds};
+
+use crate::grid::Grid;
+use crate::lines::push_round;
+use crate::objects::push_objects;
+use crate::svg::Picture;
+use crate::timeline::Timeline;
+use crate::trace::Trace;
+use cp_model::tree::Tree;
+use cp_rounds::machine::Machine;
+use cp_scope::Tables;
+use std::alloc::{AllocError, Global};
+
+/// How a trace is told.
+#[derive(Clone, Copy, Debug, PartialEq, Eq)]
+pub enum TraceForm {
+    /// What each round changed, as a line for each process or monitor.
+    Lines,
+    /// What each round changed, as a JSON object for each change, a line each.
+    Json,
+    /// What each process and monitor is after each round, as text: a row each, a character a round.
+    Timeline,
+    /// The same as a picture.
+    Svg,
+}
+
+/// Who follows a machine and tells of it. What it has seen takes memory that doesn't grow with the
+/// rounds.
+#[derive(Drop)]
+pub enum Tracer<'r, 't> {
+    Lines(Trace<'r, 't>),
+    Json(Trace<'r, 't>),
+    Timeline(Timeline<'t>),
+    Svg(Picture<'t>),
+}
+
+impl<'r, 't> Tracer<'r, 't> {
+    ghost use Rattle.cp_trace.specs.Tracers.{IsPart, IsTrace, TellsRound, form_of};
+
+    /// Returns who follows a machine from what it is now for so many rounds, and tells in this form
+    /// of the processes and monitors with the names in `only`, or of all if there are none. A name
+    /// that no process or monitor has stands for none. The machine runs the program of a text with
+    /// this tree and these tables.
+    ///
+    /// # Errors
+    ///
+    /// `AllocError` if memory runs out.
+    pub fn of(
+        alloc: Global,
+        form: TraceForm,
+        tables: &'r Tables<'t>,
+        tree: &'t Tree,
+        machine: &Machine,
+        rounds: u32,
+        only: &[&str],
+    ) -> Result<Tracer<'r, 't>, AllocError>
+        ensures { IfOk result (λ tracer. form_of tracer ≡ form) }
+    {
+        Ok(match form {
+            TraceForm::Lines => Tracer::Lines(Trace::of(alloc, tables, tree, machine, only)?),
+            TraceForm::Json => Tracer::Json(Trace::of(alloc, tables, tree, machine, only)?),
+            TraceForm::Timeline => {
+                Tracer::Timeline(Timeline::of(Grid::of(alloc, tables, machine, only)?))
+            }
+            TraceForm::Svg => {
+                Tracer::Svg(Picture::of(Grid::of(alloc, tables, machine, only)?, rounds))
+            }
+        })
+    }
+
+    /// Adds what stands before all rounds.
+    ///
+    /// # Errors
+    ///
+    /// `AllocError` if memory runs out.
+    pub fn begin(&self, out: &mut Vec<u8>) -> Result<(), AllocError>
+        ensures { OnOk result (Adds (IsPart (form_of self.now)) out.old.items out.new.items) }
+    {
+        match self {
+            Tracer::Svg(picture) => picture.begin(out),
+            _ => Ok(()),
+        }
+    }
+
+    /// Sees the machine after a round, and adds what is told at once.
+    ///
+    /// # Errors
+    ///
+    /// `AllocError` if memory runs out. The tracer is then of no more use.
+    pub fn follow(&mut self, machine: &Machine, out: &mut Vec<u8>) -> Result<(), AllocError>
+        ensures added { OnOk result (Adds (TellsRound (form_of self.old) machine.now.rounds)
+            out.old.items out.new.items) }
+        ensures form { OnOk result (form_of self.new ≡ form_of self.old) }
+    {
+        match self {
+            Tracer::Lines(trace) => {
+                push_round(trace.alloc, machine.rounds(), &trace.changes(machine)?, out)
+            }
+            Tracer::Json(trace) => {
+                push_objects(trace.alloc, machine.rounds(), &trace.changes(machine)?, out)
+            }
+            Tracer::Timeline(timeline) => timeline.follow(machine, out),
+            Tracer::Svg(picture) => picture.follow(machine, out),
+        }
+    }
+
+    /// Adds what stands behind all rounds.
+    ///
+    /// # Errors
+    ///
+    /// `AllocError` if memory runs out.
+    pub fn finish(&self, out: &mut Vec<u8>) -> Result<(), AllocError>
+        ensures { OnOk result (Adds (IsTrace (form_of self.now)) out.old.items out.new.items) }
+    {
+        match self {
+            Tracer::Lines(_) | Tracer::Json(_) => Ok(()),
+            Tracer::Timeline(timeline) => timeline.finish(out),
+            Tracer::Svg(picture) => picture.finish(out),
+        }
+    }
+}
