@@ -2,12 +2,12 @@
 
 ghost use Rattle.std.specs.Prelude.{◌≡◌, IfErr, IfOk};
 ghost use Rattle.cp_model.specs.View as view;
-ghost use Rattle.cp_accept.specs.Refusals.{of_rules, of_syntax};
+ghost use Rattle.cp_accept.specs.Refusals.{of_syntax};
 ghost use Rattle.cp_accept.specs.Texts.{IsAccepted, IsTextOf, Refuses};
 
 use crate::refusal::Refusal;
 use cp_model::tree::Tree;
-use cp_rules::text::{RuleError, judge};
+use cp_rules::text::judge;
 use cp_scan::scan;
 use cp_syntax::{SyntaxError, parse};
 use std::alloc::Global;
@@ -20,15 +20,6 @@ fn syntax_refusal(error: SyntaxError) -> Refusal
         SyntaxError::Unfinished { at } => Refusal::Unfinished { at },
         SyntaxError::TooDeep { at } => Refusal::TooDeep { at },
         SyntaxError::Memory => Refusal::Memory,
-    }
-}
-
-fn rules_refusal(error: RuleError) -> Refusal
-    ensures { result ≡ of_rules error }
-{
-    match error {
-        RuleError::Broken(violation) => Refusal::from(violation),
-        RuleError::Memory => Refusal::Memory,
     }
 }
 
@@ -61,9 +52,6 @@ pub fn accept(alloc: Global, text: &[u8]) -> Result<Tree, Refusal>
     ensures refused { IfErr result (Refuses text.now) }
 {
     let tree = tree_of(alloc, text)?;
-    match judge(alloc, &tree) {
-        Ok(_) => {}
-        Err(error) => return Err(rules_refusal(error)),
-    }
+    judge(alloc, &tree)?;
     Ok(tree)
 }

@@ -1,13 +1,14 @@
 //! Why a command has no result: the line that it writes then, and its exit status.
 
 ghost use Rattle.std.specs.Prelude.{◌≡◌};
-ghost use Rattle.cp_accept.specs.Refusals.{exit_status, of_order, of_read, of_scan};
+ghost use Rattle.cp_accept.specs.Refusals.{exit_status, of_order, of_read, of_rules, of_scan};
 ghost use Rattle.cp_accept.specs.declared.refusal.Refusal.TheVariants as refusal;
 
 use crate::reading::ReadError;
 use crate::writing::WriteFailed;
 use cp_model::rules::{Rule, Violation};
 use cp_orders::reading::OrderError;
+use cp_rules::text::RuleError;
 use cp_scan::{Cause, ScanError};
 use cp_scope::CompileError;
 use std::alloc::{AllocError, AllocFailed};
@@ -146,7 +147,18 @@ impl From<Violation> for Refusal {
     }
 }
 
-// What can't be compiled of an accepted text is told as want of memory, as `cp_check::program` does.
+impl From<RuleError> for Refusal {
+    ghost from_gives = { λ error r. r ≡ of_rules error };
+
+    fn from(error: RuleError) -> Refusal {
+        match error {
+            RuleError::Broken(violation) => Refusal::from(violation),
+            RuleError::Memory => Refusal::Memory,
+        }
+    }
+}
+
+// What can't be compiled of an accepted text is told as want of memory, as `cp_check::check` does.
 impl From<CompileError> for Refusal {
     ghost from_gives = { λ _ r. r ≡ refusal.Memory };
 

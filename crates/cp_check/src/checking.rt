@@ -65,7 +65,7 @@ pub fn check<'t>(alloc: Global, tree: &'t Tree) -> Result<CompiledText<'t>, Rule
 {
     match judge(alloc, tree) {
         Err(error) => Err(error),
-        Ok(_) => match compile_accepted(alloc, tree) {
+        Ok(()) => match compile_accepted(alloc, tree) {
             Ok(compiled) => Ok(compiled),
             Err(_) => Err(RuleError::Memory),
         },

@@ -162,7 +162,7 @@ fn of_tree(
     ensures { IfOk result (λ e. Explains file.now text.now e.refusal e.page) }
 {
     match judge(alloc, tree) {
-        Ok(_) => {
+        Ok(()) => {
             let mut page = graph(alloc, tree, form)?;
             if form == Form::Lines {
                 add_notes(alloc, &mut page, file, text, tree)?;

@@ -172,7 +172,7 @@ fn of_tree(
     ensures { IfOk result (λ e. IsObjectOf text.now e.refusal e.page) }
 {
     match judge(alloc, tree) {
-        Ok(_) => {
+        Ok(()) => {
             let accepted = AcceptedObject {
                 accepted: true,
                 notes: note_objects(alloc, text, tree)?,

@@ -13,7 +13,7 @@ use cp_check::checking::tables_of;
 use cp_model::tree::{Sort, Tree};
 use cp_report::listing::components;
 use cp_report::roster::INITIAL;
-use cp_rules::text::{RuleError, judge};
+use cp_rules::text::judge;
 use cp_scope::{CompileError, Field, small_number};
 use std::alloc::{AllocError, AllocFailed, Global};
 use std::io::Read;
@@ -79,11 +79,7 @@ impl<'a, T: Drop> From<AllocFailed<T>> for InputError<'a> {
 
 // The processes of an accepted text by number, from 2.
 fn processes<'t>(alloc: Global, tree: &'t Tree) -> Result<Vec<Field<'t>>, Refusal> {
-    match judge(alloc, tree) {
-        Ok(_) => {}
-        Err(RuleError::Broken(violation)) => return Err(Refusal::from(violation)),
-        Err(RuleError::Memory) => return Err(Refusal::Memory),
-    }
+    judge(alloc, tree)?;
     let tables = tables_of(alloc, tree)?;
     Ok(components(alloc, &tables, Sort::Process)?)
 }

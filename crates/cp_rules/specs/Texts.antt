@@ -9,7 +9,6 @@ use Rattle.cp_model.specs.RulesStatements.{statements}
 use Rattle.cp_model.specs.RulesNeeds.{need_statements}
 use Rattle.cp_model.specs.RulesDeclarations as d
 use Rattle.cp_model.specs.Rules.{Accepted, c13_initial, first_violation}
-use Rattle.cp_judge.specs.declared.environment.Environment as code
 use Rattle.cp_rules.specs.Checking.{State}
 use Rattle.cp_rules.specs.Definitions.{define_sections}
 use Rattle.cp_rules.specs.declared.text.RuleError.{RuleError}
@@ -36,9 +35,8 @@ Lists t list = slice_get list 0 ≡ first_violation t
 abbrev pub judged_text : s.Tree → State
 judged_text t = record { env = environment_of t; told = first_violation t }
 
--- The text is accepted, and this is the environment at its end. Or else this is the violation that
--- is reported for it.
-abbrev pub Judges : s.Tree → Result code.Environment RuleError → Type 0
-Judges t (Ok env) = Accepted t × (env ≡ environment_of t)
+-- The text is accepted, or else this is the violation that is reported for it.
+abbrev pub Judges : s.Tree → Result (Unit {0}) RuleError → Type 0
+Judges t (Ok _) = Accepted t
 Judges t (Err (refused.Broken v)) = first_violation t ≡ Some v
 Judges t (Err refused.Memory) = Unit {0}

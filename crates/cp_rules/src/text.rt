@@ -11,7 +11,6 @@ ghost use Rattle.cp_rules.specs.Checking.{telling};
 
 use crate::checker::Checker;
 use crate::words::{is_within, sum};
-use cp_judge::Environment;
 use cp_judge::statements::statements;
 use cp_judge::telling::Told;
 use cp_model::rules::{Position, Rule, Violation};
@@ -72,20 +71,19 @@ impl<'t> Checker<'t> {
     }
 }
 
-/// Judges a text by all rules, and returns its environment at the end, with its names and tables,
-/// if it is accepted.
+/// Judges a text by all rules.
 ///
 /// # Errors
 ///
 /// `Broken` if the text breaks a rule, `Memory` if memory runs out.
-pub fn judge<'t>(alloc: Global, tree: &'t Tree) -> Result<Environment<'t>, RuleError>
+pub fn judge(alloc: Global, tree: &Tree) -> Result<(), RuleError>
     ensures { Judges (view.tree tree.now) result }
 {
     match Checker::text(alloc, Told::earliest(), tree) {
         Err(_) => Err(RuleError::Memory),
         Ok(checker) => match checker.told.first() {
             Some(violation) => Err(RuleError::Broken(violation)),
-            None => Ok(checker.environment),
+            None => Ok(()),
         },
     }
 }
