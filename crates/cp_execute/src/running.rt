@@ -61,7 +61,7 @@ pub(crate) fn report_of(
 /// # Errors
 ///
 /// `AllocError` if memory runs out.
-pub(crate) fn machine_at_start<'r, 't>(
+pub fn machine_at_start<'r, 't>(
     alloc: Global,
     program: Program,
     tables: &'r Tables<'t>,

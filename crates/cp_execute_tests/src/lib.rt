@@ -1,6 +1,5 @@
-//! Tests from bytes to bytes: whole texts to their reports, outcomes, explanations or refusals, and
-//! streams that return or take few bytes at a time, or fail. What is expected was worked out by
-//! hand.
+//! Tests from bytes to bytes: whole texts to their reports, explanations or refusals, and streams
+//! that return or take few bytes at a time, or fail. What is expected was worked out by hand.
 #![tactic(auto)]
 
 #[cfg(test)]
@@ -18,18 +17,6 @@ mod messages;
 #[cfg(test)]
 mod objects;
 #[cfg(test)]
-mod outcome_book;
-#[cfg(test)]
-mod outcome_faults;
-#[cfg(test)]
-mod outcome_forms;
-#[cfg(test)]
-mod outcome_waits;
-#[cfg(test)]
-mod outcomes;
-#[cfg(test)]
-mod pictures;
-#[cfg(test)]
 mod refusals;
 #[cfg(test)]
 mod refused;
@@ -39,9 +26,3 @@ mod replays;
 mod streams;
 #[cfg(test)]
 mod texts;
-#[cfg(test)]
-mod timelines;
-#[cfg(test)]
-mod trace_objects;
-#[cfg(test)]
-mod traces;

@@ -21,9 +21,9 @@ use std::thread::Threads;
 ///
 /// I1 if a file can't be opened, `Unopened` or `Unread` for the file of `explain` and the input of
 /// one process, `Input` if such inputs make no input or the text lacks the process of `--out`,
-/// `NoMember` if a name of a trace is unknown, and the refusals of `execute`, `execute_outcome`,
-/// `execute_trace` and `execute_order` of cp_execute, and of `explain_text`, `explain_all_text` and
-/// `explain_object` of cp_explain.
+/// `NoMember` if a name of a trace is unknown, and the refusals of `execute` and `execute_order` of
+/// cp_execute, of `execute_outcome` and `execute_trace` of cp_observe, and of `explain_text`,
+/// `explain_all_text` and `explain_object` of cp_explain.
 pub fn perform<'a, H: Clock + Eprint + Files + Input + Print + Threads + Wait + Sync, E: Write>(
     rt: &H,
     alloc: Global,

@@ -1,6 +1,6 @@
 //! Checks, runs, outcomes, traces and replays. Each opens all that it reads before it reads any of
 //! it, and prints its result. Errors are those of opening, of joining inputs, and of the calls of
-//! cp_execute.
+//! cp_execute and cp_observe.
 
 use crate::inputs::open_inputs;
 use crate::opening::{Source, open, read_bytes};
@@ -11,13 +11,13 @@ use cp_accept::refusal::Refusal;
 use cp_command::command::{Inputs, STANDARD_INPUT};
 use cp_execute::execute::{Job, execute};
 use cp_execute::execute_order::execute_order;
-use cp_execute::execute_outcome::execute_outcome;
-use cp_execute::execute_trace::{execute_trace, unknown_name};
-use cp_execute::form::OutcomeForm;
+use cp_observe::execute_outcome::execute_outcome;
+use cp_observe::execute_trace::{execute_trace, unknown_name};
+use cp_observe::form::OutcomeForm;
 use cp_execute::replaying::Replay;
 use cp_execute::running::Run;
-use cp_execute::tracing::Tracing;
-use cp_execute::until_still::UntilStill;
+use cp_observe::tracing::Tracing;
+use cp_observe::until_still::UntilStill;
 use cp_inputs::named::process_number;
 use cp_outcome::verdict::Verdict;
 use std::alloc::Global;

@@ -1,0 +1,4 @@
+pub mod OutcomesDue
+pub mod Transcripts
+pub mod Told
+pub mod Traced

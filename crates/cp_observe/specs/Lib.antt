@@ -1,0 +1,3 @@
+pub mod Forms
+pub mod Outcomes
+pub mod Traces

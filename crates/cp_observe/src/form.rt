@@ -1,0 +1,61 @@
+//! What is written of a run that ends when nothing can move: its outcome in one of the forms.
+
+ghost use Rattle.std.specs.Prelude.{◌≡◌, IfOk};
+ghost use Rattle.cp_observe.specs.Forms.{IsToldOf, IsTranscriptOf};
+
+use cp_accept::sources::Text;
+use cp_outcome::verdict::Verdict;
+use cp_reasons::object::object;
+use cp_reasons::reasons::reasons;
+use cp_reasons::waits::waits;
+use cp_report::outcome::outcome;
+use cp_rounds::machine::Machine;
+use std::alloc::{AllocError, Global};
+
+/// What is written of an outcome. A `P` says which process is meant.
+#[derive(Clone, Copy, Debug, PartialEq, Eq)]
+pub enum OutcomeForm<P> {
+    /// The verdict, and why each process that hasn't ended is where it is.
+    Verdict,
+    /// The transcript of a process, as raw bytes.
+    Transcript(P),
+    /// Who waits for whom, as a graph for Graphviz.
+    Dot,
+    /// The verdict, and what became of each process, as a JSON object.
+    Json,
+}
+
+// Returns the transcript of the process with this number.
+fn transcript(alloc: Global, machine: &Machine, process: u32) -> Result<Vec<u8>, AllocError>
+    ensures { IfOk result (λ bytes. IsTranscriptOf process machine.now bytes.items) }
+{
+    let (front, back) = machine.transcript(process as usize);
+    let mut bytes = Vec::from_slice(alloc, front)?;
+    bytes.extend_from_slice(back)?;
+    Ok(bytes)
+}
+
+/// Returns what is written of a machine that runs the program of a text, and of the verdict on it.
+///
+/// # Errors
+///
+/// `AllocError` if memory runs out.
+pub(crate) fn told<'t>(
+    alloc: Global,
+    text: &'t Text,
+    machine: &Machine<'_, 't>,
+    verdict: Verdict,
+    form: OutcomeForm<u32>,
+) -> Result<Vec<u8>, AllocError>
+    ensures { IfOk result (λ bytes. IsToldOf form machine.now verdict bytes.items) }
+{
+    match form {
+        OutcomeForm::Verdict => {
+            let reasons = reasons(alloc, &text.bytes, &text.tree, machine)?;
+            outcome(alloc, machine, verdict, reasons.as_bytes())
+        }
+        OutcomeForm::Transcript(process) => transcript(alloc, machine, process),
+        OutcomeForm::Dot => waits(alloc, &text.bytes, &text.tree, machine),
+        OutcomeForm::Json => object(alloc, &text.bytes, &text.tree, machine, verdict),
+    }
+}

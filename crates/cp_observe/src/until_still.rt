@@ -1,0 +1,66 @@
+//! Running a program until nothing can move: from its input to the outcome.
+
+ghost use Rattle.std.specs.Prelude.{◌≡◌, IfErr, IfOk};
+ghost use Rattle.cp_model.specs.Rules.{Accepted};
+ghost use Rattle.cp_model.specs.View as view;
+ghost use Rattle.cp_observe.specs.Outcomes.{IsOutcome};
+ghost use Rattle.cp_accept.specs.declared.refusal.Refusal.TheVariants as refusal;
+
+use crate::form::{OutcomeForm, told};
+use cp_execute::running::machine_at_start;
+use cp_accept::refusal::Refusal;
+use cp_accept::sources::Text;
+use cp_check::checking::{CompiledText, compile_accepted};
+use cp_outcome::verdict::{Verdict, verdict_on};
+use cp_rounds::gate::TurnGate;
+use cp_rounds::plan::Plan;
+use cp_rounds::tick::Tick;
+use std::alloc::Global;
+use std::sync::Wait;
+use std::thread::Threads;
+
+/// The parameters of a run that ends when nothing can move: the largest number of rounds, how each
+/// is made, and how often the clock ticks.
+#[derive(Clone, Copy, Debug)]
+pub struct UntilStill {
+    pub limit: u32,
+    pub plan: Plan,
+    pub tick: Tick,
+}
+
+/// What became of a run, and the text that tells it.
+#[derive(Drop)]
+pub(crate) struct Outcome {
+    pub(crate) verdict: Verdict,
+    pub(crate) bytes: Vec<u8>,
+}
+
+/// Runs the program of an accepted text until nothing can move, and returns the outcome in a form.
+///
+/// # Errors
+///
+/// M if memory runs out.
+pub(crate) fn outcome_after_run<H: Threads + Wait + Sync, G: TurnGate>(
+    rt: &H,
+    alloc: Global,
+    text: &Text,
+    input: &[u8],
+    how: &UntilStill,
+    form: OutcomeForm<u32>,
+    gate: &G,
+) -> Result<Outcome, Refusal>
+    requires accepted { Accepted (view.tree text.now.tree) }
+    ensures outcome { IfOk result (λ outcome. IsOutcome how.now form (view.tree text.now.tree) input.now
+        outcome.verdict outcome.bytes.items) }
+    ensures memory { IfErr result (λ e. e ≡ refusal.Memory) }
+{
+    let compiled = compile_accepted(alloc, &text.tree)?;
+    let CompiledText { program, tables } = compiled;
+    let mut machine = machine_at_start(alloc, program, &tables, input, how.tick)?;
+    let Ok(_rounds) = machine.run_until_still(rt, how.limit, &how.plan, gate) else {
+        return Err(Refusal::Memory);
+    };
+    let verdict = verdict_on(&machine);
+    let bytes = told(alloc, text, &machine, verdict, form)?;
+    Ok(Outcome { verdict, bytes })
+}
