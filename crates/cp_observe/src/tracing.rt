@@ -9,10 +9,10 @@ ghost use Rattle.cp_trace.specs.Tracers.{IsPart, form_of};
 ghost use Rattle.cp_observe.specs.Traces.{Extends, IsMemoryOrWrite, IsTraced, Moves, WritesTrace};
 ghost use Rattle.cp_accept.specs.declared.refusal.Refusal.TheVariants as refusal;
 
-use cp_execute::running::machine_at_start;
 use cp_accept::refusal::Refusal;
 use cp_accept::writing::write_result;
 use cp_check::checking::{CompiledText, compile_accepted};
+use cp_execute::running::machine_at_start;
 use cp_model::tree::Tree;
 use cp_rounds::gate::TurnGate;
 use cp_rounds::halted::Halted;

@@ -7,10 +7,10 @@ ghost use Rattle.cp_observe.specs.Outcomes.{IsOutcome};
 ghost use Rattle.cp_accept.specs.declared.refusal.Refusal.TheVariants as refusal;
 
 use crate::form::{OutcomeForm, told};
-use cp_execute::running::machine_at_start;
 use cp_accept::refusal::Refusal;
 use cp_accept::sources::Text;
 use cp_check::checking::{CompiledText, compile_accepted};
+use cp_execute::running::machine_at_start;
 use cp_outcome::verdict::{Verdict, verdict_on};
 use cp_rounds::gate::TurnGate;
 use cp_rounds::plan::Plan;

@@ -2,10 +2,10 @@
 
 use super::outcomes::{FAULT_INSIDE, NESTED, NEVER_STARTED, QUEUE_IN_ARRAY, SEVEN, until_still};
 use cp_accept::refusal::Refusal;
-use cp_observe::execute_outcome::execute_outcome;
-use cp_observe::form::OutcomeForm;
 use cp_inputs::named::{InputError, process_number};
 use cp_model::rules::Rule;
+use cp_observe::execute_outcome::execute_outcome;
+use cp_observe::form::OutcomeForm;
 use cp_outcome::verdict::Verdict;
 use cp_rounds::gate::Open;
 use std::alloc::{AllocError, Global};

@@ -1,9 +1,7 @@
 //! Classes, and the words of monitors.
 
-use crate::machines::{activity, has_written, machine_of};
-use crate::texts::{compiled, tree_of};
+use crate::machines::{activity, has_written, on_machine};
 use crate::ways::ways;
-use cp_check::checking::CompiledText;
 use cp_private::outside::Holder;
 use cp_private::private::Activity;
 use cp_rounds::gate::Open;
@@ -25,20 +23,20 @@ const SUMS: &str = "type c = class(k: integer); var n: integer;
 #[test]
 fn processes_have_classes_of_their_own(rt: HostRuntime) -> Result<(), Fail> {
     for way in ways() {
-        let tree = tree_of(rt.alloc(), SUMS)?;
-        let CompiledText { program, tables } = compiled(rt.alloc(), &tree)?;
-        let mut machine = machine_of(rt.alloc(), program, &tables)?;
-        way.make(&rt, &mut machine, 2, 20, &Open)?;
-        for (p, j, n, sum) in [
-            (2, 3, 109, b"109".as_slice()),
-            (3, -4, 88, b"88".as_slice()),
-        ] {
-            assert_eq!(rt; activity(&machine, p)?, Activity::Ended, "{way:?}");
-            assert!(rt; has_written(&machine, p, sum), "{way:?}");
-            assert_eq!(rt; machine.word(p, 1), j, "{way:?}");
-            assert_eq!(rt; machine.word(p, 3), j, "{way:?}");
-            assert_eq!(rt; machine.word(p, 4), n, "{way:?}");
-        }
+        on_machine(rt.alloc(), SUMS, |machine| -> Result<(), Fail> {
+            way.make(&rt, machine, 2, 20, &Open)?;
+            for (p, j, n, sum) in [
+                (2, 3, 109, b"109".as_slice()),
+                (3, -4, 88, b"88".as_slice()),
+            ] {
+                assert_eq!(rt; activity(machine, p)?, Activity::Ended, "{way:?}");
+                assert!(rt; has_written(machine, p, sum), "{way:?}");
+                assert_eq!(rt; machine.word(p, 1), j, "{way:?}");
+                assert_eq!(rt; machine.word(p, 3), j, "{way:?}");
+                assert_eq!(rt; machine.word(p, 4), n, "{way:?}");
+            }
+            Ok(())
+        })?;
     }
     Ok(())
 }
@@ -55,20 +53,20 @@ const NINE: &str =
 #[test]
 fn a_monitor_keeps_its_words(rt: HostRuntime) -> Result<(), Fail> {
     for way in ways() {
-        let tree = tree_of(rt.alloc(), NINE)?;
-        let CompiledText { program, tables } = compiled(rt.alloc(), &tree)?;
-        let mut machine = machine_of(rt.alloc(), program, &tables)?;
-        assert_eq!(rt; machine.monitors(), 2);
-        assert_eq!(rt; machine.program().monitors(), 2);
-        assert_eq!(rt; machine.kernel().holder(1), Holder::Unset);
-        way.make(&rt, &mut machine, 1, 3, &Open)?;
-        assert_eq!(rt; machine.kernel().word(1), 0, "{way:?}");
-        way.make(&rt, &mut machine, 1, 3, &Open)?;
-        assert_eq!(rt; machine.word(2, 2), 3, "{way:?}");
-        assert_eq!(rt; machine.kernel().word(1), 9, "{way:?}");
-        assert_eq!(rt; machine.kernel().word(4), 0, "{way:?}");
-        assert_eq!(rt; machine.kernel().holder(1), Holder::Free, "{way:?}");
-        assert_eq!(rt; machine.kernel().holder(2), Holder::Unset, "{way:?}");
+        on_machine(rt.alloc(), NINE, |machine| -> Result<(), Fail> {
+            assert_eq!(rt; machine.monitors(), 2);
+            assert_eq!(rt; machine.program().monitors(), 2);
+            assert_eq!(rt; machine.kernel().holder(1), Holder::Unset);
+            way.make(&rt, machine, 1, 3, &Open)?;
+            assert_eq!(rt; machine.kernel().word(1), 0, "{way:?}");
+            way.make(&rt, machine, 1, 3, &Open)?;
+            assert_eq!(rt; machine.word(2, 2), 3, "{way:?}");
+            assert_eq!(rt; machine.kernel().word(1), 9, "{way:?}");
+            assert_eq!(rt; machine.kernel().word(4), 0, "{way:?}");
+            assert_eq!(rt; machine.kernel().holder(1), Holder::Free, "{way:?}");
+            assert_eq!(rt; machine.kernel().holder(2), Holder::Unset, "{way:?}");
+            Ok(())
+        })?;
     }
     Ok(())
 }
@@ -84,15 +82,15 @@ fn a_var_parameter_outlasts_a_delay(rt: HostRuntime) -> Result<(), Fail> {
         ps = process(a: m); var v: integer; begin v := 1; v := 2; v := 3; a.s end;
         var g: m; b: pw; c: ps; begin init g, b(g), c(g) end.";
     for way in ways() {
-        let tree = tree_of(rt.alloc(), text)?;
-        let CompiledText { program, tables } = compiled(rt.alloc(), &tree)?;
-        let mut machine = machine_of(rt.alloc(), program, &tables)?;
-        way.make(&rt, &mut machine, 6, 2, &Open)?;
-        assert_eq!(rt; machine.word(2, 2), 0, "{way:?}");
-        assert_eq!(rt; machine.word(2, 3), 5, "{way:?}");
-        assert!(rt; has_written(&machine, 2, b"5"), "{way:?}");
-        assert_eq!(rt; activity(&machine, 2)?, Activity::Ended, "{way:?}");
-        assert_eq!(rt; activity(&machine, 3)?, Activity::Ended, "{way:?}");
+        on_machine(rt.alloc(), text, |machine| -> Result<(), Fail> {
+            way.make(&rt, machine, 6, 2, &Open)?;
+            assert_eq!(rt; machine.word(2, 2), 0, "{way:?}");
+            assert_eq!(rt; machine.word(2, 3), 5, "{way:?}");
+            assert!(rt; has_written(machine, 2, b"5"), "{way:?}");
+            assert_eq!(rt; activity(machine, 2)?, Activity::Ended, "{way:?}");
+            assert_eq!(rt; activity(machine, 3)?, Activity::Ended, "{way:?}");
+            Ok(())
+        })?;
     }
     Ok(())
 }

@@ -3,6 +3,8 @@
 ghost use Rattle.std.specs.Prelude.{◌≡◌, IfOk, length};
 ghost use Rattle.cp_program.specs.View as view;
 
+use crate::texts::{compiled, tree_of};
+use cp_check::checking::CompiledText;
 use cp_private::private::Activity;
 use cp_program::program::Program;
 use cp_rounds::machine::Machine;
@@ -52,6 +54,34 @@ pub(crate) fn machine_of<'r, 't>(
     tables: &'r Tables<'t>,
 ) -> Result<Machine<'r, 't>, Fail> {
     machine_with(alloc, program, tables, 1, &[])
+}
+
+// Tests the machine of a text, with the inputs of its first processes. A test that owned the text,
+// its tables and its machine would have to give up all of them wherever it can fail.
+pub(crate) fn on_machine_with<F: Copy + Fn(&mut Machine<'_, '_>) -> Result<(), Fail>>(
+    alloc: Global,
+    text: &str,
+    tick: u32,
+    inputs: &[&[u8]],
+    test: F,
+) -> Result<(), Fail>
+    requires { F.IsAlwaysCallable test }
+{
+    let tree = tree_of(alloc, text)?;
+    let CompiledText { program, tables } = compiled(alloc, &tree)?;
+    let mut machine = machine_with(alloc, program, &tables, tick, inputs)?;
+    test(&mut machine)
+}
+
+// Tests the machine of a text, with a tick of one round and without input.
+pub(crate) fn on_machine<F: Copy + Fn(&mut Machine<'_, '_>) -> Result<(), Fail>>(
+    alloc: Global,
+    text: &str,
+    test: F,
+) -> Result<(), Fail>
+    requires { F.IsAlwaysCallable test }
+{
+    on_machine_with(alloc, text, 1, &[], test)
 }
 
 pub(crate) fn activity(machine: &Machine, p: usize) -> Result<Activity, Fail> {

@@ -1,10 +1,8 @@
 //! Gates of monitors, the processes that hold and ask for them, and queues. Process 1 is the
 //! initial one, and monitor 1 is the first one declared.
 
-use crate::machines::{activity, has_written, machine_of};
-use crate::texts::{compiled, tree_of};
+use crate::machines::{activity, has_written, on_machine};
 use crate::ways::{Way, ways};
-use cp_check::checking::CompiledText;
 use cp_model::state::Fault;
 use cp_private::outside::{Holder, Stage};
 use cp_private::private::Activity;
@@ -47,23 +45,23 @@ const NESTED: &str =
 #[test]
 fn a_delay_in_a_nested_call_leaves_the_innermost_gate_alone(rt: HostRuntime) -> Result<(), Fail> {
     for way in ways() {
-        let tree = tree_of(rt.alloc(), NESTED)?;
-        let CompiledText { program, tables } = compiled(rt.alloc(), &tree)?;
-        let mut machine = machine_of(rt.alloc(), program, &tables)?;
-        way.make(&rt, &mut machine, 1, 10, &Open)?;
-        expect_gate(&rt, &machine, 1, Holder::Free, &[], way);
-        expect_gate(&rt, &machine, 2, Holder::Free, &[], way);
-        way.make(&rt, &mut machine, 1, 10, &Open)?;
-        expect_gate(&rt, &machine, 1, Holder::Free, &[], way);
-        expect_gate(&rt, &machine, 2, Holder::Process(2), &[3], way);
-        expect_stage(&rt, &machine, 1, Stage::Begun, way);
-        let delayed = Stage::Delayed {
-            monitor: 1,
-            queue: 1,
-        };
-        expect_stage(&rt, &machine, 2, delayed, way);
-        expect_stage(&rt, &machine, 3, Stage::Asking(2), way);
-        assert_eq!(rt; machine.kernel().word(1), 2, "{way:?}");
+        on_machine(rt.alloc(), NESTED, |machine| -> Result<(), Fail> {
+            way.make(&rt, machine, 1, 10, &Open)?;
+            expect_gate(&rt, machine, 1, Holder::Free, &[], way);
+            expect_gate(&rt, machine, 2, Holder::Free, &[], way);
+            way.make(&rt, machine, 1, 10, &Open)?;
+            expect_gate(&rt, machine, 1, Holder::Free, &[], way);
+            expect_gate(&rt, machine, 2, Holder::Process(2), &[3], way);
+            expect_stage(&rt, machine, 1, Stage::Begun, way);
+            let delayed = Stage::Delayed {
+                monitor: 1,
+                queue: 1,
+            };
+            expect_stage(&rt, machine, 2, delayed, way);
+            expect_stage(&rt, machine, 3, Stage::Asking(2), way);
+            assert_eq!(rt; machine.kernel().word(1), 2, "{way:?}");
+            Ok(())
+        })?;
     }
     Ok(())
 }
@@ -80,22 +78,22 @@ const RESUMED: &str = "type m = monitor; var q: queue;
 #[test]
 fn a_continue_hands_the_gate_to_the_delayed_process(rt: HostRuntime) -> Result<(), Fail> {
     for way in ways() {
-        let tree = tree_of(rt.alloc(), RESUMED)?;
-        let CompiledText { program, tables } = compiled(rt.alloc(), &tree)?;
-        let mut machine = machine_of(rt.alloc(), program, &tables)?;
-        way.make(&rt, &mut machine, 2, 10, &Open)?;
-        expect_gate(&rt, &machine, 1, Holder::Process(2), &[], way);
-        expect_stage(&rt, &machine, 2, Stage::Begun, way);
-        expect_stage(&rt, &machine, 3, Stage::Begun, way);
-        assert_eq!(rt; machine.kernel().word(1), 0, "{way:?}");
-        way.make(&rt, &mut machine, 1, 10, &Open)?;
-        expect_gate(&rt, &machine, 1, Holder::Free, &[], way);
-        assert!(rt; has_written(&machine, 2, b"1"), "{way:?}");
-        assert!(rt; has_written(&machine, 3, b"3"), "{way:?}");
-        assert_eq!(rt; activity(&machine, 3)?, Activity::Ended, "{way:?}");
-        way.make(&rt, &mut machine, 1, 10, &Open)?;
-        assert!(rt; has_written(&machine, 2, b"12"), "{way:?}");
-        assert_eq!(rt; activity(&machine, 2)?, Activity::Ended, "{way:?}");
+        on_machine(rt.alloc(), RESUMED, |machine| -> Result<(), Fail> {
+            way.make(&rt, machine, 2, 10, &Open)?;
+            expect_gate(&rt, machine, 1, Holder::Process(2), &[], way);
+            expect_stage(&rt, machine, 2, Stage::Begun, way);
+            expect_stage(&rt, machine, 3, Stage::Begun, way);
+            assert_eq!(rt; machine.kernel().word(1), 0, "{way:?}");
+            way.make(&rt, machine, 1, 10, &Open)?;
+            expect_gate(&rt, machine, 1, Holder::Free, &[], way);
+            assert!(rt; has_written(machine, 2, b"1"), "{way:?}");
+            assert!(rt; has_written(machine, 3, b"3"), "{way:?}");
+            assert_eq!(rt; activity(machine, 3)?, Activity::Ended, "{way:?}");
+            way.make(&rt, machine, 1, 10, &Open)?;
+            assert!(rt; has_written(machine, 2, b"12"), "{way:?}");
+            assert_eq!(rt; activity(machine, 2)?, Activity::Ended, "{way:?}");
+            Ok(())
+        })?;
     }
     Ok(())
 }
@@ -109,28 +107,28 @@ const ASKERS: &str = "type m = monitor;
 #[test]
 fn askers_are_served_first_come(rt: HostRuntime) -> Result<(), Fail> {
     for way in ways() {
-        let tree = tree_of(rt.alloc(), ASKERS)?;
-        let CompiledText { program, tables } = compiled(rt.alloc(), &tree)?;
-        let mut machine = machine_of(rt.alloc(), program, &tables)?;
-        way.make(&rt, &mut machine, 4, 2, &Open)?;
-        expect_gate(&rt, &machine, 1, Holder::Process(2), &[3, 4], way);
-        expect_stage(&rt, &machine, 3, Stage::Asking(1), way);
-        expect_stage(&rt, &machine, 4, Stage::Asking(1), way);
-        assert!(rt; has_written(&machine, 2, b"111"), "{way:?}");
-        assert!(rt; has_written(&machine, 3, b""), "{way:?}");
-        assert_eq!(rt; machine.word(4, 2), 3, "{way:?}");
-        way.make(&rt, &mut machine, 3, 2, &Open)?;
-        expect_gate(&rt, &machine, 1, Holder::Free, &[], way);
-        assert!(rt; has_written(&machine, 3, b"222"), "{way:?}");
-        assert!(rt; has_written(&machine, 4, b"333"), "{way:?}");
-        way.make(&rt, &mut machine, 1, 2, &Open)?;
-        for p in 1..=4 {
-            assert_eq!(rt;
-                activity(&machine, p)?,
-                Activity::Ended,
-                "process {p}, {way:?}"
-            );
-        }
+        on_machine(rt.alloc(), ASKERS, |machine| -> Result<(), Fail> {
+            way.make(&rt, machine, 4, 2, &Open)?;
+            expect_gate(&rt, machine, 1, Holder::Process(2), &[3, 4], way);
+            expect_stage(&rt, machine, 3, Stage::Asking(1), way);
+            expect_stage(&rt, machine, 4, Stage::Asking(1), way);
+            assert!(rt; has_written(machine, 2, b"111"), "{way:?}");
+            assert!(rt; has_written(machine, 3, b""), "{way:?}");
+            assert_eq!(rt; machine.word(4, 2), 3, "{way:?}");
+            way.make(&rt, machine, 3, 2, &Open)?;
+            expect_gate(&rt, machine, 1, Holder::Free, &[], way);
+            assert!(rt; has_written(machine, 3, b"222"), "{way:?}");
+            assert!(rt; has_written(machine, 4, b"333"), "{way:?}");
+            way.make(&rt, machine, 1, 2, &Open)?;
+            for p in 1..=4 {
+                assert_eq!(rt;
+                    activity(machine, p)?,
+                    Activity::Ended,
+                    "process {p}, {way:?}"
+                );
+            }
+            Ok(())
+        })?;
     }
     Ok(())
 }
@@ -147,16 +145,16 @@ pub(crate) const AHEAD: &str = "type m = monitor; var q: queue;
 #[test]
 fn the_resumed_process_goes_ahead_of_askers(rt: HostRuntime) -> Result<(), Fail> {
     for way in ways() {
-        let tree = tree_of(rt.alloc(), AHEAD)?;
-        let CompiledText { program, tables } = compiled(rt.alloc(), &tree)?;
-        let mut machine = machine_of(rt.alloc(), program, &tables)?;
-        way.make(&rt, &mut machine, 5, 2, &Open)?;
-        expect_gate(&rt, &machine, 1, Holder::Process(3), &[4], way);
-        expect_stage(&rt, &machine, 3, Stage::Begun, way);
-        expect_stage(&rt, &machine, 4, Stage::Asking(1), way);
-        assert!(rt; has_written(&machine, 2, b"88"), "{way:?}");
-        assert!(rt; has_written(&machine, 3, b"11"), "{way:?}");
-        assert!(rt; has_written(&machine, 4, b""), "{way:?}");
+        on_machine(rt.alloc(), AHEAD, |machine| -> Result<(), Fail> {
+            way.make(&rt, machine, 5, 2, &Open)?;
+            expect_gate(&rt, machine, 1, Holder::Process(3), &[4], way);
+            expect_stage(&rt, machine, 3, Stage::Begun, way);
+            expect_stage(&rt, machine, 4, Stage::Asking(1), way);
+            assert!(rt; has_written(machine, 2, b"88"), "{way:?}");
+            assert!(rt; has_written(machine, 3, b"11"), "{way:?}");
+            assert!(rt; has_written(machine, 4, b""), "{way:?}");
+            Ok(())
+        })?;
     }
     Ok(())
 }
@@ -172,19 +170,19 @@ const STUCK: &str =
 #[test]
 fn a_fault_in_an_entry_keeps_the_gate_for_good(rt: HostRuntime) -> Result<(), Fail> {
     for way in ways() {
-        let tree = tree_of(rt.alloc(), STUCK)?;
-        let CompiledText { program, tables } = compiled(rt.alloc(), &tree)?;
-        let mut machine = machine_of(rt.alloc(), program, &tables)?;
-        for rounds in [2, 1, 5] {
-            way.make(&rt, &mut machine, rounds, 10, &Open)?;
-            let fault = Activity::Faulted(Fault::DivisionByZero);
-            assert_eq!(rt; activity(&machine, 2)?, fault, "{way:?}");
-            expect_stage(&rt, &machine, 2, Stage::Begun, way);
-            expect_gate(&rt, &machine, 1, Holder::Process(2), &[3], way);
-            expect_gate(&rt, &machine, 2, Holder::Process(3), &[4], way);
-            expect_stage(&rt, &machine, 3, Stage::Asking(1), way);
-            expect_stage(&rt, &machine, 4, Stage::Asking(2), way);
-        }
+        on_machine(rt.alloc(), STUCK, |machine| -> Result<(), Fail> {
+            for rounds in [2, 1, 5] {
+                way.make(&rt, machine, rounds, 10, &Open)?;
+                let fault = Activity::Faulted(Fault::DivisionByZero);
+                assert_eq!(rt; activity(machine, 2)?, fault, "{way:?}");
+                expect_stage(&rt, machine, 2, Stage::Begun, way);
+                expect_gate(&rt, machine, 1, Holder::Process(2), &[3], way);
+                expect_gate(&rt, machine, 2, Holder::Process(3), &[4], way);
+                expect_stage(&rt, machine, 3, Stage::Asking(1), way);
+                expect_stage(&rt, machine, 4, Stage::Asking(2), way);
+            }
+            Ok(())
+        })?;
     }
     Ok(())
 }
@@ -195,22 +193,22 @@ fn a_delay_in_a_taken_queue_is_a_fault(rt: HostRuntime) -> Result<(), Fail> {
         p = process(a: m); begin a.w end;
         var g: m; b, c, d: p; begin init g, b(g), c(g), d(g) end.";
     for way in ways() {
-        let tree = tree_of(rt.alloc(), text)?;
-        let CompiledText { program, tables } = compiled(rt.alloc(), &tree)?;
-        let mut machine = machine_of(rt.alloc(), program, &tables)?;
-        way.make(&rt, &mut machine, 2, 10, &Open)?;
-        let delayed = Stage::Delayed {
-            monitor: 1,
-            queue: 1,
-        };
-        expect_stage(&rt, &machine, 2, delayed, way);
-        assert_eq!(rt;
-            activity(&machine, 3)?,
-            Activity::Faulted(Fault::QueueTaken),
-            "{way:?}"
-        );
-        expect_gate(&rt, &machine, 1, Holder::Process(3), &[4], way);
-        assert_eq!(rt; machine.kernel().word(1), 2, "{way:?}");
+        on_machine(rt.alloc(), text, |machine| -> Result<(), Fail> {
+            way.make(&rt, machine, 2, 10, &Open)?;
+            let delayed = Stage::Delayed {
+                monitor: 1,
+                queue: 1,
+            };
+            expect_stage(&rt, machine, 2, delayed, way);
+            assert_eq!(rt;
+                activity(machine, 3)?,
+                Activity::Faulted(Fault::QueueTaken),
+                "{way:?}"
+            );
+            expect_gate(&rt, machine, 1, Holder::Process(3), &[4], way);
+            assert_eq!(rt; machine.kernel().word(1), 2, "{way:?}");
+            Ok(())
+        })?;
     }
     Ok(())
 }
@@ -241,13 +239,13 @@ fn expect_chain(
 #[test]
 fn a_chain_leads_to_a_process_that_asks_for_no_gate(rt: HostRuntime) -> Result<(), Fail> {
     for way in ways() {
-        let tree = tree_of(rt.alloc(), CHAINED)?;
-        let CompiledText { program, tables } = compiled(rt.alloc(), &tree)?;
-        let mut machine = machine_of(rt.alloc(), program, &tables)?;
-        way.make(&rt, &mut machine, 2, 10, &Open)?;
-        expect_chain(&rt, rt.alloc(), &machine, 2, &[2], way)?;
-        expect_chain(&rt, rt.alloc(), &machine, 3, &[3, 2], way)?;
-        expect_chain(&rt, rt.alloc(), &machine, 4, &[4, 3, 2], way)?;
+        on_machine(rt.alloc(), CHAINED, |machine| -> Result<(), Fail> {
+            way.make(&rt, machine, 2, 10, &Open)?;
+            expect_chain(&rt, rt.alloc(), machine, 2, &[2], way)?;
+            expect_chain(&rt, rt.alloc(), machine, 3, &[3, 2], way)?;
+            expect_chain(&rt, rt.alloc(), machine, 4, &[4, 3, 2], way)?;
+            Ok(())
+        })?;
     }
     Ok(())
 }

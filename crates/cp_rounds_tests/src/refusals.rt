@@ -4,7 +4,7 @@
 //! run. If one is made to fail, as `trials/refusals.py` has a library do that is loaded before the C
 //! library, the last three tests report it and look at the machine.
 
-use crate::machines::{activity, describe, has_written, inputs_for, machine_of};
+use crate::machines::{activity, describe, has_written, inputs_for, machine_of, on_machine};
 use crate::texts::{compiled, tree_of};
 use crate::ways::{Way, is_young};
 use cp_check::checking::CompiledText;
@@ -146,20 +146,20 @@ fn a_refused_machine_is_made_again(rt: HostRuntime) -> Result<(), Fail> {
 fn a_refused_round_leaves_the_machine_as_it_was(rt: HostRuntime) -> Result<(), Fail> {
     for (workers, wave) in WAYS {
         let plan = plan_of(workers, wave)?;
-        let tree = tree_of(rt.alloc(), COUNTERS)?;
-        let CompiledText { program, tables } = compiled(rt.alloc(), &tree)?;
-        let mut machine = machine_of(rt.alloc(), program, &tables)?;
-        for round in 0..ROUNDS {
-            let before = describe(rt.alloc(), &machine)?;
-            is_young(&machine)?;
-            if machine.round(&rt, &plan, &Open).is_err() {
-                println!(rt; "round {round} is refused")?;
-                assert!(rt; describe(rt.alloc(), &machine)? == before);
-                is_young(&machine)?;
-                machine.round(&rt, &plan, &Open)?;
+        on_machine(rt.alloc(), COUNTERS, |machine| -> Result<(), Fail> {
+            for round in 0..ROUNDS {
+                let before = describe(rt.alloc(), machine)?;
+                is_young(machine)?;
+                if machine.round(&rt, &plan, &Open).is_err() {
+                    println!(rt; "round {round} is refused")?;
+                    assert!(rt; describe(rt.alloc(), machine)? == before);
+                    is_young(machine)?;
+                    machine.round(&rt, &plan, &Open)?;
+                }
             }
-        }
-        assert!(rt; have_counted(&machine)?, "{workers} workers, wave {wave}");
+            assert!(rt; have_counted(machine)?, "{workers} workers, wave {wave}");
+            Ok(())
+        })?;
     }
     Ok(())
 }
@@ -168,23 +168,23 @@ fn a_refused_round_leaves_the_machine_as_it_was(rt: HostRuntime) -> Result<(), F
 fn a_refused_run_has_made_the_rounds_before(rt: HostRuntime) -> Result<(), Fail> {
     for (workers, wave) in WAYS {
         let plan = plan_of(workers, wave)?;
-        let tree = tree_of(rt.alloc(), COUNTERS)?;
-        let CompiledText { program, tables } = compiled(rt.alloc(), &tree)?;
-        let mut machine = machine_of(rt.alloc(), program, &tables)?;
-        is_young(&machine)?;
-        if let Err(MemoryAt(round)) = machine.run(&rt, ROUNDS, &plan, &Open) {
-            println!(rt; "round {round} of a run is refused")?;
-            let made = round - 1;
-            assert_eq!(rt; machine.rounds(), u64::from(made));
-            let tree = tree_of(rt.alloc(), COUNTERS)?;
-            let CompiledText { program, tables } = compiled(rt.alloc(), &tree)?;
-            let mut other = machine_of(rt.alloc(), program, &tables)?;
-            Way::new(true, 1, 1, 255).make(&rt, &mut other, made, 3, &Open)?;
-            assert!(rt; describe(rt.alloc(), &machine)? == describe(rt.alloc(), &other)?);
-            is_young(&machine)?;
-            machine.run(&rt, ROUNDS - made, &plan, &Open)?;
-        }
-        assert!(rt; have_counted(&machine)?, "{workers} workers, wave {wave}");
+        on_machine(rt.alloc(), COUNTERS, |machine| -> Result<(), Fail> {
+            is_young(machine)?;
+            if let Err(MemoryAt(round)) = machine.run(&rt, ROUNDS, &plan, &Open) {
+                println!(rt; "round {round} of a run is refused")?;
+                let made = round - 1;
+                assert_eq!(rt; machine.rounds(), u64::from(made));
+                let tree = tree_of(rt.alloc(), COUNTERS)?;
+                let CompiledText { program, tables } = compiled(rt.alloc(), &tree)?;
+                let mut other = machine_of(rt.alloc(), program, &tables)?;
+                Way::new(true, 1, 1, 255).make(&rt, &mut other, made, 3, &Open)?;
+                assert!(rt; describe(rt.alloc(), machine)? == describe(rt.alloc(), &other)?);
+                is_young(machine)?;
+                machine.run(&rt, ROUNDS - made, &plan, &Open)?;
+            }
+            assert!(rt; have_counted(machine)?, "{workers} workers, wave {wave}");
+            Ok(())
+        })?;
     }
     Ok(())
 }

@@ -1,12 +1,13 @@
 //! What a machine tells of its processes, monitors and variables between rounds.
 
-use crate::machines::machine_of;
+use crate::machines::{machine_of, on_machine};
 use crate::texts::{compiled, tree_of};
 use crate::ways::{Way, ways};
 use cp_check::checking::CompiledText;
 use cp_model::state::Fault;
 use cp_private::outside::Holder;
 use cp_rounds::gate::Open;
+use cp_rounds::machine::Machine;
 use cp_rounds::place::{Kind, Owner, Place, Value};
 use cp_rounds::state::ProcState;
 use std::test::Fail;
@@ -22,39 +23,77 @@ const TAKEN: &str = "type m = monitor; var x: integer; q: queue;
     t = process; var z: integer; begin cycle z := 1 end end;
     var g: m; b, c, d: p; e: s; f: t; h: s; begin init g, b(g), c(g), d(g), e, f end.";
 
-fn place(owner: Owner, at: usize, kind: Kind) -> Place {
-    Place { owner, at, kind }
+// The states of all processes after two rounds, and that of a process that there isn't.
+const AFTER_TWO_ROUNDS: [(u32, ProcState); 8] = [
+    (1, ProcState::Ended),
+    (
+        2,
+        ProcState::Delayed {
+            monitor: 1,
+            queue: 2,
+        },
+    ),
+    (3, ProcState::Faulted(Fault::QueueTaken)),
+    (4, ProcState::Asking(1)),
+    (5, ProcState::Waiting),
+    (6, ProcState::Ready),
+    (7, ProcState::Unstarted),
+    (8, ProcState::Ended),
+];
+
+// Whether the processes have these states.
+fn has_states(machine: &Machine, states: &[(u32, ProcState)]) -> bool {
+    for (process, state) in states {
+        if machine.state(*process) != *state {
+            return false;
+        }
+    }
+    true
 }
 
 #[test]
 fn each_process_has_a_state(rt: HostRuntime) -> Result<(), Fail> {
     for way in ways() {
-        let tree = tree_of(rt.alloc(), TAKEN)?;
-        let CompiledText { program, tables } = compiled(rt.alloc(), &tree)?;
-        let mut machine = machine_of(rt.alloc(), program, &tables)?;
-        way.make(&rt, &mut machine, 1, 10, &Open)?;
-        assert_eq!(rt; machine.state(2), ProcState::Ready, "{way:?}");
-        assert_eq!(rt; machine.state(7), ProcState::Unstarted, "{way:?}");
-        way.make(&rt, &mut machine, 1, 10, &Open)?;
-        let delayed = ProcState::Delayed {
-            monitor: 1,
-            queue: 2,
-        };
-        assert_eq!(rt; machine.state(1), ProcState::Ended, "{way:?}");
-        assert_eq!(rt; machine.state(2), delayed, "{way:?}");
-        assert_eq!(rt;
-            machine.state(3),
-            ProcState::Faulted(Fault::QueueTaken),
-            "{way:?}"
-        );
-        assert_eq!(rt; machine.state(4), ProcState::Asking(1), "{way:?}");
-        assert_eq!(rt; machine.state(5), ProcState::Waiting, "{way:?}");
-        assert_eq!(rt; machine.state(6), ProcState::Ready, "{way:?}");
-        assert_eq!(rt; machine.state(7), ProcState::Unstarted, "{way:?}");
-        assert_eq!(rt; machine.gate(1), Holder::Process(3), "{way:?}");
-        assert!(rt; machine.askers(1) == [4].as_slice(), "{way:?}");
+        on_machine(rt.alloc(), TAKEN, |machine| -> Result<(), Fail> {
+            way.make(&rt, machine, 1, 10, &Open)?;
+            assert!(rt; machine.state(2) == ProcState::Ready);
+            way.make(&rt, machine, 1, 10, &Open)?;
+            assert!(rt; has_states(machine, &AFTER_TWO_ROUNDS));
+            assert!(rt; machine.gate(1) == Holder::Process(3));
+            assert!(rt; machine.askers(1) == [4].as_slice());
+            Ok(())
+        })?;
     }
     Ok(())
+}
+
+// Places, and their values after two rounds. The last place is none of the machine.
+const VALUES: [(Owner, usize, Kind, Value); 5] = [
+    (Owner::Monitor(1), 2, Kind::Queue, Value::Queue(Some(2))),
+    (Owner::Monitor(1), 1, Kind::Simple, Value::Ordinal(7)),
+    (Owner::Process(2), 2, Kind::Simple, Value::Ordinal(5)),
+    (Owner::Process(6), 1, Kind::Simple, Value::Ordinal(1)),
+    (
+        Owner::Monitor(1),
+        usize::MAX,
+        Kind::Simple,
+        Value::Ordinal(0),
+    ),
+];
+
+// Whether the places have these values.
+fn has_values(machine: &Machine, values: &[(Owner, usize, Kind, Value)]) -> bool {
+    for (owner, at, kind, value) in values {
+        let place = Place {
+            owner: *owner,
+            at: *at,
+            kind: *kind,
+        };
+        if machine.value(&place) != *value {
+            return false;
+        }
+    }
+    true
 }
 
 #[test]
@@ -62,20 +101,11 @@ fn each_place_has_a_value(rt: HostRuntime) -> Result<(), Fail> {
     let tree = tree_of(rt.alloc(), TAKEN)?;
     let CompiledText { program, tables } = compiled(rt.alloc(), &tree)?;
     let mut machine = machine_of(rt.alloc(), program, &tables)?;
-    let q = place(Owner::Monitor(1), 2, Kind::Queue);
-    assert_eq!(rt; machine.value(&q), Value::Queue(None));
+    let q = (Owner::Monitor(1), 2, Kind::Queue, Value::Queue(None));
+    assert!(rt; has_values(&machine, &[q]));
     Way::new(true, 1, 1, 255).make(&rt, &mut machine, 2, 10, &Open)?;
-    let x = place(Owner::Monitor(1), 1, Kind::Simple);
-    let y = place(Owner::Process(2), 2, Kind::Simple);
-    let z = place(Owner::Process(6), 1, Kind::Simple);
-    assert_eq!(rt; machine.value(&q), Value::Queue(Some(2)));
-    assert_eq!(rt; machine.value(&x), Value::Ordinal(7));
-    assert_eq!(rt; machine.value(&y), Value::Ordinal(5));
-    assert_eq!(rt; machine.value(&z), Value::Ordinal(1));
-    let missing = place(Owner::Monitor(1), usize::MAX, Kind::Simple);
-    assert_eq!(rt; machine.value(&missing), Value::Ordinal(0));
-    assert_eq!(rt; machine.state(8), ProcState::Ended);
+    assert!(rt; has_values(&machine, &VALUES));
     let halted = machine.halt();
-    assert_eq!(rt; halted.rounds(), 2);
+    assert!(rt; halted.rounds() == 2);
     Ok(())
 }

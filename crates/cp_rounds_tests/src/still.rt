@@ -1,10 +1,8 @@
 //! Rounds until nothing can move.
 
-use crate::machines::machine_with;
+use crate::machines::on_machine_with;
 use crate::rounds::SEVENS;
-use crate::texts::{compiled, tree_of};
 use crate::ways::is_young;
-use cp_check::checking::CompiledText;
 use cp_rounds::gate::Open;
 use cp_rounds::machine::Machine;
 use cp_rounds::plan::Plan;
@@ -50,22 +48,22 @@ fn expect_still<R: Abort + Threads + Wait + Sync>(
 ) -> Result<(), Fail> {
     for (workers, limit) in [(1, due), (1, due.saturating_add(1)), (3, 1_000_000)] {
         let plan = Plan::new(turn, workers, 1, 255)?;
-        let tree = tree_of(alloc, text)?;
-        let CompiledText { program, tables } = compiled(alloc, &tree)?;
-        let mut machine = machine_with(alloc, program, &tables, 5, &[])?;
-        assert!(rt; !machine.is_still(), "{text}");
-        assert_eq!(rt;
-            until_still(rt, &mut machine, limit, &plan)?,
-            due,
-            "{text} {limit}"
-        );
-        assert!(rt; machine.is_still(), "{text} {limit}");
-        assert_eq!(rt; machine.rounds(), u64::from(due), "{text} {limit}");
-        assert_eq!(rt;
-            until_still(rt, &mut machine, limit, &plan)?,
-            0,
-            "{text} {limit}"
-        );
+        on_machine_with(alloc, text, 5, &[], |machine| -> Result<(), Fail> {
+            assert!(rt; !machine.is_still(), "{text}");
+            assert_eq!(rt;
+                until_still(rt, machine, limit, &plan)?,
+                due,
+                "{text} {limit}"
+            );
+            assert!(rt; machine.is_still(), "{text} {limit}");
+            assert_eq!(rt; machine.rounds(), u64::from(due), "{text} {limit}");
+            assert_eq!(rt;
+                until_still(rt, machine, limit, &plan)?,
+                0,
+                "{text} {limit}"
+            );
+            Ok(())
+        })?;
     }
     Ok(())
 }
@@ -87,16 +85,12 @@ fn rounds_end_at_the_limit(rt: HostRuntime) -> Result<(), Fail> {
         (COUNTS_TO_1000, 1000),
         (WAITS, 4),
     ] {
-        let tree = tree_of(rt.alloc(), text)?;
-        let CompiledText { program, tables } = compiled(rt.alloc(), &tree)?;
-        let mut machine = machine_with(rt.alloc(), program, &tables, 5, &[])?;
-        assert_eq!(rt;
-            until_still(&rt, &mut machine, limit, &plan)?,
-            limit,
-            "{text}"
-        );
-        assert!(rt; !machine.is_still(), "{text}");
-        assert_eq!(rt; machine.rounds(), u64::from(limit), "{text}");
+        on_machine_with(rt.alloc(), text, 5, &[], |machine| -> Result<(), Fail> {
+            assert_eq!(rt; until_still(&rt, machine, limit, &plan)?, limit, "{text}");
+            assert!(rt; !machine.is_still(), "{text}");
+            assert_eq!(rt; machine.rounds(), u64::from(limit), "{text}");
+            Ok(())
+        })?;
     }
     Ok(())
 }

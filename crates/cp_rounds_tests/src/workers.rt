@@ -1,11 +1,9 @@
 //! Rounds by several threads: which turns are made at the same time, and when the gate is called.
 
 use crate::gates::{Counting, EachWaits, Meeting, PrivateTurnsMeet, WavesMeet};
-use crate::machines::machine_of;
+use crate::machines::on_machine;
 use crate::rounds::SEVENS;
-use crate::texts::{compiled, tree_of};
 use crate::ways::Way;
-use cp_check::checking::CompiledText;
 use std::test::Fail;
 
 // From round 4 on all processes have ended, and the gate is still called for each of them.
@@ -17,15 +15,15 @@ const FOUR: &str =
 #[test]
 fn two_private_turns_are_made_at_once(rt: HostRuntime) -> Result<(), Fail> {
     for is_run in [true, false] {
-        let tree = tree_of(rt.alloc(), TWO)?;
-        let CompiledText { program, tables } = compiled(rt.alloc(), &tree)?;
-        let mut machine = machine_of(rt.alloc(), program, &tables)?;
-        let gate = PrivateTurnsMeet(Meeting::new());
-        Way::new(is_run, 2, 1, 255).make(&rt, &mut machine, 1000, 10, &gate)?;
-        assert!(rt;
-            gate.0.seen.iter().all(|seen| seen.get() > 0),
-            "run: {is_run}"
-        );
+        on_machine(rt.alloc(), TWO, |machine| -> Result<(), Fail> {
+            let gate = PrivateTurnsMeet(Meeting::new());
+            Way::new(is_run, 2, 1, 255).make(&rt, machine, 1000, 10, &gate)?;
+            assert!(rt;
+                gate.0.seen.iter().all(|seen| seen.get() > 0),
+                "run: {is_run}"
+            );
+            Ok(())
+        })?;
     }
     Ok(())
 }
@@ -33,15 +31,15 @@ fn two_private_turns_are_made_at_once(rt: HostRuntime) -> Result<(), Fail> {
 #[test]
 fn a_kernel_turn_is_made_beside_the_next_wave(rt: HostRuntime) -> Result<(), Fail> {
     for is_run in [true, false] {
-        let tree = tree_of(rt.alloc(), TWO)?;
-        let CompiledText { program, tables } = compiled(rt.alloc(), &tree)?;
-        let mut machine = machine_of(rt.alloc(), program, &tables)?;
-        let gate = WavesMeet(Meeting::new());
-        Way::new(is_run, 2, 1, 1).make(&rt, &mut machine, 1000, 10, &gate)?;
-        assert!(rt;
-            gate.0.seen.iter().all(|seen| seen.get() > 0),
-            "run: {is_run}"
-        );
+        on_machine(rt.alloc(), TWO, |machine| -> Result<(), Fail> {
+            let gate = WavesMeet(Meeting::new());
+            Way::new(is_run, 2, 1, 1).make(&rt, machine, 1000, 10, &gate)?;
+            assert!(rt;
+                gate.0.seen.iter().all(|seen| seen.get() > 0),
+                "run: {is_run}"
+            );
+            Ok(())
+        })?;
     }
     Ok(())
 }
@@ -49,15 +47,15 @@ fn a_kernel_turn_is_made_beside_the_next_wave(rt: HostRuntime) -> Result<(), Fai
 #[test]
 fn no_process_is_kept_for_one_worker(rt: HostRuntime) -> Result<(), Fail> {
     for is_run in [true, false] {
-        let tree = tree_of(rt.alloc(), FOUR)?;
-        let CompiledText { program, tables } = compiled(rt.alloc(), &tree)?;
-        let mut machine = machine_of(rt.alloc(), program, &tables)?;
-        let gate = EachWaits::new();
-        Way::new(is_run, 2, 1, 255).make(&rt, &mut machine, 1000, 10, &gate)?;
-        assert!(rt;
-            gate.seen.iter().all(|seen| seen.get() > 0),
-            "run: {is_run}"
-        );
+        on_machine(rt.alloc(), FOUR, |machine| -> Result<(), Fail> {
+            let gate = EachWaits::new();
+            Way::new(is_run, 2, 1, 255).make(&rt, machine, 1000, 10, &gate)?;
+            assert!(rt;
+                gate.seen.iter().all(|seen| seen.get() > 0),
+                "run: {is_run}"
+            );
+            Ok(())
+        })?;
     }
     Ok(())
 }
@@ -68,15 +66,15 @@ fn no_process_is_kept_for_one_worker(rt: HostRuntime) -> Result<(), Fail> {
 fn the_gate_is_called_once_for_each_turn(rt: HostRuntime) -> Result<(), Fail> {
     for is_run in [true, false] {
         for wave in [1, 2, 3, 255] {
-            let tree = tree_of(rt.alloc(), SEVENS)?;
-            let CompiledText { program, tables } = compiled(rt.alloc(), &tree)?;
-            let mut machine = machine_of(rt.alloc(), program, &tables)?;
-            let gate = Counting::new();
-            Way::new(is_run, 64, 1, wave).make(&rt, &mut machine, 5, 1, &gate)?;
-            assert!(rt;
-                gate.calls() == [(0, 0), (5, 5), (5, 5), (5, 5)],
-                "run: {is_run}, wave {wave}"
-            );
+            on_machine(rt.alloc(), SEVENS, |machine| -> Result<(), Fail> {
+                let gate = Counting::new();
+                Way::new(is_run, 64, 1, wave).make(&rt, machine, 5, 1, &gate)?;
+                assert!(rt;
+                    gate.calls() == [(0, 0), (5, 5), (5, 5), (5, 5)],
+                    "run: {is_run}, wave {wave}"
+                );
+                Ok(())
+            })?;
         }
     }
     Ok(())
