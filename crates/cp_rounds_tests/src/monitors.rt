@@ -13,7 +13,7 @@ use std::process::Abort;
 use std::test::Fail;
 
 // Expects a monitor's gate to have this holder and these askers.
-fn expect_gate(
+pub(crate) fn expect_gate(
     rt: &impl Abort,
     machine: &Machine,
     m: u32,

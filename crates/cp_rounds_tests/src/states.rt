@@ -1,6 +1,7 @@
 //! What a machine tells of its processes, monitors and variables between rounds.
 
 use crate::machines::{machine_of, on_machine};
+use crate::monitors::expect_gate;
 use crate::texts::{compiled, tree_of};
 use crate::ways::{Way, ways};
 use cp_check::checking::CompiledText;
@@ -56,11 +57,10 @@ fn each_process_has_a_state(rt: HostRuntime) -> Result<(), Fail> {
     for way in ways() {
         on_machine(rt.alloc(), TAKEN, |machine| -> Result<(), Fail> {
             way.make(&rt, machine, 1, 10, &Open)?;
-            assert!(rt; machine.state(2) == ProcState::Ready);
+            assert!(rt; has_states(machine, &[(2, ProcState::Ready)]));
             way.make(&rt, machine, 1, 10, &Open)?;
             assert!(rt; has_states(machine, &AFTER_TWO_ROUNDS));
-            assert!(rt; machine.gate(1) == Holder::Process(3));
-            assert!(rt; machine.askers(1) == [4].as_slice());
+            expect_gate(&rt, machine, 1, Holder::Process(3), &[4], way);
             Ok(())
         })?;
     }
@@ -98,14 +98,21 @@ fn has_values(machine: &Machine, values: &[(Owner, usize, Kind, Value)]) -> bool
 
 #[test]
 fn each_place_has_a_value(rt: HostRuntime) -> Result<(), Fail> {
+    on_machine(rt.alloc(), TAKEN, |machine| -> Result<(), Fail> {
+        let q = (Owner::Monitor(1), 2, Kind::Queue, Value::Queue(None));
+        assert!(rt; has_values(machine, &[q]));
+        Way::new(true, 1, 1, 255).make(&rt, machine, 2, 10, &Open)?;
+        assert!(rt; has_values(machine, &VALUES));
+        Ok(())
+    })
+}
+
+#[test]
+fn a_halted_machine_keeps_its_rounds(rt: HostRuntime) -> Result<(), Fail> {
     let tree = tree_of(rt.alloc(), TAKEN)?;
     let CompiledText { program, tables } = compiled(rt.alloc(), &tree)?;
-    let mut machine = machine_of(rt.alloc(), program, &tables)?;
-    let q = (Owner::Monitor(1), 2, Kind::Queue, Value::Queue(None));
-    assert!(rt; has_values(&machine, &[q]));
-    Way::new(true, 1, 1, 255).make(&rt, &mut machine, 2, 10, &Open)?;
-    assert!(rt; has_values(&machine, &VALUES));
+    let machine = machine_of(rt.alloc(), program, &tables)?;
     let halted = machine.halt();
-    assert!(rt; halted.rounds() == 2);
+    assert!(rt; halted.rounds() == 0);
     Ok(())
 }
