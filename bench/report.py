@@ -2,7 +2,7 @@
 """Measures a report of 2,530,000 lines: how fast it is made and written, and how much memory that takes.
 
 Each of 253 processes has an array of 10,000 words. An outcome of the same text makes the same rounds and no report, so the difference
-between the two is the report's. Build the program first (`rt run < stdin` in crates/cpm leaves out/cpm; CPM names another).
+between the two in time is the report's. The memory is that of the whole run. Build the program first (`rt run < stdin` in crates/cpm leaves out/cpm; CPM names another).
 """
 import os
 import pathlib
@@ -47,8 +47,8 @@ def main():
         with_report = best(run, '/dev/null')
         without = best(['outcome', text, '--limit', '10', *PLAN], '/dev/null')
     seconds = with_report[0] - without[0]
-    print(f'{lines:,} lines, {length:.1f} MB: {seconds:.2f} s, {length / seconds:.0f} MB a second, '
-          f'{(with_report[1] - without[1]) / length:.2f} times its length in memory')
+    print(f'{lines:,} lines, {length:.1f} MB: {seconds:.2f} s, {length / seconds:.0f} MB a second; the run takes {with_report[1]:.0f} MB in all, '
+          f'{with_report[1] / length:.2f} times the length of its report')
 
 
 if __name__ == '__main__':
