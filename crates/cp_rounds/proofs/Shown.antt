@@ -99,8 +99,9 @@ there m setup s I p first last =
     let count = I.part_count in
     got_at (machine_of m).parts (p - 1) (Prim.omega (arith, first, last, count))
 
-pub state_shown : (m : Machine) (p : ℕ) → ShowsState m p (state_at (machine_of m) p)
-state_shown m p setup s I first last =
+status_is : (m : Machine) (p : ℕ) (setup : Setup) (s : State) (I : IsIn (machine_of m) setup s) → 1 ≤ p → p ≤ process_count setup
+    → StatusMeans (kernel_ground (machine_of m).program I.stands.texts setup) (s.status p) (state_at (machine_of m) p)
+status_is m p setup s I first last =
     let o = there m setup s I p first last in
     let G = kernel_ground (machine_of m).program I.stands.texts setup in
     let stage = stage_of (machine_of m).kernel.stages p in
@@ -108,6 +109,9 @@ state_shown m p setup s I first last =
     let seen : activity_at (machine_of m) p ≡ o.0.activity = ap (λ r. elim r as (λ x. Activity) [ None ↦ machine.Ended | Some q ↦ q.activity ]) o.1 in
     subst (λ a. StatusMeans G (s.status p) (state_of stage a)) (sym seen)
     (status_shown G (s.status p) stage o.0.activity (I.kernel.gates_stand.stages p first (Prim.omega (arith, last, count))) (I.parts p o.0 first o.1).part.status)
+
+pub state_shown : (m : Machine) (p : ℕ) → ShowsState m p (state_at (machine_of m) p)
+state_shown m p = record { shows = status_is m p }
 
 -- ---- Gates
 
@@ -182,6 +186,11 @@ held kind.Queue Queue n v k h = h
 held kind.Queue (ComponentOf y ms) n v k h = absurd k
 held kind.Queue NoType n v k h = absurd k
 
-pub value_shown : (m : Machine) (place : Place) → ShowsValue m place (value_at (machine_of m) place)
-value_shown m place setup s I path t is fits lie =
+value_is : (m : Machine) (place : Place) (setup : Setup) (s : State) (I : IsIn (machine_of m) setup s) (path : Path) (t : ResolvedType) → IsOwner setup s place.owner
+    → IsKindOf place.kind t → LiesAt (machine_of m).program setup I.stands place.owner place.at path t
+    → IsValue t (value_at (machine_of m) place) (s.store (location_of place.owner path))
+value_is m place setup s I path t is fits lie =
     held place.kind t (word_of (machine_of m) place.owner place.at) (s.store (location_of place.owner path)) fits (cell m setup s I place.owner place.at path t is lie)
+
+pub value_shown : (m : Machine) (place : Place) → ShowsValue m place (value_at (machine_of m) place)
+value_shown m place = record { shows = value_is m place }

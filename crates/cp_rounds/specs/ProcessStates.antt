@@ -49,7 +49,6 @@ StatusMeans G (status.Faulted n) (state.Faulted f) = n ≡ fault_number f
 StatusMeans G _ _ = ⊥
 
 -- In each state that the machine is in, the status of process p is this state.
-abbrev pub ShowsState : Machine → ℕ → ProcState → Type 0
-ShowsState m p r =
-    (setup : Setup) (s : State) (I : IsIn (machine_of m) setup s) → 1 ≤ p → p ≤ process_count setup
-    → StatusMeans (kernel_ground (machine_of m).program I.stands.texts setup) (s.status p) r
+pub record ShowsState (m : Machine) (p : ℕ) (r : ProcState) : Type 0 where
+  pub shows : (setup : Setup) (s : State) (I : IsIn (machine_of m) setup s) → 1 ≤ p → p ≤ process_count setup
+      → StatusMeans (kernel_ground (machine_of m).program I.stands.texts setup) (s.status p) r

@@ -69,7 +69,6 @@ IsOwner setup s (owner.Process p) = (1 ≤ p) × (p ≤ process_count setup) × 
 IsOwner setup s (owner.Monitor k) = Unit {0}
 
 -- In each state that the machine is in, each variable that lies at the place has this value.
-abbrev pub ShowsValue : Machine → Place → Value → Type 0
-ShowsValue m place v =
-    (setup : Setup) (s : State) (I : IsIn (machine_of m) setup s) (path : Path) (t : ResolvedType) → IsOwner setup s place.owner → IsKindOf place.kind t
-    → LiesAt (machine_of m).program setup I.stands place.owner place.at path t → IsValue t v (s.store (location_of place.owner path))
+pub record ShowsValue (m : Machine) (place : Place) (v : Value) : Type 0 where
+  pub shows : (setup : Setup) (s : State) (I : IsIn (machine_of m) setup s) (path : Path) (t : ResolvedType) → IsOwner setup s place.owner → IsKindOf place.kind t
+      → LiesAt (machine_of m).program setup I.stands place.owner place.at path t → IsValue t v (s.store (location_of place.owner path))
