@@ -23,12 +23,14 @@ def kind_of(words, folder):
 
 
 def read_prover(process):
-    """The crate, the kind and the ticks of a running prover, or None for any other process."""
+    """The crate, the kind and the ticks of a running prover of this session, or None for any other process."""
     words = (process / 'cmdline').read_bytes().decode(errors='replace').split('\0')
     if not words[0].endswith('/rattle') or '--crate-name' not in words:
         return None
     crate = words[words.index('--crate-name') + 1]
     fields = (process / 'stat').read_text().rpartition(')')[2].split()
+    if int(fields[3]) != os.getsid(0):
+        return None
     ticks = int(fields[11]) + int(fields[12])
     return (process.name, fields[19], crate, kind_of(words, os.readlink(process / 'cwd'))), ticks
 
