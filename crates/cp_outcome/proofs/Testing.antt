@@ -77,7 +77,7 @@ module _ (f : Status → Bool) (g : ProcState → Bool) (test : IsTestOf f g) (m
   passes : (setup : Setup) (s : State) → IsIn (machine_of m) setup s → (p : ℕ) → 1 ≤ p → p ≤ process_count setup
       → f (s.status p) ≡ g (state_at (machine_of m) p)
   passes setup s I p first last =
-      test (kernel_ground (machine_of m).program I.stands.texts setup) (s.status p) (state_at (machine_of m) p) (state_shown m p setup s I first last)
+      test (kernel_ground (machine_of m).program I.stands.texts setup) (s.status p) (state_at (machine_of m) p) ((state_shown m p).shows setup s I first last)
 
   pub all_do : (n : ℕ) → processes_of m ≤ n → PassBelow g m n → TellsAll f m true
   all_do n most pass setup s I = all_yes f s 1 (process_count setup) each
