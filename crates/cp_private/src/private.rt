@@ -51,7 +51,7 @@ pub struct Private {
     /// which hold the values of calls and the counters of `for`.
     pub(crate) memory: Memory,
     /// Room for all frames. The first `depth` frames are in use.
-    pub(crate) frames: SmallVec<Frame, 4>,
+    pub(crate) frames: SmallVec<Frame, 1>,
     pub(crate) depth: usize,
     /// The output that isn't in the transcript yet.
     pub(crate) output: Vec<u8>,
