@@ -26,8 +26,9 @@ def ended_text():
     return f'type p = process; begin end; var {names}: p; begin init {names} end.'
 
 
-def command(text, rounds, turn, workers):
-    return [PROGRAM, 'run', text, '--rounds', str(rounds), '--turn', str(turn), '--workers', str(workers)]
+def command(text, rounds, turn, workers, chunk=1):
+    numbers = {'--rounds': rounds, '--turn': turn, '--workers': workers, '--chunk': chunk}
+    return [PROGRAM, 'run', text, *(word for name, number in numbers.items() for word in (name, str(number)))]
 
 
 def seconds(words, copies=1):
@@ -46,14 +47,14 @@ def best(cases):
     return {name: min(trial[name] for trial in trials) for name in cases}
 
 
-def measure_turns(text, turn, rounds):
+def measure_turns(text, turn, rounds, chunk):
     """Private steps a second by workers, and by as many programs of one worker side by side."""
-    cases = {workers: (command(text, rounds, turn, workers), 1) for workers in (1, 2, 4)}
+    cases = {workers: (command(text, rounds, turn, workers, chunk), 1) for workers in (1, 2, 4)}
     apart = {f'{copies} programs': (command(text, rounds, turn, 1), copies) for copies in (2, 4)}
     times = best({**cases, **apart})
     steps = PROCESSES * turn * rounds
     for workers in cases:
-        line = f'turns of {turn}, {workers} workers: {steps / times[workers] / 1e6:.1f} million steps a second'
+        line = f'turns of {turn}, chunks of {chunk}, {workers} workers: {steps / times[workers] / 1e6:.1f} million steps a second'
         if workers > 1:
             alone = workers * steps / times[f'{workers} programs']
             line += f', {steps / times[workers] / alone:.2f} of {workers} programs beside each other'
@@ -65,8 +66,9 @@ def main():
         counting, ended = pathlib.Path(folder) / 'counting.cp', pathlib.Path(folder) / 'ended.cp'
         counting.write_text(counting_text())
         ended.write_text(ended_text())
-        measure_turns(counting, 10_000, 30)
-        measure_turns(counting, 100, 2_000)
+        measure_turns(counting, 10_000, 30, 1)
+        for chunk in (1, 16):
+            measure_turns(counting, 100, 2_000, chunk)
         times = best({workers: (command(ended, 5_000, 100, workers), 1) for workers in (1, 2, 4)})
         for workers, took in times.items():
             print(f'no private steps, {workers} workers: {took / 5_000 * 1e6:.1f} microseconds a round')
