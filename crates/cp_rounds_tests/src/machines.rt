@@ -56,15 +56,28 @@ pub(crate) fn machine_of<'r, 't>(
     machine_with(alloc, program, tables, 1, &[])
 }
 
-// Tests the machine of a text, with the inputs of its first processes. A test that owned the text,
-// its tables and its machine would have to give up all of them wherever it can fail.
-pub(crate) fn on_machine_with<F: Copy + Fn(&mut Machine<'_, '_>) -> Result<(), Fail>>(
+// Tests the program and the tables of a text. A test that owned them and its machine would have to
+// give up all of them wherever it can fail, and take minutes to prove.
+pub(crate) fn on_program<T: Drop, F: Copy + Fn(Program, &Tables<'_>) -> Result<T, Fail>>(
+    alloc: Global,
+    text: &str,
+    test: F,
+) -> Result<T, Fail>
+    requires { F.IsAlwaysCallable test }
+{
+    let tree = tree_of(alloc, text)?;
+    let CompiledText { program, tables } = compiled(alloc, &tree)?;
+    test(program, &tables)
+}
+
+// Tests the machine of a text, with the inputs of its first processes.
+pub(crate) fn on_machine_with<T: Drop, F: Copy + Fn(&mut Machine<'_, '_>) -> Result<T, Fail>>(
     alloc: Global,
     text: &str,
     tick: u32,
     inputs: &[&[u8]],
     test: F,
-) -> Result<(), Fail>
+) -> Result<T, Fail>
     requires { F.IsAlwaysCallable test }
 {
     let tree = tree_of(alloc, text)?;
@@ -74,11 +87,11 @@ pub(crate) fn on_machine_with<F: Copy + Fn(&mut Machine<'_, '_>) -> Result<(), F
 }
 
 // Tests the machine of a text, with a tick of one round and without input.
-pub(crate) fn on_machine<F: Copy + Fn(&mut Machine<'_, '_>) -> Result<(), Fail>>(
+pub(crate) fn on_machine<T: Drop, F: Copy + Fn(&mut Machine<'_, '_>) -> Result<T, Fail>>(
     alloc: Global,
     text: &str,
     test: F,
-) -> Result<(), Fail>
+) -> Result<T, Fail>
     requires { F.IsAlwaysCallable test }
 {
     on_machine_with(alloc, text, 1, &[], test)

@@ -1,10 +1,8 @@
 //! Plans and ticks: their ranges, how a plan divides processes among workers, and that all plans
 //! make the same machine.
 
-use crate::machines::{activity, has_written, machine_of};
-use crate::texts::{compiled, tree_of};
+use crate::machines::{activity, has_written, on_machine};
 use crate::ways::Way;
-use cp_check::checking::CompiledText;
 use cp_private::limits::L1;
 use cp_private::outside::Holder;
 use cp_private::private::Activity;
@@ -107,11 +105,10 @@ fn squares_by<R: Threads + Wait + Sync>(
     text: &str,
     way: Way,
 ) -> Result<bool, Fail> {
-    let tree = tree_of(alloc, text)?;
-    let CompiledText { program, tables } = compiled(alloc, &tree)?;
-    let mut machine = machine_of(alloc, program, &tables)?;
-    way.make(rt, &mut machine, 3, 300, &Open)?;
-    all_have_squared(&machine)
+    on_machine(alloc, text, |machine| -> Result<bool, Fail> {
+        way.make(rt, machine, 3, 300, &Open)?;
+        all_have_squared(machine)
+    })
 }
 
 #[test]

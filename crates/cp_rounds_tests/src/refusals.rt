@@ -4,11 +4,8 @@
 //! run. If one is made to fail, as `trials/refusals.py` has a library do that is loaded before the C
 //! library, the last three tests report it and look at the machine.
 
-use crate::machines::{activity, describe, has_written, inputs_for, machine_of, on_machine};
-use crate::texts::{compiled, tree_of};
+use crate::machines::{activity, describe, has_written, inputs_for, on_machine, on_program};
 use crate::ways::{Way, is_young};
-use cp_check::checking::CompiledText;
-use cp_model::tree::Tree;
 use cp_private::outside::{Holder, Stage};
 use cp_private::private::Activity;
 use cp_program::operation::Operation;
@@ -18,6 +15,7 @@ use cp_rounds::gate::Open;
 use cp_rounds::machine::{Machine, MemoryAt};
 use cp_rounds::plan::Plan;
 use cp_rounds::tick::Tick;
+use cp_scope::Tables;
 use std::alloc::Global;
 use std::sync::Wait;
 use std::test::Fail;
@@ -55,6 +53,17 @@ fn ending_program(alloc: Global, words: u32, shared: u32) -> Result<Program, Fai
     ))
 }
 
+// Returns the machine of a program without input, unless it is refused.
+fn machine_unless_refused<'r, 't>(
+    alloc: Global,
+    program: Program,
+    tables: &'r Tables<'t>,
+) -> Result<Option<Machine<'r, 't>>, Fail> {
+    let tick = Tick::new(1)?;
+    let inputs = inputs_for(alloc, &program, &[])?;
+    Ok(Machine::new(alloc, program, tables, inputs, tick).ok())
+}
+
 // Returns the activity of the process of such a program after a round, unless the machine is
 // refused.
 fn activity_after_round<R: Threads + Wait + Sync>(
@@ -63,15 +72,18 @@ fn activity_after_round<R: Threads + Wait + Sync>(
     words: u32,
     shared: u32,
 ) -> Result<Option<Activity>, Fail> {
-    let tree = tree_of(alloc, "begin end.")?;
-    let CompiledText { program: _, tables } = compiled(alloc, &tree)?;
-    let program = ending_program(alloc, words, shared)?;
-    let inputs = inputs_for(alloc, &program, &[])?;
-    let Ok(mut machine) = Machine::new(alloc, program, &tables, inputs, Tick::new(1)?) else {
-        return Ok(None);
-    };
-    Way::new(true, 1, 1, 1).make(rt, &mut machine, 1, 1, &Open)?;
-    Ok(Some(activity(&machine, 1)?))
+    on_program(
+        alloc,
+        "begin end.",
+        |_program, tables| -> Result<Option<Activity>, Fail> {
+            let program = ending_program(alloc, words, shared)?;
+            let Some(mut machine) = machine_unless_refused(alloc, program, tables)? else {
+                return Ok(None);
+            };
+            Way::new(true, 1, 1, 1).make(rt, &mut machine, 1, 1, &Open)?;
+            Ok(Some(activity(&machine, 1)?))
+        },
+    )
 }
 
 #[test]
@@ -123,26 +135,31 @@ fn plan_of(workers: u32, wave: u32) -> Result<Plan, Fail> {
     Ok(Plan::new(3, workers, 1, wave)?)
 }
 
-// Returns whether the machine of the counters is refused. If it isn't, it makes its rounds.
-fn is_refused<R: Threads + Wait + Sync>(rt: &R, alloc: Global, tree: &Tree) -> Result<bool, Fail> {
-    let CompiledText { program, tables } = compiled(alloc, tree)?;
-    let inputs = inputs_for(alloc, &program, &[])?;
-    let Ok(mut machine) = Machine::new(alloc, program, &tables, inputs, Tick::new(1)?) else {
-        return Ok(true);
-    };
-    Way::new(true, 1, 1, 255).make(rt, &mut machine, ROUNDS, 3, &Open)?;
-    if !have_counted(&machine)? {
+// Makes the rounds of the counters, and fails unless they have counted.
+fn count<R: Threads + Wait + Sync>(rt: &R, machine: &mut Machine) -> Result<(), Fail> {
+    Way::new(true, 1, 1, 255).make(rt, machine, ROUNDS, 3, &Open)?;
+    if !have_counted(machine)? {
         return Err("the counters have counted otherwise".into());
     }
-    Ok(false)
+    Ok(())
+}
+
+// Returns whether the machine of the counters is refused. If it isn't, it makes its rounds.
+fn is_refused<R: Threads + Wait + Sync>(rt: &R, alloc: Global) -> Result<bool, Fail> {
+    on_program(alloc, COUNTERS, |program, tables| -> Result<bool, Fail> {
+        let Some(mut machine) = machine_unless_refused(alloc, program, tables)? else {
+            return Ok(true);
+        };
+        count(rt, &mut machine)?;
+        Ok(false)
+    })
 }
 
 #[test]
 fn a_refused_machine_is_made_again(rt: HostRuntime) -> Result<(), Fail> {
-    let tree = tree_of(rt.alloc(), COUNTERS)?;
-    if is_refused(&rt, rt.alloc(), &tree)? {
+    if is_refused(&rt, rt.alloc())? {
         println!(rt; "a machine is refused")?;
-        assert!(rt; !is_refused(&rt, rt.alloc(), &tree)?);
+        assert!(rt; !is_refused(&rt, rt.alloc())?);
     }
     Ok(())
 }
@@ -175,11 +192,10 @@ fn describe_after<R: Threads + Wait + Sync>(
     alloc: Global,
     rounds: u32,
 ) -> Result<String, Fail> {
-    let tree = tree_of(alloc, COUNTERS)?;
-    let CompiledText { program, tables } = compiled(alloc, &tree)?;
-    let mut machine = machine_of(alloc, program, &tables)?;
-    Way::new(true, 1, 1, 255).make(rt, &mut machine, rounds, 3, &Open)?;
-    describe(alloc, &machine)
+    on_machine(alloc, COUNTERS, |machine| -> Result<String, Fail> {
+        Way::new(true, 1, 1, 255).make(rt, machine, rounds, 3, &Open)?;
+        describe(alloc, machine)
+    })
 }
 
 #[test]

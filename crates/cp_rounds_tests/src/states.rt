@@ -1,10 +1,8 @@
 //! What a machine tells of its processes, monitors and variables between rounds.
 
-use crate::machines::{machine_of, on_machine};
+use crate::machines::{machine_of, on_machine, on_program};
 use crate::monitors::expect_gate;
-use crate::texts::{compiled, tree_of};
 use crate::ways::{Way, ways};
-use cp_check::checking::CompiledText;
 use cp_model::state::Fault;
 use cp_private::outside::Holder;
 use cp_rounds::gate::Open;
@@ -109,10 +107,10 @@ fn each_place_has_a_value(rt: HostRuntime) -> Result<(), Fail> {
 
 #[test]
 fn a_halted_machine_keeps_its_rounds(rt: HostRuntime) -> Result<(), Fail> {
-    let tree = tree_of(rt.alloc(), TAKEN)?;
-    let CompiledText { program, tables } = compiled(rt.alloc(), &tree)?;
-    let machine = machine_of(rt.alloc(), program, &tables)?;
-    let halted = machine.halt();
-    assert!(rt; halted.rounds() == 0);
-    Ok(())
+    on_program(rt.alloc(), TAKEN, |program, tables| -> Result<(), Fail> {
+        let machine = machine_of(rt.alloc(), program, tables)?;
+        let halted = machine.halt();
+        assert!(rt; halted.rounds() == 0);
+        Ok(())
+    })
 }
