@@ -9,8 +9,10 @@ use std::hint;
 use std::sync::atomic::{AtomicU64, Ordering};
 use std::sync::{Mutex, Wait};
 
-// How many times a thread looks for a change before it sleeps.
-const LOOKS: u32 = 2_000;
+// How many times a thread looks for a change before it sleeps: for some 50 microseconds, in which the
+// calling thread makes the kernel turns of a large round, so that no thread has to be woken for the
+// next one.
+const LOOKS: u32 = 10_000;
 
 /// Waits until the word is no longer `seen`: looks for a while, and then sleeps.
 fn wait_for_change<R: Wait>(rt: &R, word: &AtomicU64, asleep: &AtomicU64, seen: u64) {
