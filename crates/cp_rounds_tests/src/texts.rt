@@ -9,8 +9,13 @@ use std::test::Fail;
 
 /// Returns the syntax tree of a text.
 pub(crate) fn tree_of(alloc: Global, text: &str) -> Result<Tree, Fail> {
-    let tokens = scan(alloc, text.as_bytes()).map_err(|_| "the text has no tokens")?;
-    Ok(parse(alloc, tokens.as_slice(), text.len()).map_err(|_| "the text has no tree")?)
+    let Ok(tokens) = scan(alloc, text.as_bytes()) else {
+        return Err("the text has no tokens".into());
+    };
+    let Ok(tree) = parse(alloc, tokens.as_slice(), text.len()) else {
+        return Err("the text has no tree".into());
+    };
+    Ok(tree)
 }
 
 /// Returns the program and the tables of an accepted text.
