@@ -29,7 +29,7 @@ use Rattle.cp_scope.specs.Components.{own_members}
 use Rattle.cp_scope.specs.Layouts.{rights_of}
 use Rattle.cp_scope.specs.Scopes.{IsWritten}
 use Rattle.cp_scope.specs.Variables.{AreDeclared, Entry, declared_entry, parameters_of}
-use Rattle.cp_program.specs.declared.program.StartPlan.{StartPlan}
+use Rattle.cp_program_model.specs.Programs.{StartPlan}
 use Rattle.cp_compile.specs.declared.components.Owner.{Owner}
 use Rattle.cp_compile.specs.declared.components.InitialCompiler.{InitialCompiler}
 use Rattle.cp_compile.specs.CompiledComponents.{AreOwners, IsInitial, IsOwner, OwnerIs, PutsOwner}
@@ -115,7 +115,7 @@ pub component_put : (of : InitialCompiler) (plans : List StartPlan) (g : GlobalS
     (v : Name × Variable) → IsInitial of plans g firsts groups vs → (k : ℕ) (text : Bor tree_system.System) (table : SystemTable) (n : ℕ) (o : Owner) (body : ℕ)
     → system_at of.tables.now.types k ≡ Some text → slice_get of.tables.now.systems.items k ≡ Some table
     → body ≡ or_zero (lookup (declared_type v.0 groups) firsts) + length text.now.routines.items → Stands of.tables.now.types n v.1.type
-    → system_of (row_at of.tables.now.types n) ≡ Some k → IsOwner table body k o → PutsOwner plans g firsts groups v o
+    → system_of (row_at of.tables.now.types n) ≡ Some k → IsOwner table body (of.plans + k) o → PutsOwner plans g firsts groups v o
 component_put of plans g firsts groups vs v i k text table n o body text_is table_is body_is stands number is =
     let there = component_there of.tables.now.types n k v.1.type stands number in
     let same : there.3 ≡ text = same_Some there.3 text (sym there.4 ∙ text_is) in

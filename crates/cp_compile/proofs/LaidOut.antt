@@ -10,7 +10,7 @@ use Rattle.cp_program_model.specs.Plans.{plan_of_component}
 use Rattle.cp_program_model.specs.Programs as program
 use Rattle.cp_program.specs.View as view
 use Rattle.cp_program.specs.declared.program.Monitor.{Monitor}
-use Rattle.cp_program.specs.declared.program.StartPlan.{StartPlan}
+use Rattle.cp_program_model.specs.Programs.{StartPlan}
 use Rattle.cp_program.specs.declared.program.Process.{Process}
 use Rattle.cp_compile.specs.declared.components.Owner.{Owner}
 use Rattle.cp_compile.specs.CompiledComponents.{AreOwners, OwnerIs}
@@ -91,7 +91,7 @@ pub process_first : (plans : List StartPlan) (g : GlobalScope) (o : Owner) (x : 
 process_first plans g o x at next is after =
     let z : Process = record { body = o.body; words = o.words; parameters = at; waiting = o.waiting; plan = o.plan } in
     let here : next ≡ at + waiting_words g x.system = after ∙ ap (λ n. at + n) is.waiting in
-    let p : List program.StartPiece = view.plan_at plans o.plan in
+    let p : program.StartPlan = view.plan_at plans o.plan in
     let same : view.process plans z
     ≡ record { body = x.body; words = component_words g x.system; parameters = at; waiting = waiting_words g x.system; starts = plan_of_component g x.system } =
     ap (λ n. record { body = n; words = o.words; parameters = at; waiting = o.waiting; starts = p }) is.body

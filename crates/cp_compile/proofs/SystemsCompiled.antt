@@ -11,7 +11,7 @@ use Rattle.cp_model.specs.declared.tree.Identifier.{Identifier}
 use Rattle.cp_model.specs.declared.tree.Routine as tree_routine
 use Rattle.cp_program_model.specs.Compile.{Compiled, with_body, with_routine, with_routines, with_unit}
 use Rattle.cp_program_model.specs.Plans.{plan_of_routine}
-use Rattle.cp_program_model.specs.Programs.{Operation, Return, StartPiece}
+use Rattle.cp_program_model.specs.Programs.{Done, Operation, Return, StartPlan}
 use Rattle.cp_program_model.specs.Scopes as code
 use Rattle.cp_program_model.specs.StandsFor.{end_of}
 use Rattle.cp_program_model.specs.StatementsFor.{is_function}
@@ -24,7 +24,7 @@ use Rattle.cp_scope.specs.Scopes.{IsRoutine, IsScope, words_of}
 use Rattle.cp_scope.specs.declared.types.Types.{Types}
 use Rattle.cp_scope.specs.Variables.{AreDeclared, Entry}
 use Rattle.cp_emit.specs.declared.emitter.Emitter.{Emitter}
-use Rattle.cp_emit.specs.Planning.{types_of}
+use Rattle.cp_emit.specs.Planning.{known_of, types_of}
 use Rattle.cp_compile.specs.declared.system.SystemCompiler.{SystemCompiler}
 use Rattle.cp_compile.specs.CompiledSystems.{IsSystem}
 use Rattle.cp_compile.specs.Compiles.{IsCompiled}
@@ -65,20 +65,20 @@ function_written None = refl
 function_written (Some x) = refl
 
 -- A routine is compiled with its plan and its last operation.
-pub routine_compiled : (of : SystemCompiler) (g : GlobalScope) (s : System) (firsts : List (Name × ℕ)) (r : Routine) (starts : List StartPiece) (last : Operation)
+pub routine_compiled : (of : SystemCompiler) (g : GlobalScope) (s : System) (firsts : List (Name × ℕ)) (r : Routine) (starts : StartPlan) (last : Operation)
     (c : Compiled) (new : Emitter) → starts ≡ plan_of_routine g r → last ≡ Return (is_function r.result)
-    → IsCompiled new (with_unit (unit_scope of g s firsts (Some r)) starts last r.body c) → IsCompiled new (with_routine g s firsts of.first r c)
+    → IsCompiled (known_of of.planner.now) new (with_unit (unit_scope of g s firsts (Some r)) starts last r.body c) → IsCompiled (known_of of.planner.now) new (with_routine g s firsts of.first r c)
 routine_compiled of g s firsts r starts last c new planned ends is =
-    subst (λ o. IsCompiled new (with_unit (unit_scope of g s firsts (Some r)) (plan_of_routine g r) o r.body c)) ends
-    (subst (λ xs. IsCompiled new (with_unit (unit_scope of g s firsts (Some r)) xs last r.body c)) planned is)
+    subst (λ o. IsCompiled (known_of of.planner.now) new (with_unit (unit_scope of g s firsts (Some r)) (plan_of_routine g r) o r.body c)) ends
+    (subst (λ xs. IsCompiled (known_of of.planner.now) new (with_unit (unit_scope of g s firsts (Some r)) xs last r.body c)) planned is)
 
-pub body_compiled : (of : SystemCompiler) (g : GlobalScope) (s : System) (firsts : List (Name × ℕ)) (starts : List StartPiece) (last : Operation) (body : Statement)
-    (c : Compiled) (new : Emitter) → starts ≡ [] → last ≡ end_of s.sort → s.body ≡ body
-    → IsCompiled new (with_unit (unit_scope of g s firsts None) starts last body c) → IsCompiled new (with_body g s firsts of.first c)
+pub body_compiled : (of : SystemCompiler) (g : GlobalScope) (s : System) (firsts : List (Name × ℕ)) (starts : StartPlan) (last : Operation) (body : Statement)
+    (c : Compiled) (new : Emitter) → starts ≡ Done → last ≡ end_of s.sort → s.body ≡ body
+    → IsCompiled (known_of of.planner.now) new (with_unit (unit_scope of g s firsts None) starts last body c) → IsCompiled (known_of of.planner.now) new (with_body g s firsts of.first c)
 body_compiled of g s firsts starts last body c new none ends body_is is =
-    subst (λ b. IsCompiled new (with_unit (unit_scope of g s firsts None) [] (end_of s.sort) b c)) (sym body_is)
-    (subst (λ o. IsCompiled new (with_unit (unit_scope of g s firsts None) [] o body c)) ends
-    (subst (λ xs. IsCompiled new (with_unit (unit_scope of g s firsts None) xs last body c)) none is))
+    subst (λ b. IsCompiled (known_of of.planner.now) new (with_unit (unit_scope of g s firsts None) Done (end_of s.sort) b c)) (sym body_is)
+    (subst (λ o. IsCompiled (known_of of.planner.now) new (with_unit (unit_scope of g s firsts None) Done o body c)) ends
+    (subst (λ xs. IsCompiled (known_of of.planner.now) new (with_unit (unit_scope of g s firsts None) xs last body c)) none is))
 
 -- The types of the text are those that the planner knows.
 pub planner_knows : (of : SystemCompiler) (g : GlobalScope) (s : System) (firsts : List (Name × ℕ)) → IsSystem of g s firsts → (ds : List Entry)
@@ -91,12 +91,12 @@ planner_knows of g s firsts i ds vs h = subst (λ (z : Types). AreDeclared z ds 
 pub record PartlyCompiled (of : SystemCompiler) (g : GlobalScope) (s : System) (firsts : List (Name × ℕ)) (left all : List Routine) (start : Compiled) (emitter : Emitter)
     : Type 0 where
   pub so_far : Compiled
-  pub is : IsCompiled emitter so_far
+  pub is : IsCompiled (known_of of.planner.now) emitter so_far
   pub rest : with_routines g s firsts of.first left so_far ≡ with_routines g s firsts of.first all start
 
 pub one_routine : (of : SystemCompiler) (g : GlobalScope) (s : System) (firsts : List (Name × ℕ)) (r : Routine) (left all : List Routine) (start : Compiled)
     (old new : Emitter) → PartlyCompiled of g s firsts (r ∷ left) all start old
-    → ((c : Compiled) → IsCompiled old c → IsCompiled new (with_routine g s firsts of.first r c)) → PartlyCompiled of g s firsts left all start new
+    → ((c : Compiled) → IsCompiled (known_of of.planner.now) old c → IsCompiled (known_of of.planner.now) new (with_routine g s firsts of.first r c)) → PartlyCompiled of g s firsts left all start new
 one_routine of g s firsts r left all start old new some one = record {
   so_far = with_routine g s firsts of.first r some.so_far;
   is = one some.so_far some.is;

@@ -15,6 +15,7 @@ use Rattle.cp_model.specs.declared.tree.System.{System}
 use Rattle.cp_model.specs.declared.tree.TypeExpression.{TypeExpression}
 use Rattle.cp_model.specs.declared.tree.TypeExpression.TheVariants as written
 use Rattle.cp_program_model.specs.Compile.{CompiledTypes, first_of_type, with_definition, with_definitions, with_system}
+use Rattle.cp_program_model.specs.Programs.{StartPlan}
 use Rattle.cp_program_model.specs.Scopes.{or_zero}
 use Rattle.cp_emit.specs.declared.emitter.Emitter.{Emitter}
 use Rattle.cp_scope.specs.declared.types.Types.{Types}
@@ -45,10 +46,10 @@ system_there types o t s ms k means is number = go o (subst (TypeMeans types o) 
 -- ---- First units
 
 -- One definition more.
-pub one_defined : (old new : List (Name × ℕ)) (emitter : Emitter) (d : Definition) (first : ℕ) (before after : CompiledTypes)
-    → ((x : Name) → lookup x old ≡ lookup x before.firsts) → InFront (defined_name d) first old new → IsDefined emitter first d before after
-    → TypesAre emitter new after
-one_defined old new emitter d first before after so front is = record {
+pub one_defined : (known : List StartPlan) (old new : List (Name × ℕ)) (emitter : Emitter) (d : Definition) (first : ℕ) (before after : CompiledTypes)
+    → ((x : Name) → lookup x old ≡ lookup x before.firsts) → InFront (defined_name d) first old new → IsDefined known emitter first d before after
+    → TypesAre known emitter new after
+one_defined known old new emitter d first before after so front is = record {
   compiled = is.compiled;
   firsts_are = λ x.
       front x ∙ ap (λ o. if bytes_eq x (defined_name d) then Some first else o) (so x) ∙ ap (lookup x) (sym is.firsts);
@@ -71,16 +72,16 @@ constants_compiled g [] m = refl
 constants_compiled g (d ∷ ds) m = constants_compiled g ds m
 
 -- Compiling the remaining definitions gives what compiling all of them gives.
-pub record PartlyDefined (g : GlobalScope) (left all : List Definition) (start : CompiledTypes) (emitter : Emitter) (firsts : List (Name × ℕ)) : Type 0 where
+pub record PartlyDefined (known : List StartPlan) (g : GlobalScope) (left all : List Definition) (start : CompiledTypes) (emitter : Emitter) (firsts : List (Name × ℕ)) : Type 0 where
   pub so_far : CompiledTypes
-  pub are : TypesAre emitter firsts so_far
+  pub are : TypesAre known emitter firsts so_far
   pub named : AreNamed g left
   pub rest : with_definitions g left so_far ≡ with_definitions g all start
 
-pub more_defined : (g : GlobalScope) (ds left all : List Definition) (start : CompiledTypes) (a b : Emitter) (old new : List (Name × ℕ))
-    → PartlyDefined g (ds ++ left) all start a old
-    → ((m : CompiledTypes) → AreNamed g ds → TypesAre a old m → TypesAre b new (with_definitions g ds m)) → PartlyDefined g left all start b new
-more_defined g ds left all start a b old new some more =
+pub more_defined : (known : List StartPlan) (g : GlobalScope) (ds left all : List Definition) (start : CompiledTypes) (a b : Emitter) (old new : List (Name × ℕ))
+    → PartlyDefined known g (ds ++ left) all start a old
+    → ((m : CompiledTypes) → AreNamed g ds → TypesAre known a old m → TypesAre known b new (with_definitions g ds m)) → PartlyDefined known g left all start b new
+more_defined known g ds left all start a b old new some more =
     let named = named_behind g ds left some.named in
     record {
       so_far = with_definitions g ds some.so_far;
@@ -89,10 +90,10 @@ more_defined g ds left all start a b old new some more =
       rest = sym (definitions_behind g ds left some.so_far) ∙ some.rest;
     }
 
-pub all_defined : (g : GlobalScope) (left all : List Definition) (start : CompiledTypes) (emitter : Emitter) (firsts : List (Name × ℕ)) → left ≡ []
-    → PartlyDefined g left all start emitter firsts → TypesAre emitter firsts (with_definitions g all start)
-all_defined g left all start emitter firsts none some =
-    subst (TypesAre emitter firsts) (ap (λ ds. with_definitions g ds some.so_far) (sym none) ∙ some.rest) some.are
+pub all_defined : (known : List StartPlan) (g : GlobalScope) (left all : List Definition) (start : CompiledTypes) (emitter : Emitter) (firsts : List (Name × ℕ)) → left ≡ []
+    → PartlyDefined known g left all start emitter firsts → TypesAre known emitter firsts (with_definitions g all start)
+all_defined known g left all start emitter firsts none some =
+    subst (TypesAre known emitter firsts) (ap (λ ds. with_definitions g ds some.so_far) (sym none) ∙ some.rest) some.are
 
 -- ---- Written types
 
@@ -118,7 +119,7 @@ same_first fs gs (a.Array i e) so = refl
 same_first fs gs (a.Record gs') so = refl
 
 -- The definition of a system type.
-pub system_defined : (g : GlobalScope) (x : Name) (s : a.System) (m : CompiledTypes) (new : Emitter) (first : ℕ)
-    → IsCompiled new (with_system g m.firsts s m.compiled) → first ≡ length m.compiled.units
-    → IsDefined new first (a.SystemDef x s) m (with_definition g (a.SystemDef x s) m)
-system_defined g x s m new first is first_is = record { compiled = is; firsts = ap (λ n. (x, n) ∷ m.firsts) (sym first_is) }
+pub system_defined : (known : List StartPlan) (g : GlobalScope) (x : Name) (s : a.System) (m : CompiledTypes) (new : Emitter) (first : ℕ)
+    → IsCompiled known new (with_system g m.firsts s m.compiled) → first ≡ length m.compiled.units
+    → IsDefined known new first (a.SystemDef x s) m (with_definition g (a.SystemDef x s) m)
+system_defined known g x s m new first is first_is = record { compiled = is; firsts = ap (λ n. (x, n) ∷ m.firsts) (sym first_is) }

@@ -5,19 +5,19 @@ use Rattle.cp_model.specs.Abstract as a
 use Rattle.cp_program_model.specs.CodeNeeds.{need_of_all}
 use Rattle.cp_program_model.specs.CodedStatements.{emitted}
 use Rattle.cp_program_model.specs.Compile.{Compiled, code_unit, unit_code, with_unit}
-use Rattle.cp_program_model.specs.Programs.{CodeUnit, Operation, StartPiece}
+use Rattle.cp_program_model.specs.Programs.{CodeUnit, Operation, StartPlan}
 use Rattle.cp_program_model.specs.Scopes as code
 use Rattle.cp_emit.specs.declared.emitter.Emitter.{Emitter}
 use Rattle.cp_emit.specs.Emission.{operations_of, place_of, units_of}
 use Rattle.cp_compile.specs.Compiles.{IsCompiled}
 
 -- The operations and units after `os` and `us` are those of the unit.
-pub record Behind (s : code.Scope) (starts : List StartPiece) (last : Operation) (body : a.Statement) (os : List Operation) (us : List CodeUnit) (operations : List Operation) (units : List CodeUnit) : Type 0 where
+pub record Behind (s : code.Scope) (starts : StartPlan) (last : Operation) (body : a.Statement) (os : List Operation) (us : List CodeUnit) (operations : List Operation) (units : List CodeUnit) : Type 0 where
   pub operations_are : operations ≡ os ++ (unit_code s last body (length os)).operations
   pub units_are : units ≡ us ++ code_unit (unit_code s last body (length os)).entry starts
       (need_of_all us s.words (unit_code s last body (length os)).operations) ∷ []
 
-pub unit_behind : (s : code.Scope) (starts : List StartPiece) (last : Operation) (body : a.Statement) (os : List Operation) (us : List CodeUnit)
+pub unit_behind : (s : code.Scope) (starts : StartPlan) (last : Operation) (body : a.Statement) (os : List Operation) (us : List CodeUnit)
     (operations : List Operation) (units : List CodeUnit) (at here entry first words : ℕ) → at ≡ length os → here ≡ length (os ++ last ∷ [])
     → first ≡ length os → words ≡ s.words → entry ≡ (emitted s body 0 here at).entry
     → operations ≡ (os ++ last ∷ []) ++ (emitted s body 0 here at).operations
@@ -42,15 +42,15 @@ unit_behind s starts last body os us operations units at here entry first words 
     }
 
 -- The same, for an emitter.
-pub unit_compiled : (s : code.Scope) (starts : List StartPiece) (last : Operation) (body : a.Statement) (old new : Emitter) (c : Compiled)
+pub unit_compiled : (known : List StartPlan) (s : code.Scope) (starts : StartPlan) (last : Operation) (body : a.Statement) (old new : Emitter) (c : Compiled)
     (here at entry first words : ℕ) → at ≡ place_of old → here ≡ length (operations_of old ++ last ∷ [])
     → first ≡ place_of old → words ≡ s.words → entry ≡ (emitted s body 0 here at).entry
     → operations_of new ≡ (operations_of old ++ last ∷ []) ++ (emitted s body 0 here at).operations
-    → units_of new ≡ units_of old ++ code_unit entry starts (need_of_all (units_of old) words (drop first (operations_of new))) ∷ []
-    → IsCompiled old c → IsCompiled new (with_unit s starts last body c)
-unit_compiled s starts last body old new c here at entry first words at_is here_is first_is words_is entry_is operations_is units_is is =
+    → units_of known new ≡ units_of known old ++ code_unit entry starts (need_of_all (units_of known old) words (drop first (operations_of new))) ∷ []
+    → IsCompiled known old c → IsCompiled known new (with_unit s starts last body c)
+unit_compiled known s starts last body old new c here at entry first words at_is here_is first_is words_is entry_is operations_is units_is is =
     let one =
-    unit_behind s starts last body (operations_of old) (units_of old) (operations_of new) (units_of new) at here entry first words at_is here_is first_is words_is
+    unit_behind s starts last body (operations_of old) (units_of known old) (operations_of new) (units_of known new) at here entry first words at_is here_is first_is words_is
     entry_is operations_is units_is in
     record {
       operations = one.operations_are ∙ ap (λ os. os ++ (unit_code s last body (length os)).operations) is.operations;

@@ -1,31 +1,26 @@
 -- When monitors and processes are those of the definition.
-use Rattle.std.specs.Prelude.{◌≡◌, ℕ, List, [], ◌∷◌, Some, map, slice_get}
-use Rattle.std.specs.Borrow.{Bor}
+use Rattle.std.specs.Prelude.{◌≡◌, ℕ, List, [], ◌∷◌, map}
 use Rattle.cp_model.specs.Abstract.{Group, Name, System}
 use Rattle.cp_model.specs.Declarations.{Variable}
-use Rattle.cp_model.specs.Erase as erase
 use Rattle.cp_model.specs.Names.{lookup}
 use Rattle.cp_model.specs.Types.{GlobalScope}
-use Rattle.cp_model.specs.View as tree
 use Rattle.cp_model.specs.declared.tree.Fields.{Fields}
 use Rattle.cp_model.specs.declared.tree.Parameters.{Parameters}
 use Rattle.cp_model.specs.declared.tree.Routine as tree_routine
-use Rattle.cp_model.specs.declared.tree.System as tree_system
 use Rattle.cp_program_model.specs.Compile as code
 use Rattle.cp_program_model.specs.Compile.{owner_before, waiting_words}
 use Rattle.cp_program_model.specs.Layout.{component_words}
 use Rattle.cp_program_model.specs.Plans.{plan_of_component}
+use Rattle.cp_program_model.specs.Programs.{StartPlan}
 use Rattle.cp_scope.specs.declared.systems.SystemTable.{SystemTable}
-use Rattle.cp_scope.specs.declared.tables.Tables.{Tables}
 use Rattle.cp_scope.specs.declared.types.Types.{Types}
 use Rattle.cp_scope.specs.Scopes.{IsWritten}
-use Rattle.cp_scope.specs.Standing.{system_at}
 use Rattle.cp_scope.specs.Systems.{SystemStands}
 use Rattle.cp_scope.specs.Texts.{AreSystems}
 use Rattle.cp_scope.specs.TypeNames.{AreTypeNames}
 use Rattle.cp_scope.specs.Variables.{AreDeclared, declared_entry}
 use Rattle.cp_program.specs.View.{plan_at}
-use Rattle.cp_program.specs.declared.program.StartPlan.{StartPlan}
+use Rattle.cp_emit.specs.ComponentPlans.{ArePlans}
 use Rattle.cp_compile.specs.declared.components.InitialCompiler.{InitialCompiler}
 use Rattle.cp_compile.specs.declared.components.Owner.{Owner}
 
@@ -58,13 +53,8 @@ PutsOwner plans g firsts groups v o =
 
 -- ---- The initial process
 
-abbrev pub PlansAre : GlobalScope → Tables → List StartPlan → Type 0
-PlansAre g tables plans =
-    (k : ℕ) (y : Bor tree_system.System) (t : SystemTable)
-    → system_at tables.types k ≡ Some y → slice_get tables.systems.items k ≡ Some t
-    → plan_at plans k ≡ plan_of_component g (erase.system (tree.system y.now))
-
--- The tables stand for the text, and its initial process declares the variables `vs`.
+-- The tables stand for the text, and its initial process declares the variables `vs`. From number
+-- `of.plans` on, the plans are those of the system types.
 pub record IsInitial (of : InitialCompiler) (plans : List StartPlan) (g : GlobalScope) (firsts : List (Name × ℕ))
     (groups : List Group) (vs : List (Name × Variable))
     : Type 0 where
@@ -72,4 +62,4 @@ pub record IsInitial (of : InitialCompiler) (plans : List StartPlan) (g : Global
   pub declared : AreDeclared of.tables.now.types (map declared_entry of.tables.now.initial.variables.items) vs
   pub type_names : AreTypeNames of.tables.now.initial.variable_types groups
   pub firsts_are : (x : Name) → lookup x of.firsts.now ≡ lookup x firsts
-  pub planned : PlansAre g of.tables.now plans
+  pub planned : ArePlans g of.tables.now plans of.plans

@@ -12,17 +12,17 @@ use Rattle.cp_program_model.specs.Compile as code
 use Rattle.cp_program_model.specs.Compile.{CompiledTypes, monitors_at, nothing_compiled, of_sort, owners_of, processes_at, sum_words, waiting_words, with_definitions, with_system}
 use Rattle.cp_program_model.specs.Layout.{component_words}
 use Rattle.cp_program_model.specs.Plans.{plan_of_component}
+use Rattle.cp_program_model.specs.Programs.{StartPlan}
 use Rattle.cp_emit.specs.declared.plan.Planner.{Planner}
+use Rattle.cp_emit.specs.ComponentPlans.{ArePlans}
 use Rattle.cp_emit.specs.Planning.{Knows}
 use Rattle.cp_scope.specs.declared.tables.Tables.{Tables}
 use Rattle.cp_program.specs.View as view
 use Rattle.cp_program.specs.View.{plan_at}
-use Rattle.cp_program.specs.declared.program.StartPlan.{StartPlan}
 use Rattle.cp_compile.specs.declared.compiler.Code.{Code}
 use Rattle.cp_compile.specs.declared.compiler.Components.{Components}
 use Rattle.cp_compile.specs.declared.compiler.Plans.{Plans}
 use Rattle.cp_compile.specs.Compiles.{IsCompiled}
-use Rattle.cp_compile.specs.CompiledComponents.{PlansAre}
 
 -- The abstract syntax of a text.
 abbrev pub text_of : text.Tree → Tree
@@ -36,16 +36,16 @@ pub record IsPlanner (tables : Tables) (planner : Planner) (g : GlobalScope) : T
 abbrev pub text_types : Tree → CompiledTypes
 text_types t = with_definitions (globals t) t.definitions nothing_compiled
 
--- The code of a text.
-pub record IsCode (c : Code) (t : Tree) : Type 0 where
-  pub compiled : IsCompiled c.emitter (with_system (globals t) (text_types t).firsts t.initial (text_types t).compiled)
+-- The code of a text, whose units have plans of which parts are among the plans `known`.
+pub record IsCode (known : List StartPlan) (c : Code) (t : Tree) : Type 0 where
+  pub compiled : IsCompiled known c.emitter (with_system (globals t) (text_types t).firsts t.initial (text_types t).compiled)
   pub firsts_are : (x : Name) → lookup x c.firsts ≡ lookup x (text_types t).firsts
   pub first_is : c.first ≡ length (text_types t).compiled.units
 
--- The plans of a text.
-pub record ArePlansOf (g : GlobalScope) (tables : Tables) (t : text.Tree) (plans : Plans) : Type 0 where
-  pub systems : PlansAre g tables plans.all.items
-  pub initial_is : plan_at plans.all.items plans.initial ≡ plan_of_component g (text_of t).initial
+-- The plans of the components of a text have these numbers.
+pub record ArePlansOf (known : List StartPlan) (g : GlobalScope) (tables : Tables) (t : text.Tree) (plans : Plans) : Type 0 where
+  pub systems : ArePlans g tables known plans.first
+  pub initial_is : plan_at known plans.initial ≡ plan_of_component g (text_of t).initial
 
 -- ---- Components
 

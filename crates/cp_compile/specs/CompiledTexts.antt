@@ -8,6 +8,7 @@ use Rattle.cp_model.specs.Names.{lookup}
 use Rattle.cp_model.specs.Types.{ComponentOf, GlobalScope, Members}
 use Rattle.cp_model.specs.View as tree
 use Rattle.cp_program_model.specs.Compile.{CompiledTypes}
+use Rattle.cp_program_model.specs.Programs.{StartPlan}
 use Rattle.cp_emit.specs.declared.emitter.Emitter.{Emitter}
 use Rattle.cp_emit.specs.Planning.{Knows}
 use Rattle.cp_scope.specs.Layouts.{AreLaid}
@@ -29,8 +30,8 @@ pub record IsText (of : TextCompiler) (g : GlobalScope) : Type 0 where
   pub knows : Knows of.planner.now g
 
 -- The emitter and the first units are those of `m`, which has been compiled so far.
-pub record TypesAre (emitter : Emitter) (firsts : List (Name × ℕ)) (m : CompiledTypes) : Type 0 where
-  pub compiled : IsCompiled emitter m.compiled
+pub record TypesAre (known : List StartPlan) (emitter : Emitter) (firsts : List (Name × ℕ)) (m : CompiledTypes) : Type 0 where
+  pub compiled : IsCompiled known emitter m.compiled
   pub firsts_are : (x : Name) → lookup x firsts ≡ lookup x m.firsts
 
 -- ---- System types
@@ -66,6 +67,6 @@ defined_name (a.EnumDef x vs) = x
 defined_name (a.ConstantDef x c) = x
 
 -- The definition of a type is compiled, and `first` is the first unit of the type.
-pub record IsDefined (emitter : Emitter) (first : ℕ) (d : Definition) (before after : CompiledTypes) : Type 0 where
-  pub compiled : IsCompiled emitter after.compiled
+pub record IsDefined (known : List StartPlan) (emitter : Emitter) (first : ℕ) (d : Definition) (before after : CompiledTypes) : Type 0 where
+  pub compiled : IsCompiled known emitter after.compiled
   pub firsts : after.firsts ≡ (defined_name d, first) ∷ before.firsts

@@ -5,7 +5,7 @@ use Rattle.cp_program_model.specs.Compile as code
 use Rattle.cp_program_model.specs.Compile.{monitors_at, processes_at, sum_words, waiting_words}
 use Rattle.cp_program_model.specs.Layout.{component_words}
 use Rattle.cp_program.specs.View as view
-use Rattle.cp_program.specs.declared.program.StartPlan.{StartPlan}
+use Rattle.cp_program_model.specs.Programs.{StartPlan}
 use Rattle.cp_compile.specs.declared.layout.MonitorLayout.{MonitorLayout}
 use Rattle.cp_compile.specs.declared.layout.ProcessLayout.{ProcessLayout}
 

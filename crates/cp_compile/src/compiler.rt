@@ -1,12 +1,14 @@
 //! Compiles a text to a program.
 
-ghost use Rattle.std.specs.Prelude.{◌≡◌, IfOk, length};
+ghost use Rattle.std.specs.Prelude.{◌≡◌, IfOk, List, length};
 ghost use Rattle.cp_model.specs.Declarations.{globals};
 ghost use Rattle.cp_model.specs.Rules.{Accepted};
 ghost use Rattle.cp_model.specs.Types.{GlobalScope};
 ghost use Rattle.cp_model.specs.View as syntax;
 ghost use Rattle.cp_model.specs.declared.tree.Tree as text;
 ghost use Rattle.cp_program_model.specs.Compile as code;
+ghost use Rattle.cp_program_model.specs.Programs.{StartPlan};
+ghost use Rattle.cp_emit.specs.Planning.{known_of};
 ghost use Rattle.cp_scope.specs.Texts.{TablesStand};
 ghost use Rattle.cp_program.specs.View as view;
 ghost use Rattle.cp_program.specs.View.{origins_of};
@@ -20,7 +22,7 @@ use cp_emit::Emitter;
 use cp_emit::plan::Planner;
 use cp_model::tree::{Sort, Tree};
 use cp_names::NameTable;
-use cp_program::program::{Monitor, Process, Program, StartPlan};
+use cp_program::program::{Monitor, Process, Program};
 use cp_scope::{CompileError, Tables, small_number};
 use std::alloc::Global;
 
@@ -33,11 +35,11 @@ struct Code<'t> {
     first: u32,
 }
 
-/// The plans of components: those of the system types by their numbers, and that of the initial
-/// process.
-#[derive(Drop)]
+/// The numbers of the plans of components: that of the first system type, which those of the others
+/// follow, and that of the initial process.
+#[derive(Clone, Copy)]
 struct Plans {
-    all: Vec<StartPlan>,
+    first: u32,
     initial: u32,
 }
 
@@ -60,7 +62,7 @@ fn compile_code<'t>(
     ensures { IfOk result (λ code. Accepted (syntax.tree tree.now)
         → TablesStand (globals (text_of tree.now)) tables.now tree.now
         → IsPlanner tables.now planner.now (globals (text_of tree.now))
-        → IsCode code (text_of tree.now)) }
+        → IsCode (known_of planner.now) code (text_of tree.now)) }
 {
     let mut firsts = NameTable::new(alloc);
     let mut emitter = Emitter::new(alloc);
@@ -88,16 +90,16 @@ fn compile_code<'t>(
 }
 
 // Makes the plans of the components of all system types and of the initial process.
-fn make_plans<'t>(tables: &Tables<'t>, planner: &Planner<'_, 't>) -> Result<Plans, CompileError>
-    ensures { IfOk result (λ plans. (g : GlobalScope) (t : text.Tree)
-        → TablesStand g tables.now t → IsPlanner tables.now planner.now g
-        → ArePlansOf g tables.now t plans) }
+fn make_plans<'t>(tables: &Tables<'t>, planner: &mut Planner<'_, 't>) -> Result<Plans, CompileError>
+    ensures plans { IfOk result (λ plans. (g : GlobalScope) (t : text.Tree)
+        → TablesStand g tables.now t → IsPlanner tables.now planner.old g
+        → ArePlansOf (known_of planner.new) g tables.now t plans) }
+    ensures planner { (g : GlobalScope)
+        → IsPlanner tables.now planner.old g → IsPlanner tables.now planner.new g }
 {
-    let mut all = planner.components()?;
-    let initial = small_number(all.len())?;
-    let starts = planner.component(&tables.initial.parameters, &tables.initial.variables)?;
-    all.push(StartPlan { starts })?;
-    Ok(Plans { all, initial })
+    let initial = planner.add_component(&tables.initial.parameters, &tables.initial.variables)?;
+    let first = planner.add_components()?;
+    Ok(Plans { first, initial })
 }
 
 // Lays out the monitors and processes of a text.
@@ -106,17 +108,18 @@ fn lay_components<'t>(
     tree: &'t Tree,
     tables: &Tables<'t>,
     code: &Code<'t>,
-    plans: &Plans,
+    plans: Plans,
 ) -> Result<Components, CompileError>
-    ensures { IfOk result (λ components.
-        TablesStand (globals (text_of tree.now)) tables.now tree.now
-        → IsCode code.now (text_of tree.now)
-        → ArePlansOf (globals (text_of tree.now)) tables.now tree.now plans.now
-        → ComponentsLie plans.now.all.items components (text_of tree.now)) }
+    ensures { IfOk result (λ components. (known : List StartPlan)
+        → TablesStand (globals (text_of tree.now)) tables.now tree.now
+        → IsCode known code.now (text_of tree.now)
+        → ArePlansOf known (globals (text_of tree.now)) tables.now tree.now plans
+        → ComponentsLie known components (text_of tree.now)) }
 {
     let compiler = InitialCompiler {
         tables,
         firsts: &code.firsts,
+        plans: plans.first,
     };
     let mut monitors = Vec::new(alloc);
     compiler.add_owners(Sort::Monitor, &mut monitors)?;
@@ -143,8 +146,8 @@ fn lay_components<'t>(
 ///
 /// # Errors
 ///
-/// `Memory` if memory runs out or the plans of the text would take too much of it, and `Unaccepted`
-/// if the tree has a number or a name that no accepted text has.
+/// `Memory` if memory runs out, and `Unaccepted` if the tree has a number or a name that no accepted
+/// text has.
 pub fn compile<'t>(
     alloc: Global,
     tree: &'t Tree,
@@ -156,10 +159,10 @@ pub fn compile<'t>(
     ensures origins { IfOk result
         (λ program. length (origins_of program) ≡ length (view.program program).operations) }
 {
-    let planner = Planner::new(alloc, tables)?;
+    let mut planner = Planner::new(alloc, tables)?;
+    let plans = make_plans(tables, &mut planner)?;
     let code = compile_code(alloc, tree, tables, &planner)?;
-    let plans = make_plans(tables, &planner)?;
-    let components = lay_components(alloc, tree, tables, &code, &plans)?;
+    let components = lay_components(alloc, tree, tables, &code, plans)?;
     let (operations, origins, units) = code.emitter.into_parts();
     Ok(Program::new(
         operations,
@@ -167,7 +170,7 @@ pub fn compile<'t>(
         units,
         components.monitors,
         components.processes,
-        plans.all,
+        planner.into_plans(),
         components.shared,
     ))
 }

@@ -9,7 +9,7 @@ ghost use Rattle.cp_program_model.specs.Compile as code;
 ghost use Rattle.cp_program_model.specs.Compile.{of_sort, owners_of};
 ghost use Rattle.cp_scope.specs.Numbering.{system_of};
 ghost use Rattle.cp_scope.specs.Standing.{Stands, row_at};
-ghost use Rattle.cp_program.specs.declared.program.StartPlan.{StartPlan};
+ghost use Rattle.cp_program_model.specs.Programs.{StartPlan};
 ghost use Rattle.cp_compile.specs.CompiledComponents.{AreOwners, IsInitial, IsOwner, PutsOwner};
 
 use cp_model::tree::Sort;
@@ -26,12 +26,13 @@ pub struct Owner {
     pub plan: u32,
 }
 
-/// What the components of a text are made from: its tables, and the first unit of each type by
-/// name.
+/// What the components of a text are made from: its tables, the first unit of each type by name, and
+/// the number of the plan of the first system type.
 #[derive(Clone, Copy)]
 pub struct InitialCompiler<'s, 't> {
     pub tables: &'s Tables<'t>,
     pub firsts: &'s NameTable<'t, u32>,
+    pub plans: u32,
 }
 
 impl Owner {
@@ -69,7 +70,12 @@ impl<'s, 't> InitialCompiler<'s, 't> {
         let first = self.firsts.find(of).unwrap_or(0);
         let routines = small_number(text.routines.len())?;
         let body = first.checked_add(routines).ok_or(CompileError::Unaccepted)?;
-        Owner::of(table, body, small_number(number)?)
+        let behind = small_number(number)?;
+        let plan = self
+            .plans
+            .checked_add(behind)
+            .ok_or(CompileError::Unaccepted)?;
+        Owner::of(table, body, plan)
     }
 
     // Adds the component that a variable is, if it is a component of this sort.

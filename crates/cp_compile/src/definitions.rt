@@ -8,6 +8,7 @@ ghost use Rattle.cp_model.specs.Types.{ComponentOf, GlobalScope, Members};
 ghost use Rattle.cp_model.specs.Names.{lookup};
 ghost use Rattle.cp_model.specs.View as tree;
 ghost use Rattle.cp_program_model.specs.Compile.{CompiledTypes, first_of_type, with_definition, with_definitions, with_system};
+ghost use Rattle.cp_emit.specs.Planning.{known_of};
 ghost use Rattle.cp_compile.specs.CompiledTexts.{AreNamed, IsDefined, IsNamed, IsSystemText, IsText, TypesAre, system_number};
 ghost use Rattle.cp_compile.specs.Compiles.{IsCompiled};
 
@@ -85,8 +86,8 @@ impl<'s, 't> TextCompiler<'s, 't> {
     ) -> Result<u32, CompileError>
         ensures { IfOk result (λ first. (g : GlobalScope) (m : CompiledTypes) (s : a.System)
             (ms : Members) → IsText self.now g → lookup name.now g.types ≡ Some (ComponentOf s ms)
-            → TypesAre emitter.old firsts.now m
-            → IsCompiled emitter.new (with_system g m.firsts s m.compiled)
+            → TypesAre (known_of self.now.planner.now) emitter.old firsts.now m
+            → IsCompiled (known_of self.now.planner.now) emitter.new (with_system g m.firsts s m.compiled)
             × (first ≡ length m.compiled.units)) }
     {
         let found = self.system_text(name)?;
@@ -119,7 +120,7 @@ impl<'s, 't> TextCompiler<'s, 't> {
     ) -> Result<u32, CompileError>
         ensures { IfOk result (λ first. (g : GlobalScope) (m : CompiledTypes) → IsText self.now g
             → IsNamed g (erase.type_definition (tree.type_definition d.now))
-            → TypesAre emitter.old firsts.now m → IsDefined emitter.new first
+            → TypesAre (known_of self.now.planner.now) emitter.old firsts.now m → IsDefined (known_of self.now.planner.now) emitter.new first
             (erase.type_definition (tree.type_definition d.now)) m
             (with_definition g (erase.type_definition (tree.type_definition d.now)) m)) }
     {
@@ -139,7 +140,7 @@ impl<'s, 't> TextCompiler<'s, 't> {
     ) -> Result<(), CompileError>
         ensures { OnOk result ((g : GlobalScope) (m : CompiledTypes) → IsText self.now g
             → IsNamed g (erase.type_definition (tree.type_definition d.now))
-            → TypesAre emitter.old firsts.old m → TypesAre emitter.new firsts.new
+            → TypesAre (known_of self.now.planner.now) emitter.old firsts.old m → TypesAre (known_of self.now.planner.now) emitter.new firsts.new
             (with_definition g (erase.type_definition (tree.type_definition d.now)) m)) }
     {
         let first = self.first_of(d, firsts, emitter)?;
@@ -156,7 +157,7 @@ impl<'s, 't> TextCompiler<'s, 't> {
     ) -> Result<(), CompileError>
         ensures { OnOk result ((g : GlobalScope) (m : CompiledTypes) → IsText self.now g
             → AreNamed g (map erase.type_definition (map tree.type_definition list.now))
-            → TypesAre emitter.old firsts.old m → TypesAre emitter.new firsts.new
+            → TypesAre (known_of self.now.planner.now) emitter.old firsts.old m → TypesAre (known_of self.now.planner.now) emitter.new firsts.new
             (with_definitions g
             (map erase.type_definition (map tree.type_definition list.now)) m)) }
     {
@@ -174,7 +175,7 @@ impl<'s, 't> TextCompiler<'s, 't> {
     ) -> Result<(), CompileError>
         ensures { OnOk result ((g : GlobalScope) (m : CompiledTypes) → IsText self.now g
             → AreNamed g (erase.section (tree.section_of section.now))
-            → TypesAre emitter.old firsts.old m → TypesAre emitter.new firsts.new
+            → TypesAre (known_of self.now.planner.now) emitter.old firsts.old m → TypesAre (known_of self.now.planner.now) emitter.new firsts.new
             (with_definitions g (erase.section (tree.section_of section.now)) m)) }
     {
         match section {
@@ -192,7 +193,7 @@ impl<'s, 't> TextCompiler<'s, 't> {
     ) -> Result<(), CompileError>
         ensures { OnOk result ((g : GlobalScope) (m : CompiledTypes) → IsText self.now g
             → AreNamed g (erase.sections (map tree.section_of sections.now))
-            → TypesAre emitter.old firsts.old m → TypesAre emitter.new firsts.new
+            → TypesAre (known_of self.now.planner.now) emitter.old firsts.old m → TypesAre (known_of self.now.planner.now) emitter.new firsts.new
             (with_definitions g (erase.sections (map tree.section_of sections.now)) m)) }
     {
         for section in sections {

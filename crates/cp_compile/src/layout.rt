@@ -3,7 +3,7 @@
 ghost use Rattle.std.specs.Prelude.{List, IfOk};
 ghost use Rattle.cp_model.specs.Types.{GlobalScope};
 ghost use Rattle.cp_program_model.specs.Compile as code;
-ghost use Rattle.cp_program.specs.declared.program.StartPlan.{StartPlan};
+ghost use Rattle.cp_program_model.specs.Programs.{StartPlan};
 ghost use Rattle.cp_compile.specs.CompiledComponents.{AreOwners};
 ghost use Rattle.cp_compile.specs.LaidComponents.{MonitorsLie, ProcessesLie};
 

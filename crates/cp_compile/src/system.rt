@@ -10,6 +10,7 @@ ghost use Rattle.cp_program_model.specs.StandsFor.{end_of};
 ghost use Rattle.cp_scope.specs.Routines.{RoutineStands};
 ghost use Rattle.cp_scope.specs.Systems.{routines_of};
 ghost use Rattle.cp_program.specs.View as view;
+ghost use Rattle.cp_emit.specs.Planning.{known_of};
 ghost use Rattle.cp_compile.specs.Compiles.{IsCompiled, body_of};
 ghost use Rattle.cp_compile.specs.CompiledSystems.{IsSystem};
 
@@ -54,8 +55,8 @@ impl<'s, 't> SystemCompiler<'s, 't> {
         ensures { OnOk result ((g : GlobalScope) (s : System) (firsts : List (Name × ℕ))
             (c : Compiled) → IsSystem self.now g s firsts
             → RoutineStands g self.now.tables.now.types table.now
-            (erase.routine (tree.routine text.now)) → IsCompiled emitter.old c
-            → IsCompiled emitter.new (with_routine g s firsts self.now.first
+            (erase.routine (tree.routine text.now)) → IsCompiled (known_of self.now.planner.now) emitter.old c
+            → IsCompiled (known_of self.now.planner.now) emitter.new (with_routine g s firsts self.now.first
             (erase.routine (tree.routine text.now)) c)) }
     {
         let is_function = text.result_type.is_some();
@@ -87,7 +88,7 @@ impl<'s, 't> SystemCompiler<'s, 't> {
     fn routines(&self, texts: &[Routine], emitter: &mut Emitter) -> Result<(), CompileError>
         ensures { OnOk result ((g : GlobalScope) (s : System) (firsts : List (Name × ℕ))
             (c : Compiled) → IsSystem self.now g s firsts → s.routines ≡ routines_of texts.now
-            → IsCompiled emitter.old c → IsCompiled emitter.new
+            → IsCompiled (known_of self.now.planner.now) emitter.old c → IsCompiled (known_of self.now.planner.now) emitter.new
             (with_routines g s firsts self.now.first (routines_of texts.now) c)) }
     {
         for i in 0..texts.len() {
@@ -107,7 +108,7 @@ impl<'s, 't> SystemCompiler<'s, 't> {
     ) -> Result<(), CompileError>
         ensures { OnOk result ((g : GlobalScope) (s : System) (firsts : List (Name × ℕ))
             (c : Compiled) → IsSystem self.now g s firsts → s.sort ≡ erase.sort_of sort
-            → s.body ≡ body_of body.now → IsCompiled emitter.old c → IsCompiled emitter.new
+            → s.body ≡ body_of body.now → IsCompiled (known_of self.now.planner.now) emitter.old c → IsCompiled (known_of self.now.planner.now) emitter.new
             (with_body g s firsts self.now.first c)) }
     {
         let scope = Scope::new(self.tables, self.system, None, self.firsts, self.first);
@@ -136,8 +137,8 @@ impl<'s, 't> SystemCompiler<'s, 't> {
         ensures { OnOk result ((g : GlobalScope) (s : System) (firsts : List (Name × ℕ))
             (c : Compiled) → IsSystem self.now g s firsts → self.now.first ≡ length c.units
             → s.sort ≡ erase.sort_of sort → s.routines ≡ routines_of routines.now
-            → s.body ≡ body_of body.now → IsCompiled emitter.old c
-            → IsCompiled emitter.new (with_system g firsts s c)) }
+            → s.body ≡ body_of body.now → IsCompiled (known_of self.now.planner.now) emitter.old c
+            → IsCompiled (known_of self.now.planner.now) emitter.new (with_system g firsts s c)) }
     {
         self.routines(routines, emitter)?;
         self.body(sort, body, origin, emitter)

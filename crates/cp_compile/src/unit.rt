@@ -1,7 +1,8 @@
 //! Compiles a unit: the code of a routine or of the body of a system type.
 
-ghost use Rattle.std.specs.Prelude.{OnOk, map};
+ghost use Rattle.std.specs.Prelude.{List, OnOk};
 ghost use Rattle.cp_program_model.specs.Compile.{Compiled, with_unit};
+ghost use Rattle.cp_program_model.specs.Programs.{StartPlan};
 ghost use Rattle.cp_program_model.specs.Scopes as code;
 ghost use Rattle.cp_scope.specs.Scopes.{IsScope};
 ghost use Rattle.cp_program.specs.View as view;
@@ -26,9 +27,10 @@ pub fn compile_unit(
     origin: usize,
     emitter: &mut Emitter,
 ) -> Result<(), CompileError>
-    ensures { OnOk result ((s : code.Scope) (c : Compiled) → IsScope scope.now s
-        → IsCompiled emitter.old c → IsCompiled emitter.new (with_unit s
-        (map view.start starts.items) (view.operation last) (body_of body.now) c)) }
+    ensures { OnOk result ((known : List StartPlan) (s : code.Scope) (c : Compiled)
+        → IsScope scope.now s → IsCompiled known emitter.old c → IsCompiled known emitter.new
+        (with_unit s (view.plan_of known starts.items) (view.operation last) (body_of body.now)
+        c)) }
 {
     emitter.begin(scope.words()?);
     let at = emitter.push(last, origin)?;

@@ -4,10 +4,8 @@ pub mod CallsEmitted
 pub mod Placing
 pub mod Loops
 pub mod Drafting
-pub mod PlansJoined
-pub mod Planning
-pub mod FillsJoined
-pub mod MembersStarted
-pub mod StartingValues
+pub mod PlansKept
+pub mod PartsPlanned
+pub mod TypesPlanned
 pub mod Membership
 pub mod ComponentsPlanned

@@ -5,9 +5,9 @@ use Rattle.cp_model.specs.Abstract.{Name, Routine}
 use Rattle.cp_model.specs.Declarations.{Variable, declarations, is_component, members_from}
 use Rattle.cp_model.specs.Types.{ArrayOf, ComponentOf, GlobalScope, Members, NoMembers, NoType, Queue, RecordOf, ResolvedType, Simple}
 use Rattle.cp_typing.specs.Words.{words}
-use Rattle.cp_program_model.specs.Plans.{fill_before, plan, plan_of_members, plan_of_result, plan_of_routine, plan_of_variables}
+use Rattle.cp_program_model.specs.Plans.{fill_before, placed, placed_variables, plan, plan_of_parts, plan_of_result, plan_of_routine}
 use Rattle.cp_program_model.specs.Layout.{local_words, locals_words}
-use Rattle.cp_program_model.specs.Programs.{StartPiece}
+use Rattle.cp_program_model.specs.Programs.{StartPlan}
 use Rattle.cp_program_model.specs.Starts.{unset}
 use Rattle.cp_typing.specs.Needs.{result_words}
 use Rattle.cp_scope.specs.declared.types.Types.{Types}
@@ -85,12 +85,12 @@ rights_counted types (d ∷ ds) (v ∷ vs) declared =
 
 -- ---- Plans
 
-pub variables_planned : (g : GlobalScope) (vs : List (Name × Variable)) (at : ℕ)
-    → plan_of_members false g (members_from vs NoMembers) at [] ≡ plan_of_variables g vs at
-variables_planned g [] at = refl
-variables_planned g (v ∷ vs) at = ap (plan false g v.1.type at) (variables_planned g vs (at + words g v.1.type))
+pub variables_placed : (g : GlobalScope) (vs : List (Name × Variable)) (at : ℕ) → placed false g (members_from vs NoMembers) at ≡ placed_variables g vs at
+variables_placed g [] at = refl
+variables_placed g (v ∷ vs) at =
+    ap (λ ps. record { at = at; size = words g v.1.type; plan = plan false g v.1.type } ∷ ps) (variables_placed g vs (at + words g v.1.type))
 
-marked_result : (o : Option Name) (b : Bool) (rest marked : List StartPiece) → b ≡ is_some o → marked ≡ (if b then fill_before 0 1 unset rest else rest)
+marked_result : (o : Option Name) (b : Bool) (rest marked : StartPlan) → b ≡ is_some o → marked ≡ (if b then fill_before 0 1 unset rest else rest)
     → marked ≡ plan_of_result o rest
 marked_result None b rest marked is all = all ∙ ap (λ c. if c then fill_before 0 1 unset rest else rest) is
 marked_result (Some x) b rest marked is all = all ∙ ap (λ c. if c then fill_before 0 1 unset rest else rest) is
@@ -99,17 +99,17 @@ result_counted : (o : Option Name) (b : Bool) → b ≡ is_some o → (if b then
 result_counted None b is = ap (λ c. if c then 1 else 0) is
 result_counted (Some x) b is = ap (λ c. if c then 1 else 0) is
 
-pub routine_planned : (g : GlobalScope) (r : Routine) (b : Bool) (head first : ℕ) (rest marked : List StartPiece) → b ≡ is_some r.result
+pub routine_planned : (g : GlobalScope) (r : Routine) (b : Bool) (head first : ℕ) (rest marked : StartPlan) → b ≡ is_some r.result
     → head ≡ (if b then 1 else 0) → first ≡ head + locals_words g (declarations g r.parameters)
-    → rest ≡ plan_of_members false g (members_from (declarations g r.variables) NoMembers) first []
+    → rest ≡ plan_of_parts (placed false g (members_from (declarations g r.variables) NoMembers) first)
     → marked ≡ (if b then fill_before 0 1 unset rest else rest) → marked ≡ plan_of_routine g r
 routine_planned g r b head first rest marked is head_is first_is rest_is marked_is =
     let words = locals_words g (declarations g r.parameters) in
     let vs = declarations g r.variables in
     marked_result r.result b rest marked is marked_is
     ∙ ap (plan_of_result r.result)
-    (rest_is ∙ (variables_planned g vs first
-    ∙ ap (plan_of_variables g vs) (first_is ∙ ap (λ n. n + words) (head_is ∙ result_counted r.result b is))))
+    (rest_is ∙ (ap plan_of_parts (variables_placed g vs first)
+    ∙ ap (λ n. plan_of_parts (placed_variables g vs n)) (first_is ∙ ap (λ n. n + words) (head_is ∙ result_counted r.result b is))))
 
 -- The variables that remain after those that are counted.
 pub record PartlyCounted (g : GlobalScope) (types : Types) (vs : List (Name × Variable)) (at next : ℕ) (ds : List Declared) : Type 0 where

@@ -1,18 +1,20 @@
 -- When plans are those of the components of system types.
-use Rattle.std.specs.Prelude.{◌≡◌, ℕ, List, Some, map, slice_get}
+use Rattle.std.specs.Prelude.{◌≡◌, ◌+◌, ℕ, List, Some, slice_get}
 use Rattle.std.specs.Borrow.{Bor}
 use Rattle.cp_model.specs.Erase as erase
 use Rattle.cp_model.specs.Types.{GlobalScope}
 use Rattle.cp_model.specs.View as tree_view
 use Rattle.cp_model.specs.declared.tree.System.{System}
 use Rattle.cp_program_model.specs.Plans.{plan_of_component}
-use Rattle.cp_scope.specs.declared.types.Types.{Types}
+use Rattle.cp_program_model.specs.Programs as code
+use Rattle.cp_scope.specs.declared.systems.SystemTable.{SystemTable}
+use Rattle.cp_scope.specs.declared.tables.Tables.{Tables}
 use Rattle.cp_scope.specs.Standing.{system_at}
-use Rattle.cp_program.specs.declared.program.StartPlan.{StartPlan}
-use Rattle.cp_program.specs.View as view
+use Rattle.cp_program.specs.View.{plan_at}
 
--- The plan of each number is that of the components of the system type of that number.
-abbrev pub ArePlans : GlobalScope → Types → List StartPlan → Type 0
-ArePlans g types plans =
-    (k : ℕ) (y : Bor System) (p : StartPlan) → system_at types k ≡ Some y → slice_get plans k ≡ Some p
-    → map view.start p.starts.items ≡ plan_of_component g (erase.system (tree_view.system y.now))
+-- From number `first` on, the plans are those of the components of the system types that have
+-- tables, by their numbers.
+abbrev pub ArePlans : GlobalScope → Tables → List code.StartPlan → ℕ → Type 0
+ArePlans g tables known first =
+    (k : ℕ) (y : Bor System) (t : SystemTable) → system_at tables.types k ≡ Some y → slice_get tables.systems.items k ≡ Some t
+    → plan_at known (first + k) ≡ plan_of_component g (erase.system (tree_view.system y.now))

@@ -17,8 +17,9 @@ coded_call c = record { call = view.call c.call; into = c.into }
 abbrev pub operations_of : Emitter → List op.Operation
 operations_of e = map view.operation e.operations.items
 
-abbrev pub units_of : Emitter → List op.CodeUnit
-units_of e = map view.code_unit e.units.items
+-- The units, whose parts have plans among those that are known.
+abbrev pub units_of : List op.StartPlan → Emitter → List op.CodeUnit
+units_of known e = map (view.code_unit known) e.units.items
 
 -- The number of operations so far, which is the place of the next one.
 abbrev pub place_of : Emitter → ℕ
@@ -44,10 +45,10 @@ abbrev pub operation_from : Emitter → List CodedCall → Operation → Emitted
 operation_from e cs o = with_calls (map coded_call cs) (view.operation o) (place_of e)
 
 -- The unit in progress, once it ends.
-abbrev pub unit_ended : Emitter → ℕ → List StartPiece → op.CodeUnit
-unit_ended e entry starts =
-    code_unit entry (map view.start starts)
-    (need_of_all (units_of e) e.words (drop e.first (operations_of e)))
+abbrev pub unit_ended : List op.StartPlan → Emitter → ℕ → List StartPiece → op.CodeUnit
+unit_ended known e entry starts =
+    code_unit entry (view.plan_of known starts)
+    (need_of_all (units_of known e) e.words (drop e.first (operations_of e)))
 
 -- ---- Loops
 

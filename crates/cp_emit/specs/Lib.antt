@@ -2,7 +2,6 @@ pub mod PlainNeeds
 pub mod Emission
 pub mod Arms
 pub mod Drafts
-pub mod StartValues
 pub mod Planning
 pub mod Members
 pub mod ComponentPlans

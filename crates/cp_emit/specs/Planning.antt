@@ -1,42 +1,45 @@
--- What is left to plan, and what each step does to it.
-use Rattle.std.specs.Prelude.{◌≡◌, Bool, List, [], ◌∷◌}
+-- When a planner knows the types of a text, and how it grows.
+use Rattle.std.specs.Prelude.{◌≡◌, ◌<◌, ◌++◌, Bool, true, false, ℕ, List, Some, length, slice_get}
 use Rattle.cp_model.specs.Types.{GlobalScope, ResolvedType}
+use Rattle.cp_program_model.specs.Plans as text
 use Rattle.cp_program_model.specs.Plans.{plan}
-use Rattle.cp_program_model.specs.Programs.{StartPiece}
+use Rattle.cp_program_model.specs.Programs as code
+use Rattle.cp_program.specs.View.{plan_at, plans_in}
+use Rattle.cp_program.specs.declared.program.StartPlan.{StartPlan}
 use Rattle.cp_scope.specs.declared.types.Types.{Types}
 use Rattle.cp_scope.specs.Layouts.{AreLaid}
 use Rattle.cp_scope.specs.Standing.{ScopeStands, Stands}
-use Rattle.cp_emit.specs.declared.draft.Draft.{Draft}
-use Rattle.cp_emit.specs.declared.draft.Work.{Work}
-use Rattle.cp_emit.specs.declared.draft.Work.TheVariants as work
+use Rattle.cp_emit.specs.declared.plan.Placed.{Placed}
 use Rattle.cp_emit.specs.declared.plan.Planner.{Planner}
-use Rattle.cp_emit.specs.Drafts.{drop_repeat, plan_of}
-use Rattle.cp_emit.specs.StartValues.{AreStartValues}
+use Rattle.cp_emit.specs.declared.plan.TypePlans.{TypePlans}
 
 abbrev pub types_of : Planner → Types
 types_of p = p.tables.now.types
 
--- The tables and start values of the planner are right for this outermost scope.
+-- The plans so far.
+abbrev pub known_of : Planner → List code.StartPlan
+known_of p = plans_in p.plans.items
+
+abbrev pub placed_in : List code.StartPlan → Placed → text.Placed
+placed_in known p = record { at = p.at; size = p.size; plan = plan_at known p.plan }
+
+-- These are the numbers of the plans of a type.
+pub record ArePlanned (known : List code.StartPlan) (g : GlobalScope) (p : TypePlans) (t : ResolvedType) : Type 0 where
+  pub plain_there : p.plain < length known
+  pub zeroed_there : p.zeroed < length known
+  pub plain : plan_at known p.plain ≡ plan false g t
+  pub zeroed : plan_at known p.zeroed ≡ plan true g t
+
+-- The tables of the planner are right for this outermost scope, and so are the plans of the types
+-- that it has numbers for.
 pub record Knows (p : Planner) (g : GlobalScope) : Type 0 where
   pub scope : ScopeStands p.tables.now.names (types_of p) g
   pub laid : AreLaid g (types_of p) p.tables.now.layouts.rows.items
-  pub values : AreStartValues (types_of p) p.values.items
+  pub planned : (n : ℕ) (numbers : TypePlans) (t : ResolvedType) → slice_get p.types.items n ≡ Some (Some numbers)
+      → Stands (types_of p) n t → ArePlanned (known_of p) g numbers t
 
--- Doing this work turns the plan `now` into the plan `after`.
-abbrev pub Done : Bool → GlobalScope → Types → Work → List StartPiece → List StartPiece → Type 0
-Done zeros g types (work.Variable of at) now after =
-    (t : ResolvedType) × Stands types of t × (after ≡ plan zeros g t at now)
-Done zeros g types (work.EndOfArray n) now after = after ≡ drop_repeat n now
-
--- Doing all this work, the last piece first, turns the plan `now` into the plan `after`.
-abbrev pub AllDone : Bool → GlobalScope → Types → List Work → List StartPiece → List StartPiece → Type 0
-AllDone zeros g types [] now after = after ≡ now
-AllDone zeros g types (w ∷ ws) now after =
-    (between : List StartPiece) × AllDone zeros g types ws now between
-    × Done zeros g types w between after
-
--- The new draft leads to the same plan as the old one would if `f` were applied to the plan so far.
-abbrev pub Leaves : Bool → GlobalScope → Types → Draft → Draft → (List StartPiece → List StartPiece) → Type 0
-Leaves zeros g types old new f =
-    (after : List StartPiece) → AllDone zeros g types old.left.items (f (plan_of old)) after
-    → AllDone zeros g types new.left.items (plan_of new) after
+-- Plans may have been added.
+pub record Extends (old new : Planner) : Type 0 where
+  pub tables_are : new.tables ≡ old.tables
+  pub added : List StartPlan
+  pub plans_are : new.plans.items ≡ old.plans.items ++ added

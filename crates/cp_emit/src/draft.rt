@@ -1,32 +1,19 @@
 //! Plans in progress, which are made from the end.
 
-ghost use Rattle.std.specs.Prelude.{◌≡◌, [], ◌∷◌, IfOk, OnOk, length, map};
-ghost use Rattle.cp_program_model.specs.Plans.{fill_before, fill_unless};
+ghost use Rattle.std.specs.Prelude.{◌≡◌, ◌+◌, List, [], IfOk, OnOk, take};
+ghost use Rattle.cp_program_model.specs.Plans.{fill_before, pieces_before};
 ghost use Rattle.cp_program_model.specs.Programs as code;
-ghost use Rattle.cp_emit.specs.Drafts.{Joins, drop_repeat, plan_of, with_end};
+ghost use Rattle.cp_emit.specs.Drafts.{Joins, plan_of};
 ghost use Rattle.cp_program.specs.View as view;
 
 use cp_program::program::StartPiece;
 use cp_scope::CompileError;
 use std::alloc::Global;
 
-/// A piece of work that is left to plan.
-#[derive(Clone, Copy, Debug)]
-pub enum Work {
-    /// A variable of the type `of` that lies at the word `at`.
-    Variable { of: usize, at: u32 },
-    /// The end of an array whose words are 0 before. `planned` is the number of starts up to and
-    /// including its `Repeat`. If there are no more by now, its elements stay 0, and the `Repeat`
-    /// is removed.
-    EndOfArray { planned: usize },
-}
-
-/// A plan in progress: the starts that are planned so far, the last one first, and the work that is
-/// left to plan before them. The work to do next is the last in `left`.
+/// A plan in progress: the pieces that are planned so far, the last one first.
 #[derive(Debug, Drop)]
 pub struct Draft {
     pub(crate) starts: Vec<StartPiece>,
-    pub(crate) left: Vec<Work>,
 }
 
 // The fill that combines a fill and `next`, if `next` is a fill with the same value that begins
@@ -52,23 +39,27 @@ fn join(
     }
 }
 
+// The word that lies `behind` words after `at`.
+fn farther(at: u32, behind: u32) -> Result<u32, CompileError>
+    ensures { IfOk result (λ word. word ≡ at + behind) }
+{
+    at.checked_add(behind).ok_or(CompileError::Unaccepted)
+}
+
 impl Draft {
-    /// Creates a draft with nothing planned and nothing left to plan.
+    /// Creates a draft with nothing planned.
     pub fn new(alloc: Global) -> Draft
-        ensures starts { result.starts.items ≡ [] }
-        ensures left { result.left.items ≡ [] }
+        ensures { result.starts.items ≡ [] }
     {
         Draft {
             starts: Vec::new(alloc),
-            left: Vec::new(alloc),
         }
     }
 
     /// Plans `count` words that all start with `value`, before those planned so far.
     pub fn fill(&mut self, at: u32, count: u32, value: i32) -> Result<(), CompileError>
-        ensures starts { OnOk result (plan_of self.new
-            ≡ fill_before at count value (plan_of self.old)) }
-        ensures left { self.new.left ≡ self.old.left }
+        ensures { OnOk result ((known : List code.StartPlan)
+            → plan_of known self.new ≡ fill_before at count value (plan_of known self.old)) }
     {
         let first = StartPiece::Fill { at, count, value };
         let Some(next) = self.starts.pop() else {
@@ -85,68 +76,71 @@ impl Draft {
         Ok(())
     }
 
-    /// Plans `count` words that all start with `value`, before those planned so far, unless they
-    /// are 0 already.
-    pub fn fill_unless(
-        &mut self,
-        zeros: bool,
-        at: u32,
-        count: u32,
-        value: i32,
-    ) -> Result<(), CompileError>
-        ensures starts { OnOk result (plan_of self.new
-            ≡ fill_unless zeros at count value (plan_of self.old)) }
-        ensures left { self.new.left ≡ self.old.left }
-    {
-        if zeros && value == 0 {
-            return Ok(());
-        }
-        self.fill(at, count, value)
-    }
-
     /// Plans, before everything planned so far, that the block of `size` words at `at` is repeated,
     /// for `count` blocks in all.
     pub fn repeat(&mut self, at: u32, size: u32, count: u32) -> Result<(), CompileError>
-        ensures starts { OnOk result (plan_of self.new
-            ≡ code.Repeat at size count ∷ plan_of self.old) }
-        ensures left { self.new.left ≡ self.old.left }
+        ensures { OnOk result ((known : List code.StartPlan)
+            → plan_of known self.new ≡ code.Repeat at size count (plan_of known self.old)) }
     {
         self.starts.push(StartPiece::Repeat { at, size, count })?;
         Ok(())
     }
 
-    /// Leaves the end of an array to be planned, if its words are 0 before. The array's `Repeat`
-    /// must be the start that was planned last.
-    pub fn leave_end(&mut self, zeros: bool) -> Result<(), CompileError>
-        ensures left { OnOk result (self.new.left.items ≡ with_end zeros
-            (length self.old.starts.items) self.old.left.items) }
-        ensures starts { self.new.starts ≡ self.old.starts }
+    /// Plans, before everything planned so far, that the part at `at` starts by a plan.
+    pub fn part(&mut self, at: u32, plan: u32) -> Result<(), CompileError>
+        ensures { OnOk result ((known : List code.StartPlan) → plan_of known self.new
+            ≡ code.Part at (view.plan_at known plan) (plan_of known self.old)) }
     {
-        if zeros {
-            let planned = self.starts.len();
-            self.left.push(Work::EndOfArray { planned })?;
+        self.starts.push(StartPiece::Part { at, plan })?;
+        Ok(())
+    }
+
+    // Plans a piece of a plan that begins at the word `at`, before everything planned so far. The
+    // plan of a part must have a number below `below`.
+    fn piece(&mut self, at: u32, below: u32, piece: StartPiece) -> Result<(), CompileError>
+        ensures { OnOk result ((known : List code.StartPlan) → plan_of known self.new
+            ≡ pieces_before at (view.piece_before (take below known) piece code.Done)
+            (plan_of known self.old)) }
+    {
+        match piece {
+            StartPiece::Fill {
+                at: behind,
+                count,
+                value,
+            } => self.fill(farther(at, behind)?, count, value),
+            StartPiece::Repeat {
+                at: behind,
+                size,
+                count,
+            } => self.repeat(farther(at, behind)?, size, count),
+            StartPiece::Part { at: behind, plan } => {
+                if below <= plan {
+                    return Err(CompileError::Unaccepted);
+                }
+                self.part(farther(at, behind)?, plan)
+            }
+        }
+    }
+
+    /// Plans the pieces of a plan that begins at the word `at`, before everything planned so far.
+    /// The plans of its parts have numbers below `below`.
+    pub fn pieces(&mut self, at: u32, below: u32, pieces: &[StartPiece]) -> Result<(), CompileError>
+        ensures { OnOk result ((known : List code.StartPlan) → plan_of known self.new
+            ≡ pieces_before at (view.plan_of (take below known) pieces.now)
+            (plan_of known self.old)) }
+    {
+        for i in (0..pieces.len()).rev() {
+            self.piece(at, below, pieces[i])?;
         }
         Ok(())
     }
 
-    /// Removes the first start if exactly `count` starts are planned.
-    pub fn close(&mut self, count: usize)
-        ensures starts { plan_of self.new ≡ drop_repeat count (plan_of self.old) }
-        ensures left { self.new.left ≡ self.old.left }
-    {
-        if self.starts.len() == count {
-            self.starts.pop();
-        }
-    }
-
-    /// Returns the plan, with its first start first.
+    /// Returns the plan, with its first piece first.
     pub fn into_starts(self) -> Vec<StartPiece>
-        ensures { map view.start result.items ≡ plan_of self }
+        ensures { (known : List code.StartPlan) → view.plan_of known result.items
+            ≡ plan_of known self }
     {
-        let Draft {
-            mut starts,
-            left: _,
-        } = self;
+        let Draft { mut starts } = self;
         starts.reverse();
         starts
     }

@@ -1,11 +1,10 @@
 //! The emitter: the operations so far, and the unit in progress.
 
-ghost use Rattle.std.specs.Prelude.{◌≡◌, ◌≤◌, drop, length, map};
+ghost use Rattle.std.specs.Prelude.{◌≡◌, ◌≤◌, [], drop, length, map};
 ghost use Rattle.cp_program_model.specs.CodeNeeds.{need_of_all};
 ghost use Rattle.cp_emit.specs.PlainNeeds.{plain_need};
 ghost use Rattle.cp_program.specs.View as view;
 
-use crate::allowance::Allowance;
 use crate::need::Need;
 use cp_program::operation::{Call, Operation};
 use cp_program::program::CodeUnit;
@@ -26,12 +25,11 @@ pub struct Emitter {
     pub(crate) operations: Vec<Operation>,
     pub(crate) origins: Vec<usize>,
     pub(crate) units: Vec<CodeUnit>,
-    pub(crate) allowance: Allowance,
     pub(crate) first: usize,
     pub(crate) words: u32,
     pub(crate) need: Need,
     ghost begun: { first ≤ length operations.items },
     ghost known: { length origins.items ≡ length operations.items },
-    ghost needed: { plain_need need ≡ need_of_all (map view.code_unit units.items) words
+    ghost needed: { plain_need need ≡ need_of_all (map (view.code_unit []) units.items) words
         (drop first (map view.operation operations.items)) },
 }

@@ -6,17 +6,15 @@
 //! - `need`: the words, temps and frames that an operation or a unit needs.
 //! - `call`: the calls of a statement's terms.
 //! - `table`: where a `case` leads.
+//! - `plan`: the plans of types, and of parts that lie one after another.
 //! - `starts`: plans for the start values of the words of activations and components.
-//! - `allowance`: a limit on the length of plans.
-//! - `plan`, `draft`: a plan in progress, which is made from its end with a stack of what is left
-//!   to plan.
-//! - `members`, `start_values`: what plans are made from.
+//! - `draft`: a plan in progress, which is made from its end.
+//! - `members`: what plans are made from.
 //!
 //! Each function equals one of `cp_program_model`'s definitions, on the plain data that `cp_program` makes
 //! of operations.
 #![tactic(auto)]
 
-pub mod allowance;
 pub mod call;
 pub mod draft;
 pub mod emission;
@@ -24,7 +22,6 @@ pub mod emitter;
 mod members;
 pub mod need;
 pub mod plan;
-mod start_values;
 pub mod starts;
 pub mod table;
 pub mod unit;

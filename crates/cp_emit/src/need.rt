@@ -1,6 +1,6 @@
 //! The words, temps and frames that a unit needs, including all that it calls.
 
-ghost use Rattle.std.specs.Prelude.{◌≡◌, ◌+◌, max, suc, IfOk, map, length};
+ghost use Rattle.std.specs.Prelude.{◌≡◌, ◌+◌, [], max, suc, IfOk, map, length};
 ghost use Rattle.cp_program_model.specs.CodeNeeds as needs;
 ghost use Rattle.cp_emit.specs.PlainNeeds.{plain_need};
 ghost use Rattle.cp_program.specs.View as view;
@@ -83,7 +83,7 @@ impl Need {
     // What a call needs. The callee's unit was emitted before.
     fn of_call(units: &[CodeUnit], call: &Call) -> Result<Need, CompileError>
         ensures { IfOk result
-            (λ n. plain_need n ≡ needs.need_of_call (map view.code_unit units.now)
+            (λ n. plain_need n ≡ needs.need_of_call (map (view.code_unit []) units.now)
             (view.call call.now)) }
     {
         let Some(unit) = units.get(call.routine as usize) else {
@@ -100,7 +100,7 @@ impl Need {
     fn of_init(units: &[CodeUnit], call: &Call) -> Result<Need, CompileError>
         ensures { IfOk result
             (λ n. plain_need n ≡ needs.with_room call.now.words (length call.now.arguments.items)
-            (needs.need_of_call (map view.code_unit units.now) (view.call call.now))) }
+            (needs.need_of_call (map (view.code_unit []) units.now) (view.call call.now))) }
     {
         Need::of_call(units, call)?.with_room(call.words, &call.arguments)
     }
@@ -108,7 +108,7 @@ impl Need {
     /// What an operation needs, if `units` are the units emitted before.
     pub fn of(units: &[CodeUnit], operation: &Operation) -> Result<Need, CompileError>
         ensures { IfOk result
-            (λ n. plain_need n ≡ needs.need_of (map view.code_unit units.now)
+            (λ n. plain_need n ≡ needs.need_of (map (view.code_unit []) units.now)
             (view.operation operation.now)) }
     {
         match operation {

@@ -1,11 +1,11 @@
 //! Units: an emitter begins a unit, emits its operations, and ends it.
 
-ghost use Rattle.std.specs.Prelude.{◌≡◌, [], ◌∷◌, ◌++◌, IfErr, IfOk, OnOk, length, map};
+ghost use Rattle.std.specs.Prelude.{◌≡◌, List, [], ◌∷◌, ◌++◌, IfErr, IfOk, OnOk, length, map};
+ghost use Rattle.cp_program_model.specs.Programs.{StartPlan};
 ghost use Rattle.cp_scope.specs.declared.error.CompileError.TheVariants as error;
 ghost use Rattle.cp_emit.specs.Emission.{operations_of, place_of, unit_ended, units_of};
 ghost use Rattle.cp_program.specs.View as view;
 
-use crate::allowance::Allowance;
 use crate::emitter::Emitter;
 use crate::need::Need;
 use cp_program::operation::Operation;
@@ -17,13 +17,12 @@ impl Emitter {
     /// Creates an emitter without operations and units.
     pub fn new(alloc: Global) -> Emitter
         ensures operations { operations_of result ≡ [] }
-        ensures units { units_of result ≡ [] }
+        ensures units { (known : List StartPlan) → units_of known result ≡ [] }
     {
         Emitter {
             operations: Vec::new(alloc),
             origins: Vec::new(alloc),
             units: Vec::new(alloc),
-            allowance: Allowance::new(),
             first: 0,
             words: 0,
             need: Need::none(),
@@ -33,7 +32,7 @@ impl Emitter {
     /// Begins a unit whose activations have `words` words.
     pub fn begin(&mut self, words: u32)
         ensures operations { operations_of self.new ≡ operations_of self.old }
-        ensures units { units_of self.new ≡ units_of self.old }
+        ensures units { self.new.units ≡ self.old.units }
         ensures first { self.new.first ≡ place_of self.old }
         ensures words { self.new.words ≡ words }
     {
@@ -43,14 +42,13 @@ impl Emitter {
     }
 
     /// Ends the unit in progress. It is entered at the operation `entry`, and `starts` is the plan
-    /// of its activations.
+    /// of its activations, whose parts have plans of their own.
     pub fn end(&mut self, entry: u32, starts: Vec<StartPiece>) -> Result<(), CompileError>
         ensures memory { IfErr result (λ e. e ≡ error.Memory) }
         ensures operations { OnOk result (operations_of self.new ≡ operations_of self.old) }
-        ensures unit { OnOk result
-            (units_of self.new ≡ units_of self.old ++ unit_ended self.old entry starts.items ∷ []) }
+        ensures unit { OnOk result ((known : List StartPlan) → units_of known self.new
+            ≡ units_of known self.old ++ unit_ended known self.old entry starts.items ∷ []) }
     {
-        self.allowance.take(&starts)?;
         let need = self.need;
         self.units.push(CodeUnit {
             start: entry,
@@ -67,7 +65,8 @@ impl Emitter {
 
     /// The number of units so far.
     pub fn units(&self) -> Result<u32, CompileError>
-        ensures { IfOk result (λ n. n ≡ length (units_of self.now)) }
+        ensures { IfOk result (λ n. (known : List StartPlan)
+            → n ≡ length (units_of known self.now)) }
     {
         let count = self.units.len();
         if count <= 4_294_967_295 {
@@ -81,7 +80,8 @@ impl Emitter {
     pub fn into_parts(self) -> (Vec<Operation>, Vec<usize>, Vec<CodeUnit>)
         ensures operations { map view.operation result.0.items ≡ operations_of self }
         ensures origins { length result.1.items ≡ place_of self }
-        ensures units { map view.code_unit result.2.items ≡ units_of self }
+        ensures units { (known : List StartPlan)
+            → map (view.code_unit known) result.2.items ≡ units_of known self }
     {
         (self.operations, self.origins, self.units)
     }

@@ -29,8 +29,7 @@ fn start_monitor(program: &Program, number: usize, words: &mut [i32])
     ensures length { length words.new ≡ length words.old }
 {
     if let Some(monitor) = program.monitor(number) {
-        let starts = program.starts(monitor.plan);
-        start_words(words, monitor.start as usize, starts);
+        start_words(words, monitor.start as usize, program, monitor.plan);
     }
 }
 

@@ -9,7 +9,7 @@ use Rattle.cp_model.specs.States.{Setup, monitor_count}
 use Rattle.cp_model.specs.Types.{ComponentOf, GlobalScope, Members, Queue, Simple}
 use Rattle.cp_program_model.specs.Layout.{component_words, head_words, member_part}
 use Rattle.cp_program_model.specs.Programs as code
-use Rattle.cp_program_model.specs.Programs.{Program, StartPiece}
+use Rattle.cp_program_model.specs.Programs.{Program, StartPlan}
 use Rattle.cp_program_model.specs.StandsFor.{Apart, MonitorStands, StandsFor}
 use Rattle.cp_program_model.specs.Starts.{AreZero, StartsComponent, carry_out, word}
 use Rattle.cp_machine_model.specs.Machines.{first_shared}
@@ -31,7 +31,7 @@ pub record BlockStarts (g : GlobalScope) (s : System) (base : ℕ) (ws : List �
   pub heads : (x : Name) (path : Path) (m i : ℕ) (r : System) (inner : Members)
       → member_part g (head_words g s) (reported_members g s) x path ≡ Some (m, ComponentOf r inner) → r.sort ≡ Class → i < head_words g r → word ws (base + (m + i)) ≡ pos 0
 
-block_started : (g : GlobalScope) (s : System) (plan : List StartPiece) (base : ℕ) (ws : List ℤ) → StartsComponent g s plan → base + component_words g s ≤ length ws → AreZero g s base ws
+block_started : (g : GlobalScope) (s : System) (plan : StartPlan) (base : ℕ) (ws : List ℤ) → StartsComponent g s plan → base + component_words g s ≤ length ws → AreZero g s base ws
     → BlockStarts g s base (carry_out base plan ws)
 block_started g s plan base ws S room zeros = record {
   cells = S.cells base ws room zeros;

@@ -21,7 +21,7 @@ use Rattle.cp_model.specs.Stores.{Absent, Initialised, Ordinal, QueueHolds}
 use Rattle.cp_model.specs.Types.{ArrayOf, ComponentOf, GlobalScope, NoType, Queue, RecordOf, ResolvedType, Simple}
 use Rattle.cp_model.proofs.StateMaps.{differ, with_at_there}
 use Rattle.cp_typing.specs.WellTyped.{WellTyped}
-use Rattle.cp_program_model.specs.Programs.{CodeUnit, Program}
+use Rattle.cp_program_model.specs.Programs.{CodeUnit, Done, Program}
 use Rattle.cp_program_model.specs.Layout.{Part, component_words, head_words, member, member_part}
 use Rattle.cp_program_model.specs.StandsFor.{ProcessStands, StandsFor, system_of_process}
 use Rattle.cp_program_model.specs.Starts.{AreZero, word}
@@ -283,7 +283,7 @@ start_is_part program setup F p x low high there =
     P = F.processes p low high
 
     unit_is : unit_at program P.row.body ≡ P.unit
-    unit_is = λ i. elim (P.unit_there i) as (λ z. CodeUnit) [ None ↦ record { start = 0; starts = []; words = 0; temps = 0; frames = 0 } | Some u ↦ u ]
+    unit_is = λ i. elim (P.unit_there i) as (λ z. CodeUnit) [ None ↦ record { start = 0; starts = Done; words = 0; temps = 0; frames = 0 } | Some u ↦ u ]
 
     by : (p : ℕ) (P : ProcessStands program F.texts setup p) → 1 ≤ p → Result program setup F p (part_at_start setup.inputs p P.row P.unit)
     by zero P low = absurd (omega (arith, low))

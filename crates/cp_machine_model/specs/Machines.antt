@@ -22,7 +22,7 @@ pub record Machine : Type 0 where
 
 abbrev pub unit_at : Program → ℕ → CodeUnit
 unit_at program n = elim (slice_get program.units n) [
-  | None ↦ record { start = 0; starts = []; words = 0; temps = 0; frames = 0 }
+  | None ↦ record { start = 0; starts = code.Done; words = 0; temps = 0; frames = 0 }
   | Some u ↦ u
 ]
 

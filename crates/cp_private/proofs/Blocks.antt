@@ -45,7 +45,7 @@ fill_more ws at i count n h =
     let left : suc (count - (i + 1)) ≡ count - i = omega arith in
     ap (λ k. fill k (count - (i + 1)) n (slice_set ws (at + i) n)) next ∙ ap (λ k. fill (at + i) k n ws) left
 
-fill_beyond : (k at : ℕ) (n : ℤ) (ws : List ℤ) → length ws ≤ at → fill at k n ws ≡ ws
+pub fill_beyond : (k at : ℕ) (n : ℤ) (ws : List ℤ) → length ws ≤ at → fill at k n ws ≡ ws
 fill_beyond zero at n ws h = refl
 fill_beyond (suc k) at n ws h = ap (fill (suc at) k n) (set_past ws at n h) ∙ fill_beyond k (suc at) n ws (omega arith)
 

@@ -9,3 +9,4 @@ pub mod Returning
 pub mod KindsMeant
 pub mod Parted
 pub mod Started
+pub mod CarriedOut

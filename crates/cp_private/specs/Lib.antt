@@ -6,3 +6,4 @@ pub mod Kinds
 pub mod Promises
 pub mod Resting
 pub mod Quick
+pub mod Plans

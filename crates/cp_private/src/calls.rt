@@ -1,13 +1,14 @@
 //! Calls of routines.
 
 ghost use Rattle.std.specs.Prelude.{◌≡◌, ◌+◌, true, ℕ, List, IfSome, MatchOption, length, nat_le};
-ghost use Rattle.cp_program_model.specs.Programs.{CodeUnit as PlainUnit};
+ghost use Rattle.cp_program_model.specs.Programs.{CodeUnit as PlainUnit, StartPlan};
 ghost use Rattle.cp_private.specs.Keeping.{IsAddressable, KeepsRest};
 ghost use Rattle.cp_private.specs.Calls.{HasRoom, back};
 ghost use Rattle.cp_private.specs.States.{IsStep, join};
 ghost use Rattle.cp_machine_model.specs.Calling as plain;
 ghost use Rattle.cp_machine_model.specs.PrivateStates as states;
 ghost use Rattle.cp_program.specs.View as view;
+ghost use Rattle.cp_program.specs.View.{plans_of};
 
 use crate::called::Back;
 use crate::effect::Effect;
@@ -30,10 +31,10 @@ impl Private {
     // Whether own words, temps and a frame are left for the unit, and its component exists.
     fn has_room(&self, shared: &[i32], call: &Call, unit: &CodeUnit, component: usize) -> bool
         requires { IsAddressable shared.now }
-        ensures value { (w : states.Outside) (input : List ℕ)
+        ensures value { (plans : List StartPlan) (w : states.Outside) (input : List ℕ)
             → w.own ≡ length self.now.memory.words.items
             → result ≡ plain.has_room w (join self.now input shared.now) (view.call call.now)
-            (view.code_unit unit.now) component }
+            (view.code_unit plans unit.now) component }
         ensures room { result ≡ true → HasRoom self.now shared.now call.now unit.now component }
     {
         if self.frames.len() <= self.depth {
@@ -73,7 +74,8 @@ impl Private {
             ((go : PlainUnit → states.Acting) → plain.with_unit (view.program program.now) w o
             (view.call call.now) component go ≡ states.private_outcome o)
             (λ u. (go : PlainUnit → states.Acting) → plain.with_unit (view.program program.now) w o
-            (view.call call.now) component go ≡ go (view.code_unit u.now)) }
+            (view.call call.now) component go
+            ≡ go (view.code_unit (plans_of program.now) u.now)) }
         ensures room { IfSome result (λ u. HasRoom self.now shared.now call.now u.now component) }
     {
         let unit = program.unit(call.routine)?;
@@ -109,7 +111,7 @@ impl Private {
         let to = self.memory.base as usize + call.words as usize;
         let destination = Destination { to, home: to };
         self.pass_all(shared, outside, destination, &call.arguments)?;
-        self.start_words(shared, to, &unit.starts);
+        self.start_words(shared, to, program, &unit.starts);
         self.enter(callee, unit, call, link);
         Ok(enters(callee.gate))
     }

@@ -1,16 +1,17 @@
 //! Changes of the words and temps of a private state.
 
-ghost use Rattle.std.specs.Prelude.{◌≡◌, ◌<◌, ◌^◌, ℕ, ℤ, List, map};
+ghost use Rattle.std.specs.Prelude.{◌≡◌, ◌<◌, ◌^◌, ℕ, ℤ, List};
 ghost use Rattle.cp_program_model.specs.Starts.{block, paste, carry_out};
 ghost use Rattle.cp_private.specs.Keeping.{ChangesOnlyWords, IsAddressable, KeepsOwn};
 ghost use Rattle.cp_private.specs.States.{IsReady, join};
 ghost use Rattle.cp_machine_model.specs.PrivateStates as plain;
 ghost use Rattle.cp_program.specs.Reaches.{cap_place};
 ghost use Rattle.cp_program.specs.View as view;
+ghost use Rattle.cp_program.specs.View.{plans_of};
 
 use crate::private::Private;
-use crate::words;
-use cp_program::program::StartPiece;
+use crate::{plans, words};
+use cp_program::program::{Program, StartPiece};
 
 impl Private {
     /// Writes the word at an address, which may be capped to the largest `usize`.
@@ -49,18 +50,27 @@ impl Private {
         words::copy(&mut self.memory.words, shared, to, from, count);
     }
 
-    /// Makes words start as a plan says. The plan counts from address `base`. The plan of a
-    /// function without variables marks only its result.
+    /// Makes words start by a plan of these pieces, whose parts have plans of the program. The plan
+    /// counts from address `base`. The plan of a function without variables marks only its result.
     #[inline(always)]
-    pub(crate) fn start_words(&mut self, shared: &mut [i32], base: usize, plan: &[StartPiece])
+    pub(crate) fn start_words(
+        &mut self,
+        shared: &mut [i32],
+        base: usize,
+        program: &Program,
+        pieces: &[StartPiece],
+    )
         requires shared { IsAddressable shared.old }
         requires base { base < 2 ^ 33 }
         ensures step { (input : List ℕ)
             → let o = join self.old input shared.old in join self.new input shared.new
-            ≡ record o { words = carry_out base (map view.start plan.now) o.words } }
+            ≡ record o {
+              words = carry_out base (view.plan_of (plans_of program.now) pieces.now)
+                  o.words;
+            } }
         ensures kept { ChangesOnlyWords self.old shared.old self.new shared.new }
     {
-        match plan {
+        match pieces {
             [
                 StartPiece::Fill {
                     at,
@@ -70,7 +80,7 @@ impl Private {
             ] => {
                 words::write(&mut self.memory.words, shared, base + *at as usize, *value);
             }
-            _ => words::start(&mut self.memory.words, shared, base, plan),
+            _ => plans::start(&mut self.memory.words, shared, base, program, pieces),
         }
     }
 }

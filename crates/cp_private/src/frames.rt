@@ -6,6 +6,7 @@ ghost use Rattle.cp_model.specs.declared.state.Fault.TheVariants as fault;
 ghost use Rattle.cp_private.specs.Keeping.{IsAddressable, KeepsOwn};
 ghost use Rattle.cp_private.specs.States.{effect, frame as view_frame, frames_in, join};
 ghost use Rattle.cp_private.specs.Calls.{back, called_of, returning, value_to_return};
+ghost use Rattle.cp_program_model.specs.Programs.{StartPlan};
 ghost use Rattle.cp_machine_model.specs.Calling as plain;
 ghost use Rattle.cp_machine_model.specs.PrivateStates.{Enters, Leaves};
 ghost use Rattle.cp_program.specs.View as view;
@@ -80,9 +81,9 @@ impl Private {
         requires base { self.old.memory.base + call.now.words < 2 ^ 32 }
         requires temp { self.old.memory.temp + call.now.temps < 2 ^ 32 }
         requires component { callee.component < 2 ^ 32 }
-        ensures step { (input : List ℕ) (shared : List ℤ)
+        ensures step { (plans : List StartPlan) (input : List ℕ) (shared : List ℤ)
             → join self.new input shared ≡ plain.enter
-            (join self.old input shared) (called_of callee) (view.code_unit unit.now)
+            (join self.old input shared) (called_of callee) (view.code_unit plans unit.now)
             (view.call call.now) (back link) }
         ensures kept { KeepsOwn self.old self.new }
     {

@@ -10,7 +10,8 @@
 //!
 //! - `private`, `making`: the private state, and how it is made, copied and read.
 //! - `outside`, `alone`, `effect`: what else a step reads, and what it leaves to the kernel.
-//! - `words`, `changing`, `reading`, `frames`, `starting`: words, temps and frames.
+//! - `words`, `changing`, `reading`, `frames`: words, temps and frames.
+//! - `plans`, `starting`: how words start.
 //! - `assignments`, `counting`, `standards`, `targets`, `passing`, `called`, `calls`, `returns`,
 //!   `initialisation`: the steps of operations.
 //! - `quick`: the commonest private steps, made in registers.
@@ -33,6 +34,7 @@ pub mod limits;
 mod making;
 pub mod outside;
 mod passing;
+mod plans;
 pub mod private;
 mod quick;
 mod reading;

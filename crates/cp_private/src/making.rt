@@ -12,7 +12,7 @@ ghost use Rattle.cp_program.specs.View as view;
 
 use crate::private::{Activity, Frame, Private};
 use crate::turn::Turn;
-use crate::words;
+use crate::{plans, words};
 use cp_machine_model::law;
 use cp_program::program::{Process, Program};
 use cp_program::reach::Memory;
@@ -72,7 +72,7 @@ fn first_words(
 {
     let mut all = Vec::from_elem(alloc, 0, count)?;
     all.reserve(WORDS_APART)?;
-    words::start(&mut all, &mut [], 0, program.starts(process.plan));
+    plans::start_by(&mut all, &mut [], 0, program, process.plan);
     Ok(all)
 }
 

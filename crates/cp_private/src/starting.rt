@@ -1,18 +1,19 @@
 //! How the words of components start.
 
-ghost use Rattle.std.specs.Prelude.{◌≡◌, ◌<◌, ◌^◌, length, map};
+ghost use Rattle.std.specs.Prelude.{◌≡◌, ◌<◌, ◌^◌, length};
 ghost use Rattle.cp_program_model.specs.Starts.{carry_out};
-ghost use Rattle.cp_program.specs.View as view;
+ghost use Rattle.cp_program.specs.View.{plan_at, plans_of};
 
-use crate::words;
-use cp_program::program::StartPiece;
+use crate::plans;
+use cp_program::program::Program;
 
-/// Makes words start as a plan says. The plan counts from address `base`.
-pub fn start_words(all: &mut [i32], base: usize, plan: &[StartPiece])
+/// Makes words start by the plan of the program with this number. The plan counts from address
+/// `base`.
+pub fn start_words(all: &mut [i32], base: usize, program: &Program, plan: u32)
     requires words { length all.old < 2 ^ 32 }
     requires base { base < 2 ^ 33 }
-    ensures words { all.new ≡ carry_out base (map view.start plan.now) all.old }
+    ensures words { all.new ≡ carry_out base (plan_at (plans_of program.now) plan) all.old }
     ensures length { length all.new ≡ length all.old }
 {
-    words::start(&mut [], all, base, plan);
+    plans::start_by(&mut [], all, base, program, plan);
 }

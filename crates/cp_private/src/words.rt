@@ -3,12 +3,9 @@
 //!
 //! A missing word reads as 0, and writing it does nothing.
 
-ghost use Rattle.std.specs.Prelude.{◌≡◌, ◌+◌, ◌-◌, ◌≤◌, ◌<◌, ◌^◌, ◌++◌, ℕ, length, map, slice_set};
+ghost use Rattle.std.specs.Prelude.{◌≡◌, ◌+◌, ◌-◌, ◌≤◌, ◌<◌, ◌^◌, ◌++◌, ℕ, length, slice_set};
 ghost use Rattle.cp_program_model.specs.Starts as plain;
 ghost use Rattle.cp_program.specs.Reaches.{cap_place};
-ghost use Rattle.cp_program.specs.View as view;
-
-use cp_program::program::StartPiece;
 
 #[inline(always)]
 fn word(words: &[i32], at: usize) -> i32
@@ -122,8 +119,8 @@ pub(crate) fn copy(own: &mut [i32], shared: &mut [i32], to: usize, from: usize, 
     }
 }
 
-// Repeats the block of `size` words at address `at` `count` more times after it.
-fn repeat(own: &mut [i32], shared: &mut [i32], at: usize, size: usize, count: usize)
+/// Repeats the block of `size` words at address `at` `count` more times after it.
+pub(crate) fn repeat(own: &mut [i32], shared: &mut [i32], at: usize, size: usize, count: usize)
     requires words { length own.old + length shared.old < 2 ^ 32 }
     requires at { at < 2 ^ 34 }
     requires size { size < 2 ^ 32 }
@@ -143,39 +140,6 @@ fn repeat(own: &mut [i32], shared: &mut [i32], at: usize, size: usize, count: us
         }
         copy(own, shared, from + size, from, size);
         from += size;
-    }
-}
-
-fn start_by(own: &mut [i32], shared: &mut [i32], base: usize, start: StartPiece)
-    requires words { length own.old + length shared.old < 2 ^ 32 }
-    requires base { base < 2 ^ 33 }
-    ensures words { own.new ++ shared.new ≡ plain.carry_out_start base (view.start start)
-        (own.old ++ shared.old) }
-    ensures own { length own.new ≡ length own.old }
-    ensures shared { length shared.new ≡ length shared.old }
-{
-    match start {
-        StartPiece::Fill { at, count, value } => {
-            fill(own, shared, base + at as usize, count as usize, value);
-        }
-        StartPiece::Repeat { at, size, count } => {
-            let more = count.saturating_sub(1) as usize;
-            repeat(own, shared, base + at as usize, size as usize, more);
-        }
-    }
-}
-
-/// Makes words start as a plan says. The plan counts from address `base`.
-pub(crate) fn start(own: &mut [i32], shared: &mut [i32], base: usize, plan: &[StartPiece])
-    requires words { length own.old + length shared.old < 2 ^ 32 }
-    requires base { base < 2 ^ 33 }
-    ensures words { own.new ++ shared.new ≡ plain.carry_out base (map view.start plan.now)
-        (own.old ++ shared.old) }
-    ensures own { length own.new ≡ length own.old }
-    ensures shared { length shared.new ≡ length shared.old }
-{
-    for step in plan {
-        start_by(own, shared, base, *step);
     }
 }
 

@@ -1,7 +1,7 @@
 -- Programs as the plain data of the definitions. Chains of operands become terms that group to
--- the left, and indices become elements of elements. Each component has its plan, which components
--- share in the code.
-use Rattle.std.specs.Prelude.{ℕ, ℤ, List, [], ◌∷◌, Option, Some, None, map, slice_get}
+-- the left, and indices become elements of elements. Numbers of plans become the plans, which parts
+-- and components share in the code.
+use Rattle.std.specs.Prelude.{ℕ, ℤ, List, [], ◌∷◌, ◌++◌, Option, Some, None, map, slice_get}
 use Rattle.cp_model.specs.Abstract as a
 use Rattle.cp_model.specs.Erase.{operator_of}
 use Rattle.cp_program_model.specs.Terms as plain
@@ -176,33 +176,49 @@ operation (operation_case.Delay queue next) = code.Delay (spot queue) next
 operation (operation_case.Continue queue function) = code.Continue (spot queue) function
 operation (operation_case.Wait next) = code.Wait next
 
+-- ---- Plans
+
+abbrev pub plan_or_none : Option code.StartPlan → code.StartPlan
+plan_or_none None = code.Done
+plan_or_none (Some p) = p
+
+-- The plan with this number among those that are known. A plan that isn't known has no pieces.
+abbrev pub plan_at : List code.StartPlan → ℕ → code.StartPlan
+plan_at known n = plan_or_none (slice_get known n)
+
+abbrev pub piece_before : List code.StartPlan → StartPiece → code.StartPlan → code.StartPlan
+piece_before known (start_case.Fill at count value) rest = code.Fill at count value rest
+piece_before known (start_case.Repeat at size count) rest = code.Repeat at size count rest
+piece_before known (start_case.Part at plan) rest = code.Part at (plan_at known plan) rest
+
+-- The plan of these pieces, whose parts have plans among those that are known.
+abbrev pub plan_of : List code.StartPlan → List StartPiece → code.StartPlan
+plan_of known [] = code.Done
+plan_of known (x ∷ xs) = piece_before known x (plan_of known xs)
+
+-- The plans of a table that follow those that are known. Each knows those before it.
+abbrev pub plans_from : List code.StartPlan → List StartPlan → List code.StartPlan
+plans_from known [] = []
+plans_from known (p ∷ ps) = plan_of known p.starts.items ∷ plans_from (known ++ plan_of known p.starts.items ∷ []) ps
+
+abbrev pub plans_in : List StartPlan → List code.StartPlan
+plans_in ps = plans_from [] ps
+
 -- ---- Programs
 
-abbrev pub start : StartPiece → code.StartPiece
-start (start_case.Fill at count value) = code.Fill at count value
-start (start_case.Repeat at size count) = code.Repeat at size count
-
-abbrev pub code_unit : CodeUnit → code.CodeUnit
-code_unit u = record {
+abbrev pub code_unit : List code.StartPlan → CodeUnit → code.CodeUnit
+code_unit plans u = record {
   start = u.start;
-  starts = map start u.starts.items;
+  starts = plan_of plans u.starts.items;
   words = u.words;
   temps = u.temps;
   frames = u.frames;
 }
 
--- The starts of a plan, of which there are none without a plan.
-abbrev pub plan_or_none : Option StartPlan → List code.StartPiece
-plan_or_none None = []
-plan_or_none (Some p) = map start p.starts.items
-
-abbrev pub plan_at : List StartPlan → ℕ → List code.StartPiece
-plan_at plans n = plan_or_none (slice_get plans n)
-
-abbrev pub monitor : List StartPlan → Monitor → code.Monitor
+abbrev pub monitor : List code.StartPlan → Monitor → code.Monitor
 monitor plans m = record { start = m.start; body = m.body; words = m.words; starts = plan_at plans m.plan }
 
-abbrev pub process : List StartPlan → Process → code.Process
+abbrev pub process : List code.StartPlan → Process → code.Process
 process plans p = record {
   body = p.body;
   words = p.words;
@@ -211,8 +227,8 @@ process plans p = record {
   starts = plan_at plans p.plan;
 }
 
-abbrev pub plans_of : Program → List StartPlan
-plans_of p = p.plans.items
+abbrev pub plans_of : Program → List code.StartPlan
+plans_of p = plans_in p.plans.items
 
 abbrev pub origins_of : Program → List ℕ
 origins_of p = p.origins.items
@@ -220,8 +236,8 @@ origins_of p = p.origins.items
 abbrev pub program : Program → code.Program
 program p = record {
   operations = map operation p.operations.items;
-  units = map code_unit p.units.items;
-  monitors = map (monitor p.plans.items) p.monitors.items;
-  processes = map (process p.plans.items) p.processes.items;
+  units = map (code_unit (plans_of p)) p.units.items;
+  monitors = map (monitor (plans_of p)) p.monitors.items;
+  processes = map (process (plans_of p)) p.processes.items;
   shared = p.shared;
 }

@@ -1,17 +1,18 @@
 //! Programs, which consist of operations, units of code and components.
 
-ghost use Rattle.std.specs.Prelude.{◌≡◌, ◌-◌, length, map, option_map, slice_get};
+ghost use Rattle.std.specs.Prelude.{◌≡◌, ◌-◌, length, map, option_map, slice_get, take};
 ghost use Rattle.cp_program.specs.View as view;
-ghost use Rattle.cp_program.specs.View.{origins_of, plans_of};
+ghost use Rattle.cp_program.specs.View.{origins_of, plans_in, plans_of};
 
 use crate::operation::Operation;
 
-/// How words start: `count` words with one value, or `count` blocks of `size` words like the first
-/// one.
+/// How words start: `count` words with one value, `count` blocks of `size` words like the first
+/// one, or a part, which starts by the plan with the number `plan` in the program.
 #[derive(Clone, Copy, Debug, PartialEq, Eq)]
 pub enum StartPiece {
     Fill { at: u32, count: u32, value: i32 },
     Repeat { at: u32, size: u32, count: u32 },
+    Part { at: u32, plan: u32 },
 }
 
 /// The code of a routine or of the body of a system type: the place of its first operation, how the
@@ -48,7 +49,8 @@ pub struct Process {
     pub plan: u32,
 }
 
-/// The start values of the words of the components of one system type.
+/// The start values of the words of the variables of one type, or of the components of one system
+/// type. Its parts have plans before it in the program.
 #[derive(Debug, Drop)]
 pub struct StartPlan {
     pub starts: Vec<StartPiece>,
@@ -84,11 +86,12 @@ impl Program {
         ensures operations { (view.program result).operations ≡ map view.operation
             operations.items }
         ensures origins { origins_of result ≡ origins.items }
-        ensures units { (view.program result).units ≡ map view.code_unit units.items }
-        ensures monitors { (view.program result).monitors ≡ map (view.monitor plans.items)
-            monitors.items }
-        ensures processes { (view.program result).processes ≡ map (view.process plans.items)
-            processes.items }
+        ensures units { (view.program result).units ≡ map (view.code_unit
+            (plans_in plans.items)) units.items }
+        ensures monitors { (view.program result).monitors ≡ map (view.monitor
+            (plans_in plans.items)) monitors.items }
+        ensures processes { (view.program result).processes ≡ map (view.process
+            (plans_in plans.items)) processes.items }
         ensures shared { (view.program result).shared ≡ shared }
     {
         Program {
@@ -121,7 +124,7 @@ impl Program {
 
     /// The unit with this number, from 0 on, if there is one.
     pub fn unit(&self, number: u32) -> Option<&CodeUnit>
-        ensures { option_map (λ u. view.code_unit u.now) result ≡ slice_get
+        ensures { option_map (λ u. view.code_unit (plans_of self.now) u.now) result ≡ slice_get
             (view.program self.now).units number }
     {
         self.units.get(number as usize)
@@ -143,11 +146,27 @@ impl Program {
         self.processes.get(number.saturating_sub(1))
     }
 
-    /// The starts of the plan with this number. They are empty if there is no such plan.
-    pub fn starts(&self, plan: u32) -> &[StartPiece]
-        ensures { map view.start result.now ≡ view.plan_at (plans_of self.now) plan }
+    /// The number of plans.
+    pub fn plans(&self) -> usize
+        ensures { result ≡ length (plans_of self.now) }
     {
-        match self.plans.get(plan as usize) {
+        self.plans.len()
+    }
+
+    // The plan with this number, if there is one.
+    fn plan(&self, number: u32) -> Option<&StartPlan>
+        ensures { option_map (λ p. p.now) result ≡ slice_get self.now.plans.items number }
+    {
+        self.plans.get(number as usize)
+    }
+
+    /// The pieces of the plan with this number, whose parts have plans before it. There are none if
+    /// there is no such plan.
+    pub fn starts(&self, plan: u32) -> &[StartPiece]
+        ensures { view.plan_of (take plan (plans_of self.now)) result.now ≡ view.plan_at
+            (plans_of self.now) plan }
+    {
+        match self.plan(plan) {
             Some(plan) => plan.starts.as_slice(),
             None => &[],
         }

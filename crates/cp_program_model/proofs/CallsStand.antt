@@ -1,14 +1,13 @@
 -- A compiled call calls the routine that is meant, and its target is the component that is named.
 use Rattle.std.proofs.Common.{◌≡◌, ℕ, List, [], ◌∷◌, ◌++◌, if◌then◌else◌, Option, Some, None, refl, ap, sym, subst, ◌∙◌, Bool, true, false, not, filter, bytes_eq}
-use Rattle.std.specs.Option.{option_or}
 use Rattle.cp_model.specs.Abstract as a
 use Rattle.cp_model.specs.Abstract.{Name, Routine, Sort, System}
 use Rattle.cp_model.specs.Names.{lookup}
-use Rattle.cp_model.specs.Types.{ArrayOf, ComponentOf, Members, NoType, Queue, RecordOf, ResolvedType, Simple, base_of_type}
+use Rattle.cp_model.specs.Types.{ComponentOf, Members, base_of_type}
 use Rattle.cp_model.specs.Declarations.{Variable, declarations, is_component, reported_members}
 use Rattle.cp_model.specs.Environments.{Environment, permanent_variables}
 use Rattle.cp_model.specs.Locations.{Location, Owner}
-use Rattle.cp_model.specs.Components.{Component, as_component, component_named}
+use Rattle.cp_model.specs.Components.{Component, component_named}
 use Rattle.cp_model.specs.Calls.{Callee, callee, own_routine, is_local, routine_named}
 use Rattle.cp_typing.specs.Judgement.{IsFunction, MayBeCalled}
 use Rattle.cp_typing.specs.StaticTypes.{answer_type}

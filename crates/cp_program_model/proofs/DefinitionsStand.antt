@@ -7,7 +7,7 @@ use Rattle.cp_model.specs.Abstract.{BaseType, Constant, Definition, Enumeration,
 use Rattle.cp_model.specs.Names.{lookup}
 use Rattle.cp_model.specs.Types.{ArrayOf, ComponentOf, GlobalScope, Members, NoType, Queue, RecordOf, ResolvedType, Simple, array_type, constant_value, full_range, or_no_type, resolved_type, subrange_type}
 use Rattle.cp_model.specs.Declarations.{define, define_all, reported_members, with_constant}
-use Rattle.cp_program_model.specs.Programs.{Program, Return}
+use Rattle.cp_program_model.specs.Programs.{Done, Program, Return}
 use Rattle.cp_program_model.specs.Sites.{BodyOf, RoutineOf, UnitText}
 use Rattle.cp_program_model.specs.StatementsFor.{is_function}
 use Rattle.cp_program_model.specs.StandsFor.{end_of}
@@ -78,7 +78,7 @@ module _ (g : GlobalScope) (program : Program) (texts : List UnitText) where
   pub system_first : (s : System) (firsts : List (Name × ℕ)) (c : Compiled) → Within g program texts (with_system g firsts s c) → Within g program texts c
   system_first s firsts c h =
       routines_first s firsts (length c.units) s.routines c
-      (within_first g program texts (body_scope g s firsts (length c.units)) [] (end_of s.sort) s.body (with_routines g s firsts (length c.units) s.routines c) h)
+      (within_first g program texts (body_scope g s firsts (length c.units)) Done (end_of s.sort) s.body (with_routines g s firsts (length c.units) s.routines c) h)
 
   definition_first : (d : Definition) (m : CompiledTypes) → Within g program texts (with_definition g d m).compiled → Within g program texts m.compiled
   definition_first (a.SystemDef x s) m h = system_first s m.firsts m.compiled h

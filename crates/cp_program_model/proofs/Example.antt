@@ -12,7 +12,7 @@ use Rattle.cp_model.specs.Locations.{Location, Owner}
 use Rattle.cp_program_model.specs.Terms as target
 use Rattle.cp_program_model.specs.Terms.{Binary, Item, Local, Made, Member, Number, Reference, Right, Rooted, Through, Value}
 use Rattle.cp_program_model.specs.Programs as op
-use Rattle.cp_program_model.specs.Programs.{CodeUnit}
+use Rattle.cp_program_model.specs.Programs.{CodeUnit, Done}
 use Rattle.cp_program_model.specs.Sites.{BodyOf, RoutineOf, UnitText}
 use Rattle.cp_program_model.specs.TermsFor.{nothing_known}
 use Rattle.cp_program_model.specs.StatementsFor.{CodeFor}
@@ -28,7 +28,7 @@ abbrev texts : List UnitText
 texts = unit_texts tree
 
 abbrev no_unit : CodeUnit
-no_unit = record { start = 0; starts = []; words = 0; temps = 0; frames = 0 }
+no_unit = record { start = 0; starts = Done; words = 0; temps = 0; frames = 0 }
 
 abbrev unit_at : op.Program → ℕ → CodeUnit
 unit_at program n = elim (slice_get program.units n) [ None ↦ no_unit | Some u ↦ u ]
@@ -103,7 +103,7 @@ nothing_there : {A : Type 0} (x : A) → None ≡ Some x → ⊥
 nothing_there x h = true≢false (ap is_some (sym h))
 
 -- A routine without variables and without a result.
-no_starts : (r : Routine) (u : CodeUnit) → declarations g r.variables ≡ [] → r.result ≡ None → u.starts ≡ [] → Starts g r u
+no_starts : (r : Routine) (u : CodeUnit) → declarations g r.variables ≡ [] → r.result ≡ None → u.starts ≡ Done → Starts g r u
 no_starts r u none no_result no_plan = record {
   length_is = λ base ws. ap (λ plan. length (carry_out base plan ws)) no_plan;
   variables = λ base ws room v i at m path b low high n h. absurd (nothing_there v (subst (λ vs. slice_get vs i ≡ Some v) none h));

@@ -101,3 +101,23 @@ paste_same to (x ∷ xs) ws h =
 
     same : slice_set ws to x ≡ ws
     same = ap (slice_set ws to) (sym (ap (word ws) (nothing_more to) ∙ h 0 (omega arith))) ∙ set-get_or ws to (pos 0)
+
+-- ---- Words that are written beside one another, in either order
+
+sets_swap : (ws : List ℤ) (i j : ℕ) (x y : ℤ) → i ≢ j → slice_set (slice_set ws i x) j y ≡ slice_set (slice_set ws j y) i x
+sets_swap [] i j x y apart = refl
+sets_swap (w ∷ ws) zero zero x y apart = absurd (apart refl)
+sets_swap (w ∷ ws) zero (suc j) x y apart = refl
+sets_swap (w ∷ ws) (suc i) zero x y apart = refl
+sets_swap (w ∷ ws) (suc i) (suc j) x y apart = ap (λ l. w ∷ l) (sets_swap ws i j x y (λ e. apart (ap suc e)))
+
+set_before : (at to : ℕ) (x : ℤ) (ys ws : List ℤ) → at < to → slice_set (paste to ys ws) at x ≡ paste to ys (slice_set ws at x)
+set_before at to x [] ws less = refl
+set_before at to x (y ∷ ys) ws less =
+    set_before at (suc to) x ys (slice_set ws to y) (omega (arith, less))
+    ∙ ap (paste (suc to) ys) (sets_swap ws to at y x (λ e. omega (arith, less, e)))
+
+pub paste_swap : (at : ℕ) (xs : List ℤ) (to : ℕ) (ys ws : List ℤ) → at + length xs ≤ to → paste at xs (paste to ys ws) ≡ paste to ys (paste at xs ws)
+paste_swap at [] to ys ws room = refl
+paste_swap at (x ∷ xs) to ys ws room =
+    ap (paste (suc at) xs) (set_before at to x ys ws (omega (arith, room))) ∙ paste_swap (suc at) xs to ys (slice_set ws at x) (omega (arith, room))

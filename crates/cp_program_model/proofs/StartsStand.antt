@@ -14,13 +14,13 @@ use Rattle.cp_typing.specs.Needs.{result_words}
 use Rattle.cp_typing.specs.Words as of_sort
 use Rattle.cp_typing.specs.Words.{rights_in, words, words_of_members}
 use Rattle.cp_typing.proofs.Names.{bytes_eq-refl, lookup_first}
-use Rattle.cp_program_model.specs.Programs.{Fill, Repeat, StartPiece}
+use Rattle.cp_program_model.specs.Programs.{Done, Fill, Part, Repeat, StartPlan}
 use Rattle.cp_program_model.specs.Layout.{activation_words, component_words, head_words, local, local_at, local_words, locals_words, member_part, part}
-use Rattle.cp_program_model.specs.Plans.{plan_of_component, plan_of_result, plan_of_routine, plan_of_variables}
+use Rattle.cp_program_model.specs.Plans.{placed, placed_variables, plan_of_component, plan_of_parts, plan_of_result, plan_of_routine}
 use Rattle.cp_program_model.specs.Starts.{AreZero, Starts, StartsComponent, block, fill, paste, repeat_block, carry_out, unset, word}
 use Rattle.cp_program_model.proofs.CallsStand.{distinct_apart}
-use Rattle.cp_program_model.proofs.Pasting.{fill_is_paste, paste_append, paste_inside, paste_length, paste_outside}
-use Rattle.cp_program_model.proofs.PlansStand.{Plannable, PlannableMembers, all_planned, fill_before_is, image, image_length, image_of_class, images, images_length, planned}
+use Rattle.cp_program_model.proofs.Pasting.{fill_is_paste, paste_inside, paste_length, paste_outside}
+use Rattle.cp_program_model.proofs.PlansStand.{Follow, Plannable, PlannableMembers, all_planned, fill_before_is, image, image_length, image_of_class, images, images_length, parts_planned, planned, planned_part}
 use Rattle.cp_program_model.proofs.PartsStart.{PartOf, members_start, part_behind, parts_start}
 
 -- ---- Lengths
@@ -30,12 +30,13 @@ repeated_length at size zero ws = refl
 repeated_length at size (suc k) ws =
     repeated_length (at + size) size k (paste (at + size) (block ws at size) ws) ∙ paste_length (at + size) (block ws at size) ws
 
-started_length : (base : ℕ) (xs : List StartPiece) (ws : List ℤ) → length (carry_out base xs ws) ≡ length ws
-started_length base [] ws = refl
-started_length base (Fill at count n ∷ xs) ws =
-    started_length base xs (fill (base + at) count n ws) ∙ ap length (fill_is_paste (base + at) count n ws) ∙ paste_length (base + at) (replicate count n) ws
-started_length base (Repeat at size count ∷ xs) ws =
-    started_length base xs (repeat_block (base + at) size (count - 1) ws) ∙ repeated_length (base + at) size (count - 1) ws
+started_length : (base : ℕ) (p : StartPlan) (ws : List ℤ) → length (carry_out base p ws) ≡ length ws
+started_length base Done ws = refl
+started_length base (Fill at count n rest) ws =
+    started_length base rest (fill (base + at) count n ws) ∙ ap length (fill_is_paste (base + at) count n ws) ∙ paste_length (base + at) (replicate count n) ws
+started_length base (Repeat at size count rest) ws =
+    started_length base rest (repeat_block (base + at) size (count - 1) ws) ∙ repeated_length (base + at) size (count - 1) ws
+started_length base (Part at p rest) ws = started_length base rest (carry_out (base + at) p ws) ∙ started_length (base + at) p ws
 
 -- ---- Components
 
@@ -51,8 +52,8 @@ module _ (g : GlobalScope) (s : System) (fine : PlannableMembers true (reported_
 
   pasted : (base : ℕ) (ws : List ℤ) → base + component_words g s ≤ length ws → AreZero g s base ws → carry_out base (plan_of_component g s) ws ≡ paste (base + head) values ws
   pasted base ws room zeros =
-      all_planned true g members fine head [] base ws (omega (arith, room))
-      (λ is k less. ap (word ws) (apart base head k) ∙ zeros (head + k) (omega (arith, less)))
+      parts_planned true base head (placed true g members head) values ws (all_planned true g members fine head) (omega (arith, room, images_length g members))
+      (λ is k less. ap (word ws) (apart base head k) ∙ zeros (head + k) (omega (arith, less, images_length g members)))
     where
       apart : (a b c : ℕ) → a + b + c ≡ a + (b + c)
       apart a b c = omega arith
@@ -130,18 +131,16 @@ images_of_length g [] h = refl
 images_of_length g (v ∷ vs) h =
     length-append (image g v.1.type) (images_of g vs) ∙ omega (arith, image_length g v.1.type, one_value g v h.0, images_of_length g vs h.1)
 
+variables_follow : (g : GlobalScope) (vs : List (Name × Variable)) → Each ByValue vs → (at : ℕ) → Follow false at (placed_variables g vs at) (images_of g vs)
+variables_follow g [] h at = refl
+variables_follow g (v ∷ vs) h at =
+    (refl, planned_part false g v.1.type at (planned false g v.1.type h.0.1), images_of g vs, refl, variables_follow g vs h.1 (at + words g v.1.type))
+
 variables_planned : (g : GlobalScope) (vs : List (Name × Variable)) → Each ByValue vs → (at base : ℕ) (ws : List ℤ) → base + at + locals_words g vs ≤ length ws
-    → carry_out base (plan_of_variables g vs at) ws ≡ paste (base + at) (images_of g vs) ws
-variables_planned g [] h at base ws room = refl
-variables_planned g (v ∷ vs) h at base ws room =
-    planned false g v.1.type h.0.1 at (plan_of_variables g vs (at + words g v.1.type)) base ws (omega (arith, room, one_value g v h.0)) (λ is. absurd (true≢false (sym is)))
-    ∙ variables_planned g vs h.1 (at + words g v.1.type) base (paste (base + at) (image g v.1.type) ws)
-    (omega (arith, room, one_value g v h.0, paste_length (base + at) (image g v.1.type) ws))
-    ∙ ap (λ n. paste n (images_of g vs) (paste (base + at) (image g v.1.type) ws)) (place base at (words g v.1.type) (length (image g v.1.type)) (image_length g v.1.type))
-    ∙ sym (paste_append (base + at) (image g v.1.type) (images_of g vs) ws)
-  where
-    place : (a b c d : ℕ) → d ≡ c → a + (b + c) ≡ a + b + d
-    place a b c d h = omega (arith, h)
+    → carry_out base (plan_of_parts (placed_variables g vs at)) ws ≡ paste (base + at) (images_of g vs) ws
+variables_planned g vs h at base ws room =
+    parts_planned false base at (placed_variables g vs at) (images_of g vs) ws (variables_follow g vs h at) (omega (arith, room, images_of_length g vs h))
+    (λ is. absurd (true≢false (sym is)))
 
 -- a part of a variable lies after those before it
 variable_part : (g : GlobalScope) (vs : List (Name × Variable)) → Each ByValue vs → (at k : ℕ) (x : Name) (v : Variable) (path : Path) (m : ℕ) (u : ResolvedType)
@@ -251,7 +250,7 @@ module _ (g : GlobalScope) (s : System) (r : Routine) (distinct : Distinct (loca
   with_result None base ws = ws
   with_result (Some t) base ws = slice_set ws (base + 0) unset
 
-  result_planned : (o : Option Name) (rest : List StartPiece) (base : ℕ) (ws : List ℤ) → carry_out base (plan_of_result o rest) ws ≡ carry_out base rest (with_result o base ws)
+  result_planned : (o : Option Name) (rest : StartPlan) (base : ℕ) (ws : List ℤ) → carry_out base (plan_of_result o rest) ws ≡ carry_out base rest (with_result o base ws)
   result_planned None rest base ws = refl
   result_planned (Some t) rest base ws = fill_before_is 0 1 unset rest base ws
 
@@ -265,7 +264,7 @@ module _ (g : GlobalScope) (s : System) (r : Routine) (distinct : Distinct (loca
   routine_pasted : (base : ℕ) (ws : List ℤ) → Room base ws
       → carry_out base (plan_of_routine g r) ws ≡ paste (base + first) (images_of g vs) (with_result r.result base ws)
   routine_pasted base ws room =
-      result_planned r.result (plan_of_variables g vs first) base ws
+      result_planned r.result (plan_of_parts (placed_variables g vs first)) base ws
       ∙ variables_planned g vs values first base (with_result r.result base ws)
       (omega (arith, room, locals_append g ps vs, result_length r.result base ws))
 

@@ -11,7 +11,7 @@ use Rattle.cp_typing.specs.Declared.{Each, RoutineVariable}
 use Rattle.cp_typing.specs.Needs.{some_environment}
 use Rattle.cp_typing.specs.SoundTypes.{SoundMembers, SoundType}
 use Rattle.cp_typing.specs.WellTyped.{TypedRoutine}
-use Rattle.cp_program_model.specs.Programs.{CodeUnit, Operation, Program, Return, StartPiece}
+use Rattle.cp_program_model.specs.Programs.{CodeUnit, Done, Operation, Program, Return, StartPlan}
 use Rattle.cp_program_model.specs.Layout.{activation_words}
 use Rattle.cp_program_model.specs.Sites.{BodyOf, RoutineOf, UnitText}
 use Rattle.cp_program_model.specs.StatementsFor.{is_function}
@@ -147,7 +147,7 @@ module _ (g : GlobalScope) (program : Program) (texts : List UnitText) where
       let u = get_some c.units n less in
       record { text = text; unit = u.0; there = begins_get c.units program.units within.units n u.0 u.1; earlier = u.1 }
 
-  pub within_first : (scope : Scope) (starts : List StartPiece) (last : Operation) (s : Statement) (c : Compiled) → Within (with_unit scope starts last s c) → Within c
+  pub within_first : (scope : Scope) (starts : StartPlan) (last : Operation) (s : Statement) (c : Compiled) → Within (with_unit scope starts last s c) → Within c
   within_first scope starts last s c h = record {
     operations = begins_first c.operations (unit_code scope last s (length c.operations)).operations program.operations h.operations;
     units = begins_first c.units (code_unit (unit_code scope last s (length c.operations)).entry starts (need_of_all c.units scope.words (unit_code scope last s (length c.operations)).operations) ∷ []) program.units h.units;
@@ -234,15 +234,15 @@ module _ (g : GlobalScope) (program : Program) (texts : List UnitText) where
       body_stands : (c : Compiled) → After (length s.routines) c → Within (with_body g s firsts first c) → After (suc (length s.routines)) (with_body g s firsts first c)
       body_stands c so within =
           let scope = body_scope g s firsts first in
-          let before = within_first scope [] (end_of s.sort) s.body c within in
+          let before = within_first scope Done (end_of s.sort) s.body c within in
           let at = length c.operations in
           let e = unit_code scope (end_of s.sort) s.body at in
           let need = need_of_all c.units scope.words e.operations in
-          let unit = code_unit e.entry [] need in
+          let unit = code_unit e.entry Done need in
           let code = unit_stands scope program texts c.units systems (length s.routines)
           (standing g program texts c.units s systems known firsts first (length s.routines) 0 None tt tt
           (own_there (length s.routines) c so before) (λ n named. units_later start.units c.units _ n.system so.grows (here.named n named)))
-          [] (end_of s.sort) s.body at
+          Done (end_of s.sort) s.body at
           (all_there scope c.units unit c.operations e.operations within.operations) (λ l o. known.bodies.body l) in
           record {
             good = good_with c unit (BodyOf s) (c.operations ++ e.operations) so.good (ap (slice_get texts) so.count ∙ here.body) (refl, known.bodies.distinct, λ l. code l (OfProcess 0));
@@ -251,7 +251,7 @@ module _ (g : GlobalScope) (program : Program) (texts : List UnitText) where
           }
 
       body_grows : (c : Compiled) → Within (with_body g s firsts first c) → Within c
-      body_grows c h = within_first (body_scope g s firsts first) [] (end_of s.sort) s.body c h
+      body_grows c h = within_first (body_scope g s firsts first) Done (end_of s.sort) s.body c h
 
       pub system_grows : Within (with_system g firsts s start) → Within start
       system_grows h = routines_grow s.routines start (body_grows (with_routines g s firsts first s.routines start) h)

@@ -7,7 +7,7 @@ use Rattle.cp_model.specs.Abstract.{Statement, System}
 use Rattle.cp_model.specs.Locations.{Location, Owner}
 use Rattle.cp_typing.specs.Judgement.{TypedStatement}
 use Rattle.cp_program_model.specs.Programs as op
-use Rattle.cp_program_model.specs.Programs.{Call, CodeUnit, Operation, Program, StartPiece}
+use Rattle.cp_program_model.specs.Programs.{Call, CodeUnit, Operation, Program, StartPlan}
 use Rattle.cp_program_model.specs.Sites.{UnitText, operation_at}
 use Rattle.cp_program_model.specs.TermsFor.{nothing_known}
 use Rattle.cp_program_model.specs.StatementsFor.{CodeFor}
@@ -92,7 +92,7 @@ words_needed before words (x ∷ xs) = omega (arith, words_needed before words x
 -- ---- Units
 
 module _ (scope : Scope) (program : Program) (texts : List UnitText) (before : List CodeUnit) (systems : List System) (routines : ℕ)
-    (standing : Standing scope program texts before systems routines) (starts : List StartPiece) (last : Operation) (s : Statement) (at : ℕ) where
+    (standing : Standing scope program texts before systems routines) (starts : StartPlan) (last : Operation) (s : Statement) (at : ℕ) where
   abbrev unit : CodeUnit
   unit = code_unit (unit_code scope last s at).entry starts (need_of_all before scope.words (unit_code scope last s at).operations)
 

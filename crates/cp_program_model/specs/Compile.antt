@@ -9,7 +9,7 @@ use Rattle.cp_model.specs.Types.{ComponentOf, GlobalScope}
 use Rattle.cp_model.specs.Declarations.{Variable, declarations, globals}
 use Rattle.cp_model.specs.Components.{is_component_of}
 use Rattle.cp_program_model.specs.Programs as code
-use Rattle.cp_program_model.specs.Programs.{CodeUnit, Operation, Program, Return, StartPiece}
+use Rattle.cp_program_model.specs.Programs.{CodeUnit, Done, Operation, Program, Return, StartPlan}
 use Rattle.cp_program_model.specs.Layout.{activation_words, component_words}
 use Rattle.cp_program_model.specs.Sites.{BodyOf, RoutineOf, UnitText}
 use Rattle.cp_program_model.specs.StatementsFor.{is_function}
@@ -33,11 +33,11 @@ unit_code scope last s at =
     let body = emitted scope s 0 (suc at) at in
     record { operations = last ∷ body.operations; entry = body.entry }
 
-abbrev pub code_unit : ℕ → List StartPiece → Need → CodeUnit
+abbrev pub code_unit : ℕ → StartPlan → Need → CodeUnit
 code_unit start starts need =
     record { start = start; starts = starts; words = need.words; temps = need.temps; frames = need.frames }
 
-abbrev pub with_unit : Scope → List StartPiece → Operation → Statement → Compiled → Compiled
+abbrev pub with_unit : Scope → StartPlan → Operation → Statement → Compiled → Compiled
 with_unit scope starts last s c =
     let e = unit_code scope last s (length c.operations) in
     record {
@@ -64,7 +64,7 @@ with_routines g s firsts first [] c = c
 with_routines g s firsts first (r ∷ rs) c = with_routines g s firsts first rs (with_routine g s firsts first r c)
 
 abbrev pub with_body : GlobalScope → System → List (Name × ℕ) → ℕ → Compiled → Compiled
-with_body g s firsts first c = with_unit (body_scope g s firsts first) [] (end_of s.sort) s.body c
+with_body g s firsts first c = with_unit (body_scope g s firsts first) Done (end_of s.sort) s.body c
 
 abbrev pub with_system : GlobalScope → List (Name × ℕ) → System → Compiled → Compiled
 with_system g firsts s c =

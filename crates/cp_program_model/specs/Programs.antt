@@ -64,18 +64,20 @@ pub data Operation : Type 0 where
 
 -- ---- Units
 
--- How words start: `count` words with one value, or `count` blocks of `size` words that all equal
--- the first one, which is there already.
-pub data StartPiece : Type 0 where
-  Fill : (at count : ℕ) (value : ℤ) → StartPiece
-  Repeat : (at size count : ℕ) → StartPiece
+-- How words start, piece by piece: `count` words with one value; `count` blocks of `size` words that
+-- all equal the first one, which is there already; or a part, whose plan counts from its first word.
+pub data StartPlan : Type 0 where
+  Done : StartPlan
+  Fill : (at count : ℕ) (value : ℤ) (rest : StartPlan) → StartPlan
+  Repeat : (at size count : ℕ) (rest : StartPlan) → StartPlan
+  Part : (at : ℕ) (plan rest : StartPlan) → StartPlan
 
 -- The code of a routine, or of the body of a system type: the place of its first operation, how the
 -- words of an activation start, and how many words, temps and frames it needs with everything that
 -- it calls.
 pub record CodeUnit : Type 0 where
   pub start : ℕ
-  pub starts : List StartPiece
+  pub starts : StartPlan
   pub words : ℕ
   pub temps : ℕ
   pub frames : ℕ
@@ -88,7 +90,7 @@ pub record Monitor : Type 0 where
   pub start : ℕ
   pub body : ℕ
   pub words : ℕ
-  pub starts : List StartPiece
+  pub starts : StartPlan
 
 -- A process has words of its own. What is passed to it waits among the shared words, from
 -- `parameters` on, until the process begins.
@@ -97,7 +99,7 @@ pub record Process : Type 0 where
   pub words : ℕ
   pub parameters : ℕ
   pub waiting : ℕ
-  pub starts : List StartPiece
+  pub starts : StartPlan
 
 -- Monitors and processes are numbered from 1, and the initial process is the first.
 pub record Program : Type 0 where

@@ -11,7 +11,7 @@ use Rattle.cp_model.specs.States.{Setup, monitor_count, process_count}
 use Rattle.cp_typing.specs.Declared.{Distinct, Each, RoutineParameter, RoutineVariable}
 use Rattle.cp_typing.specs.WellTyped.{WellTyped, text_systems}
 use Rattle.cp_program_model.specs.Programs as code
-use Rattle.cp_program_model.specs.Programs.{CodeUnit, EndBody, End, Operation, Program, Return}
+use Rattle.cp_program_model.specs.Programs.{CodeUnit, Done, EndBody, End, Operation, Program, Return}
 use Rattle.cp_program_model.specs.Layout.{activation_words, component_words}
 use Rattle.cp_program_model.specs.Sites.{BodyOf, RoutineOf, Site, UnitText, operation_at}
 use Rattle.cp_program_model.specs.TermsFor.{nothing_known}
@@ -58,7 +58,7 @@ UnitStands program texts g u (RoutineOf s r) =
     × CodeFor (site_of program texts u (RoutineOf s r) (routine_environment g s r at o)) nothing_known r.body u.start end 0)
     × Each (RoutineParameter g (is_function r.result)) (declarations g r.parameters)
 UnitStands program texts g u (BodyOf s) =
-    (u.starts ≡ []) × Distinct (permanent_variables g s)
+    (u.starts ≡ Done) × Distinct (permanent_variables g s)
     × ((at : Location) → (end : ℕ) × (operation_at program end ≡ Some (end_of s.sort))
     × CodeFor (site_of program texts u (BodyOf s) (body_environment g s at)) nothing_known s.body u.start end 0)
 

@@ -1,12 +1,12 @@
--- How words start: what a plan of fills and repeats does to them, and when it is the plan of a
--- routine or of a component.
+-- How words start: what a plan of fills, repeats and parts does to them, and when it is the plan of
+-- a routine or of a component.
 use Rattle.std.specs.Prelude.{◌≡◌, ◌≤◌, ◌<◌, ◌⊎◌, ℕ, zero, suc, ◌+◌, ◌-◌, ℤ, pos, negsuc, List, [], ◌∷◌, Some, length, slice_get, slice_set, slice_index_or}
 use Rattle.cp_model.specs.Abstract.{BaseType, Class, Name, Routine, System}
 use Rattle.cp_model.specs.Types.{ComponentOf, GlobalScope, Members, Queue, Simple}
 use Rattle.cp_model.specs.Declarations.{Variable, declarations, reported_members}
 use Rattle.cp_model.specs.Locations.{Path}
 use Rattle.cp_typing.specs.Needs.{result_words}
-use Rattle.cp_program_model.specs.Programs.{CodeUnit, Fill, Repeat, StartPiece}
+use Rattle.cp_program_model.specs.Programs.{CodeUnit, Done, Fill, Part, Repeat, StartPlan}
 use Rattle.cp_program_model.specs.Layout.{activation_words, component_words, head_words, local, locals_words, member_part, part}
 
 -- ---- Words
@@ -37,14 +37,12 @@ abbrev pub repeat_block : ℕ → ℕ → ℕ → List ℤ → List ℤ
 repeat_block at size zero ws = ws
 repeat_block at size (suc k) ws = repeat_block (at + size) size k (paste (at + size) (block ws at size) ws)
 
-abbrev pub carry_out_start : ℕ → StartPiece → List ℤ → List ℤ
-carry_out_start base (Fill at count n) ws = fill (base + at) count n ws
-carry_out_start base (Repeat at size count) ws = repeat_block (base + at) size (count - 1) ws
-
 -- The words after a plan has been carried out, counted from a base.
-abbrev pub carry_out : ℕ → List StartPiece → List ℤ → List ℤ
-carry_out base [] ws = ws
-carry_out base (s ∷ ss) ws = carry_out base ss (carry_out_start base s ws)
+abbrev pub carry_out : ℕ → StartPlan → List ℤ → List ℤ
+carry_out base Done ws = ws
+carry_out base (Fill at count n rest) ws = carry_out base rest (fill (base + at) count n ws)
+carry_out base (Repeat at size count rest) ws = carry_out base rest (repeat_block (base + at) size (count - 1) ws)
+carry_out base (Part at plan rest) ws = carry_out base rest (carry_out (base + at) plan ws)
 
 -- ---- Activations
 
@@ -71,7 +69,7 @@ AreZero g s base ws = (i : ℕ) → i < component_words g s → word ws (base + 
 
 -- If all words were 0, the plan gives each simple part of a member its start value. Marks, rights
 -- and queues stay 0, and nothing outside the component changes.
-pub record StartsComponent (g : GlobalScope) (s : System) (plan : List StartPiece) : Type 0 where
+pub record StartsComponent (g : GlobalScope) (s : System) (plan : StartPlan) : Type 0 where
   pub length_is : (base : ℕ) (ws : List ℤ) → length (carry_out base plan ws) ≡ length ws
   pub cells : (base : ℕ) (ws : List ℤ) → base + component_words g s ≤ length ws → AreZero g s base ws
       → (x : Name) (path : Path) (m : ℕ) (b : BaseType) (low high n : ℤ)

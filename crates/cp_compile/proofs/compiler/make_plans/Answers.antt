@@ -1,28 +1,49 @@
-use Rattle.std.proofs.Common.{rules, ◌≡◌, ◌++◌, ◌∷◌, ◌∙◌, List, [], ap, length, map, subst, sym}
+use Rattle.std.proofs.Common.{◌<◌, ◌∙◌, length, map, subst, arith}
 use Rattle.cp_model.specs.Declarations.{declarations}
+use Rattle.cp_scope.specs.Texts.{AreSystems}
 use Rattle.cp_scope.specs.Variables.{declared_entry}
-use Rattle.cp_program.specs.declared.program.StartPlan.{StartPlan}
-use Rattle.cp_program.specs.View.{plan_at}
-use Rattle.cp_compile.specs.CompiledComponents.{PlansAre}
+use Rattle.cp_scope.specs.declared.tables.Tables.{Tables}
+use Rattle.cp_emit.specs.ComponentPlans.{ArePlans}
+use Rattle.cp_emit.specs.Planning.{known_of}
+use Rattle.cp_emit.proofs.PlansKept.{number_there, plan_kept}
 use Rattle.cp_compile.specs.CompiledPrograms.{text_of}
-use Rattle.cp_compile.proofs.ProgramsCompiled.{initial_plan, planner_types, plans_are}
+use Rattle.cp_compile.proofs.ProgramsCompiled.{planner_after, planner_types}
 use Rattle.cp_compile.proofs.compiler.make_plans.Goals as goal
 
-pub returns : goal.returns
-returns c = λ g t stands planner.
+pub returns-clause-plans : goal.returns-clause-plans
+returns-clause-plans c = λ g t stands planner.
     let tables = c.args.tables.now in
     let s = (text_of t).initial in
-    let all = c.in_ok-all.all.items in
-    let p : StartPlan = record { starts = c.in_ok-starts.starts } in
-    let count : c.in_ok-initial.initial ≡ length all = search rules in
-    let declared = planner_types tables c.args.planner.now g planner in
-    let starts = rw (c.deref.ensures.value, c.deref-2.ensures.value) at c.in_ok-starts.ensures in
+    let old = c.args.planner.now in
+    let mid = c.add_component.new.self in
+    let new = c.add_components.new.self in
+    let declared = planner_types tables old g planner in
+    let made = rw (c.deref.ensures.value, c.deref-2.ensures.value) at c.in_ok-initial.ensures.plan in
     let own =
-    starts g s planner.knows (declared (map declared_entry tables.initial.parameters.items) (declarations g s.parameters) stands.initial.parameters)
+    made g s planner.knows (declared (map declared_entry tables.initial.parameters.items) (declarations g s.parameters) stands.initial.parameters)
     (declared (map declared_entry tables.initial.variables.items) (declarations g s.variables) stands.initial.variables) in
-    let pushed : c.push.new.self.items ≡ all ++ p ∷ [] = c.in_ok-push.ensures.items in
+    let after = planner_after tables old mid g c.in_ok-initial.ensures.extends (c.in_ok-initial.ensures.knows g planner.knows) planner in
+    let there : c.in_ok-initial.initial < length mid.plans.items = omega (arith, c.in_ok-initial.ensures.number, c.in_ok-initial.ensures.added) in
+    let plans = c.in_ok-first.ensures.plans g after.knows in
     record {
-      systems = subst (PlansAre g tables) (sym pushed)
-          (plans_are tables c.args.planner.now g t all p stands planner c.in_ok-all.ensures.complete (λ systems. c.in_ok-all.ensures.plans g planner.knows systems));
-      initial_is = ap (λ (ps : List StartPlan). plan_at ps c.in_ok-initial.initial) pushed ∙ initial_plan all p c.in_ok-initial.initial count ∙ own;
+      systems = (subst (λ (z : Tables). AreSystems g z.types z.systems.items → ArePlans g z (known_of new) c.in_ok-first.first) after.over plans) stands.systems;
+      initial_is = plan_kept mid new c.in_ok-initial.initial c.in_ok-first.ensures.extends (number_there mid c.in_ok-initial.initial there) ∙ own;
     }
+
+pub returns-in_err-initial-clause-planner : goal.returns-in_err-initial-clause-planner
+returns-in_err-initial-clause-planner c = λ g planner.
+    planner_after c.args.tables.now c.args.planner.now c.add_component.new.self g c.in_err-initial.ensures.extends (c.in_err-initial.ensures.knows g planner.knows) planner
+
+pub returns-in_err-first-clause-planner : goal.returns-in_err-first-clause-planner
+returns-in_err-first-clause-planner c = λ g planner.
+    let tables = c.args.tables.now in
+    let mid = c.add_component.new.self in
+    let after = planner_after tables c.args.planner.now mid g c.in_ok-initial.ensures.extends (c.in_ok-initial.ensures.knows g planner.knows) planner in
+    planner_after tables mid c.add_components.new.self g c.in_err-first.ensures.extends (c.in_err-first.ensures.knows g after.knows) after
+
+pub returns-clause-planner : goal.returns-clause-planner
+returns-clause-planner c = λ g planner.
+    let tables = c.args.tables.now in
+    let mid = c.add_component.new.self in
+    let after = planner_after tables c.args.planner.now mid g c.in_ok-initial.ensures.extends (c.in_ok-initial.ensures.knows g planner.knows) planner in
+    planner_after tables mid c.add_components.new.self g c.in_ok-first.ensures.extends (c.in_ok-first.ensures.knows g after.knows) after

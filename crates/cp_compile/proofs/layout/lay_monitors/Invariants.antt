@@ -4,7 +4,7 @@ use Rattle.cp_program_model.specs.Compile as code
 use Rattle.cp_program_model.specs.Compile.{monitors_at}
 use Rattle.cp_program_model.specs.Layout.{component_words}
 use Rattle.cp_program.specs.View as view
-use Rattle.cp_program.specs.declared.program.StartPlan.{StartPlan}
+use Rattle.cp_program_model.specs.Programs.{StartPlan}
 use Rattle.cp_compile.specs.CompiledComponents.{AreOwners}
 use Rattle.cp_compile.proofs.LaidOut.{PartlyLaid}
 use Rattle.cp_compile.proofs.layout.lay_monitors.Given as goal

@@ -9,29 +9,29 @@ use Rattle.cp_compile.proofs.UnitsCompiled.{unit_compiled}
 use Rattle.cp_compile.proofs.unit.compile_unit.Goals as goal
 
 pub returns : goal.returns
-returns c = λ s d i is.
+returns c = λ known s d i is.
     let e0 = c.args.emitter.now in
     let e1 = c.begin.new.self in
     let e2 = c.push.new.self in
     let e3 = c.statements.new.emitter in
     let e4 = c.end.new.self in
     let last = view.operation c.args.last in
-    let starts = map view.start c.args.starts.items in
+    let starts = view.plan_of known c.args.starts.items in
     let entry = c.in_ok-entry.entry in
     let emitted = c.in_ok-entry.ensures s i in
     let pushed : operations_of e2 ≡ operations_of e0 ++ last ∷ [] =
     c.in_ok-at.ensures.emits.operations_are ∙ ap (λ xs. xs ++ last ∷ []) c.begin.ensures.operations in
-    let units : units_of e3 ≡ units_of e0 =
-    ap (map view.code_unit) (ap (λ v. v.items) (emitted.emits.units_are ∙ c.in_ok-at.ensures.emits.units_are)) ∙ c.begin.ensures.units in
-    unit_compiled s starts last (body_of c.args.body.now) e0 e4 d (place_of e2) c.in_ok-at.at entry e3.first e3.words
+    let units : units_of known e3 ≡ units_of known e0 =
+    ap (λ v. map (view.code_unit known) v.items) (emitted.emits.units_are ∙ c.in_ok-at.ensures.emits.units_are ∙ c.begin.ensures.units) in
+    unit_compiled known s starts last (body_of c.args.body.now) e0 e4 d (place_of e2) c.in_ok-at.at entry e3.first e3.words
     (c.in_ok-at.ensures.place ∙ ap length c.begin.ensures.operations)
     (ap length pushed)
     (emitted.emits.first_is ∙ c.in_ok-at.ensures.emits.first_is ∙ c.begin.ensures.first)
     (emitted.emits.words_are ∙ c.in_ok-at.ensures.emits.words_are ∙ c.begin.ensures.words ∙ c.in_ok-words.ensures s i)
     emitted.entry
     (c.in_ok-end.ensures.operations ∙ emitted.emits.operations_are ∙ ap (λ xs. xs ++ (statements.emitted s (body_of c.args.body.now) 0 (place_of e2) c.in_ok-at.at).operations) pushed)
-    (c.in_ok-end.ensures.unit
+    (c.in_ok-end.ensures.unit known
     ∙ ap (λ us. us ++ code_unit entry starts (need_of_all us e3.words (drop e3.first (operations_of e3))) ∷ []) units
-    ∙ ap (λ os. units_of e0 ++ code_unit entry starts (need_of_all (units_of e0) e3.words (drop e3.first os)) ∷ [])
+    ∙ ap (λ os. units_of known e0 ++ code_unit entry starts (need_of_all (units_of known e0) e3.words (drop e3.first os)) ∷ [])
     (sym c.in_ok-end.ensures.operations))
     is

@@ -6,7 +6,7 @@ use Rattle.cp_model.specs.Types.{GlobalScope}
 use Rattle.cp_program_model.specs.Compile as code
 use Rattle.cp_program_model.specs.Compile.{of_sort, owners_of}
 use Rattle.cp_scope.specs.Variables.{declared_entry}
-use Rattle.cp_program.specs.declared.program.StartPlan.{StartPlan}
+use Rattle.cp_program_model.specs.Programs.{StartPlan}
 use Rattle.cp_compile.specs.CompiledComponents.{AreOwners, IsInitial}
 use Rattle.cp_compile.proofs.ComponentsCompiled.{PartlyOwned}
 use Rattle.cp_compile.proofs.components.InitialCompiler.add_owners.Given as goal

@@ -19,6 +19,8 @@ returns c =
     let first : c.unwrap_or-first.result ≡ or_zero (lookup c.variable_type-of.result.now of.firsts.now) = search rules in
     let routines : c.in_ok-routines.routines ≡ length text.now.routines.items = search rules in
     let body : c.in_ok-body.body ≡ c.unwrap_or-first.result + c.in_ok-routines.routines = search rules in
+    let behind : c.in_ok-behind.behind ≡ k = search rules in
+    let plan : c.in_ok-plan.plan ≡ of.plans + c.in_ok-behind.behind = search rules in
     if_ok c.of.result
     (λ o is plans g firsts groups vs v i stands number.
     let x = c.args.d.now.name.now in
@@ -26,5 +28,5 @@ returns c =
     first ∙ ap (λ n. or_zero (lookup n of.firsts.now)) (c.variable_type-of.ensures ∙ i.type_names x) ∙ ap or_zero (i.firsts_are (declared_type x groups)) in
     component_put of plans g firsts groups vs (c.args.d.now.name.now, v) i k text table c.args.d.now.of o c.in_ok-body.body text_is table_is
     (body ∙ ap (λ n. n + c.in_ok-routines.routines) own ∙ ap (λ n. or_zero (lookup (declared_type x groups) firsts) + n) routines) stands number
-    (subst (λ n. IsOwner table c.in_ok-body.body n o) c.in_ok-small_number.ensures is))
+    (subst (λ n. IsOwner table c.in_ok-body.body n o) (plan ∙ ap (λ n. of.plans + n) behind) is))
     c.of.ensures

@@ -5,6 +5,7 @@ use Rattle.cp_model.specs.Erase as erase
 use Rattle.cp_model.specs.View as tree
 use Rattle.cp_program_model.specs.Compile.{with_definition}
 use Rattle.cp_scope.proofs.Unrefused.{if_ok}
+use Rattle.cp_emit.specs.Planning.{known_of}
 use Rattle.cp_compile.specs.CompiledTexts.{IsDefined, IsNamed}
 use Rattle.cp_compile.proofs.TextsCompiled.{system_defined}
 use Rattle.cp_compile.proofs.definitions.TextCompiler.first_of.Goals as goal
@@ -19,6 +20,6 @@ returns-in-System c =
     (λ first made g m i named are.
     let own = subst (IsNamed g) is named in
     let both = (rw c.as_bytes.ensures at made) g m s own.0 i own.1 are in
-    subst (λ (d : Definition). IsDefined c.system.new.emitter first d m (with_definition g d m)) (sym is)
-    (system_defined g x.name s m c.system.new.emitter first both.0 both.1))
+    subst (λ (d : Definition). IsDefined (known_of c.args.self.now.planner.now) c.system.new.emitter first d m (with_definition g d m)) (sym is)
+    (system_defined (known_of c.args.self.now.planner.now) g x.name s m c.system.new.emitter first both.0 both.1))
     c.system.ensures

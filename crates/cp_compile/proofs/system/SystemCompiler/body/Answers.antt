@@ -1,6 +1,7 @@
-use Rattle.std.proofs.Common.{◌∙◌, None, ap, map, sym}
+use Rattle.std.proofs.Common.{◌∙◌, None, ap, sym}
 use Rattle.cp_program_model.specs.StandsFor.{end_of}
 use Rattle.cp_scope.proofs.Unrefused.{on_ok}
+use Rattle.cp_emit.specs.Planning.{known_of}
 use Rattle.cp_program.specs.View as view
 use Rattle.cp_compile.specs.Compiles.{body_of}
 use Rattle.cp_compile.proofs.SystemsCompiled.{body_compiled, scope_made, unit_scope}
@@ -11,7 +12,7 @@ returns c =
     let of = c.args.self.now in
     on_ok c.compile_unit.result
     (λ made g s firsts d i sort_is body_is so.
-    body_compiled of g s firsts (map view.start c.new.result.items) (view.operation c.end_of.result) (body_of c.args.body.now) d c.compile_unit.new.emitter
-    (ap (map view.start) c.new.ensures.items) (c.end_of.ensures ∙ ap end_of (sym sort_is)) body_is
-    (made (unit_scope of g s firsts None) d (scope_made of g s firsts i c.new-scope.result None None c.new-scope.ensures tt) so))
+    body_compiled of g s firsts (view.plan_of (known_of of.planner.now) c.new.result.items) (view.operation c.end_of.result) (body_of c.args.body.now) d c.compile_unit.new.emitter
+    (ap (view.plan_of (known_of of.planner.now)) c.new.ensures.items) (c.end_of.ensures ∙ ap end_of (sym sort_is)) body_is
+    (made (known_of of.planner.now) (unit_scope of g s firsts None) d (scope_made of g s firsts i c.new-scope.result None None c.new-scope.ensures tt) so))
     c.compile_unit.ensures

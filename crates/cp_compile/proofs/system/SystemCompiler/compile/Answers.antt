@@ -2,6 +2,7 @@ use Rattle.std.proofs.Common.{subst, sym}
 use Rattle.cp_program_model.specs.Compile.{with_body, with_routines}
 use Rattle.cp_scope.specs.Systems.{routines_of}
 use Rattle.cp_scope.proofs.Unrefused.{on_ok}
+use Rattle.cp_emit.specs.Planning.{known_of}
 use Rattle.cp_compile.specs.Compiles.{IsCompiled}
 use Rattle.cp_compile.proofs.system.SystemCompiler.compile.Goals as goal
 
@@ -11,8 +12,8 @@ returns c =
     on_ok c.body.result
     (λ made g s firsts d i first sort_is all body_is is.
     let rs = routines_of c.args.routines.now in
-    subst (λ n. IsCompiled new (with_body g s firsts n (with_routines g s firsts n s.routines d))) first
-    (subst (λ qs. IsCompiled new (with_body g s firsts c.args.self.now.first (with_routines g s firsts c.args.self.now.first qs d))) (sym all)
+    subst (λ n. IsCompiled (known_of c.args.self.now.planner.now) new (with_body g s firsts n (with_routines g s firsts n s.routines d))) first
+    (subst (λ qs. IsCompiled (known_of c.args.self.now.planner.now) new (with_body g s firsts c.args.self.now.first (with_routines g s firsts c.args.self.now.first qs d))) (sym all)
     (made g s firsts (with_routines g s firsts c.args.self.now.first rs d) i sort_is body_is
     (c.in_ok-routines.ensures g s firsts d i all is))))
     c.body.ensures

@@ -5,6 +5,7 @@ use Rattle.cp_program_model.specs.Programs.{Return}
 use Rattle.cp_model.specs.Declarations.{declarations}
 use Rattle.cp_scope.specs.Variables.{declared_entry}
 use Rattle.cp_scope.proofs.Unrefused.{on_ok}
+use Rattle.cp_emit.specs.Planning.{known_of}
 use Rattle.cp_program.specs.View as view
 use Rattle.cp_compile.proofs.SystemsCompiled.{function_written, planner_knows, result_written, routine_compiled, scope_made, unit_scope}
 use Rattle.cp_compile.proofs.system.SystemCompiler.routine.Goals as goal
@@ -20,9 +21,9 @@ returns c =
     (λ made g s firsts d i stands so.
     let planned = rw (c.deref.ensures.value, c.deref-2.ensures.value) at c.in_ok-starts.ensures in
     let declared = planner_knows of g s firsts i in
-    routine_compiled of g s firsts r (map view.start c.in_ok-starts.starts.items) (Return c.is_some-is_function.result) d c.compile_unit.new.emitter
+    routine_compiled of g s firsts r (view.plan_of (known_of of.planner.now) c.in_ok-starts.starts.items) (Return c.is_some-is_function.result) d c.compile_unit.new.emitter
     (planned g r i.knows (declared (map declared_entry table.parameters.items) (declarations g r.parameters) stands.parameters)
     (declared (map declared_entry table.variables.items) (declarations g r.variables) stands.variables) (is ∙ result_written text.result_type))
     (ap Return (is ∙ function_written text.result_type))
-    (rw c.deref-3.ensures.value at (made (unit_scope of g s firsts (Some r)) d (scope_made of g s firsts i c.new-scope.result (Some c.args.table) (Some r) c.new-scope.ensures stands) so)))
+    (rw c.deref-3.ensures.value at (made (known_of of.planner.now) (unit_scope of g s firsts (Some r)) d (scope_made of g s firsts i c.new-scope.result (Some c.args.table) (Some r) c.new-scope.ensures stands) so)))
     c.compile_unit.ensures

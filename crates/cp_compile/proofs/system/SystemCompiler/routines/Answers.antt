@@ -4,6 +4,7 @@ use Rattle.cp_model.specs.Erase as erase
 use Rattle.cp_model.specs.View as tree
 use Rattle.cp_model.specs.declared.tree.Routine.{Routine}
 use Rattle.cp_scope.specs.Systems.{routines_of}
+use Rattle.cp_emit.specs.Planning.{known_of}
 use Rattle.cp_compile.specs.Compiles.{IsCompiled}
 use Rattle.cp_compile.proofs.SystemsCompiled.{PartlyCompiled, one_routine, routine_known}
 use Rattle.cp_compile.proofs.system.SystemCompiler.routines.Goals as goal
@@ -34,4 +35,4 @@ returns c = λ g s firsts d i all is.
     let some =
     subst (λ (rs : List Routine). PartlyCompiled c.args.self.now g s firsts (routines_of rs) (routines_of texts) d c.loop-i.emitter)
     (drop_all c.loop-i.i texts c.loop-i-test.false) (c.loop-i.invariant g s firsts d i all is) in
-    subst (IsCompiled c.loop-i.emitter) some.rest some.is
+    subst (IsCompiled (known_of c.args.self.now.planner.now) c.loop-i.emitter) some.rest some.is

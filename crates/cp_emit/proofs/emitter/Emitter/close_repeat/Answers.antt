@@ -1,4 +1,4 @@
-use Rattle.std.proofs.Common.{◌≡◌, length, drop, ap, sym, ◌∙◌, arith}
+use Rattle.std.proofs.Common.{◌≡◌, [], length, drop, ap, sym, ◌∙◌, arith}
 use Rattle.std.proofs.lemmas.List.{length-map}
 use Rattle.cp_program_model.specs.CodeNeeds.{need_of_all}
 use Rattle.cp_program.specs.View as view
@@ -21,6 +21,6 @@ invariant_of-self c =
       known = e.known ∙ sym as_long;
       needed =
           e.needed
-          ∙ sym (ap (λ os. need_of_all (units_of e) e.words (drop e.first os)) c.complete_repeat_at.ensures
-          ∙ need_changed (units_of e) e.words f (need_with_repeated (units_of e) c.args.body) e.first c.args.place (operations_of e));
+          ∙ sym (ap (λ os. need_of_all (units_of [] e) e.words (drop e.first os)) c.complete_repeat_at.ensures
+          ∙ need_changed (units_of [] e) e.words f (need_with_repeated (units_of [] e) c.args.body) e.first c.args.place (operations_of e));
     }

@@ -1,12 +1,21 @@
-use Rattle.std.proofs.Common.{[]}
-use Rattle.cp_program_model.specs.Plans.{plan_of_members}
-use Rattle.cp_emit.specs.Planning.{types_of}
-use Rattle.cp_emit.proofs.Planning.{begun}
+use Rattle.std.proofs.Common.{rules, ◌≡◌, ◌∙◌, List, ap, drop, length, map, sym}
+use Rattle.cp_program_model.specs.Plans.{arranged, plan_in_order}
+use Rattle.cp_scope.proofs.Unrefused.{if_ok}
+use Rattle.cp_emit.specs.declared.plan.Placed.{Placed}
+use Rattle.cp_emit.specs.Planning.{known_of, placed_in}
+use Rattle.cp_emit.proofs.PartsPlanned.{take_first}
 use Rattle.cp_emit.proofs.plan.Planner.plan_members.Goals as goal
 
 pub returns : goal.returns
-returns c = λ g ms knows stand.
-    let plan = plan_of_members c.args.zeros g ms c.args.at in
-    c.in_ok-run.ensures g (plan []) knows
-    (c.in_ok-leave_members.ensures g ms knows stand (plan [])
-    (begun c.args.zeros g (types_of c.args.self.now) c.new-draft.result plan c.new-draft.ensures.starts c.new-draft.ensures.left))
+returns c =
+    let f = placed_in (known_of c.args.self.now) in
+    let parts = c.in_ok-parts.parts in
+    let before = ap (λ (ps : List Placed). length ps) c.deref_mut.ensures.value in
+    let kept : length c.arrange.new.parts ≡ length c.deref_mut.result.now = search rules in
+    let long : parts.len ≡ length parts.items = search rules in
+    let same : c.deref.result.now ≡ c.arrange.new.parts =
+    c.deref.ensures.value ∙ take_first c.arrange.new.parts (drop (length c.arrange.new.parts) parts.items) parts.len (long ∙ sym (kept ∙ before)) in
+    if_ok c.plan_in_order.result
+    (λ draft made g ms knows stand.
+    made ∙ ap (λ (ps : List Placed). plan_in_order (map f ps)) same ∙ ap plan_in_order (c.arrange.ensures ∙ ap (λ (ps : List Placed). arranged (map f ps)) c.deref_mut.ensures.value ∙ ap arranged (c.in_ok-parts.ensures g ms knows stand)))
+    c.plan_in_order.ensures

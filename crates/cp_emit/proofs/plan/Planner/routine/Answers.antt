@@ -6,7 +6,7 @@ use Rattle.cp_scope.specs.declared.types.Field.{Field}
 use Rattle.cp_scope.specs.Standing.{AreMembers, entry}
 use Rattle.cp_emit.specs.Drafts.{plan_of}
 use Rattle.cp_emit.specs.Members.{member_of}
-use Rattle.cp_emit.specs.Planning.{types_of}
+use Rattle.cp_emit.specs.Planning.{known_of, types_of}
 use Rattle.cp_emit.proofs.Membership.{declared_members, routine_planned}
 use Rattle.cp_emit.proofs.plan.Planner.routine.Goals as goal
 
@@ -22,7 +22,8 @@ returns c = λ g r knows parameters variables is.
     let stand : AreMembers types (map entry members) (members_from vs NoMembers) =
     subst (λ fs. AreMembers types fs (members_from vs NoMembers)) (sym all) (declared_members types c.args.variables.now vs [] NoMembers variables tt) in
     let plan = rw c.deref.ensures.value at c.in_ok-draft.ensures in
-    c.into_starts.ensures
-    ∙ routine_planned g r c.args.is_function c.result_words.result c.in_ok-first.first (plan_of c.in_ok-draft.draft) (plan_of c.mark_result.new.draft) is
+    let known = known_of c.args.self.now in
+    c.into_starts.ensures known
+    ∙ routine_planned g r c.args.is_function c.result_words.result c.in_ok-first.first (plan_of known c.in_ok-draft.draft) (plan_of known c.mark_result.new.draft) is
     c.result_words.ensures (c.in_ok-first.ensures g (declarations g r.parameters) knows parameters)
-    (plan g (members_from vs NoMembers) knows stand) c.in_ok-mark_result.ensures
+    (plan g (members_from vs NoMembers) knows stand) (c.in_ok-mark_result.ensures known)

@@ -34,7 +34,7 @@ returns-then-not-callee-clause-step c =
     let k = (goal.at.returns-then-not-callee-clause-step c).After-callee-callee in
     let unset : c.callee-callee.result.is_set ≡ false = search rules in
     let there = c.in-Some.ensures.unit (w k) c.args.outside.now.input.now refl in
-    refused (attempt k) (view.code_unit c.in-Some.unit.now) there unset ∙ named k
+    refused (attempt k) (view.code_unit (view.plans_of c.args.program.now) c.in-Some.unit.now) there unset ∙ named k
 
 pub returns-in_err-pass_all-clause-step : goal.returns-in_err-pass_all-clause-step
 returns-in_err-pass_all-clause-step c =
@@ -45,7 +45,7 @@ returns-in_err-pass_all-clause-step c =
     let given : c.from_residual.result ≡ Err c.in_err-pass_all.field-0.0 = search rules in
     let passing = rw c.deref.ensures.value at c.pass_all.ensures.step (length c.args.self.now.memory.words.items) in
     ap (outcome p) given
-    ∙ (passed (attempt k) (view.code_unit c.in-Some.unit.now) _ there set (ap (passing_of p) (sym c.in_err-pass_all.was) ∙ passing) ∙ named k)
+    ∙ (passed (attempt k) (view.code_unit (view.plans_of c.args.program.now) c.in-Some.unit.now) _ there set (ap (passing_of p) (sym c.in_err-pass_all.was) ∙ passing) ∙ named k)
 
 pub enter-requires : goal.enter-requires
 enter-requires c =
@@ -64,11 +64,11 @@ returns-clause-step c =
     let k = (goal.at.returns-clause-step c).After-callee-callee in
     let input = c.args.outside.now.input.now in
     let p = join c.pass_all.new.self input c.pass_all.new.shared in
-    let unit = view.code_unit c.in-Some.unit.now in
+    let unit = view.code_unit (view.plans_of c.args.program.now) c.in-Some.unit.now in
     let set : c.callee-callee.result.is_set ≡ true = search rules in
     let there = c.in-Some.ensures.unit (w k) input refl in
     let passing = ap (passing_of p) (sym c.in_ok-pass_all.was) ∙ rw c.deref.ensures.value at c.pass_all.ensures.step (length c.args.self.now.memory.words.items) in
     let begun = rw c.deref-2.ensures.value at c.start_words.ensures.step input in
-    let entered = c.enter.ensures.step input c.start_words.new.shared
+    let entered = c.enter.ensures.step (view.plans_of c.args.program.now) input c.start_words.new.shared
     ∙ ap (λ q. enter q (called_of c.callee-callee.result) unit (view.call c.args.call.now) (back c.args.link)) begun in
     (λ i. (entered i, c.enters.ensures i)) ∙ (passed (attempt k) unit _ there set passing ∙ named k)

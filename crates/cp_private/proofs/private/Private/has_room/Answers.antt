@@ -7,7 +7,7 @@ use Rattle.cp_private.proofs.private.Private.has_room.Goals as goal
 
 pub returns-then-len-self-clause-value : goal.returns-then-len-self-clause-value
 returns-then-len-self-clause-value c =
-    λ w input own.
+    λ plans w input own.
     let fs = c.args.self.now.frames.items in
     let depth = c.args.self.now.depth in
     let full = ap (λ n. nat_lt n (length fs)) (length-frames depth fs) ∙ le-ltb depth (length fs) (omega (arith, c.len.ensures.value)) in
@@ -15,7 +15,7 @@ returns-then-len-self-clause-value c =
 
 pub returns-clause-value : goal.returns-clause-value
 returns-clause-value c =
-    λ w input own.
+    λ plans w input own.
     let x = c.args.self.now in
     let fs = x.frames.items in
     let call = c.args.call.now in

@@ -52,7 +52,7 @@ returns-then-word-ne0-clause-step c =
     let mark = c.word.ensures input c.callee-at.result.component (told (goal.at.returns-then-word-ne0-clause-step c).In-Some) in
     let set : same_integer c.word.result (pos 0) ≡ false = search rules in
     let there = c.in-Some.ensures.unit (w k) input refl in
-    refused (attempt k) (view.code_unit c.in-Some.unit.now) there (rw mark at set) ∙ named k
+    refused (attempt k) (view.code_unit (view.plans_of c.args.program.now) c.in-Some.unit.now) there (rw mark at set) ∙ named k
 
 pub returns-in_err-pass_all-clause-step : goal.returns-in_err-pass_all-clause-step
 returns-in_err-pass_all-clause-step c =
@@ -65,7 +65,7 @@ returns-in_err-pass_all-clause-step c =
     let given : c.from_residual.result ≡ Err c.in_err-pass_all.field-0.0 = search rules in
     let passing = rw c.deref.ensures.value at c.pass_all.ensures.step (length c.args.self.now.memory.words.items) in
     ap (outcome p) given
-    ∙ (passed (attempt k) (view.code_unit c.in-Some.unit.now) _ there (rw mark at unset) (ap (passing_of p) (sym c.in_err-pass_all.was) ∙ passing) ∙ named k)
+    ∙ (passed (attempt k) (view.code_unit (view.plans_of c.args.program.now) c.in-Some.unit.now) _ there (rw mark at unset) (ap (passing_of p) (sym c.in_err-pass_all.was) ∙ passing) ∙ named k)
 
 pub enter-requires : goal.enter-requires
 enter-requires c =
@@ -87,7 +87,7 @@ returns-clause-step c =
     let at = c.callee-at.result.component in
     let from = (o k).base + (view.call c.args.call.now).words in
     let p = join c.pass_all.new.self input c.pass_all.new.shared in
-    let unit = view.code_unit c.in-Some.unit.now in
+    let unit = view.code_unit (view.plans_of c.args.program.now) c.in-Some.unit.now in
     let is_word = told (goal.at.returns-clause-step c).In-Some in
     let mark = c.word.ensures input at is_word in
     let unset : same_integer c.word.result (pos 0) ≡ true = search rules in
@@ -97,6 +97,6 @@ returns-clause-step c =
     let count : c.len.result ≡ length (map view.argument arguments) = omega (arith, c.len.ensures, length-map arguments view.argument) in
     let settled = c.settle.ensures.step input ∙ ap (settle p from at) count in
     let marked = c.set_word.ensures.step input at is_word ∙ ap (λ q. set_word q at (pos 1)) settled in
-    let entered = c.enter.ensures.step input c.set_word.new.shared
+    let entered = c.enter.ensures.step (view.plans_of c.args.program.now) input c.set_word.new.shared
     ∙ ap (λ q. enter q (class_at at) unit (view.call c.args.call.now) (record { counter = c.args.next; into = 0 })) marked in
     ap private_outcome entered ∙ (passed (attempt k) unit _ there (rw mark at unset) passing ∙ named k)

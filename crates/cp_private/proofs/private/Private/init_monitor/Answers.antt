@@ -49,7 +49,7 @@ returns-then-monitor-clause-step c =
     let k = (goal.at.returns-then-monitor-clause-step c).After-monitor_callee-monitor in
     let set : not c.monitor_callee-monitor.result.is_set ≡ false = search rules in
     let there = c.in-Some.ensures.unit (w k) c.args.outside.now.input.now refl in
-    refused (attempt k) (view.code_unit c.in-Some.unit.now) there set ∙ named k
+    refused (attempt k) (view.code_unit (view.plans_of c.args.program.now) c.in-Some.unit.now) there set ∙ named k
 
 pub returns-in_err-pass_all-clause-step : goal.returns-in_err-pass_all-clause-step
 returns-in_err-pass_all-clause-step c =
@@ -60,7 +60,7 @@ returns-in_err-pass_all-clause-step c =
     let given : c.from_residual.result ≡ Err c.in_err-pass_all.field-0.0 = search rules in
     let passing = rw c.deref.ensures.value at c.pass_all.ensures.step (length c.args.self.now.memory.words.items) in
     ap (outcome p) given
-    ∙ (passed (attempt k) (view.code_unit c.in-Some.unit.now) _ there unset (ap (passing_of p) (sym c.in_err-pass_all.was) ∙ passing) ∙ named k)
+    ∙ (passed (attempt k) (view.code_unit (view.plans_of c.args.program.now) c.in-Some.unit.now) _ there unset (ap (passing_of p) (sym c.in_err-pass_all.was) ∙ passing) ∙ named k)
 
 pub enter-requires : goal.enter-requires
 enter-requires c =
@@ -81,13 +81,13 @@ returns-clause-step c =
     let monitor = called_of c.monitor_callee-monitor.result in
     let from = (o k).base + (view.call c.args.call.now).words in
     let p = join c.pass_all.new.self input c.pass_all.new.shared in
-    let unit = view.code_unit c.in-Some.unit.now in
+    let unit = view.code_unit (view.plans_of c.args.program.now) c.in-Some.unit.now in
     let unset : not c.monitor_callee-monitor.result.is_set ≡ true = search rules in
     let there = c.in-Some.ensures.unit (w k) input refl in
     let passing = ap (passing_of p) (sym c.in_ok-pass_all.was) ∙ rw c.deref.ensures.value at c.pass_all.ensures.step (length c.args.self.now.memory.words.items) in
     let arguments = c.args.call.now.arguments.items in
     let count : c.len.result ≡ length (map view.argument arguments) = omega (arith, c.len.ensures, length-map arguments view.argument) in
     let settled = c.settle.ensures.step input ∙ ap (settle p from monitor.component) count in
-    let entered = c.enter.ensures.step input c.settle.new.shared
+    let entered = c.enter.ensures.step (view.plans_of c.args.program.now) input c.settle.new.shared
     ∙ ap (λ q. enter q monitor unit (view.call c.args.call.now) (record { counter = c.args.next; into = 0 })) settled in
     (λ i. (entered i, Opens c.callee-number.result.gate)) ∙ (passed (attempt k) unit _ there unset passing ∙ named k)

@@ -11,9 +11,9 @@ returns-then-has_room-clause-unit c =
     let program = view.program c.args.program.now in
     let call = view.call c.args.call.now in
     let o = join c.args.self.now input c.args.shared.now in
-    let there : slice_get program.units call.routine ≡ Some (view.code_unit c.in_ok-unit.unit.now) = sym c.unit.ensures ∙ ap (option_map (λ u. view.code_unit u.now)) c.in_ok-unit.was in
+    let there : slice_get program.units call.routine ≡ Some (view.code_unit (view.plans_of c.args.program.now) c.in_ok-unit.unit.now) = sym c.unit.ensures ∙ ap (option_map (λ u. view.code_unit (view.plans_of c.args.program.now) u.now)) c.in_ok-unit.was in
     let tested : c.has_room.result ≡ true = search rules in
-    unit_there program w o call c.args.component go (view.code_unit c.in_ok-unit.unit.now) there (sym (c.has_room.ensures.value w input own) ∙ tested)
+    unit_there program w o call c.args.component go (view.code_unit (view.plans_of c.args.program.now) c.in_ok-unit.unit.now) there (sym (c.has_room.ensures.value (view.plans_of c.args.program.now) w input own) ∙ tested)
 
 pub returns-else-has_room-clause-unit : goal.returns-else-has_room-clause-unit
 returns-else-has_room-clause-unit c =
@@ -21,6 +21,6 @@ returns-else-has_room-clause-unit c =
     let program = view.program c.args.program.now in
     let call = view.call c.args.call.now in
     let o = join c.args.self.now input c.args.shared.now in
-    let there : slice_get program.units call.routine ≡ Some (view.code_unit c.in_ok-unit.unit.now) = sym c.unit.ensures ∙ ap (option_map (λ u. view.code_unit u.now)) c.in_ok-unit.was in
+    let there : slice_get program.units call.routine ≡ Some (view.code_unit (view.plans_of c.args.program.now) c.in_ok-unit.unit.now) = sym c.unit.ensures ∙ ap (option_map (λ u. view.code_unit (view.plans_of c.args.program.now) u.now)) c.in_ok-unit.was in
     let tested : c.has_room.result ≡ false = search rules in
-    unit_full program w o call c.args.component go (view.code_unit c.in_ok-unit.unit.now) there (sym (c.has_room.ensures.value w input own) ∙ tested)
+    unit_full program w o call c.args.component go (view.code_unit (view.plans_of c.args.program.now) c.in_ok-unit.unit.now) there (sym (c.has_room.ensures.value (view.plans_of c.args.program.now) w input own) ∙ tested)

@@ -1,0 +1,11 @@
+use Rattle.std.proofs.Common.{◌≡◌, List, drop, take}
+use Rattle.cp_program_model.specs.Plans.{pieces_before}
+use Rattle.cp_program_model.specs.Programs as code
+use Rattle.cp_program.specs.View as view
+use Rattle.cp_emit.specs.Drafts.{plan_of}
+use Rattle.cp_emit.proofs.draft.Draft.pieces.Given as goal
+
+-- The pieces from this one on are planned.
+abbrev pub invariant-loop-i : goal.invariant-loop-i
+invariant-loop-i l =
+    (known : List code.StartPlan) → plan_of known l.self ≡ pieces_before l.at (view.plan_of (take l.below known) (drop l.i l.pieces)) (plan_of known l.fn.self)

@@ -1,0 +1,15 @@
+use Rattle.std.proofs.Common.{rules, ◌≡◌, ◌∙◌, Some, ap, slice_get}
+use Rattle.cp_program.specs.View.{plan_at}
+use Rattle.cp_emit.specs.Planning.{known_of}
+use Rattle.cp_emit.proofs.PlansKept.{number_planned}
+use Rattle.cp_emit.proofs.plan.Planner.plan_number.Goals as goal
+
+pub returns : goal.returns
+returns c = λ g t knows stands.
+    let known = known_of c.args.self.now in
+    let numbers = c.in_ok-numbers.numbers in
+    let plans = c.in_ok-plans.plans in
+    let first : slice_get c.args.self.now.types.items c.args.of ≡ Some numbers = search rules in
+    let second : numbers ≡ Some plans = search rules in
+    ap (plan_at known) c.number.ensures
+    ∙ number_planned known g c.args.zeros plans t (knows.planned c.args.of plans t (first ∙ ap (λ o. Some o) second) stands)
