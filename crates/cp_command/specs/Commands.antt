@@ -8,8 +8,8 @@ use Rattle.cp_command.specs.declared.command.CommandError.TheVariants as error
 use Rattle.cp_command.specs.declared.command.Command.{Command}
 use Rattle.cp_command.specs.declared.command.Command.TheVariants as command
 use Rattle.cp_command.specs.declared.command.Inputs.TheVariants as inputs
-use Rattle.cp_execute.specs.declared.replaying.Replay.{Replay}
-use Rattle.cp_execute.specs.declared.running.Run.{Run}
+use Rattle.cp_plan.specs.declared.run.Replay.{Replay}
+use Rattle.cp_plan.specs.declared.run.Run.{Run}
 
 -- The run has these numbers: rounds, turn, workers, chunk, wave, tick, and chains or not.
 abbrev pub Has : ℕ → ℕ → ℕ → ℕ → ℕ → ℕ → Bool → Run → Type 0

@@ -6,12 +6,10 @@ ghost use Rattle.cp_command.specs.declared.command.CommandError.TheVariants as e
 
 use clap::error::ErrorKind;
 use cp_access::graph::Form;
-use cp_execute::replaying::Replay;
-use cp_execute::running::Run;
 use cp_explain::explain::Extent;
-use cp_observe::form::OutcomeForm;
-use cp_observe::tracing::Tracing;
-use cp_observe::until_still::UntilStill;
+use cp_plan::outcome::{OutcomeForm, UntilStill};
+use cp_plan::run::{Replay, Run};
+use cp_plan::trace::Tracing;
 use std::alloc::AllocError;
 use thiserror::Error;
 

@@ -17,9 +17,7 @@ mod options;
 pub mod reading;
 
 pub use cp_access::graph::Form;
-pub use cp_execute::replaying::Replay;
-pub use cp_execute::running::Run;
 pub use cp_explain::explain::Extent;
-pub use cp_observe::form::OutcomeForm;
-pub use cp_observe::tracing::{TraceForm, Tracing};
-pub use cp_observe::until_still::UntilStill;
+pub use cp_plan::outcome::{OutcomeForm, UntilStill};
+pub use cp_plan::run::{Replay, Run};
+pub use cp_plan::trace::{TraceForm, Tracing};

@@ -1,20 +1,18 @@
 //! The values of options.
 
 ghost use Rattle.std.specs.Prelude.{◌≡◌, ◌≤◌, IfOk};
-ghost use Rattle.cp_rounds.specs.Plans.{AreInRange};
+ghost use Rattle.cp_plan.specs.Plans.{AreInRange};
 ghost use Rattle.cp_command.specs.Commands.{Has, HasReplay};
 
 use crate::misuse::Misuse;
 use crate::numbers::number;
 use clap::ArgMatches;
-use cp_execute::replaying::Replay;
-use cp_execute::running::Run;
-use cp_observe::form::OutcomeForm;
-use cp_observe::tracing::{TraceForm, Tracing};
-use cp_observe::until_still::UntilStill;
-use cp_private::turn::Turn;
-use cp_rounds::plan::Plan;
-use cp_rounds::tick::Tick;
+use cp_plan::outcome::{OutcomeForm, UntilStill};
+use cp_plan::plan::Plan;
+use cp_plan::run::{Replay, Run};
+use cp_plan::tick::Tick;
+use cp_plan::trace::{TraceForm, Tracing};
+use cp_plan::turn::Turn;
 use std::alloc::Global;
 
 /// The run with these numbers.

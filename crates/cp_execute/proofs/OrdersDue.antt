@@ -5,7 +5,7 @@ use Rattle.std.specs.Prelude.{if◌then◌else◌, nat_le}
 use Rattle.cp_model.specs.OrderText.{NotALine, order_text}
 use Rattle.cp_model.specs.Rounds.{Event}
 use Rattle.cp_model.specs.Syntax as s
-use Rattle.cp_execute.specs.declared.replaying.Replay.{Replay}
+use Rattle.cp_plan.specs.declared.run.Replay.{Replay}
 use Rattle.cp_accept.specs.Cutting.{judge_input}
 use Rattle.cp_execute.specs.Replayed.{Due, IsDueAfter, IsFit, IsReplayed, judge_order, judge_order_of, processes_in, rounds_told}
 use Rattle.cp_accept.specs.Takings.{front}

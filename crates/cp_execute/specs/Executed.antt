@@ -12,7 +12,7 @@ use Rattle.cp_machine_model.specs.InState.{IsIn}
 use Rattle.cp_rounds.specs.Views.{machine_of}
 use Rattle.cp_rounds.specs.declared.machine.Machine.{Machine}
 use Rattle.cp_accept.specs.declared.refusal.Refusal.{Refusal}
-use Rattle.cp_execute.specs.declared.running.Run.{Run}
+use Rattle.cp_plan.specs.declared.run.Run.{Run}
 use Rattle.cp_execute.specs.declared.execute.Job.{Job}
 use Rattle.cp_execute.specs.declared.execute.Job.TheVariants as job
 use Rattle.cp_accept.specs.Cutting.{judge_input}

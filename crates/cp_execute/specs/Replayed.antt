@@ -13,7 +13,7 @@ use Rattle.cp_rounds.specs.Views.{machine_of}
 use Rattle.cp_rounds.specs.declared.machine.Machine.{Machine}
 use Rattle.cp_accept.specs.declared.refusal.Refusal.{Refusal}
 use Rattle.cp_accept.specs.declared.refusal.Refusal.TheVariants as refusal
-use Rattle.cp_execute.specs.declared.replaying.Replay.{Replay}
+use Rattle.cp_plan.specs.declared.run.Replay.{Replay}
 use Rattle.cp_accept.specs.Cutting.{judge_input}
 use Rattle.cp_accept.specs.KnownRefusals.{RefusesInputOf, RefusesText}
 use Rattle.cp_execute.specs.Executed.{IsReportOf, setup_of}

@@ -7,10 +7,11 @@ ghost use Rattle.cp_execute.specs.Executed.{Accepts, Begins, BeginsAcceptance, B
 ghost use Rattle.cp_accept.specs.Takings.{TakesInput, TakesText};
 ghost use Rattle.cp_accept.specs.declared.refusal.Refusal.TheVariants as refusal;
 
-use crate::running::{Run, report_after_run};
+use crate::running::report_after_run;
 use cp_accept::refusal::Refusal;
 use cp_accept::sources::{read_accepted, read_input};
 use cp_accept::writing::write_result;
+use cp_plan::run::Run;
 use cp_rounds::gate::TurnGate;
 use std::alloc::Global;
 use std::io::{Read, Write};

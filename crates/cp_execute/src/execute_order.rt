@@ -7,11 +7,12 @@ ghost use Rattle.cp_execute.specs.Replayed.{BeginsReplay, RefusesNoAccepted, Ref
 ghost use Rattle.cp_accept.specs.Takings.{TakesInput, TakesOrder, TakesText};
 ghost use Rattle.cp_accept.specs.declared.refusal.Refusal.TheVariants as refusal;
 
-use crate::replaying::{Replay, report_after_replay};
+use crate::replaying::report_after_replay;
 use cp_accept::reading::read_text;
 use cp_accept::refusal::Refusal;
 use cp_accept::sources::{read_accepted, read_input};
 use cp_accept::writing::write_result;
+use cp_plan::run::Replay;
 use std::alloc::Global;
 use std::io::{Read, Write};
 

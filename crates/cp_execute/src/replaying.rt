@@ -17,19 +17,10 @@ use cp_machine_model::law::{reports, waits};
 use cp_model::tree::Tree;
 use cp_orders::orders::Orders;
 use cp_orders::reading::read_orders;
-use cp_private::turn::Turn;
+use cp_plan::run::Replay;
+use cp_plan::turn::Turn;
 use cp_rounds::machine::Machine;
-use cp_rounds::tick::Tick;
 use std::alloc::{AllocError, Global};
-
-/// The parameters of a replay: how many steps a kernel turn has at most, how often the clock ticks,
-/// and whether the report has the chains of askers.
-#[derive(Clone, Copy, Debug)]
-pub struct Replay {
-    pub turn: Turn,
-    pub tick: Tick,
-    pub chains: bool,
-}
 
 // Makes the rounds of an order on a machine that has made none.
 fn replay_rounds(machine: &mut Machine, orders: &Orders, turn: Turn) -> Result<(), AllocError>

@@ -15,26 +15,16 @@ use cp_accept::refusal::Refusal;
 use cp_check::checking::{CompiledText, compile_accepted};
 use cp_machine_model::law::{reports, waits};
 use cp_model::tree::Tree;
+use cp_plan::run::Run;
+use cp_plan::tick::Tick;
 use cp_program::program::Program;
 use cp_report::report::{report, report_with_chains};
 use cp_rounds::gate::TurnGate;
 use cp_rounds::machine::Machine;
-use cp_rounds::plan::Plan;
-use cp_rounds::tick::Tick;
 use cp_scope::Tables;
 use std::alloc::{AllocError, Global};
 use std::sync::Wait;
 use std::thread::Threads;
-
-/// The parameters of a run: the number of rounds, how each is made, how often the clock ticks, and
-/// whether the report has the chains of askers.
-#[derive(Clone, Copy, Debug)]
-pub struct Run {
-    pub rounds: u32,
-    pub plan: Plan,
-    pub tick: Tick,
-    pub chains: bool,
-}
 
 /// Returns the report of a machine, with the chains of askers if they are asked for.
 ///

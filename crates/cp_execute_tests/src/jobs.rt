@@ -2,10 +2,10 @@
 
 use cp_accept::refusal::Refusal;
 use cp_execute::execute::{Job, execute};
-use cp_execute::running::Run;
+use cp_plan::plan::Plan;
+use cp_plan::run::Run;
+use cp_plan::tick::Tick;
 use cp_rounds::gate::Open;
-use cp_rounds::plan::Plan;
-use cp_rounds::tick::Tick;
 use std::alloc::{AllocError, Global};
 use std::sync::Wait;
 use std::thread::Threads;

@@ -4,9 +4,9 @@
 use super::streams::{Narrow, Slow};
 use cp_accept::refusal::Refusal;
 use cp_execute::execute_order::execute_order;
-use cp_execute::replaying::Replay;
-use cp_private::turn::Turn;
-use cp_rounds::tick::Tick;
+use cp_plan::run::Replay;
+use cp_plan::tick::Tick;
+use cp_plan::turn::Turn;
 use std::alloc::{AllocError, Global};
 use std::test::Fail;
 

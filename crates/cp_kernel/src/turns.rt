@@ -13,8 +13,8 @@ use crate::kernel::Kernel;
 use crate::step::{is_due, kernel_step};
 use cp_machine_model::law;
 use cp_model::law::invariant;
+use cp_plan::turn::Turn;
 use cp_private::private::Private;
-use cp_private::turn::Turn;
 use cp_program::program::Program;
 
 // Makes at most `count` steps, as long as the next one is due.

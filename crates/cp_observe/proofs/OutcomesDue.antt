@@ -2,8 +2,8 @@
 use Rattle.std.proofs.Common.{◌≡◌, ℕ, List, Ok, Option, Some, IfSome, subst}
 use Rattle.cp_model.specs.Syntax as s
 use Rattle.cp_outcome.specs.declared.verdict.Verdict.{Verdict}
-use Rattle.cp_observe.specs.declared.form.OutcomeForm.{OutcomeForm}
-use Rattle.cp_observe.specs.declared.until_still.UntilStill.{UntilStill}
+use Rattle.cp_plan.specs.declared.outcome.OutcomeForm.{OutcomeForm}
+use Rattle.cp_plan.specs.declared.outcome.UntilStill.{UntilStill}
 use Rattle.cp_accept.specs.Cutting.{judge_input}
 use Rattle.cp_observe.specs.Outcomes.{Due, IsOutcome}
 use Rattle.cp_accept.specs.Texts.{IsAccepted}

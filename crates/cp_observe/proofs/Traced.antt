@@ -21,7 +21,7 @@ use Rattle.cp_accept.specs.Texts.{IsAccepted}
 use Rattle.cp_accept.specs.declared.refusal.Refusal.{Refusal}
 use Rattle.cp_accept.specs.declared.refusal.Refusal.TheVariants as refusal
 use Rattle.cp_observe.specs.Traces.{Extends, IsMemoryOrWrite, IsTraced, Traces}
-use Rattle.cp_observe.specs.declared.tracing.Tracing.{Tracing}
+use Rattle.cp_plan.specs.declared.trace.Tracing.{Tracing}
 use Rattle.cp_accept.proofs.Faults.{memory_fault, write_fault}
 use Rattle.cp_accept.proofs.Takings.{memory_at}
 use Rattle.cp_accept.proofs.TextRefusals.{of_known}

@@ -7,8 +7,8 @@ use Rattle.cp_formats.specs.Json.{IsJsonLine}
 use Rattle.cp_report.specs.Outcomes.{BeginsWithVerdict}
 use Rattle.cp_rounds.specs.Views.{machine_of}
 use Rattle.cp_rounds.specs.declared.machine.Machine.{Machine}
-use Rattle.cp_observe.specs.declared.form.OutcomeForm.{OutcomeForm}
-use Rattle.cp_observe.specs.declared.form.OutcomeForm.TheVariants as form
+use Rattle.cp_plan.specs.declared.outcome.OutcomeForm.{OutcomeForm}
+use Rattle.cp_plan.specs.declared.outcome.OutcomeForm.TheVariants as form
 
 -- The bytes are exactly what the process with this number has written.
 abbrev pub IsTranscript : ℕ → Setup → State → List ℕ → Type 0

@@ -8,8 +8,8 @@ use Rattle.cp_model.specs.States.{State}
 use Rattle.cp_outcome.specs.Verdicts.{verdict_of}
 use Rattle.cp_outcome.specs.declared.verdict.Verdict.{Verdict}
 use Rattle.cp_stillness.specs.Stillness.{is_still}
-use Rattle.cp_observe.specs.declared.form.OutcomeForm.{OutcomeForm}
-use Rattle.cp_observe.specs.declared.until_still.UntilStill.{UntilStill}
+use Rattle.cp_plan.specs.declared.outcome.OutcomeForm.{OutcomeForm}
+use Rattle.cp_plan.specs.declared.outcome.UntilStill.{UntilStill}
 use Rattle.cp_accept.specs.Cutting.{judge_input}
 use Rattle.cp_execute.specs.Executed.{setup_of}
 use Rattle.cp_observe.specs.Forms.{Tells}

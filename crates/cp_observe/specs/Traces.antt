@@ -10,8 +10,8 @@ use Rattle.cp_rounds.specs.declared.halted.Halted.{Halted}
 use Rattle.cp_accept.specs.declared.refusal.Refusal.{Refusal}
 use Rattle.cp_accept.specs.declared.refusal.Refusal.TheVariants as refusal
 use Rattle.cp_trace.specs.Tracers.{IsTrace}
-use Rattle.cp_trace.specs.declared.tracer.TraceForm.{TraceForm}
-use Rattle.cp_observe.specs.declared.tracing.Tracing.{Tracing}
+use Rattle.cp_plan.specs.declared.trace.TraceForm.{TraceForm}
+use Rattle.cp_plan.specs.declared.trace.Tracing.{Tracing}
 use Rattle.cp_accept.specs.Cutting.{judge_input}
 use Rattle.cp_execute.specs.Executed.{setup_of}
 use Rattle.cp_accept.specs.Texts.{IsAccepted}

@@ -8,12 +8,12 @@ ghost use Rattle.cp_observe.specs.Outcomes.{BeginsOutcome, TellsOutcome};
 ghost use Rattle.cp_accept.specs.Takings.{TakesInput, TakesText};
 ghost use Rattle.cp_accept.specs.declared.refusal.Refusal.TheVariants as refusal;
 
-use crate::form::OutcomeForm;
-use crate::until_still::{UntilStill, outcome_after_run};
+use crate::until_still::outcome_after_run;
 use cp_accept::refusal::Refusal;
 use cp_accept::sources::{read_accepted_text, read_input};
 use cp_accept::writing::write_result;
 use cp_outcome::verdict::Verdict;
+use cp_plan::outcome::{OutcomeForm, UntilStill};
 use cp_rounds::gate::TurnGate;
 use std::alloc::Global;
 use std::io::{Read, Write};

@@ -8,11 +8,12 @@ ghost use Rattle.cp_accept.specs.Takings.{TakesInput, TakesText};
 ghost use Rattle.cp_observe.specs.Traces.{Extends, IsMemoryOrWrite, Traces, WritesTrace};
 ghost use Rattle.cp_accept.specs.declared.refusal.Refusal.TheVariants as refusal;
 
-use crate::tracing::{Tracing, machine_after_trace};
+use crate::tracing::machine_after_trace;
 use cp_accept::checking::accept;
 use cp_accept::refusal::Refusal;
 use cp_accept::sources::{read_accepted, read_input};
 use cp_check::checking::tables_of;
+use cp_plan::trace::Tracing;
 use cp_report::roster::Roster;
 use cp_rounds::gate::TurnGate;
 use cp_rounds::halted::Halted;

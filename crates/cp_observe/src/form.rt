@@ -5,25 +5,13 @@ ghost use Rattle.cp_observe.specs.Forms.{IsToldOf, IsTranscriptOf};
 
 use cp_accept::sources::Text;
 use cp_outcome::verdict::Verdict;
+use cp_plan::outcome::OutcomeForm;
 use cp_reasons::object::object;
 use cp_reasons::reasons::reasons;
 use cp_reasons::waits::waits;
 use cp_report::outcome::outcome;
 use cp_rounds::machine::Machine;
 use std::alloc::{AllocError, Global};
-
-/// What is written of an outcome. A `P` says which process is meant.
-#[derive(Clone, Copy, Debug, PartialEq, Eq)]
-pub enum OutcomeForm<P> {
-    /// The verdict, and why each process that hasn't ended is where it is.
-    Verdict,
-    /// The transcript of a process, as raw bytes.
-    Transcript(P),
-    /// Who waits for whom, as a graph for Graphviz.
-    Dot,
-    /// The verdict, and what became of each process, as a JSON object.
-    Json,
-}
 
 // Returns the transcript of the process with this number.
 fn transcript(alloc: Global, machine: &Machine, process: u32) -> Result<Vec<u8>, AllocError>

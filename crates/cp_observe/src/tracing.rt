@@ -14,12 +14,11 @@ use cp_accept::writing::write_result;
 use cp_check::checking::{CompiledText, compile_accepted};
 use cp_execute::running::machine_at_start;
 use cp_model::tree::Tree;
+use cp_plan::plan::Plan;
+use cp_plan::trace::Tracing;
 use cp_rounds::gate::TurnGate;
 use cp_rounds::halted::Halted;
 use cp_rounds::machine::Machine;
-use cp_rounds::plan::Plan;
-use cp_rounds::tick::Tick;
-pub use cp_trace::tracer::TraceForm;
 use cp_trace::tracer::Tracer;
 use std::alloc::{AllocError, Global};
 use std::io::Write;
@@ -28,17 +27,6 @@ use std::thread::Threads;
 
 // As many bytes are written at once, or those of one round if they are more.
 const LONG: usize = 65_536;
-
-/// The parameters of a trace: the number of rounds, the first round that is told, in which form, how
-/// each is made, and how often the clock ticks.
-#[derive(Clone, Copy, Debug)]
-pub struct Tracing {
-    pub rounds: u32,
-    pub from: u32,
-    pub form: TraceForm,
-    pub plan: Plan,
-    pub tick: Tick,
-}
 
 // Makes a round, and adds what is told of it at once.
 fn trace_round<H: Threads + Wait + Sync, G: TurnGate>(

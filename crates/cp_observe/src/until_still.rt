@@ -6,27 +6,17 @@ ghost use Rattle.cp_model.specs.View as view;
 ghost use Rattle.cp_observe.specs.Outcomes.{IsOutcome};
 ghost use Rattle.cp_accept.specs.declared.refusal.Refusal.TheVariants as refusal;
 
-use crate::form::{OutcomeForm, told};
+use crate::form::told;
 use cp_accept::refusal::Refusal;
 use cp_accept::sources::Text;
 use cp_check::checking::{CompiledText, compile_accepted};
 use cp_execute::running::machine_at_start;
 use cp_outcome::verdict::{Verdict, verdict_on};
+use cp_plan::outcome::{OutcomeForm, UntilStill};
 use cp_rounds::gate::TurnGate;
-use cp_rounds::plan::Plan;
-use cp_rounds::tick::Tick;
 use std::alloc::Global;
 use std::sync::Wait;
 use std::thread::Threads;
-
-/// The parameters of a run that ends when nothing can move: the largest number of rounds, how each
-/// is made, and how often the clock ticks.
-#[derive(Clone, Copy, Debug)]
-pub struct UntilStill {
-    pub limit: u32,
-    pub plan: Plan,
-    pub tick: Tick,
-}
 
 /// What became of a run, and the text that tells it.
 #[derive(Drop)]

@@ -3,12 +3,11 @@
 use super::{outcome_book as book, outcome_faults as faults, outcome_waits as waits};
 use cp_accept::refusal::Refusal;
 use cp_observe::execute_outcome::execute_outcome;
-use cp_observe::form::OutcomeForm;
-use cp_observe::until_still::UntilStill;
 use cp_outcome::verdict::Verdict;
+use cp_plan::outcome::{OutcomeForm, UntilStill};
+use cp_plan::plan::Plan;
+use cp_plan::tick::Tick;
 use cp_rounds::gate::Open;
-use cp_rounds::plan::Plan;
-use cp_rounds::tick::Tick;
 use std::alloc::{AllocError, Global};
 use std::io::Cursor;
 use std::sync::Wait;

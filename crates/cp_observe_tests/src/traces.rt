@@ -2,10 +2,10 @@
 
 use cp_accept::refusal::Refusal;
 use cp_observe::execute_trace::{execute_trace, unknown_name};
-use cp_observe::tracing::{TraceForm, Tracing};
+use cp_plan::plan::Plan;
+use cp_plan::tick::Tick;
+use cp_plan::trace::{TraceForm, Tracing};
 use cp_rounds::gate::Open;
-use cp_rounds::plan::Plan;
-use cp_rounds::tick::Tick;
 use std::alloc::{AllocError, Global};
 use std::io::Cursor;
 use std::sync::Wait;

@@ -15,9 +15,8 @@
 //! - `assignments`, `counting`, `standards`, `targets`, `passing`, `called`, `calls`, `returns`,
 //!   `initialisation`: the steps of operations.
 //! - `quick`: the commonest private steps, made in registers.
-//! - `step`, `turn`, `turns`, `kind`, `resting`: a step of any operation, turns, whether the next step
+//! - `step`, `turns`, `kind`, `resting`: a step of any operation, turns, whether the next step
 //!   is private or the kernel's, and processes that have no private step to make.
-//! - `limits`: which number of a plan is out of its range.
 #![tactic(auto)]
 
 mod alone;
@@ -30,7 +29,6 @@ pub mod effect;
 mod frames;
 mod initialisation;
 pub mod kind;
-pub mod limits;
 mod making;
 pub mod outside;
 mod passing;
@@ -44,6 +42,5 @@ mod standards;
 pub mod starting;
 mod step;
 mod targets;
-pub mod turn;
 pub mod turns;
 mod words;

@@ -11,9 +11,9 @@ ghost use Rattle.cp_machine_model.specs.Machines as plain;
 ghost use Rattle.cp_program.specs.View as view;
 
 use crate::private::{Activity, Frame, Private};
-use crate::turn::Turn;
 use crate::{plans, words};
 use cp_machine_model::law;
+use cp_plan::turn::Turn;
 use cp_program::program::{Process, Program};
 use cp_program::reach::Memory;
 use smallvec::SmallVec;

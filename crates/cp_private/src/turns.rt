@@ -11,9 +11,9 @@ ghost use Rattle.cp_program.specs.View as view;
 use crate::effect::Effect;
 use crate::outside::Outside;
 use crate::private::Private;
-use crate::turn::Turn;
 use cp_machine_model::law;
 use cp_model::law::invariant;
+use cp_plan::turn::Turn;
 use cp_program::program::Program;
 
 // Makes `count` steps, as long as the next one is private.

@@ -15,7 +15,7 @@ use Rattle.cp_program.specs.contracts.operation.Argument as argument
 use Rattle.cp_program.specs.contracts.operation.Call as call
 use Rattle.cp_program.specs.contracts.operation.Operation as operation
 use Rattle.cp_program.specs.contracts.program.Program as program
-use Rattle.cp_rounds.proofs.tick.Tick.TheSendSync as tick
+use Rattle.cp_plan.proofs.tick.Tick.TheSendSync as tick
 use Rattle.cp_rounds.specs.contracts.setting.Setting as setting
 
 argument_sync : IsSync argument.the_row

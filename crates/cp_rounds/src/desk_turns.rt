@@ -5,11 +5,22 @@ ghost use Rattle.cp_rounds.specs.Tasks.{IsCourseOf};
 
 use crate::desk::Desk;
 use crate::gate::TurnGate;
-use crate::plan::Plan;
 use crate::setting::Setting;
 use crate::task::Course;
 use cp_crew::Work;
+use cp_plan::plan::Plan;
 use std::sync::Wait;
+
+// Returns the indices of the processes of a chunk of the wave at this index: that of the first one,
+// and the one after that of the last.
+fn places(plan: &Plan, wave: usize, chunk: usize) -> (usize, usize) {
+    let first = wave.saturating_mul(plan.wave as usize);
+    let from = first.saturating_add(chunk.saturating_mul(plan.chunk as usize));
+    let end = from
+        .saturating_add(plan.chunk as usize)
+        .min(first.saturating_add(plan.wave as usize));
+    (from, end)
+}
 
 /// How the private turns at a desk are made.
 #[derive(Drop)]
@@ -31,7 +42,7 @@ impl<'a, C: Course, G: TurnGate> Work for DeskTurns<'a, C, G> {
         let Some(index) = wave.checked_rem(self.waves) else {
             return;
         };
-        let (from, end) = self.plan.places(index, chunk);
+        let (from, end) = places(&self.plan, index, chunk);
         for index in from..end.min(self.desk.processes()) {
             let mut shared = self.desk.tasks[index].lock(rt);
             // The turn is made on a task taken out of its place, so that threads don't write to the

@@ -18,8 +18,8 @@ use crate::setting::Setting;
 use cp_kernel::kernel::Kernel;
 use cp_kernel::turns::kernel_turn;
 use cp_orders::event::Event;
+use cp_plan::turn::Turn;
 use cp_private::private::Private;
-use cp_private::turn::Turn;
 use cp_private::turns::private_turn;
 use std::alloc::AllocError;
 

@@ -9,7 +9,7 @@
 //! - `state`, `place`: what they tell of processes and variables.
 //! - `setting`, `parts`, `moment`: what no round changes, what rounds change, and the time of a
 //!   round.
-//! - `plan`, `tick`, `gate`: how rounds are made, and what is called before each turn.
+//! - `gate`: what is called before each turn.
 //! - `turns`, `closing`: a private turn, and the end of a round.
 //! - `run`, `round`: rounds by threads that are kept, which draw the chunks of each wave from its
 //!   board.
@@ -31,7 +31,6 @@ pub mod machine;
 mod moment;
 mod parts;
 pub mod place;
-pub mod plan;
 pub mod reading;
 pub mod replay;
 mod round;
@@ -41,6 +40,5 @@ mod starting;
 pub mod state;
 mod stillness;
 mod task;
-pub mod tick;
 mod turns;
 mod until_still;

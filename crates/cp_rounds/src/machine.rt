@@ -11,12 +11,12 @@ ghost use Rattle.cp_rounds.specs.Views.{IsAfter, KeepsText, machine_of, processe
 
 use crate::gate::TurnGate;
 use crate::parts::Parts;
-use crate::plan::Plan;
 use crate::run::make_rounds_of;
 use crate::setting::Setting;
 use crate::starting::first_parts;
-use crate::tick::Tick;
 use cp_machine_model::law;
+use cp_plan::plan::Plan;
+use cp_plan::tick::Tick;
 use cp_program::program::Program;
 use cp_scope::Tables;
 use std::alloc::{AllocError, Global};

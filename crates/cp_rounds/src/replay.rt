@@ -16,7 +16,7 @@ use crate::parts::Parts;
 use crate::setting::Setting;
 use cp_machine_model::law;
 use cp_orders::event::Event;
-use cp_private::turn::Turn;
+use cp_plan::turn::Turn;
 use std::alloc::{AllocError, Global};
 
 // Returns what the round after the first `rounds` rounds makes of the parts of a machine, if it

@@ -5,7 +5,7 @@ ghost use Rattle.cp_rounds.specs.MachineOf.{input_at};
 ghost use Rattle.cp_rounds.specs.Turned.{moment_of};
 
 use crate::moment::Moment;
-use crate::tick::Tick;
+use cp_plan::tick::Tick;
 use cp_program::program::Program;
 
 /// The program, the inputs of its processes by number, and the tick.

@@ -9,8 +9,8 @@ ghost use Rattle.cp_rounds.specs.Turned as plain;
 
 use crate::moment::Moment;
 use crate::setting::Setting;
+use cp_plan::turn::Turn;
 use cp_private::private::Private;
-use cp_private::turn::Turn;
 use cp_private::turns::private_turn;
 
 /// Makes the private turn of process p in a round. It takes no memory.

@@ -11,8 +11,8 @@ ghost use Rattle.cp_rounds.specs.Views.{IsAfter, KeepsText, processes_of};
 
 use crate::gate::TurnGate;
 use crate::machine::{Machine, MemoryAt};
-use crate::plan::Plan;
 use cp_machine_model::law::rounds as rounds_are_run;
+use cp_plan::plan::Plan;
 use cp_stillness::law::lasting;
 use std::sync::Wait;
 use std::thread::Threads;

@@ -5,10 +5,10 @@ ghost use Rattle.cp_program.specs.View as view;
 
 use crate::texts::{compiled, tree_of};
 use cp_check::checking::CompiledText;
+use cp_plan::tick::Tick;
 use cp_private::private::Activity;
 use cp_program::program::Program;
 use cp_rounds::machine::Machine;
-use cp_rounds::tick::Tick;
 use cp_scope::Tables;
 use std::alloc::Global;
 use std::test::Fail;

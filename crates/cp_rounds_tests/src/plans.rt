@@ -3,13 +3,13 @@
 
 use crate::machines::{activity, has_written, on_machine};
 use crate::ways::Way;
-use cp_private::limits::L1;
+use cp_plan::limits::L1;
+use cp_plan::plan::Plan;
+use cp_plan::tick::Tick;
 use cp_private::outside::Holder;
 use cp_private::private::Activity;
 use cp_rounds::gate::Open;
 use cp_rounds::machine::Machine;
-use cp_rounds::plan::Plan;
-use cp_rounds::tick::Tick;
 use std::alloc::{AllocError, Global};
 use std::sync::Wait;
 use std::test::Fail;

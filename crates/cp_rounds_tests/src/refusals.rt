@@ -6,6 +6,8 @@
 
 use crate::machines::{activity, describe, has_written, inputs_for, on_machine, on_program};
 use crate::ways::{Way, is_young};
+use cp_plan::plan::Plan;
+use cp_plan::tick::Tick;
 use cp_private::outside::{Holder, Stage};
 use cp_private::private::Activity;
 use cp_program::operation::Operation;
@@ -13,8 +15,6 @@ use cp_program::program;
 use cp_program::program::{CodeUnit, Process, Program};
 use cp_rounds::gate::Open;
 use cp_rounds::machine::{Machine, MemoryAt};
-use cp_rounds::plan::Plan;
-use cp_rounds::tick::Tick;
 use cp_scope::Tables;
 use std::alloc::Global;
 use std::sync::Wait;

@@ -3,9 +3,9 @@
 use crate::machines::on_machine_with;
 use crate::rounds::SEVENS;
 use crate::ways::is_young;
+use cp_plan::plan::Plan;
 use cp_rounds::gate::Open;
 use cp_rounds::machine::Machine;
-use cp_rounds::plan::Plan;
 use std::alloc::Global;
 use std::process::Abort;
 use std::sync::Wait;

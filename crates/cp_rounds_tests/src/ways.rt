@@ -3,9 +3,9 @@
 ghost use Rattle.std.specs.Prelude.{◌<◌, ◌^◌, IfOk};
 ghost use Rattle.cp_rounds.specs.Views.{machine_of};
 
+use cp_plan::plan::Plan;
 use cp_rounds::gate::TurnGate;
 use cp_rounds::machine::Machine;
-use cp_rounds::plan::Plan;
 use std::sync::Wait;
 use std::test::Fail;
 use std::thread::Threads;

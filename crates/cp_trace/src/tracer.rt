@@ -10,22 +10,10 @@ use crate::svg::Picture;
 use crate::timeline::Timeline;
 use crate::trace::Trace;
 use cp_model::tree::Tree;
+use cp_plan::trace::TraceForm;
 use cp_rounds::machine::Machine;
 use cp_scope::Tables;
 use std::alloc::{AllocError, Global};
-
-/// How a trace is told.
-#[derive(Clone, Copy, Debug, PartialEq, Eq)]
-pub enum TraceForm {
-    /// What each round changed, as a line for each process or monitor.
-    Lines,
-    /// What each round changed, as a JSON object for each change, a line each.
-    Json,
-    /// What each process and monitor is after each round, as text: a row each, a character a round.
-    Timeline,
-    /// The same as a picture.
-    Svg,
-}
 
 /// Who follows a machine and tells of it. What it has seen takes memory that doesn't grow with the
 /// rounds.

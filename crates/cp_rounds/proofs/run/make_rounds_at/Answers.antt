@@ -6,7 +6,7 @@ use denote.Param.SendFields.{as_row_sync, declared_sync}
 use mir.Syntax.{named}
 use Rattle.std.proofs.Crossing.{crosses}
 use Rattle.cp_rounds.proofs.desk.Desk.TheSendSync as desk
-use Rattle.cp_rounds.proofs.plan.Plan.TheSendSync as plan
+use Rattle.cp_plan.proofs.plan.Plan.TheSendSync as plan
 use Rattle.cp_rounds.specs.contracts.desk.Desk as desks
 use Rattle.cp_rounds.specs.contracts.desk_turns.DeskTurns as turns
 use Rattle.cp_rounds.proofs.run.make_rounds_at.Goals as goal

@@ -1,7 +1,7 @@
 //! Turns: how many steps a process may make in a row.
 
 ghost use Rattle.std.specs.Prelude.{◌≡◌, ◌≤◌, ◌↔◌, IfErr, IfOk, IsOk};
-ghost use Rattle.cp_private.specs.declared.limits.L1.TheVariants as limit;
+ghost use Rattle.cp_plan.specs.declared.limits.L1.TheVariants as limit;
 
 use crate::limits::L1;
 

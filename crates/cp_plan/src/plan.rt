@@ -1,10 +1,10 @@
 //! Plans: how long a turn is, and how a round is divided among workers.
 
 ghost use Rattle.std.specs.Prelude.{◌≡◌, ◌<◌, ◌≤◌, ◌+◌, ◌*◌, ◌/◌, ◌↔◌, ℕ, IfErr, IfOk, IsOk, IsTrue};
-ghost use Rattle.cp_rounds.specs.Plans.{AreInRange, AreParts, AreThreads, IsFirstOut, wave_size};
+ghost use Rattle.cp_plan.specs.Plans.{AreInRange, AreParts, AreThreads, IsFirstOut, wave_size};
 
-use cp_private::limits::L1;
-use cp_private::turn::Turn;
+use crate::limits::L1;
+use crate::turn::Turn;
 
 /// How a round is made: a turn has at most `turn` steps, and `workers` workers draw chunks of
 /// consecutive processes, wave by wave. Processes at rest are passed over, and don't count, unless
@@ -89,17 +89,6 @@ impl Plan {
         let first = wave.saturating_mul(self.wave as usize);
         let size = processes.saturating_sub(first).min(self.wave as usize);
         parts_of(size, self.chunk as usize)
-    }
-
-    /// Returns the indices of the processes of a chunk: that of the first one, and the one after
-    /// that of the last.
-    pub(crate) fn places(&self, wave: usize, chunk: usize) -> (usize, usize) {
-        let first = wave.saturating_mul(self.wave as usize);
-        let from = first.saturating_add(chunk.saturating_mul(self.chunk as usize));
-        let end = from
-            .saturating_add(self.chunk as usize)
-            .min(first.saturating_add(self.wave as usize));
-        (from, end)
     }
 
     /// Returns how many threads make the rounds of `processes` processes: at most one for each

@@ -1,0 +1,26 @@
+//! What an outcome is asked for.
+
+use crate::plan::Plan;
+use crate::tick::Tick;
+
+/// The parameters of a run that ends when nothing can move: the largest number of rounds, how each
+/// is made, and how often the clock ticks.
+#[derive(Clone, Copy, Debug)]
+pub struct UntilStill {
+    pub limit: u32,
+    pub plan: Plan,
+    pub tick: Tick,
+}
+
+/// What is written of an outcome. A `P` says which process is meant.
+#[derive(Clone, Copy, Debug, PartialEq, Eq)]
+pub enum OutcomeForm<P> {
+    /// The verdict, and why each process that hasn't ended is where it is.
+    Verdict,
+    /// The transcript of a process, as raw bytes.
+    Transcript(P),
+    /// Who waits for whom, as a graph for Graphviz.
+    Dot,
+    /// The verdict, and what became of each process, as a JSON object.
+    Json,
+}
