@@ -128,6 +128,12 @@ fn flag<'a>(alloc: Global, name: &'a str, about: &'a str) -> Arg<'a> {
         .help(about)
 }
 
+// The argument, which can't be given beside another one. Arguments are made one at a time: each one
+// that is alive where memory runs out has to be given up there, which makes proofs long.
+fn without<'a>(argument: Arg<'a>, other: &'a str) -> Result<Arg<'a>, AllocError> {
+    argument.conflicts_with(other)
+}
+
 fn file<'a>(alloc: Global, name: &'a str, about: &'a str) -> Arg<'a> {
     Arg::new(alloc, name).required(true).help(about)
 }
@@ -181,30 +187,18 @@ fn check_words<'a>(alloc: Global) -> Result<clap::Command<'a>, AllocError> {
 }
 
 fn explain_words<'a>(alloc: Global) -> Result<clap::Command<'a>, AllocError> {
-    let dot = flag(
-        alloc,
-        DOT,
-        "writes the access graph of an accepted text for Graphviz",
-    );
-    let json = flag(
-        alloc,
-        JSON,
-        "writes the violations of a text, or the notes on it, as a JSON object",
-    );
-    let all = flag(
-        alloc,
-        "all",
-        "tells all violations of a text, each in short",
-    );
-    command(
+    let explain = command(
         alloc,
         "explain",
         "Explains what is wrong with a text, who has which right in an accepted text, or a rule",
         "the text, - for standard input, or a rule or fault such as C4 or F3",
-    )?
-    .arg(dot)?
-    .arg(json.conflicts_with(DOT)?)?
-    .arg(all.conflicts_with(DOT)?)
+    )?;
+    let dot = "writes the access graph of an accepted text for Graphviz";
+    let explain = explain.arg(flag(alloc, DOT, dot))?;
+    let json = "writes the violations of a text, or the notes on it, as a JSON object";
+    let explain = explain.arg(without(flag(alloc, JSON, json), DOT)?)?;
+    let all = "tells all violations of a text, each in short";
+    explain.arg(without(flag(alloc, "all", all), DOT)?)
 }
 
 fn progress<'a>(alloc: Global) -> Arg<'a> {
@@ -237,20 +231,11 @@ fn with_forms<'a>(
     alloc: Global,
     command: clap::Command<'a>,
 ) -> Result<clap::Command<'a>, AllocError> {
-    let dot = flag(
-        alloc,
-        DOT,
-        "writes who waits for whom, for Graphviz, in place of the verdict",
-    );
-    let json = flag(
-        alloc,
-        JSON,
-        "writes the verdict and all processes as a JSON object",
-    );
-    command
-        .arg(OUT.arg(alloc).conflicts_with(DOT)?.conflicts_with(JSON)?)?
-        .arg(dot.conflicts_with(JSON)?)?
-        .arg(json)
+    let command = command.arg(without(without(OUT.arg(alloc), DOT)?, JSON)?)?;
+    let dot = "writes who waits for whom, for Graphviz, in place of the verdict";
+    let command = command.arg(without(flag(alloc, DOT, dot), JSON)?)?;
+    let json = "writes the verdict and all processes as a JSON object";
+    command.arg(flag(alloc, JSON, json))
 }
 
 fn outcome_words<'a>(alloc: Global) -> Result<clap::Command<'a>, AllocError> {
@@ -269,17 +254,13 @@ fn with_trace_forms<'a>(
     alloc: Global,
     command: clap::Command<'a>,
 ) -> Result<clap::Command<'a>, AllocError> {
-    let json = flag(alloc, JSON, "writes each change as a JSON object on a line");
-    let timeline = flag(
-        alloc,
-        TIMELINE,
-        "writes a row for each process and monitor, a character a round, in place of changes",
-    );
-    let svg = flag(alloc, SVG, "writes the same as a picture");
-    command
-        .arg(json.conflicts_with(TIMELINE)?.conflicts_with(SVG)?)?
-        .arg(timeline.conflicts_with(SVG)?)?
-        .arg(svg)
+    let json = "writes each change as a JSON object on a line";
+    let json = without(flag(alloc, JSON, json), TIMELINE)?;
+    let command = command.arg(without(json, SVG)?)?;
+    let timeline =
+        "writes a row for each process and monitor, a character a round, in place of changes";
+    let command = command.arg(without(flag(alloc, TIMELINE, timeline), SVG)?)?;
+    command.arg(flag(alloc, SVG, "writes the same as a picture"))
 }
 
 fn trace_words<'a>(alloc: Global) -> Result<clap::Command<'a>, AllocError> {
