@@ -13,6 +13,7 @@
 //!
 //! - `work`: what is done at a chunk, and how a seat draws.
 //! - `shift`: a seat on its way between threads.
+//! - `signal`: how a thread waits for others.
 //! - `rack`: the places of the shifts, and the loop of a thread.
 //! - `wave`: a wave, as the calling thread sees it.
 //! - `starting`: how the threads start.
@@ -20,12 +21,14 @@
 
 mod rack;
 mod shift;
+mod signal;
 mod starting;
 mod wave;
 mod work;
 
 pub use rack::Rack;
 pub use shift::{Sheet, Sheets, Shift};
+pub use signal::Signal;
 pub use starting::start;
 pub use wave::Wave;
 pub use work::Work;

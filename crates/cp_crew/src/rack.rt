@@ -3,37 +3,10 @@
 ghost use Rattle.std.specs.Prelude.{◌≡◌, ◌<◌, IfOk, length};
 
 use crate::shift::{Sheets, Shift};
+use crate::signal::Signal;
 use crate::work::Work;
 use std::alloc::{AllocError, Global};
-use std::hint;
-use std::sync::atomic::{AtomicU64, Ordering};
 use std::sync::{Mutex, Wait};
-
-// How many times a thread looks for a change before it sleeps: for some 50 microseconds, in which the
-// calling thread makes the kernel turns of a large round, so that no thread has to be woken for the
-// next one.
-const LOOKS: u32 = 10_000;
-
-/// Waits until the word is no longer `seen`: looks for a while, and then sleeps.
-fn wait_for_change<R: Wait>(rt: &R, word: &AtomicU64, asleep: &AtomicU64, seen: u64) {
-    for _look in 0..LOOKS {
-        if word.load(Ordering::SeqCst) != seen {
-            return;
-        }
-        hint::spin_loop();
-    }
-    asleep.fetch_add(1, Ordering::SeqCst);
-    word.park(rt, (seen % 4_294_967_296) as u32);
-    asleep.fetch_sub(1, Ordering::SeqCst);
-}
-
-/// Changes the word, and wakes the threads that wait for it.
-fn change(word: &AtomicU64, asleep: &AtomicU64) {
-    word.fetch_add(1, Ordering::SeqCst);
-    if asleep.load(Ordering::SeqCst) > 0 {
-        word.wake_all();
-    }
-}
 
 // The place of one thread. A shift in it either waits for the thread or has come back. The next
 // wave may begin while shifts of the one before are still out, so there is room for two.
@@ -41,9 +14,8 @@ fn change(word: &AtomicU64, asleep: &AtomicU64) {
 struct Place<'a, C: Sheets> {
     even: Mutex<Option<Shift<'a, C>>>,
     odd: Mutex<Option<Shift<'a, C>>>,
-    // How many shifts have been laid here.
-    laid: AtomicU64,
-    asleep: AtomicU64,
+    // A shift has been laid here.
+    laid: Signal,
 }
 
 impl<'a, C: Sheets> Place<'a, C> {
@@ -57,9 +29,8 @@ impl<'a, C: Sheets> Place<'a, C> {
 #[derive(Drop)]
 pub struct Rack<'a, C: Sheets> {
     places: Vec<Place<'a, C>>,
-    // How many shifts have come back.
-    back: AtomicU64,
-    asleep: AtomicU64,
+    // A shift has come back.
+    back: Signal,
 }
 
 /// How far the calling thread has gone through the places.
@@ -83,14 +54,12 @@ impl<'a, C: Sheets> Rack<'a, C> {
             places.push(Place {
                 even: Mutex::new(None),
                 odd: Mutex::new(None),
-                laid: AtomicU64::new(0),
-                asleep: AtomicU64::new(0),
+                laid: Signal::new(),
             })?;
         }
         Ok(Rack {
             places,
-            back: AtomicU64::new(0),
-            asleep: AtomicU64::new(0),
+            back: Signal::new(),
         })
     }
 
@@ -101,6 +70,11 @@ impl<'a, C: Sheets> Rack<'a, C> {
         self.places.len()
     }
 
+    /// Returns the signal that a shift has come back.
+    pub fn back(&self) -> &Signal {
+        &self.back
+    }
+
     /// Lays a shift in a place, and wakes its thread. If there is no such place, the shift is lost.
     pub(crate) fn lay<R: Wait>(&self, rt: &R, place: usize, shift: Shift<'a, C>) {
         let Some(place) = self.places.get(place) else {
@@ -108,14 +82,14 @@ impl<'a, C: Sheets> Rack<'a, C> {
         };
         let wave = shift.wave();
         *place.of(wave).lock(rt) = Some(shift);
-        change(&place.laid, &place.asleep);
+        place.laid.give();
     }
 
     /// Returns the place and the count with which a sweep begins.
     pub(crate) fn sweep(&self) -> Sweep {
         Sweep {
             place: 0,
-            back: self.back.load(Ordering::SeqCst),
+            back: self.back.count(),
         }
     }
 
@@ -129,7 +103,7 @@ impl<'a, C: Sheets> Rack<'a, C> {
     ) -> Shift<'a, C> {
         for _ in rt.forever() {
             let Some(place) = self.places.get(sweep.place) else {
-                wait_for_change(rt, &self.back, &self.asleep, sweep.back);
+                self.back.wait(rt, sweep.back);
                 *sweep = self.sweep();
                 continue;
             };
@@ -150,8 +124,8 @@ impl<'a, C: Sheets> Rack<'a, C> {
         };
         let mut seen = 0;
         for _ in rt.forever() {
-            wait_for_change(rt, &place.laid, &place.asleep, seen);
-            seen = place.laid.load(Ordering::SeqCst);
+            place.laid.wait(rt, seen);
+            seen = place.laid.count();
             if !self.work_at(rt, &place.even, work) || !self.work_at(rt, &place.odd, work) {
                 return;
             }
@@ -173,7 +147,7 @@ impl<'a, C: Sheets> Rack<'a, C> {
         };
         let goes_on = shift.work(rt, work);
         *place.lock(rt) = Some(shift);
-        change(&self.back, &self.asleep);
+        self.back.give();
         goes_on
     }
 }

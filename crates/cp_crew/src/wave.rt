@@ -166,6 +166,19 @@ impl<'a, C: Sheets> Wave<'a, C> {
         lay_all(rt, rack, &mut self.shifts);
     }
 
+    /// Draws a chunk and works on it. Returns false if none is left.
+    pub fn help<R: Wait, W: Work>(&mut self, rt: &R, work: &W) -> bool
+        requires can { W.can work.now }
+        ensures number { self.new.number ≡ self.old.number }
+        ensures chunks { self.new.chunks ≡ self.old.chunks }
+    {
+        let Some(chunk) = self.board.claim(&mut self.seat) else {
+            return false;
+        };
+        work.work(rt, self.number, chunk);
+        true
+    }
+
     /// Draws chunks and works on them until none is left, begins the next wave, and takes back all
     /// shifts of this one. The board that it returns can be closed with the seat, which then says
     /// that each chunk was drawn, and drawn once.
