@@ -11,17 +11,6 @@ use cp_crew::Work;
 use cp_plan::plan::Plan;
 use std::sync::Wait;
 
-// Returns the indices of the processes of a chunk of the wave at this index: that of the first one,
-// and the one after that of the last.
-fn places(plan: &Plan, wave: usize, chunk: usize) -> (usize, usize) {
-    let first = wave.saturating_mul(plan.wave as usize);
-    let from = first.saturating_add(chunk.saturating_mul(plan.chunk as usize));
-    let end = from
-        .saturating_add(plan.chunk as usize)
-        .min(first.saturating_add(plan.wave as usize));
-    (from, end)
-}
-
 /// How the private turns at a desk are made.
 #[derive(Drop)]
 pub struct DeskTurns<'a, C: Course, G: TurnGate> {
@@ -31,29 +20,35 @@ pub struct DeskTurns<'a, C: Course, G: TurnGate> {
     pub(crate) gate: &'a G,
     /// The number of waves in a round.
     pub(crate) waves: usize,
+    /// The number of chunks in the first wave of a round of all processes. No other wave has more.
+    pub(crate) chunks: usize,
     ghost course: { IsCourseOf C.turned C.input C.most setting.now plan.turn.steps },
 }
 
 impl<'a, C: Course, G: TurnGate> Work for DeskTurns<'a, C, G> {
     ghost can = { λ _. ⊤ };
 
-    // The waves of a run are numbered through all its rounds.
+    // The waves of a run are numbered through all its rounds, and the chunks of a round through all
+    // its waves.
     fn work<R: Wait>(&self, rt: &R, wave: usize, chunk: usize) {
         let Some(index) = wave.checked_rem(self.waves) else {
             return;
         };
-        let (from, end) = places(&self.plan, index, chunk);
-        for index in from..end.min(self.desk.processes()) {
-            let mut shared = self.desk.tasks[index].lock(rt);
-            // The turn is made on a task taken out of its place, so that threads don't write to the
+        let chunk = index.saturating_mul(self.chunks).saturating_add(chunk);
+        let Some(mut tasks) = self.desk.take_laid(rt, chunk) else {
+            return;
+        };
+        for slot in tasks.iter_mut() {
+            // The turn is made on a task taken out of its slot, so that threads don't write to the
             // same cache line.
-            if let Some(mut task) = shared.take() {
+            if let Some(mut task) = slot.take() {
                 if !task.is_made() {
-                    self.gate.begin(index + 1);
+                    self.gate.begin(task.process());
                     task.make(self.setting, self.plan.turn);
                 }
-                *shared = Some(task);
+                *slot = Some(task);
             }
         }
+        self.desk.put_back(rt, chunk, tasks);
     }
 }

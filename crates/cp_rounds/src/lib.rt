@@ -13,19 +13,22 @@
 //! - `turns`, `closing`: a private turn, and the end of a round.
 //! - `run`, `round`: rounds by threads that are kept, which draw the chunks of each wave from its
 //!   board.
-//! - `desk`, `task`, `desk_turns`: private turns on their way between threads, and how the threads
-//!   make them.
+//! - `desk`, `task`, `desk_turns`, `cursor`: private turns on their way between threads, and how the
+//!   threads make them.
+//! - `hand`: what the calling thread holds in a round, and how it takes private states back.
 //! - `replay`, `copies`, `events`: one round in any order of events, on the calling thread.
 #![tactic(auto)]
 
 mod chain;
 mod closing;
 mod copies;
+mod cursor;
 mod desk;
 mod desk_turns;
 mod events;
 pub mod gate;
 pub mod halted;
+mod hand;
 mod law;
 pub mod machine;
 mod moment;

@@ -91,10 +91,10 @@ impl<'r, 't> Machine<'r, 't> {
         })
     }
 
-    /// Makes one round. Workers make the private turns, wave by wave. The calling thread is one of
-    /// them, but it first makes the kernel turns of the previous wave, in order of process number,
-    /// while the others work. At the end, the processes that were started in the round begin. The
-    /// gate is called before each turn.
+    /// Makes one round. Workers make the private turns, wave by wave. The calling thread makes the
+    /// kernel turns, in order of process number, as soon as the private turns before them are made,
+    /// while the others work; where they aren't made yet, it is a worker too. At the end, the
+    /// processes that were started in the round begin. The gate is called before each turn.
     ///
     /// # Errors
     ///

@@ -18,11 +18,12 @@ ghost use Rattle.cp_rounds.specs.Turned.{moment_of};
 use crate::closing::close_round;
 use crate::desk_turns::DeskTurns;
 use crate::gate::TurnGate;
+use crate::hand::Hand;
 use crate::moment::Moment;
 use crate::parts::Parts;
 use crate::run::{Run, cell_at};
 use crate::task::{Course, Start};
-use cp_crew::{Rack, Wave};
+use cp_crew::Wave;
 use cp_kernel::kernel::Kernel;
 use cp_kernel::turns::kernel_turn;
 use cp_plan::turn::Turn;
@@ -75,74 +76,37 @@ fn reserve_room(
     Ok(())
 }
 
-// Makes the turns of a wave that nobody has made yet, begins the next wave, and closes the board of
-// the wave, all of whose turns are then made. Returns how many chunks were drawn.
-fn finish_wave<'a, C: Course, R: Wait, G: TurnGate>(
-    rt: &R,
-    rack: &Rack<'a, C>,
-    wave: Wave<'a, C>,
-    next: Option<&mut Wave<'a, C>>,
-    turns: &DeskTurns<'a, C, G>,
-) -> usize
-    ensures all { result ≡ wave.entry.chunks }
-{
-    let (board, seat) = wave.finish(rt, rack, next, turns);
-    board.close(seat)
-}
-
-// At the first turn of a wave: finishes the wave, which is the last of those that are left.
-fn begin_kernel_turns<'a, C: Course, R: Wait, G: TurnGate>(
-    rt: &R,
-    run: &Run<'a, C, G>,
-    left: &mut Vec<Wave<'a, C>>,
-    place: usize,
-) {
-    if place % run.turns.plan.wave as usize != 0 {
-        return;
-    }
-    let Some(wave) = left.pop() else {
-        return;
-    };
-    finish_wave(rt, &run.rack, wave, left.last_mut(), &run.turns);
-}
-
-// Takes the private state of a process from a place at the desk, after its private turn. It is kept
-// out of the loop over all processes.
+// Takes the private state of a process from the desk, after its private turn. It is kept out of the
+// loop over all processes.
 #[inline(never)]
 fn take_from_desk<'a, C: Course, R: Wait, G: TurnGate>(
     rt: &R,
     run: &Run<'a, C, G>,
-    left: &mut Vec<Wave<'a, C>>,
+    hand: &mut Hand<'a, C>,
     start: &OnceToken<'a, Start>,
     round: usize,
-    place: usize,
     process: usize,
     private: &mut Private,
 )
-    requires within { place < length run.now.turns.desk.tasks.items }
     requires cell { start.now.of ≡ C.cell round }
     ensures { IsTaken (C.turned (C.moment round)) (C.input (process - 1)) C.most
         start.now.value.value.items process private.new }
 {
-    begin_kernel_turns(rt, run, left, place);
-    *private = run.turns.desk.take(rt, start, round, place, process);
+    *private = hand.take(rt, run, start, round, process);
 }
 
 // Brings back a private state after its private turn, which it has made where it is if it rests.
-// Returns the place of the next one at the desk.
 #[inline(always)]
 fn bring_back<'a, C: Course, R: Wait, G: TurnGate>(
     rt: &R,
     run: &Run<'a, C, G>,
-    left: &mut Vec<Wave<'a, C>>,
+    hand: &mut Hand<'a, C>,
     start: &OnceToken<'a, Start>,
     round: usize,
     moment: Moment,
-    place: usize,
     process: usize,
     private: &mut Private,
-) -> usize
-    requires within { place < length run.now.turns.desk.tasks.items }
+)
     requires some { 0 < process }
     requires cell { start.now.of ≡ C.cell round }
     requires time { moment ≡ C.moment round }
@@ -152,34 +116,27 @@ fn bring_back<'a, C: Course, R: Wait, G: TurnGate>(
         → slice_get start.now.value.value.items (process - 1) ≡ Some private.old }
     ensures taken { IsTaken (C.turned (C.moment round)) (C.input (process - 1)) C.most
         start.now.value.value.items process private.new }
-    ensures place { result ≤ place + 1 }
 {
-    if private.rests(moment.wakes) {
-        return place;
+    if !private.rests(moment.wakes) {
+        take_from_desk(rt, run, hand, start, round, process, private);
     }
-    take_from_desk(rt, run, left, start, round, place, process, private);
-    place + 1
 }
 
 // Brings back the private state at an index after its private turn, and makes its kernel turn.
-// Returns the place of the next one at the desk.
 #[inline(always)]
 fn finish_next<'a, C: Course, R: Wait, G: TurnGate>(
     rt: &R,
     run: &Run<'a, C, G>,
-    left: &mut Vec<Wave<'a, C>>,
+    hand: &mut Hand<'a, C>,
     start: &OnceToken<'a, Start>,
     round: usize,
     moment: Moment,
-    place: usize,
     index: usize,
     privates: &mut Vec<Private>,
     kernel: &mut Kernel,
-) -> usize
+)
     requires within { index < length privates.old.items }
-    requires place { place ≤ index }
     requires count { length privates.old.items ≡ length start.now.value.value.items }
-    requires desk { length run.now.turns.desk.tasks.items ≡ length start.now.value.value.items }
     requires cell { start.now.of ≡ C.cell round }
     requires time { moment ≡ C.moment round }
     requires numbers { AreNumbered start.now.value.value.items }
@@ -197,12 +154,11 @@ fn finish_next<'a, C: Course, R: Wait, G: TurnGate>(
     ensures left { AreLeft moment.wakes (index + 1) start.now.value.value.items
         privates.new.items }
     ensures count { length privates.new.items ≡ length privates.old.items }
-    ensures place { result ≤ place + 1 }
     ensures ready { IsReady C.most (index + 1) start.now.value.value.items kernel.new }
 {
     let process = index + 1;
     let private = &mut privates[index];
-    let next = bring_back(rt, run, left, start, round, moment, place, process, private);
+    bring_back(rt, run, hand, start, round, moment, process, private);
     run.turns.gate.kernel(process);
     let input = run.turns.setting.input(process);
     kernel_turn(
@@ -213,15 +169,14 @@ fn finish_next<'a, C: Course, R: Wait, G: TurnGate>(
         moment.clock,
         run.turns.plan.turn,
     );
-    next
 }
 
-// Makes all turns of a round whose tasks are at the desk: the kernel turns of a wave alongside the
-// private turns of the next one. The first wave is the last of the list.
+// Makes all turns of a round whose tasks are at the desk: kernel turns alongside the private turns
+// that are left.
 fn finish_all<'a, C: Course, R: Wait, G: TurnGate>(
     rt: &R,
     run: &Run<'a, C, G>,
-    mut waves: Vec<Wave<'a, C>>,
+    hand: &mut Hand<'a, C>,
     start: &OnceToken<'a, Start>,
     round: usize,
     moment: Moment,
@@ -229,7 +184,6 @@ fn finish_all<'a, C: Course, R: Wait, G: TurnGate>(
     kernel: &mut Kernel,
 )
     requires count { length privates.old.items ≡ length start.now.value.value.items }
-    requires desk { length run.now.turns.desk.tasks.items ≡ length start.now.value.value.items }
     requires cell { start.now.of ≡ C.cell round }
     requires time { moment ≡ C.moment round }
     requires numbers { AreNumbered start.now.value.value.items }
@@ -244,15 +198,10 @@ fn finish_all<'a, C: Course, R: Wait, G: TurnGate>(
     ensures count { length privates.new.items ≡ length privates.old.items }
     ensures stages { length kernel.new.stages.items ≡ length privates.new.items }
 {
-    if let Some(wave) = waves.last_mut() {
-        wave.begin(rt, &run.rack);
-    }
-    let mut place = 0;
     for i in 0..privates.len() {
-        place = finish_next(
-            rt, run, &mut waves, start, round, moment, place, i, privates, kernel,
-        );
+        finish_next(rt, run, hand, start, round, moment, i, privates, kernel);
     }
+    hand.end_wave(rt, run);
 }
 
 // Returns how many private turns a round makes at the desk: those of all processes, or else of those
@@ -299,7 +248,7 @@ fn waves_of<'a, C: Course, R: Wait, G: TurnGate>(
     for later in 0..count {
         let index = count - 1 - later;
         let chunks = run.turns.plan.chunks(index, turns);
-        // The calling thread makes the kernel turns of the wave before.
+        // The calling thread may still make the kernel turns of the wave before.
         let beside = if index > 0 { 1 } else { 0 };
         let number = run.number_of(round, index);
         let sheet = cell_at(run.sheets, number);
@@ -325,9 +274,9 @@ pub fn make_round<'a, C: Course, R: Wait, G: TurnGate>(
     rt: &R,
     run: &Run<'a, C, G>,
     round: usize,
+    hand: &mut Hand<'a, C>,
     parts: &mut Parts,
 ) -> Result<(), AllocError>
-    requires count { length run.now.turns.desk.tasks.items ≡ length parts.old.privates.items }
     requires round { round < length run.now.cells.now }
     ensures made { IfOk result (λ _. PartsAfter run.now.turns.setting.now
         run.now.turns.plan.turn.steps (run.now.done + round) 1 parts.old parts.new) }
@@ -352,20 +301,23 @@ pub fn make_round<'a, C: Course, R: Wait, G: TurnGate>(
     let Ok(start) = cell_at(run.cells, round).set(rt, Snapshot::of(&parts.privates)) else {
         return Err(AllocError);
     };
+    hand.begin(rt, run, waves);
     desk.put_all(
         rt,
         run.alloc,
+        plan,
         &start,
         round,
         moment,
         of_all,
         turns,
         &mut parts.privates,
+        &mut hand.tasks,
     );
     finish_all(
         rt,
         run,
-        waves,
+        hand,
         &start,
         round,
         moment,

@@ -8,6 +8,7 @@ ghost use Rattle.cp_rounds.specs.declared.parts.Parts.{Parts};
 use crate::desk::Desk;
 use crate::desk_turns::DeskTurns;
 use crate::gate::TurnGate;
+use crate::hand::Hand;
 use crate::law::settings_are_shared;
 use crate::parts::Parts;
 use crate::round::make_round;
@@ -63,9 +64,12 @@ impl<'a, C: Course, G: TurnGate> Run<'a, C, G> {
     }
 
     // Makes a round for each cell. `Err` has the number of rounds made.
-    fn make_rounds<R: Wait>(&self, rt: &R, parts: &mut Parts) -> Result<(), usize>
-        requires count { length self.now.turns.desk.tasks.items ≡ length
-            parts.old.privates.items }
+    fn make_rounds<R: Wait>(
+        &self,
+        rt: &R,
+        hand: &mut Hand<'a, C>,
+        parts: &mut Parts,
+    ) -> Result<(), usize>
         ensures made { IfOk result (λ _. PartsAfter self.now.turns.setting.now
             self.now.turns.plan.turn.steps self.now.done (length self.now.cells.now) parts.old
             parts.new) }
@@ -75,7 +79,7 @@ impl<'a, C: Course, G: TurnGate> Run<'a, C, G> {
         ensures count { length parts.new.privates.items ≡ length parts.old.privates.items }
     {
         for round in 0..self.cells.len() {
-            if make_round(rt, self, round, parts).is_err() {
+            if make_round(rt, self, round, hand, parts).is_err() {
                 return Err(round);
             }
         }
@@ -102,7 +106,6 @@ fn make_rounds_at<'s, 'a, E, C: Course + Send + Sync, R: Threads + Wait + Sync, 
     mut parts: Parts,
 ) -> (Parts, Result<(), usize>)
     requires some { 0 < length run.now.cells.now }
-    requires count { length run.now.turns.desk.tasks.items ≡ length parts.privates.items }
     ensures made { IfOk result.1 (λ _. PartsAfter run.now.turns.setting.now
         run.now.turns.plan.turn.steps run.now.done (length run.now.cells.now) parts result.0) }
     ensures partly { IfErr result.1 (λ n. (n < length run.now.cells.now)
@@ -114,8 +117,11 @@ fn make_rounds_at<'s, 'a, E, C: Course + Send + Sync, R: Threads + Wait + Sync, 
     let Ok(ending) = ending(rt, run) else {
         return (parts, Err(0));
     };
+    let Ok(mut hand) = Hand::new(run.alloc, run.turns.plan.chunk as usize) else {
+        return (parts, Err(0));
+    };
     let made = match start(rt, scope, &run.rack, &run.turns) {
-        Ok(()) => run.make_rounds(rt, &mut parts),
+        Ok(()) => run.make_rounds(rt, &mut hand, &mut parts),
         Err(_) => Err(0),
     };
     ending.stop(rt, &run.rack);
@@ -158,8 +164,6 @@ fn make_rounds_kept<
     H: Holder,
 >(rt: &'s R, run: &'s Run<'a, C, G>, held: H) -> (H, Result<(), usize>)
     requires some { 0 < length run.now.cells.now }
-    requires count { length run.now.turns.desk.tasks.items ≡ length
-        (H.holds held).privates.items }
     ensures made { IfOk result.1 (λ _. PartsAfter run.now.turns.setting.now
         run.now.turns.plan.turn.steps run.now.done (length run.now.cells.now) (H.holds held)
         (H.holds result.0)) }
@@ -173,9 +177,7 @@ fn make_rounds_kept<
         thread::scope_env(),
         rt,
         move |scope| -> (H, Result<(), usize>)
-            requires { (0 < length run.now.cells.now)
-                × (length run.now.turns.desk.tasks.items ≡ length
-                (H.holds held).privates.items) }
+            requires { 0 < length run.now.cells.now }
             ensures made { IfOk result.1 (λ _. PartsAfter run.entry.now.turns.setting.now
                 run.entry.now.turns.plan.turn.steps run.entry.now.done
                 (length run.entry.now.cells.now) (H.holds held) (H.holds result.0)) }
@@ -221,7 +223,8 @@ fn make_rounds_by_threads<C: Course + Send + Sync, R: Threads + Wait + Sync, G: 
 {
     let processes = parts.privates.len();
     let threads = plan.threads(processes);
-    let Ok(desk) = Desk::<C>::new(alloc, processes) else {
+    let chunks = plan.chunks(0, processes);
+    let Ok(desk) = Desk::<C>::new(alloc, chunks.saturating_mul(waves), plan.chunk as usize) else {
         return (parts, Err(0));
     };
     let Ok(rack) = Rack::<C>::new(alloc, threads.saturating_sub(1)) else {
@@ -235,6 +238,7 @@ fn make_rounds_by_threads<C: Course + Send + Sync, R: Threads + Wait + Sync, G: 
             plan: *plan,
             gate,
             waves,
+            chunks,
         },
         rack,
         done,

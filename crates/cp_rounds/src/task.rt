@@ -97,6 +97,11 @@ impl<'a, C: Course> Task<'a, C> {
         }
     }
 
+    /// Returns the number of the process.
+    pub fn process(&self) -> usize {
+        self.process
+    }
+
     /// Returns whether the turn has been made.
     pub fn is_made(&self) -> bool
         ensures { result ≡ self.now.made }

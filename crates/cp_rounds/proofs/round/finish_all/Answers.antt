@@ -9,7 +9,6 @@ use Rattle.cp_rounds.proofs.round.finish_all.Goals as goal
 
 pub loop-i-init : goal.loop-i-init
 loop-i-init g c = record {
-  place = omega arith;
   count = c.requires.count;
   left = c.requires.left;
   ready = c.requires.ready;
@@ -22,11 +21,8 @@ loop-i-init g c = record {
 pub loop-i-preserved : goal.loop-i-preserved
 loop-i-preserved g c =
     let was = c.loop-i.invariant in
-    let more = c.finish_next-place.ensures in
-    let next = more.place in
-    let place = was.place in
+    let more = c.finish_next.ensures in
     record {
-      place = omega (arith, next, place);
       count = more.count ∙ was.count;
       left = more.left;
       ready = more.ready;

@@ -1,4 +1,4 @@
-use Rattle.std.proofs.Common.{◌≡◌, ◌≤◌, ℕ, length, take}
+use Rattle.std.proofs.Common.{◌≡◌, ℕ, length, take}
 use Rattle.cp_rounds.specs.Made.{IsReady}
 use Rattle.cp_rounds.specs.Numbers.{AreNumbered}
 use Rattle.cp_rounds.specs.Runs.{TurnsTaken}
@@ -8,7 +8,6 @@ use Rattle.cp_rounds.proofs.round.finish_all.Given as goal
 
 abbrev pub invariant-loop-i : goal.invariant-loop-i
 invariant-loop-i g l = record {
-  place : l.place ≤ l.i;
   count : length l.privates.items ≡ length l.start.value.value.items;
   left : AreLeft l.moment.wakes l.i l.start.value.value.items l.privates.items;
   ready : IsReady g.C.Course.most l.i l.start.value.value.items l.kernel;

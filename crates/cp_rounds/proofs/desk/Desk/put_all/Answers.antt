@@ -6,8 +6,8 @@ use Rattle.cp_rounds.proofs.Lists.{got_or, got_set}
 use Rattle.cp_rounds.proofs.Rounds.{set_apart, set_length}
 use Rattle.cp_rounds.proofs.desk.Desk.put_all.Goals as goal
 
-pub new-requires-clause-at : goal.new-requires-clause-at
-new-requires-clause-at g c =
+pub new-task-requires-clause-at : goal.new-task-requires-clause-at
+new-task-requires-clause-at g c =
     let i = c.loop-i.i in
     let xs = c.loop-i.privates.items in
     let r = c.replace-private.result in
@@ -22,19 +22,19 @@ new-requires-clause-at g c =
     subst (λ (l : List Private). slice_get l (i + 1 - 1) ≡ Some r) (sym c.requires.start)
     (ap (λ (j : ℕ). slice_get c.args.privates.now.items j) back ∙ c.loop-i.invariant.rest i r none taken)
 
-pub new-requires-clause-number : goal.new-requires-clause-number
-new-requires-clause-number g c =
+pub new-task-requires-clause-number : goal.new-task-requires-clause-number
+new-task-requires-clause-number g c =
     let i = c.loop-i.i in
     let r = c.replace-private.result in
     let back : i ≡ i + 1 - 1 = omega arith in
     let next : suc i ≡ i + 1 = omega arith in
-    let was = subst (λ (l : List Private). slice_get l (i + 1 - 1) ≡ Some r) c.requires.start (new-requires-clause-at g c) in
+    let was = subst (λ (l : List Private). slice_get l (i + 1 - 1) ≡ Some r) c.requires.start (new-task-requires-clause-at g c) in
     c.requires.numbers i r (ap (λ (j : ℕ). slice_get c.args.privates.now.items j) back ∙ was) ∙ next
 
-pub new-requires-clause-room : goal.new-requires-clause-room
-new-requires-clause-room g c =
+pub new-task-requires-clause-room : goal.new-task-requires-clause-room
+new-task-requires-clause-room g c =
     let r = c.replace-private.result in
-    let was = subst (λ (l : List Private). slice_get l (c.loop-i.i + 1 - 1) ≡ Some r) c.requires.start (new-requires-clause-at g c) in
+    let was = subst (λ (l : List Private). slice_get l (c.loop-i.i + 1 - 1) ≡ Some r) c.requires.start (new-task-requires-clause-at g c) in
     c.requires.free (c.loop-i.i + 1 - 1) r was
 
 pub loop-i-preserved : goal.loop-i-preserved
@@ -44,10 +44,8 @@ loop-i-preserved g c =
     let absent = c.replace-private.new.dest in
     let wakes = c.args.moment.wakes in
     let was = c.loop-i.invariant in
-    let place = was.place in
     let moves : rests wakes absent ≡ false = ap (λ (z : Private). rests wakes z) c.replace-private.ensures.after ∙ c.absent.ensures wakes in
     record {
-      place = omega (arith, place);
       count = set_length xs i absent ∙ was.count;
       left = λ j y before e is. ⊎_elim
           (λ (h : (j ≡ i) × (absent ≡ y)). absurd (false≢true (sym moves ∙ (ap (λ (z : Private). rests wakes z) h.1 ∙ is))))

@@ -14,9 +14,6 @@ loop-round-init g c =
           (all_same parts.privates.items parts.kernel parts.kernel refl refl);
     }
 
-pub make_round-requires-clause-count : goal.make_round-requires-clause-count
-make_round-requires-clause-count g c = λ lives outlive. c.requires.count ∙ sym c.loop-round.invariant.count
-
 pub loop-round-preserved : goal.loop-round-preserved
 loop-round-preserved g c =
     let was = c.loop-round.invariant in

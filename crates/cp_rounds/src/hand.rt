@@ -1,0 +1,154 @@
+//! What the calling thread holds in a round.
+
+ghost use Rattle.std.specs.Prelude.{◌≡◌, ◌-◌, true};
+ghost use Rattle.cp_rounds.specs.Tasks.{ComesOf, HasRoomLeft, IsShort};
+
+use crate::cursor::Cursor;
+use crate::desk::{Tasks, room_for_tasks};
+use crate::desk_turns::DeskTurns;
+use crate::gate::TurnGate;
+use crate::run::Run;
+use crate::task::{Course, Start};
+use cp_crew::{Rack, Wave};
+use cp_private::private::Private;
+use std::alloc::{AllocError, Global};
+use std::sync::{OnceToken, Wait};
+
+/// The waves that are left of a round, the first one last, and the chunk from which the calling
+/// thread takes private states.
+#[derive(Drop)]
+pub(crate) struct Hand<'a, C: Course> {
+    pub(crate) waves: Vec<Wave<'a, C>>,
+    pub(crate) tasks: Tasks<'a, C>,
+    /// The next place from which a private state is taken.
+    pub(crate) place: Cursor,
+}
+
+// Makes the turns of a wave that nobody has made yet, begins the next wave, and closes the board of
+// the wave, all of whose turns are then made. Returns how many chunks were drawn.
+fn finish_wave<'a, C: Course, R: Wait, G: TurnGate>(
+    rt: &R,
+    rack: &Rack<'a, C>,
+    wave: Wave<'a, C>,
+    next: Option<&mut Wave<'a, C>>,
+    turns: &DeskTurns<'a, C, G>,
+) -> usize
+    ensures all { result ≡ wave.entry.chunks }
+{
+    let (board, seat) = wave.finish(rt, rack, next, turns);
+    board.close(seat)
+}
+
+impl<'a, C: Course> Hand<'a, C> {
+    /// Returns a hand with room for the tasks of a chunk of this many processes.
+    ///
+    /// # Errors
+    ///
+    /// `AllocError` if memory runs out.
+    pub(crate) fn new(alloc: Global, processes: usize) -> Result<Hand<'a, C>, AllocError> {
+        Ok(Hand {
+            waves: Vec::new(alloc),
+            tasks: room_for_tasks(alloc, processes)?,
+            place: Cursor::first(),
+        })
+    }
+
+    /// Begins a round with these waves: the threads may draw from the first one.
+    pub(crate) fn begin<R: Wait, G: TurnGate>(
+        &mut self,
+        rt: &R,
+        run: &Run<'a, C, G>,
+        waves: Vec<Wave<'a, C>>,
+    ) {
+        run.turns.desk.clear();
+        self.waves = waves;
+        self.place = Cursor::first();
+        if let Some(wave) = self.waves.last_mut() {
+            wave.begin(rt, &run.rack);
+        }
+    }
+
+    /// Ends the wave whose private states have all been taken.
+    pub(crate) fn end_wave<R: Wait, G: TurnGate>(&mut self, rt: &R, run: &Run<'a, C, G>) {
+        if let Some(wave) = self.waves.pop() {
+            finish_wave(rt, &run.rack, wave, self.waves.last_mut(), &run.turns);
+        }
+    }
+
+    // Makes the turns of a chunk of the wave. Returns false if none is left.
+    fn help<R: Wait, G: TurnGate>(&mut self, rt: &R, run: &Run<'a, C, G>) -> bool {
+        match self.waves.last_mut() {
+            Some(wave) => wave.help(rt, &run.turns),
+            None => false,
+        }
+    }
+
+    // Begins the wave after this one.
+    fn begin_next<R: Wait, G: TurnGate>(&mut self, rt: &R, run: &Run<'a, C, G>) {
+        let after = self.waves.len().wrapping_sub(2);
+        if let Some(wave) = self.waves.get_mut(after) {
+            wave.begin(rt, &run.rack);
+        }
+    }
+
+    // Takes the tasks of a chunk, once their turns are made. Until then it makes the turns of
+    // others.
+    fn fetch<R: Wait, G: TurnGate>(&mut self, rt: &R, run: &Run<'a, C, G>) {
+        for _ in rt.forever() {
+            let seen = run.rack.back().count();
+            if run.turns.desk.exchange(self.place.chunk, &mut self.tasks) {
+                return;
+            }
+            if !self.help(rt, run) {
+                run.rack.back().wait(rt, seen);
+            }
+        }
+    }
+
+    // Goes on to the next chunk. Where it is the first one of a wave, the threads may draw from the
+    // wave after that one too.
+    fn next_chunk<R: Wait, G: TurnGate>(&mut self, rt: &R, run: &Run<'a, C, G>) {
+        if self.place.begins_wave() {
+            if self.place.chunk > 0 {
+                self.end_wave(rt, run);
+            }
+            self.begin_next(rt, run);
+        }
+        self.fetch(rt, run);
+    }
+
+    /// Returns the private state of a process after its private turn in a round.
+    pub(crate) fn take<R: Wait, G: TurnGate>(
+        &mut self,
+        rt: &R,
+        run: &Run<'a, C, G>,
+        start: &OnceToken<'a, Start>,
+        round: usize,
+        process: usize,
+    ) -> Private
+        requires cell { start.now.of ≡ C.cell round }
+        ensures number { result.number ≡ process }
+        ensures comes { ComesOf (C.turned (C.moment round)) (C.input (process - 1))
+            start.now.value.value.items (process - 1) true result }
+        ensures room { HasRoomLeft C.most true result }
+        ensures short { IsShort C.most start.now.value.value.items (process - 1) true result }
+    {
+        if self.place.slot == 0 {
+            self.next_chunk(rt, run);
+        }
+        let slot = self.place.slot;
+        self.place = self.place.next(&run.turns.plan);
+        for _ in rt.forever() {
+            let Some(found) = self.tasks.get_mut(slot) else {
+                continue;
+            };
+            let Some(task) = found.take() else {
+                continue;
+            };
+            if let Some(private) = task.finish(start, round, process) {
+                return private;
+            }
+        }
+        unreachable!()
+    }
+}
