@@ -2,6 +2,7 @@
 
 ghost use Rattle.std.specs.Prelude.{◌≡◌, ℕ, pos, List, if◌then◌else◌};
 ghost use Rattle.cp_program_model.specs.Tables.{place_in};
+ghost use Rattle.cp_program_model.specs.Terms.{Rooted};
 ghost use Rattle.cp_model.specs.Integers.{same_integer};
 ghost use Rattle.cp_model.specs.Places.{within};
 ghost use Rattle.cp_machine_model.specs.Steps as plain;
@@ -16,7 +17,7 @@ use crate::outside::Outside;
 use crate::private::Private;
 use cp_model::state::Fault;
 use cp_program::operation::Table;
-use cp_program::term::{Spot, Term};
+use cp_program::term::{Root, Spot, Term};
 
 /// The bounds of the values that may be assigned.
 #[derive(Clone, Copy)]
@@ -90,6 +91,30 @@ impl Private {
         ensures ready { IsReady self.old → IsReady self.new }
     {
         let at = self.place(shared, outside, to)?;
+        let n = self.evaluate(shared, outside, value)?;
+        self.set_within(shared, at, n, Bounds::new(*low, *high), *next)
+    }
+
+    /// Sets a whole variable.
+    #[inline(never)]
+    pub(crate) fn set_root(
+        &mut self,
+        shared: &mut [i32],
+        outside: &Outside,
+        root: Root,
+        value: &Term,
+        low: &i32,
+        high: &i32,
+        next: &u32,
+    ) -> Result<Effect, Fault>
+        requires { IsAddressable shared.old }
+        ensures step { IsStep self.old shared.old outside.now self.new shared.new result
+            (λ w o. plain.with_place w o (Rooted (view.root root)) (λ at. plain.with_value w o
+            (view.term value.now) (λ n. plain.set_within o low.now high.now at n
+            next.now))) }
+        ensures kept { KeepsRest self.old shared.old self.new shared.new }
+    {
+        let at = self.reach(shared, outside).root_place(root);
         let n = self.evaluate(shared, outside, value)?;
         self.set_within(shared, at, n, Bounds::new(*low, *high), *next)
     }

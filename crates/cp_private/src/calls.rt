@@ -86,7 +86,8 @@ impl Private {
         }
     }
 
-    /// Calls a routine.
+    /// Calls a routine. Within the loop over steps it would take registers from all other steps.
+    #[inline(never)]
     pub(crate) fn call(
         &mut self,
         program: &Program,

@@ -7,15 +7,39 @@ ghost use Rattle.std.specs.Prelude.{◌≡◌, false, true, ℕ, List, [], pos, 
 ghost use Rattle.cp_private.specs.Keeping.{KeepsOwn};
 ghost use Rattle.cp_private.specs.Quick.{Makes};
 ghost use Rattle.cp_private.specs.States.{IsReady, join};
+ghost use Rattle.cp_private.specs.declared.quick.Attempt.TheVariants as attempt_case;
 ghost use Rattle.cp_model.specs.Integers.{same_integer};
 ghost use Rattle.cp_machine_model.specs.PrivateStates.{Outside, go_to, private_outcome};
 ghost use Rattle.cp_machine_model.specs.Steps as plain;
 ghost use Rattle.cp_program.specs.View as view;
+ghost use Rattle.cp_program_model.specs.Terms as terms;
 
 use crate::assignments::Bounds;
 use crate::private::Private;
 use cp_program::operation::Operation;
 use cp_program::term::{Spot, Term};
+
+/// What became of a step that was tried in registers.
+#[derive(Clone, Copy)]
+pub(crate) enum Attempt {
+    Made,
+    /// Not made: the operation calls a routine or returns from one.
+    Calls,
+    /// Not made: the operation is rare, or its terms go deeper or fault.
+    Rare,
+}
+
+#[inline(always)]
+fn attempted(is_made: bool) -> Attempt
+    ensures made { result ≡ attempt_case.Made → is_made ≡ true }
+    ensures rare { (result ≡ attempt_case.Made → ⊥) → is_made ≡ false }
+{
+    if is_made {
+        Attempt::Made
+    } else {
+        Attempt::Rare
+    }
+}
 
 impl Private {
     // Writes a word, if the value is within its bounds.
@@ -57,6 +81,54 @@ impl Private {
     }
 
     #[inline(always)]
+    fn set_local_quickly(
+        &mut self,
+        at: &u32,
+        value: &Term,
+        low: &i32,
+        high: &i32,
+        next: &u32,
+    ) -> bool
+        ensures step { result ≡ true → (w : Outside) (input : List ℕ)
+            → let o = join self.old input [] in join self.new input []
+            ≡ (plain.with_place w o (terms.Rooted (terms.Local at.now)) (λ at. plain.with_value w o
+            (view.term value.now) (λ n. plain.set_within o low.now high.now at n next.now))).0 }
+        ensures same { result ≡ false → self.new ≡ self.old }
+        ensures kept { KeepsOwn self.old self.new }
+        ensures ready { IsReady self.old → IsReady self.new }
+    {
+        let Some(n) = value.near_value(&self.memory, &[]) else {
+            return false;
+        };
+        let at = self.memory.local(*at);
+        self.write_within(at, n, low, high, next)
+    }
+
+    #[inline(always)]
+    fn set_member_quickly(
+        &mut self,
+        at: &u32,
+        value: &Term,
+        low: &i32,
+        high: &i32,
+        next: &u32,
+    ) -> bool
+        ensures step { result ≡ true → (w : Outside) (input : List ℕ)
+            → let o = join self.old input [] in join self.new input []
+            ≡ (plain.with_place w o (terms.Rooted (terms.Member at.now)) (λ at. plain.with_value w o
+            (view.term value.now) (λ n. plain.set_within o low.now high.now at n next.now))).0 }
+        ensures same { result ≡ false → self.new ≡ self.old }
+        ensures kept { KeepsOwn self.old self.new }
+        ensures ready { IsReady self.old → IsReady self.new }
+    {
+        let Some(n) = value.near_value(&self.memory, &[]) else {
+            return false;
+        };
+        let at = self.memory.member(*at);
+        self.write_within(at, n, low, high, next)
+    }
+
+    #[inline(always)]
     fn set_result_quickly(&mut self, value: &Term, low: &i32, high: &i32, next: &u32) -> bool
         ensures step { result ≡ true → (w : Outside) (input : List ℕ)
             → let o = join self.old input [] in join self.new input []
@@ -93,11 +165,12 @@ impl Private {
     /// Makes the step of an assignment or of a choice where that takes no more than registers.
     /// Returns whether it did, and otherwise changes nothing.
     #[inline(always)]
-    pub(crate) fn take_quick_step(&mut self, operation: &Operation) -> bool
-        ensures step { result ≡ true → Makes (view.operation operation.now) self.old self.new }
-        ensures private { result ≡ true
+    pub(crate) fn take_quick_step(&mut self, operation: &Operation) -> Attempt
+        ensures step { result ≡ attempt_case.Made
+            → Makes (view.operation operation.now) self.old self.new }
+        ensures private { result ≡ attempt_case.Made
             → plain.is_kernel_operation (view.operation operation.now) ≡ false }
-        ensures same { result ≡ false → self.new ≡ self.old }
+        ensures same { (result ≡ attempt_case.Made → ⊥) → self.new ≡ self.old }
         ensures kept { KeepsOwn self.old self.new }
         ensures ready { IsReady self.old → IsReady self.new }
     {
@@ -108,19 +181,35 @@ impl Private {
                 high,
                 value,
                 next,
-            } => self.set_quickly(to, value, low, high, next),
+            } => attempted(self.set_quickly(to, value, low, high, next)),
+            Operation::SetLocal {
+                at,
+                low,
+                high,
+                value,
+                next,
+            } => attempted(self.set_local_quickly(at, value, low, high, next)),
+            Operation::SetMember {
+                at,
+                low,
+                high,
+                value,
+                next,
+            } => attempted(self.set_member_quickly(at, value, low, high, next)),
             Operation::SetResult {
                 low,
                 high,
                 value,
                 next,
-            } => self.set_result_quickly(value, low, high, next),
-            Operation::Test { value, yes, no } => self.test_quickly(value, yes, no),
+            } => attempted(self.set_result_quickly(value, low, high, next)),
+            Operation::Test { value, yes, no } => attempted(self.test_quickly(value, yes, no)),
             Operation::Cycle { body } => {
                 self.counter = *body;
-                true
+                Attempt::Made
             }
-            _ => false,
+            Operation::Procedure { .. } | Operation::Function { .. } | Operation::Return { .. } =>
+                Attempt::Calls,
+            _ => Attempt::Rare,
         }
     }
 }

@@ -16,6 +16,7 @@ use cp_program::term::Spot;
 
 impl Private {
     /// Returns from the running routine. It is a fault if a function has set no result.
+    #[inline(always)]
     pub(crate) fn leave_routine(
         &mut self,
         shared: &[i32],

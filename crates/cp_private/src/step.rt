@@ -1,6 +1,6 @@
 //! One step of a process.
 
-ghost use Rattle.std.specs.Prelude.{◌≡◌, false, true, ℕ, List, [], length};
+ghost use Rattle.std.specs.Prelude.{◌≡◌, false, true, ℕ, List, [], Some, length};
 ghost use Rattle.cp_private.specs.Keeping.{IsAddressable, KeepsOwnButOutput, KeepsRestButOutput};
 ghost use Rattle.cp_private.specs.Rooms.{HasRoomFor};
 ghost use Rattle.cp_private.specs.States.{IsAlone, IsReady, IsStep, effect, join, outside_of, private_of};
@@ -13,9 +13,11 @@ use crate::called::Back;
 use crate::effect::Effect;
 use crate::outside::Outside;
 use crate::private::{Activity, Private};
+use crate::quick::Attempt;
 use cp_model::state::Fault;
 use cp_program::operation::{Operation, Target};
 use cp_program::program::Program;
+use cp_program::term::Root;
 
 impl Private {
     // Makes the step of an operation. If it faults, nothing has changed except what was passed to a
@@ -42,6 +44,20 @@ impl Private {
                 value,
                 next,
             } => self.set(shared, outside, to, value, low, high, next),
+            Operation::SetLocal {
+                at,
+                low,
+                high,
+                value,
+                next,
+            } => self.set_root(shared, outside, Root::Local(*at), value, low, high, next),
+            Operation::SetMember {
+                at,
+                low,
+                high,
+                value,
+                next,
+            } => self.set_root(shared, outside, Root::Member(*at), value, low, high, next),
             Operation::SetResult {
                 low,
                 high,
@@ -140,6 +156,56 @@ impl Private {
         matches!(self.activity, Activity::Running) && self.gate == 0
     }
 
+    // Makes the next step of a process that is ready, which is that of the operation, if the step is
+    // private. Returns whether one more step may be private.
+    #[inline(always)]
+    fn take_step_of(&mut self, operation: &Operation, program: &Program, outside: &Outside) -> bool
+        requires alone { IsAlone outside.now }
+        requires ready { IsReady self.old }
+        requires room { HasRoomFor self.old 1 }
+        requires next { plain.operation_of (view.program program.now)
+            (private_of self.old outside.now.input.now) ≡ Some (view.operation operation.now) }
+        ensures step { private_of self.new outside.now.input.now ≡ plain.private_step
+            (view.program program.now) outside.now.clock
+            (private_of self.old outside.now.input.now) }
+        ensures ready { result ≡ true → IsReady self.new }
+        ensures rest { result ≡ false → plain.private_step (view.program program.now)
+            outside.now.clock (private_of self.new outside.now.input.now)
+            ≡ private_of self.new outside.now.input.now }
+        ensures kept { KeepsOwnButOutput self.old self.new }
+    {
+        if needs_kernel(operation) {
+            return false;
+        }
+        self.make(operation, program, &mut [], outside);
+        self.is_ready()
+    }
+
+    // The same out of line, so that the loop over steps holds no registers for rare operations.
+    #[inline(never)]
+    fn take_rare_step(
+        &mut self,
+        operation: &Operation,
+        program: &Program,
+        outside: &Outside,
+    ) -> bool
+        requires alone { IsAlone outside.now }
+        requires ready { IsReady self.old }
+        requires room { HasRoomFor self.old 1 }
+        requires next { plain.operation_of (view.program program.now)
+            (private_of self.old outside.now.input.now) ≡ Some (view.operation operation.now) }
+        ensures step { private_of self.new outside.now.input.now ≡ plain.private_step
+            (view.program program.now) outside.now.clock
+            (private_of self.old outside.now.input.now) }
+        ensures ready { result ≡ true → IsReady self.new }
+        ensures rest { result ≡ false → plain.private_step (view.program program.now)
+            outside.now.clock (private_of self.new outside.now.input.now)
+            ≡ private_of self.new outside.now.input.now }
+        ensures kept { KeepsOwnButOutput self.old self.new }
+    {
+        self.take_step_of(operation, program, outside)
+    }
+
     /// Makes the next step of a process that is ready, if the step is private. Returns whether one
     /// more step may be private.
     #[inline(always)]
@@ -159,14 +225,11 @@ impl Private {
         let Some(operation) = program.operation(self.counter) else {
             return false;
         };
-        if self.take_quick_step(operation) {
-            return true;
+        match self.take_quick_step(operation) {
+            Attempt::Made => true,
+            Attempt::Calls => self.take_step_of(operation, program, outside),
+            Attempt::Rare => self.take_rare_step(operation, program, outside),
         }
-        if needs_kernel(operation) {
-            return false;
-        }
-        self.make(operation, program, &mut [], outside);
-        self.is_ready()
     }
 }
 

@@ -154,6 +154,8 @@ counting c = record {
 
 abbrev pub operation : Operation → code.Operation
 operation (operation_case.Set to low high value next) = code.Set (spot to) low high (term value) next
+operation (operation_case.SetLocal at low high value next) = code.Set (plain.Rooted (plain.Local at)) low high (term value) next
+operation (operation_case.SetMember at low high value next) = code.Set (plain.Rooted (plain.Member at)) low high (term value) next
 operation (operation_case.SetResult low high value next) = code.SetResult low high (term value) next
 operation (operation_case.CopyWords to from size next) = code.CopyWords (spot to) (spot from) size next
 operation (operation_case.Test value yes' no') = code.Test (term value) yes' no'

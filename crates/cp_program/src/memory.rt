@@ -42,16 +42,18 @@ impl Memory {
         }
     }
 
+    /// The place of a word of the activation.
     #[inline(always)]
-    pub(crate) fn local(&self, at: u32) -> usize
+    pub fn local(&self, at: u32) -> usize
         ensures place { result ≡ self.now.base + at }
         ensures small { result < 2 ^ 33 }
     {
         self.base as usize + at as usize
     }
 
+    /// The place of a word of the component.
     #[inline(always)]
-    pub(crate) fn member(&self, at: u32) -> usize
+    pub fn member(&self, at: u32) -> usize
         ensures place { result ≡ self.now.component + at }
         ensures small { result < 2 ^ 33 }
     {

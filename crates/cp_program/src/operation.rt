@@ -1,6 +1,10 @@
 //! Operations. Each is one step and holds the place to which it leads. A place is an index into the
 //! program's operations.
 
+ghost use Rattle.std.specs.Prelude.{◌≡◌};
+ghost use Rattle.cp_program_model.specs.Programs as code;
+ghost use Rattle.cp_program.specs.View as view;
+
 use crate::arms::Arms;
 use crate::term::{Root, Spot, Term};
 
@@ -88,6 +92,22 @@ pub enum Operation {
         value: Term,
         next: u32,
     },
+    /// Sets a word of the activation.
+    SetLocal {
+        at: u32,
+        low: i32,
+        high: i32,
+        value: Term,
+        next: u32,
+    },
+    /// Sets a word of the component.
+    SetMember {
+        at: u32,
+        low: i32,
+        high: i32,
+        value: Term,
+        next: u32,
+    },
     /// Sets the result of the running function.
     SetResult {
         low: i32,
@@ -170,4 +190,37 @@ pub enum Operation {
     Wait {
         next: u32,
     },
+}
+
+impl Operation {
+    /// The assignment of a value to a variable. One to a whole variable of the activation or of the
+    /// component has a form of its own, since most are.
+    pub fn set(to: Spot, low: i32, high: i32, value: Term, next: u32) -> Operation
+        ensures { view.operation result ≡ code.Set (view.spot to) low high (view.term value) next }
+    {
+        let Spot { root, indices } = to;
+        match (root, indices.is_empty()) {
+            (Root::Local(at), true) => Operation::SetLocal {
+                at,
+                low,
+                high,
+                value,
+                next,
+            },
+            (Root::Member(at), true) => Operation::SetMember {
+                at,
+                low,
+                high,
+                value,
+                next,
+            },
+            _ => Operation::Set {
+                to: Spot { root, indices },
+                low,
+                high,
+                value,
+                next,
+            },
+        }
+    }
 }

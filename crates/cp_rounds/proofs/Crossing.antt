@@ -26,70 +26,10 @@ call_sync = search (sendable, crosses, argument_sync, target.the_field_sync) dep
 
 ruleset shared = (sendable, crosses, terms.crosses, argument_sync, call_sync, counting.the_sync, counting.the_field_sync, table.the_sync, table.the_field_sync)
 
--- Each of the 21 kinds by itself.
+-- Each of the 23 kinds by itself.
 operation_sync : IsSync operation.the_row
 operation_sync =
-    variants_sync operation.enum (
-      search shared depth 40 fits 4000,
-      (
-        search shared depth 40 fits 4000,
-        (
-          search shared depth 40 fits 4000,
-          (
-            search shared depth 40 fits 4000,
-            (
-              search shared depth 40 fits 4000,
-              (
-                search shared depth 40 fits 4000,
-                (
-                  search shared depth 40 fits 4000,
-                  (
-                    search shared depth 40 fits 4000,
-                    (
-                      search shared depth 40 fits 4000,
-                      (
-                        search shared depth 40 fits 4000,
-                        (
-                          search shared depth 40 fits 4000,
-                          (
-                            search shared depth 40 fits 4000,
-                            (
-                              search shared depth 40 fits 4000,
-                              (
-                                search shared depth 40 fits 4000,
-                                (
-                                  search shared depth 40 fits 4000,
-                                  (
-                                    search shared depth 40 fits 4000,
-                                    (
-                                      search shared depth 40 fits 4000,
-                                      (
-                                        search shared depth 40 fits 4000,
-                                        (
-                                          search shared depth 40 fits 4000,
-                                          (
-                                            search shared depth 40 fits 4000,
-                                            (search shared depth 40 fits 4000, tt),
-                                          ),
-                                        ),
-                                      ),
-                                    ),
-                                  ),
-                                ),
-                              ),
-                            ),
-                          ),
-                        ),
-                      ),
-                    ),
-                  ),
-                ),
-              ),
-            ),
-          ),
-        ),
-      ),
-    )
+    variants_sync operation.enum (search shared depth 40 fits 4000, (search shared depth 40 fits 4000, (search shared depth 40 fits 4000, (search shared depth 40 fits 4000, (search shared depth 40 fits 4000, (search shared depth 40 fits 4000, (search shared depth 40 fits 4000, (search shared depth 40 fits 4000, (search shared depth 40 fits 4000, (search shared depth 40 fits 4000, (search shared depth 40 fits 4000, (search shared depth 40 fits 4000, (search shared depth 40 fits 4000, (search shared depth 40 fits 4000, (search shared depth 40 fits 4000, (search shared depth 40 fits 4000, (search shared depth 40 fits 4000, (search shared depth 40 fits 4000, (search shared depth 40 fits 4000, (search shared depth 40 fits 4000, (search shared depth 40 fits 4000, (search shared depth 40 fits 4000, (search shared depth 40 fits 4000, tt)))))))))))))))))))))))
 
 program_sync : IsSync program.the_row
 program_sync = search (sendable, crosses, operation_sync, unit.the_sync, monitor.the_sync, process.the_sync, plan.the_sync) depth 40 fits 4000

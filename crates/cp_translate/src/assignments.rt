@@ -103,13 +103,7 @@ impl<'s, 't> Translator<'s, 't> {
     {
         let mut calls = calls;
         let made = self.term(e, to.temps, &mut calls)?;
-        let set = Operation::Set {
-            to: to.spot,
-            low: simple.low,
-            high: simple.high,
-            value: made.term,
-            next,
-        };
+        let set = Operation::set(to.spot, simple.low, simple.high, made.term, next);
         emitter.emit(calls, set, origin)
     }
 

@@ -7,14 +7,24 @@ use Rattle.cp_private.proofs.private.Private.take_quick_step.Goals as goal
 pub returns-in-Set-clause-step : goal.returns-in-Set-clause-step
 returns-in-Set-clause-step c =
     λ yes program w input.
-    c.set_quickly.ensures.step yes w input ∙ sym (ap (λ x. (act program w (join c.args.self.now input []) (view.operation x)).0) c.in-Set.is)
+    c.set_quickly.ensures.step (c.attempted.ensures.made yes) w input ∙ sym (ap (λ x. (act program w (join c.args.self.now input []) (view.operation x)).0) c.in-Set.is)
 
 pub returns-in-SetResult-clause-step : goal.returns-in-SetResult-clause-step
 returns-in-SetResult-clause-step c =
     λ yes program w input.
-    c.set_result_quickly.ensures.step yes w input ∙ sym (ap (λ x. (act program w (join c.args.self.now input []) (view.operation x)).0) c.in-SetResult.is)
+    c.set_result_quickly.ensures.step (c.attempted-in-SetResult.ensures.made yes) w input ∙ sym (ap (λ x. (act program w (join c.args.self.now input []) (view.operation x)).0) c.in-SetResult.is)
 
 pub returns-in-Test-clause-step : goal.returns-in-Test-clause-step
 returns-in-Test-clause-step c =
     λ yes program w input.
-    c.test_quickly.ensures.step yes w input ∙ sym (ap (λ x. (act program w (join c.args.self.now input []) (view.operation x)).0) c.in-Test.is)
+    c.test_quickly.ensures.step (c.attempted-in-Test.ensures.made yes) w input ∙ sym (ap (λ x. (act program w (join c.args.self.now input []) (view.operation x)).0) c.in-Test.is)
+
+pub returns-in-SetLocal-clause-step : goal.returns-in-SetLocal-clause-step
+returns-in-SetLocal-clause-step c =
+    λ yes program w input.
+    c.set_local_quickly.ensures.step (c.attempted-in-SetLocal.ensures.made yes) w input ∙ sym (ap (λ x. (act program w (join c.args.self.now input []) (view.operation x)).0) c.in-SetLocal.is)
+
+pub returns-in-SetMember-clause-step : goal.returns-in-SetMember-clause-step
+returns-in-SetMember-clause-step c =
+    λ yes program w input.
+    c.set_member_quickly.ensures.step (c.attempted-in-SetMember.ensures.made yes) w input ∙ sym (ap (λ x. (act program w (join c.args.self.now input []) (view.operation x)).0) c.in-SetMember.is)

@@ -1,37 +1,15 @@
-use Rattle.std.proofs.Common.{rules, ◌≡◌, [], false, true, Some, length, refl, ap, sym, ◌∙◌}
+use Rattle.std.proofs.Common.{◌≡◌, false, true, Some, ap, sym, ◌∙◌}
 use Rattle.std.specs.Prelude.{if◌then◌else◌, not, option_map}
-use Rattle.std.proofs.lemmas.List.{nil_from_length}
-use Rattle.cp_machine_model.specs.PrivateStates.{Acting, is_running}
-use Rattle.cp_machine_model.specs.Steps.{act, alone, is_kernel_operation, is_private, operation_of, private_step}
+use Rattle.cp_machine_model.specs.PrivateStates.{is_running}
+use Rattle.cp_machine_model.specs.Steps.{act, alone, is_kernel_operation, is_private, operation_of}
 use Rattle.cp_program.specs.View as view
-use Rattle.cp_private.specs.States.{join, outside_of, private_of}
+use Rattle.cp_private.specs.States.{private_of}
 use Rattle.cp_private.proofs.Results.{held_none}
-use Rattle.cp_private.proofs.Unshared.{outside_alone, private_joined, stepped}
+use Rattle.cp_private.proofs.Unshared.{private_joined, stepped}
 use Rattle.cp_private.proofs.private.Private.take_step.Goals as goal
 
-pub returns-clause-step : goal.returns-clause-step
-returns-clause-step c =
-    let old = c.take_quick_step.new.self in
-    let unchanged : old ≡ c.args.self.now = c.take_quick_step.ensures.same (search rules) in
-    let new = c.make.new.self in
-    let input = c.args.outside.now.input.now in
-    let clock = c.args.outside.now.clock in
-    let program = view.program c.args.program.now in
-    let o = private_of old input in
-    let x = view.operation c.in-Some.operation.now in
-    let there : operation_of program o ≡ Some x =
-    ap (λ y. operation_of program (private_of y input)) unchanged ∙ (sym c.operation.ensures ∙ ap (option_map (λ y. view.operation y.now)) c.in-Some.is) in
-    let running : is_running o.activity ≡ true = search rules in
-    let private : is_private o (Some x) ≡ true = search rules in
-    let none : c.make.new.shared ≡ [] = nil_from_length c.make.new.shared (search rules) in
-    let made = ap (λ (a : Acting). a.0) c.make.ensures.step in
-    let here : (act program (outside_of c.args.outside.now (length old.memory.words.items)) (join old input []) x).0 ≡ (act program (alone clock o) o x).0 =
-    λ i. (act program (outside_alone c.args.outside.now old input c.requires.alone i) (sym (private_joined old input) i) x).0 in
-    private_joined new input ∙ (ap (join new input) (sym none) ∙ (made ∙ (here ∙ (sym (stepped program clock o x there running private)
-    ∙ ap (λ y. private_step program clock (private_of y input)) unchanged))))
-
-pub returns-then-take_quick_step-clause-step : goal.returns-then-take_quick_step-clause-step
-returns-then-take_quick_step-clause-step c =
+pub returns-in-Made-clause-step : goal.returns-in-Made-clause-step
+returns-in-Made-clause-step c =
     let old = c.args.self.now in
     let new = c.take_quick_step.new.self in
     let input = c.args.outside.now.input.now in
@@ -42,11 +20,7 @@ returns-then-take_quick_step-clause-step c =
     let there : operation_of program o ≡ Some x = sym c.operation.ensures ∙ ap (option_map (λ y. view.operation y.now)) c.in-Some.is in
     let running : is_running o.activity ≡ true = c.requires.ready.running in
     let private : is_private o (Some x) ≡ true =
-    ap (λ b. if b then false else not (is_kernel_operation x)) (held_none old.gate c.requires.ready.free) ∙ ap not (c.if-take_quick_step.ensures.private refl) in
-    let made = c.if-take_quick_step.ensures.step refl program (alone clock o) input in
+    ap (λ b. if b then false else not (is_kernel_operation x)) (held_none old.gate c.requires.ready.free) ∙ ap not (c.take_quick_step.ensures.private c.in-Made.is) in
+    let made = c.take_quick_step.ensures.step c.in-Made.is program (alone clock o) input in
     let here = ap (λ p. (act program (alone clock o) p x).0) (sym (private_joined old input)) in
     private_joined new input ∙ (made ∙ (here ∙ sym (stepped program clock o x there running private)))
-
-pub returns-clause-rest : goal.returns-clause-rest
-returns-clause-rest c =
-    λ over. c.is_ready.ensures.rest over (view.program c.args.program.now) c.args.outside.now.clock c.args.outside.now.input.now

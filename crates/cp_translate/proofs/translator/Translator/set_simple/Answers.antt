@@ -2,12 +2,10 @@ use Rattle.std.proofs.Common.{rules, ◌++◌, ◌∙◌, ap}
 use Rattle.std.specs.Int.{w32}
 use Rattle.std.specs.Prelude.{FitsSigned}
 use Rattle.std.proofs.lemmas.Int.{to_z-of_z}
-use Rattle.cp_program.proofs.Wide.{narrow}
 use Rattle.cp_model.specs.Erase as erase
 use Rattle.cp_model.specs.View as tree
 use Rattle.cp_program_model.specs.CodedTerms.{coded_term}
 use Rattle.cp_program_model.specs.Programs as op
-use Rattle.cp_program.specs.declared.operation.Operation.TheVariants as operation
 use Rattle.cp_translate.proofs.Answered.{both_ok}
 use Rattle.cp_translate.proofs.Emitting.{entered}
 use Rattle.cp_translate.proofs.translator.Translator.set_simple.Goals as goal
@@ -22,6 +20,7 @@ returns c =
     let d = coded_term s (erase.expression (tree.expression c.args.e.now)) c.args.to.temps in
     let made = c.in_ok-made.ensures s scope in
     entered c.args.emitter.now c.emit.new.self place c.term.new.calls.items (to.calls ++ d.calls)
-    (operation.Set c.args.to.spot (narrow x.low) (narrow x.high) c.in_ok-made.made.term c.args.next) (op.Set to.spot x.low x.high d.term c.args.next)
-    (made.calls ∙ ap (λ cs. cs ++ d.calls) there.calls) (λ i. op.Set (there.spot i) (to_z-of_z w32 x.low low i) (to_z-of_z w32 x.high high i) (made.term i) c.args.next) at emits)
+    c.set-set.result (op.Set to.spot x.low x.high d.term c.args.next)
+    (made.calls ∙ ap (λ cs. cs ++ d.calls) there.calls)
+    (c.set-set.ensures ∙ (λ i. op.Set (there.spot i) (to_z-of_z w32 x.low low i) (to_z-of_z w32 x.high high i) (made.term i) c.args.next)) at emits)
     c.emit.ensures.entry c.emit.ensures.emits
