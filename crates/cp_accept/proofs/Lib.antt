@@ -3,3 +3,4 @@ pub mod Parts
 pub mod TextRefusals
 pub mod Takings
 pub mod Faults
+pub mod Joined

@@ -10,9 +10,11 @@ use std::alloc::{AllocError, Global};
 /// The largest number of bytes that an input may have.
 pub const LONGEST_INPUT: usize = 1_048_576;
 
-const LAST_CHARACTER: u8 = 127;
+// The largest byte that is a character.
+pub(crate) const LAST_CHARACTER: u8 = 127;
 
-const SEPARATOR: u8 = 28;
+// The byte between the inputs of two processes.
+pub(crate) const SEPARATOR: u8 = 28;
 
 /// Refuses an input that is too long, or else the first byte of it that is not a character.
 ///

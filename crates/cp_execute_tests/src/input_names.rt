@@ -3,8 +3,8 @@
 use super::jobs::{execute_job, job};
 use super::streams::Slow;
 use cp_accept::cutting::cut_input;
+use cp_accept::joining::{join, misplaced};
 use cp_accept::refusal::Refusal;
-use cp_inputs::joining::{join, misplaced};
 use cp_inputs::named::{InputError, InputOf, joined_input};
 use cp_model::rules::Rule;
 use std::alloc::{AllocError, Global};

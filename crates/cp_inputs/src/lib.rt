@@ -2,10 +2,8 @@
 //!
 //! - `named`: the processes of a text by name: their numbers, and the joined input of those that
 //!   have one.
-//! - `joining`: joins the inputs of all processes, with a byte 28 behind each.
 //!
-//! `specs/Joining.antt` defines the joined input.
+//! cp_accept joins them.
 #![tactic(auto)]
 
-pub mod joining;
 pub mod named;

@@ -4,9 +4,9 @@ ghost use Rattle.std.specs.Prelude.{◌≡◌};
 ghost use Rattle.cp_accept.specs.declared.refusal.Refusal.TheVariants as refusal;
 ghost use Rattle.cp_inputs.specs.declared.named.InputError.TheVariants as error;
 
-use crate::joining::{join, misplaced};
 use cp_accept::checking::tree_of;
 use cp_accept::cutting::LONGEST_INPUT;
+use cp_accept::joining::{join, misplaced};
 use cp_accept::reading::{ReadError, read_text};
 use cp_accept::refusal::Refusal;
 use cp_check::checking::tables_of;

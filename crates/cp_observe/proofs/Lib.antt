@@ -1,4 +1,2 @@
 pub mod OutcomesDue
-pub mod Transcripts
-pub mod Told
 pub mod Traced

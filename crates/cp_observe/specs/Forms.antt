@@ -1,7 +1,8 @@
 -- What is written of an outcome, by its form.
-use Rattle.std.specs.Prelude.{◌≡◌, ◌<◌, ◌≤◌, ℕ, List, length}
+use Rattle.std.specs.Prelude.{◌<◌, ℕ, List, length}
 use Rattle.cp_machine_model.specs.InState.{IsIn}
-use Rattle.cp_model.specs.States.{Setup, State, process_count}
+use Rattle.cp_model.specs.States.{Setup, State}
+use Rattle.cp_outcome.specs.Transcripts.{IsTranscript}
 use Rattle.cp_outcome.specs.declared.verdict.Verdict.{Verdict}
 use Rattle.cp_formats.specs.Json.{IsJsonLine}
 use Rattle.cp_report.specs.Outcomes.{BeginsWithVerdict}
@@ -9,10 +10,6 @@ use Rattle.cp_rounds.specs.Views.{machine_of}
 use Rattle.cp_rounds.specs.declared.machine.Machine.{Machine}
 use Rattle.cp_plan.specs.declared.outcome.OutcomeForm.{OutcomeForm}
 use Rattle.cp_plan.specs.declared.outcome.OutcomeForm.TheVariants as form
-
--- The bytes are exactly what the process with this number has written.
-abbrev pub IsTranscript : ℕ → Setup → State → List ℕ → Type 0
-IsTranscript p setup s bytes = 1 ≤ p → p ≤ process_count setup → bytes ≡ s.transcript p
 
 -- What is written of a state and of the verdict on it, after so many rounds.
 abbrev pub Tells : OutcomeForm ℕ → Setup → State → Verdict → ℕ → List ℕ → Type 0
@@ -22,8 +19,5 @@ Tells form.Dot setup s v rounds bytes = 0 < length bytes
 Tells form.Json setup s v rounds bytes = IsJsonLine bytes
 
 -- The same, of every state that the machine is in.
-abbrev pub IsTranscriptOf : ℕ → Machine → List ℕ → Type 0
-IsTranscriptOf p m bytes = (setup : Setup) (s : State) → IsIn (machine_of m) setup s → IsTranscript p setup s bytes
-
 abbrev pub IsToldOf : OutcomeForm ℕ → Machine → Verdict → List ℕ → Type 0
 IsToldOf form m v bytes = (setup : Setup) (s : State) → IsIn (machine_of m) setup s → Tells form setup s v m.rounds bytes

@@ -1,36 +1,15 @@
--- What a trace promises about the machine that it runs and the bytes that it writes.
-use Rattle.std.specs.Prelude.{◌≡◌, ◌⊎◌, ◌++◌, ℕ, List, Ok, Option, Some}
-use Rattle.std.specs.Io.KnownBytes.{Appends}
+-- What a trace promises about the machine that it runs. `specs/Writing.antt` of cp_trace says what it writes.
+use Rattle.std.specs.Prelude.{◌≡◌, ℕ, List, Ok, Option, Some}
 use Rattle.cp_model.specs.Syntax as s
 use Rattle.cp_model.specs.Rounds.{run}
 use Rattle.cp_model.specs.Start.{start}
 use Rattle.cp_machine_model.specs.InState.{IsIn}
 use Rattle.cp_rounds.specs.Views.{halted_of}
 use Rattle.cp_rounds.specs.declared.halted.Halted.{Halted}
-use Rattle.cp_accept.specs.declared.refusal.Refusal.{Refusal}
-use Rattle.cp_accept.specs.declared.refusal.Refusal.TheVariants as refusal
-use Rattle.cp_trace.specs.Tracers.{IsTrace}
-use Rattle.cp_plan.specs.declared.trace.TraceForm.{TraceForm}
 use Rattle.cp_plan.specs.declared.trace.Tracing.{Tracing}
 use Rattle.cp_accept.specs.Cutting.{judge_input}
 use Rattle.cp_execute.specs.Executed.{setup_of}
 use Rattle.cp_accept.specs.Texts.{IsAccepted}
-
--- Known bytes stay at the front, and some come behind them.
-abbrev pub Extends : Option (List ℕ) → Option (List ℕ) → Type 0
-Extends old new = (bytes : List ℕ) × Appends old new bytes
-
--- What was held is written, or held on, in the same order.
-abbrev pub Moves : Option (List ℕ) → Option (List ℕ) → List ℕ → List ℕ → Type 0
-Moves old new held holds = (bytes : List ℕ) × Appends old new bytes × (held ≡ bytes ++ holds)
-
--- A whole trace of this form is written.
-abbrev pub WritesTrace : TraceForm → Option (List ℕ) → Option (List ℕ) → Type 0
-WritesTrace form old new = (bytes : List ℕ) × Appends old new bytes × IsTrace form bytes
-
--- Memory ran out, or a write failed.
-abbrev pub IsMemoryOrWrite : Refusal → Type 0
-IsMemoryOrWrite e = (e ≡ refusal.Memory) ⊎ (e ≡ refusal.Write)
 
 -- The machine is in the state that one processor reaches by so many rounds from the start.
 abbrev pub IsTraced : Tracing → s.Tree → List ℕ → Halted → Type 0

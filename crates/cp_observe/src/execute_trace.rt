@@ -5,7 +5,8 @@ ghost use Rattle.std.specs.Prelude.{◌≡◌, IfErr, IfOk, IfSome, OnOk};
 ghost use Rattle.std.specs.Io.KnownBytes.{Keeps};
 ghost use Rattle.cp_accept.specs.KnownRefusals.{IsFaultOrOfInput, RefusesRun};
 ghost use Rattle.cp_accept.specs.Takings.{TakesInput, TakesText};
-ghost use Rattle.cp_observe.specs.Traces.{Extends, IsMemoryOrWrite, Traces, WritesTrace};
+ghost use Rattle.cp_trace.specs.Writing.{Extends, IsMemoryOrWrite, WritesTrace};
+ghost use Rattle.cp_observe.specs.Traces.{Traces};
 ghost use Rattle.cp_accept.specs.declared.refusal.Refusal.TheVariants as refusal;
 
 use crate::tracing::machine_after_trace;

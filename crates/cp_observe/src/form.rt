@@ -1,9 +1,10 @@
 //! What is written of a run that ends when nothing can move: its outcome in one of the forms.
 
-ghost use Rattle.std.specs.Prelude.{◌≡◌, IfOk};
-ghost use Rattle.cp_observe.specs.Forms.{IsToldOf, IsTranscriptOf};
+ghost use Rattle.std.specs.Prelude.{IfOk};
+ghost use Rattle.cp_observe.specs.Forms.{IsToldOf};
 
 use cp_accept::sources::Text;
+use cp_outcome::transcript::transcript;
 use cp_outcome::verdict::Verdict;
 use cp_plan::outcome::OutcomeForm;
 use cp_reasons::object::object;
@@ -12,16 +13,6 @@ use cp_reasons::waits::waits;
 use cp_report::outcome::outcome;
 use cp_rounds::machine::Machine;
 use std::alloc::{AllocError, Global};
-
-// Returns the transcript of the process with this number.
-fn transcript(alloc: Global, machine: &Machine, process: u32) -> Result<Vec<u8>, AllocError>
-    ensures { IfOk result (λ bytes. IsTranscriptOf process machine.now bytes.items) }
-{
-    let (front, back) = machine.transcript(process as usize);
-    let mut bytes = Vec::from_slice(alloc, front)?;
-    bytes.extend_from_slice(back)?;
-    Ok(bytes)
-}
 
 /// Returns what is written of a machine that runs the program of a text, and of the verdict on it.
 ///

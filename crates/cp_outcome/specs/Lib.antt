@@ -1,1 +1,3 @@
 pub mod Verdicts
+pub mod Statuses
+pub mod Transcripts

@@ -7,8 +7,7 @@
 //! - `progress`: the round that is being made, on standard error.
 //! - `printing`: standard output. `status`: why a command has no result, and the exit statuses.
 //!
-//! `specs/Statuses.antt` defines the exit status of a verdict, `specs/Sources.antt` what is left to
-//! read.
+//! `specs/Sources.antt` defines what is left to read.
 #![tactic(auto)]
 
 mod explaining;

@@ -1,13 +1,12 @@
 //! Why a command has no result, and the exit statuses.
 
 ghost use Rattle.std.specs.Prelude.{◌≡◌};
-ghost use Rattle.cp_perform.specs.Statuses.{status};
 ghost use Rattle.cp_accept.specs.declared.refusal.Refusal.TheVariants as refusal;
 ghost use Rattle.cp_perform.specs.declared.status.Failure.TheVariants as failure;
 
 use cp_accept::refusal::{Refusal, exit_of};
 use cp_inputs::named::InputError;
-use cp_outcome::verdict::Verdict;
+pub use cp_outcome::status::status_of;
 use std::alloc::AllocFailed;
 use std::io;
 use thiserror::Error;
@@ -83,18 +82,5 @@ fn exit_of_input(error: &InputError<'_>) -> u8 {
         InputError::NoProcess { .. } => USAGE,
         InputError::Byte { .. } => REFUSED,
         InputError::Unread { .. } => FAULT,
-    }
-}
-
-/// Returns the exit status of a verdict: 0 if all processes have ended, 5 if they are stuck, 6 if
-/// one has faulted, 7 if they still move.
-pub fn status_of(verdict: Verdict) -> u8
-    ensures { result ≡ status verdict }
-{
-    match verdict {
-        Verdict::Ended => 0,
-        Verdict::Stuck => 5,
-        Verdict::Fault => 6,
-        Verdict::Running => 7,
     }
 }

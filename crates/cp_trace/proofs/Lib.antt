@@ -1,2 +1,4 @@
 pub mod ObjectLines
 pub mod Parts
+pub mod RoundsMade
+pub mod Told

@@ -1,6 +1,7 @@
 //! A trace: what becomes of each process and monitor of a machine, round by round.
 //!
 //! - `tracer`: follows a machine, and tells of it in one of four forms.
+//! - `rounds`: makes rounds, and writes what a tracer tells of them.
 //! - `members`: of whom is told.
 //! - `trace`: what was seen of a machine, and what changed since: of a `process`, of a `monitor`, and
 //!   of the `values` of variables, whose places are their `shapes`. `vocabulary`: names in place of
@@ -11,7 +12,7 @@
 //!
 //! What is seen of a machine takes memory once: it doesn't grow with the rounds. All of this serves
 //! people, and is tested. `specs/Telling.antt` and `specs/Tracers.antt` say what is
-//! added to the buffer.
+//! added to the buffer, `specs/Writing.antt` what is written.
 #![tactic(auto)]
 
 mod bars;
@@ -24,6 +25,7 @@ mod members;
 mod monitor;
 mod objects;
 mod process;
+pub mod rounds;
 mod shapes;
 mod svg;
 mod timeline;

@@ -10,7 +10,7 @@ use Rattle.cp_model.specs.View as view
 use Rattle.cp_rounds.specs.InStates.{MakesRounds}
 use Rattle.cp_rounds.specs.Views.{machine_of, processes_of}
 use Rattle.cp_execute.specs.Executed.{setup_of}
-use Rattle.cp_observe.proofs.Traced.{more_made, rounds_count}
+use Rattle.cp_trace.proofs.RoundsMade.{more_made, rounds_count}
 use Rattle.cp_observe.proofs.tracing.machine_after_trace.Goals as goal
 
 pub trace_rounds-requires-clause-count : goal.trace_rounds-requires-clause-count

@@ -4,7 +4,7 @@ use Rattle.std.specs.Prelude.{if◌then◌else◌, nat_eq}
 use Rattle.cp_model.specs.Input.{cut}
 use Rattle.cp_accept.specs.Cutting.{AreParts, Bytes, after_separator, front_part}
 use Rattle.cp_accept.proofs.Parts.{cut_first, cut_later}
-use Rattle.cp_inputs.specs.Joining.{AreWhole, joined}
+use Rattle.cp_accept.specs.Joining.{AreWhole, joined}
 
 same_tail : (a b : ℕ) (xs ys : List ℕ) → a ∷ xs ≡ b ∷ ys → xs ≡ ys
 same_tail a b xs ys e = Prim.grind (arith, e)

@@ -1,8 +1,8 @@
 use Rattle.std.proofs.Common.{rules, ◌≡◌, ◌++◌}
 use Rattle.cp_machine_model.specs.Machines.{transcript_of}
 use Rattle.cp_rounds.specs.Views.{machine_of, output_of}
-use Rattle.cp_observe.proofs.Transcripts.{whole_transcript}
-use Rattle.cp_observe.proofs.form.transcript.Goals as goal
+use Rattle.cp_outcome.proofs.Transcripts.{whole_transcript}
+use Rattle.cp_outcome.proofs.transcript.transcript.Goals as goal
 
 pub returns : goal.returns
 returns c =

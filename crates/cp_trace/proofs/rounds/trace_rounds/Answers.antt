@@ -3,9 +3,9 @@ use Rattle.cp_rounds.specs.InStates.{MakesRounds}
 use Rattle.cp_trace.specs.Telling.{Adds}
 use Rattle.cp_trace.specs.Tracers.{IsPart, IsTrace, form_of}
 use Rattle.cp_plan.specs.declared.trace.TraceForm.{TraceForm}
-use Rattle.cp_observe.proofs.Told.{added, begun, finished, moved}
-use Rattle.cp_observe.proofs.Traced.{extends_more, extends_nothing, more_made, none_made}
-use Rattle.cp_observe.proofs.tracing.trace_rounds.Goals as goal
+use Rattle.cp_trace.proofs.Told.{added, begun, finished, moved}
+use Rattle.cp_trace.proofs.RoundsMade.{extends_more, extends_nothing, more_made, none_made}
+use Rattle.cp_trace.proofs.rounds.trace_rounds.Goals as goal
 
 pub loop-round-init : goal.loop-round-init
 loop-round-init g c =

@@ -2,8 +2,8 @@ use Rattle.std.proofs.Common.{◌∙◌, ap, arith}
 use Rattle.cp_machine_model.specs.Machines as plain
 use Rattle.cp_model.specs.States.{numbers_from}
 use Rattle.cp_rounds.specs.Views.{machine_of, processes_of}
-use Rattle.cp_observe.proofs.Traced.{round_count}
-use Rattle.cp_observe.proofs.tracing.trace_round.Goals as goal
+use Rattle.cp_trace.proofs.RoundsMade.{round_count}
+use Rattle.cp_trace.proofs.rounds.trace_round.Goals as goal
 
 pub returns-clause-count : goal.returns-clause-count
 returns-clause-count g c =

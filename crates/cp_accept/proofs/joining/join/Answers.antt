@@ -1,9 +1,9 @@
 use Rattle.std.proofs.Common.{◌≡◌, ◌++◌, ◌∙◌, ap, length, subst, sym}
 use Rattle.std.proofs.lemmas.List.{append-nil, drop_all}
 use Rattle.cp_accept.specs.Cutting.{AreParts}
-use Rattle.cp_inputs.proofs.Joined.{joined_parts}
-use Rattle.cp_inputs.specs.Joining.{joined}
-use Rattle.cp_inputs.proofs.joining.join.Goals as goal
+use Rattle.cp_accept.proofs.Joined.{joined_parts}
+use Rattle.cp_accept.specs.Joining.{joined}
+use Rattle.cp_accept.proofs.joining.join.Goals as goal
 
 pub returns-clause-parts : goal.returns-clause-parts
 returns-clause-parts c whole =

@@ -2,13 +2,10 @@
 
 ghost use Rattle.std.specs.Prelude.{◌≡◌, IfOk, None, length};
 ghost use Rattle.cp_accept.specs.Cutting.{AreParts, front_part};
-ghost use Rattle.cp_inputs.specs.Joining.{AreWhole, joined, misplaced_from};
+ghost use Rattle.cp_accept.specs.Joining.{AreWhole, joined, misplaced_from};
 
+use crate::cutting::{LAST_CHARACTER, SEPARATOR};
 use std::alloc::{AllocError, Global};
-
-const LAST_CHARACTER: u8 = 127;
-
-const SEPARATOR: u8 = 28;
 
 /// The place of the first byte that is none of a process's input: a byte above 127, or byte 28,
 /// which separates inputs.

@@ -5,7 +5,7 @@ use Rattle.std.proofs.KnownBytes.{Appends-nil, Appends-trans}
 use Rattle.cp_trace.specs.Telling.{Adds}
 use Rattle.cp_trace.specs.Tracers.{IsPart, IsTrace}
 use Rattle.cp_plan.specs.declared.trace.TraceForm.{TraceForm}
-use Rattle.cp_observe.specs.Traces.{Moves, WritesTrace}
+use Rattle.cp_trace.specs.Writing.{Moves, WritesTrace}
 use Rattle.cp_trace.proofs.Parts.{parts_joined, trace_joined}
 
 -- A part of a trace was written, or is held.

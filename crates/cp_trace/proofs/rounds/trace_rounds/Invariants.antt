@@ -1,9 +1,9 @@
 use Rattle.std.proofs.Common.{◌≡◌, ◌+◌}
 use Rattle.cp_rounds.specs.InStates.{MakesRounds}
 use Rattle.cp_trace.specs.Tracers.{form_of}
-use Rattle.cp_observe.specs.Traces.{Extends}
-use Rattle.cp_observe.proofs.Told.{WritesPart}
-use Rattle.cp_observe.proofs.tracing.trace_rounds.Given as goal
+use Rattle.cp_trace.specs.Writing.{Extends}
+use Rattle.cp_trace.proofs.Told.{WritesPart}
+use Rattle.cp_trace.proofs.rounds.trace_rounds.Given as goal
 
 -- so many rounds were made, and what is told of them is written, or held
 abbrev pub invariant-loop-round : goal.invariant-loop-round
