@@ -12,5 +12,8 @@ pub fn tokens(alloc: Global, text: &str) -> Result<Vec<Token>, AllocError> {
             *byte = b' ';
         }
     }
-    scan(alloc, bytes.as_slice()).map_err(|_| AllocError)
+    let Ok(tokens) = scan(alloc, bytes.as_slice()) else {
+        return Err(AllocError);
+    };
+    Ok(tokens)
 }
