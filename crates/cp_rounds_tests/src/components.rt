@@ -1,10 +1,6 @@
 //! Classes, and the words of monitors.
 
-use crate::machines::{activity, has_written, on_machine};
-use crate::ways::ways;
-use cp_private::outside::Holder;
-use cp_private::private::Activity;
-use cp_rounds::gate::Open;
+use crate::expectations::expect;
 use std::test::Fail;
 
 // A class `c` adds k times what it is given to 100. An object of class `d` has a right to it.
@@ -22,23 +18,17 @@ const SUMS: &str = "type c = class(k: integer); var n: integer;
 // (100 + 1 * 3 + 2 * 3), and with -4 it is 88 (100 - 4 - 8).
 #[test]
 fn processes_have_classes_of_their_own(rt: HostRuntime) -> Result<(), Fail> {
-    for way in ways() {
-        on_machine(rt.alloc(), SUMS, |machine| -> Result<(), Fail> {
-            way.make(&rt, machine, 2, 20, &Open)?;
-            for (p, j, n, sum) in [
-                (2, 3, 109, b"109".as_slice()),
-                (3, -4, 88, b"88".as_slice()),
-            ] {
-                assert_eq!(rt; activity(machine, p)?, Activity::Ended, "{way:?}");
-                assert!(rt; has_written(machine, p, sum), "{way:?}");
-                assert_eq!(rt; machine.word(p, 1), j, "{way:?}");
-                assert_eq!(rt; machine.word(p, 3), j, "{way:?}");
-                assert_eq!(rt; machine.word(p, 4), n, "{way:?}");
-            }
-            Ok(())
-        })?;
-    }
-    Ok(())
+    let ended = "activity 2: Ended
+        out 2: '109' ''
+        word 2 1: 3
+        word 2 3: 3
+        word 2 4: 109
+        activity 3: Ended
+        out 3: '88' ''
+        word 3 1: -4
+        word 3 3: -4
+        word 3 4: 88";
+    expect(&rt, rt.alloc(), SUMS, &[(2, 20, ended)])
 }
 
 // Three steps make the three assignments, and then the kernel turn makes the steps of the entry.
@@ -52,23 +42,15 @@ const NINE: &str =
 // `h`.
 #[test]
 fn a_monitor_keeps_its_words(rt: HostRuntime) -> Result<(), Fail> {
-    for way in ways() {
-        on_machine(rt.alloc(), NINE, |machine| -> Result<(), Fail> {
-            assert_eq!(rt; machine.monitors(), 2);
-            assert_eq!(rt; machine.program().monitors(), 2);
-            assert_eq!(rt; machine.kernel().holder(1), Holder::Unset);
-            way.make(&rt, machine, 1, 3, &Open)?;
-            assert_eq!(rt; machine.kernel().word(1), 0, "{way:?}");
-            way.make(&rt, machine, 1, 3, &Open)?;
-            assert_eq!(rt; machine.word(2, 2), 3, "{way:?}");
-            assert_eq!(rt; machine.kernel().word(1), 9, "{way:?}");
-            assert_eq!(rt; machine.kernel().word(4), 0, "{way:?}");
-            assert_eq!(rt; machine.kernel().holder(1), Holder::Free, "{way:?}");
-            assert_eq!(rt; machine.kernel().holder(2), Holder::Unset, "{way:?}");
-            Ok(())
-        })?;
-    }
-    Ok(())
+    let started = "monitors 2 of 2
+        holder 1: Unset";
+    let nine = "word 2 2: 3
+        shared 1: 9
+        shared 4: 0
+        holder 1: Free
+        holder 2: Unset";
+    let stops = [(0, 3, started), (1, 3, "shared 1: 0"), (1, 3, nine)];
+    expect(&rt, rt.alloc(), NINE, &stops)
 }
 
 // The caller's r[2] is set after its delay. Its words are its mark, its right, and r.
@@ -81,16 +63,10 @@ fn a_var_parameter_outlasts_a_delay(rt: HostRuntime) -> Result<(), Fail> {
         pw = process(a: m); var r: t; begin a.w(r[2]); display(r[2]) end;
         ps = process(a: m); var v: integer; begin v := 1; v := 2; v := 3; a.s end;
         var g: m; b: pw; c: ps; begin init g, b(g), c(g) end.";
-    for way in ways() {
-        on_machine(rt.alloc(), text, |machine| -> Result<(), Fail> {
-            way.make(&rt, machine, 6, 2, &Open)?;
-            assert_eq!(rt; machine.word(2, 2), 0, "{way:?}");
-            assert_eq!(rt; machine.word(2, 3), 5, "{way:?}");
-            assert!(rt; has_written(machine, 2, b"5"), "{way:?}");
-            assert_eq!(rt; activity(machine, 2)?, Activity::Ended, "{way:?}");
-            assert_eq!(rt; activity(machine, 3)?, Activity::Ended, "{way:?}");
-            Ok(())
-        })?;
-    }
-    Ok(())
+    let ended = "word 2 2: 0
+        word 2 3: 5
+        out 2: '5' ''
+        activity 2: Ended
+        activity 3: Ended";
+    expect(&rt, rt.alloc(), text, &[(6, 2, ended)])
 }

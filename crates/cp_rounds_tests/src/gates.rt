@@ -5,7 +5,7 @@ use std::sync::atomic::{AtomicU64, Ordering};
 
 // A counter that others read.
 #[derive(Drop)]
-pub(crate) struct Counter(AtomicU64);
+struct Counter(AtomicU64);
 
 impl Counter {
     const fn new() -> Counter {
@@ -17,7 +17,7 @@ impl Counter {
         self.0.fetch_add(1, Ordering::SeqCst)
     }
 
-    pub(crate) fn get(&self) -> u64 {
+    fn get(&self) -> u64 {
         self.0.load(Ordering::SeqCst)
     }
 
@@ -32,11 +32,21 @@ impl Counter {
     }
 }
 
+// Whether each counter has counted something.
+fn each_has_counted(counters: &[Counter]) -> bool {
+    for counter in counters {
+        if counter.get() == 0 {
+            return false;
+        }
+    }
+    true
+}
+
 // Two turns that are made once a round, and how many times each has seen the other begin.
 #[derive(Drop)]
 pub(crate) struct Meeting {
     begun: [Counter; 2],
-    pub(crate) seen: [Counter; 2],
+    seen: [Counter; 2],
 }
 
 impl Meeting {
@@ -45,6 +55,11 @@ impl Meeting {
             begun: [Counter::new(), Counter::new()],
             seen: [Counter::new(), Counter::new()],
         }
+    }
+
+    // Whether each turn has seen the other begin.
+    pub(crate) fn is_seen_by_both(&self) -> bool {
+        each_has_counted(&self.seen)
     }
 
     fn first(&self) {
@@ -100,7 +115,7 @@ impl TurnGate for WavesMeet {
 #[derive(Drop)]
 pub(crate) struct EachWaits {
     begun: [Counter; 4],
-    pub(crate) seen: [Counter; 4],
+    seen: [Counter; 4],
 }
 
 impl EachWaits {
@@ -119,6 +134,11 @@ impl EachWaits {
                 Counter::new(),
             ],
         }
+    }
+
+    // Whether each process has seen in some round that all have begun.
+    pub(crate) fn each_has_seen_all(&self) -> bool {
+        each_has_counted(&self.seen)
     }
 
     fn all_pass(&self, number: u64) -> bool {

@@ -5,6 +5,10 @@
 #[cfg(test)]
 mod components;
 #[cfg(test)]
+mod description;
+#[cfg(test)]
+mod expectations;
+#[cfg(test)]
 mod gates;
 #[cfg(test)]
 mod machines;

@@ -107,18 +107,3 @@ pub(crate) fn has_written(machine: &Machine, p: usize, text: &[u8]) -> bool {
     let (moved, held) = machine.transcript(p);
     moved == text && held.is_empty()
 }
-
-// Describes everything that can be read of a machine.
-pub(crate) fn describe(alloc: Global, machine: &Machine) -> Result<String, Fail> {
-    let mut text = format!(in alloc; "{} {:?}", machine.rounds(), machine.kernel())?;
-    for p in 1..=machine.processes() {
-        let private = machine.private(p).ok_or("there is no such process")?;
-        let told = format!(in alloc; "; {p} {:?} {:?}", private.activity(), private.output())?;
-        text.push_str(&told)?;
-        for at in 0..private.words() {
-            let word = format!(in alloc; " {}", private.value(at))?;
-            text.push_str(&word)?;
-        }
-    }
-    Ok(text)
-}

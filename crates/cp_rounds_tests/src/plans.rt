@@ -99,6 +99,16 @@ fn all_have_squared(machine: &Machine) -> Result<bool, Fail> {
     )
 }
 
+// Makes the three rounds. Returns whether all have ended as they should.
+fn make_squares<R: Threads + Wait + Sync>(
+    rt: &R,
+    machine: &mut Machine,
+    way: Way,
+) -> Result<bool, Fail> {
+    way.make(rt, machine, 3, 300, &Open)?;
+    all_have_squared(machine)
+}
+
 fn squares_by<R: Threads + Wait + Sync>(
     rt: &R,
     alloc: Global,
@@ -106,8 +116,7 @@ fn squares_by<R: Threads + Wait + Sync>(
     way: Way,
 ) -> Result<bool, Fail> {
     on_machine(alloc, text, |machine| -> Result<bool, Fail> {
-        way.make(rt, machine, 3, 300, &Open)?;
-        all_have_squared(machine)
+        make_squares(rt, machine, way)
     })
 }
 
@@ -127,7 +136,10 @@ fn each_plan_gives_the_same_machine(rt: HostRuntime) -> Result<(), Fail> {
     ] {
         for is_run in [true, false] {
             let way = Way::new(is_run, workers, chunk, wave);
-            assert!(rt; squares_by(&rt, rt.alloc(), &text, way)?, "{way:?}");
+            assert!(rt;
+                squares_by(&rt, rt.alloc(), &text, way)?,
+                "run: {is_run}, {workers} workers, chunks of {chunk}, waves of {wave}"
+            );
         }
     }
     Ok(())

@@ -4,7 +4,8 @@
 //! run. If one is made to fail, as `trials/refusals.py` has a library do that is loaded before the C
 //! library, the last three tests report it and look at the machine.
 
-use crate::machines::{activity, describe, has_written, inputs_for, on_machine, on_program};
+use crate::description::describe;
+use crate::machines::{activity, has_written, inputs_for, on_machine, on_program};
 use crate::ways::{Way, is_young};
 use cp_plan::plan::Plan;
 use cp_plan::tick::Tick;
@@ -17,6 +18,7 @@ use cp_rounds::gate::Open;
 use cp_rounds::machine::{Machine, MemoryAt};
 use cp_scope::Tables;
 use std::alloc::Global;
+use std::io::Print;
 use std::sync::Wait;
 use std::test::Fail;
 use std::thread::Threads;
@@ -65,7 +67,22 @@ fn machine_unless_refused<'r, 't>(
 }
 
 // Returns the activity of the process of such a program after a round, unless the machine is
-// refused.
+// refused. The tables are of no use to the program.
+fn activity_with<R: Threads + Wait + Sync>(
+    rt: &R,
+    alloc: Global,
+    words: u32,
+    shared: u32,
+    tables: &Tables<'_>,
+) -> Result<Option<Activity>, Fail> {
+    let program = ending_program(alloc, words, shared)?;
+    let Some(mut machine) = machine_unless_refused(alloc, program, tables)? else {
+        return Ok(None);
+    };
+    Way::new(true, 1, 1, 1).make(rt, &mut machine, 1, 1, &Open)?;
+    Ok(Some(activity(&machine, 1)?))
+}
+
 fn activity_after_round<R: Threads + Wait + Sync>(
     rt: &R,
     alloc: Global,
@@ -76,12 +93,7 @@ fn activity_after_round<R: Threads + Wait + Sync>(
         alloc,
         "begin end.",
         |_program, tables| -> Result<Option<Activity>, Fail> {
-            let program = ending_program(alloc, words, shared)?;
-            let Some(mut machine) = machine_unless_refused(alloc, program, tables)? else {
-                return Ok(None);
-            };
-            Way::new(true, 1, 1, 1).make(rt, &mut machine, 1, 1, &Open)?;
-            Ok(Some(activity(&machine, 1)?))
+            activity_with(rt, alloc, words, shared, tables)
         },
     )
 }
@@ -144,14 +156,23 @@ fn count<R: Threads + Wait + Sync>(rt: &R, machine: &mut Machine) -> Result<(), 
     Ok(())
 }
 
-// Returns whether the machine of the counters is refused. If it isn't, it makes its rounds.
+// Returns whether a machine of the counters is refused. If it isn't, it makes its rounds.
+fn is_refused_of<R: Threads + Wait + Sync>(
+    rt: &R,
+    alloc: Global,
+    program: Program,
+    tables: &Tables<'_>,
+) -> Result<bool, Fail> {
+    let Some(mut machine) = machine_unless_refused(alloc, program, tables)? else {
+        return Ok(true);
+    };
+    count(rt, &mut machine)?;
+    Ok(false)
+}
+
 fn is_refused<R: Threads + Wait + Sync>(rt: &R, alloc: Global) -> Result<bool, Fail> {
     on_program(alloc, COUNTERS, |program, tables| -> Result<bool, Fail> {
-        let Some(mut machine) = machine_unless_refused(alloc, program, tables)? else {
-            return Ok(true);
-        };
-        count(rt, &mut machine)?;
-        Ok(false)
+        is_refused_of(rt, alloc, program, tables)
     })
 }
 
@@ -164,26 +185,61 @@ fn a_refused_machine_is_made_again(rt: HostRuntime) -> Result<(), Fail> {
     Ok(())
 }
 
+// Makes a round. If it is refused, fails unless the machine is as it was, and makes it again.
+fn make_round<R: Print + Threads + Wait + Sync>(
+    rt: &R,
+    alloc: Global,
+    machine: &mut Machine,
+    round: u32,
+    plan: &Plan,
+) -> Result<(), Fail> {
+    let before = describe(alloc, machine)?;
+    is_young(machine)?;
+    if machine.round(rt, plan, &Open).is_err() {
+        println!(rt; "round {round} is refused")?;
+        if describe(alloc, machine)? != before {
+            return Err("the machine isn't as it was".into());
+        }
+        is_young(machine)?;
+        machine.round(rt, plan, &Open)?;
+    }
+    Ok(())
+}
+
+// Makes the rounds of the counters one after another. Returns whether they have counted.
+fn count_by_rounds<R: Print + Threads + Wait + Sync>(
+    rt: &R,
+    alloc: Global,
+    machine: &mut Machine,
+    plan: &Plan,
+) -> Result<bool, Fail> {
+    for round in 0..ROUNDS {
+        make_round(rt, alloc, machine, round, plan)?;
+    }
+    have_counted(machine)
+}
+
 #[test]
 fn a_refused_round_leaves_the_machine_as_it_was(rt: HostRuntime) -> Result<(), Fail> {
     for (workers, wave) in WAYS {
         let plan = plan_of(workers, wave)?;
-        on_machine(rt.alloc(), COUNTERS, |machine| -> Result<(), Fail> {
-            for round in 0..ROUNDS {
-                let before = describe(rt.alloc(), machine)?;
-                is_young(machine)?;
-                if machine.round(&rt, &plan, &Open).is_err() {
-                    println!(rt; "round {round} is refused")?;
-                    assert!(rt; describe(rt.alloc(), machine)? == before);
-                    is_young(machine)?;
-                    machine.round(&rt, &plan, &Open)?;
-                }
-            }
-            assert!(rt; have_counted(machine)?, "{workers} workers, wave {wave}");
-            Ok(())
+        let counted = on_machine(rt.alloc(), COUNTERS, |machine| -> Result<bool, Fail> {
+            count_by_rounds(&rt, rt.alloc(), machine, &plan)
         })?;
+        assert!(rt; counted, "{workers} workers, wave {wave}");
     }
     Ok(())
+}
+
+// Makes rounds of a machine and describes it.
+fn make_and_describe<R: Threads + Wait + Sync>(
+    rt: &R,
+    alloc: Global,
+    machine: &mut Machine,
+    rounds: u32,
+) -> Result<String, Fail> {
+    Way::new(true, 1, 1, 255).make(rt, machine, rounds, 3, &Open)?;
+    describe(alloc, machine)
 }
 
 // Describes the machine of the counters after so many rounds.
@@ -193,28 +249,40 @@ fn describe_after<R: Threads + Wait + Sync>(
     rounds: u32,
 ) -> Result<String, Fail> {
     on_machine(alloc, COUNTERS, |machine| -> Result<String, Fail> {
-        Way::new(true, 1, 1, 255).make(rt, machine, rounds, 3, &Open)?;
-        describe(alloc, machine)
+        make_and_describe(rt, alloc, machine, rounds)
     })
+}
+
+// Makes the rounds of the counters in one run. If it is refused, fails unless the machine has made
+// the rounds before, and makes the others. Returns whether the counters have counted.
+fn count_by_run<R: Print + Threads + Wait + Sync>(
+    rt: &R,
+    alloc: Global,
+    machine: &mut Machine,
+    plan: &Plan,
+) -> Result<bool, Fail> {
+    is_young(machine)?;
+    if let Err(MemoryAt(round)) = machine.run(rt, ROUNDS, plan, &Open) {
+        println!(rt; "round {round} of a run is refused")?;
+        let made = round - 1;
+        let due = describe_after(rt, alloc, made)?;
+        if describe(alloc, machine)? != due {
+            return Err("the machine hasn't made the rounds before".into());
+        }
+        is_young(machine)?;
+        machine.run(rt, ROUNDS - made, plan, &Open)?;
+    }
+    have_counted(machine)
 }
 
 #[test]
 fn a_refused_run_has_made_the_rounds_before(rt: HostRuntime) -> Result<(), Fail> {
     for (workers, wave) in WAYS {
         let plan = plan_of(workers, wave)?;
-        on_machine(rt.alloc(), COUNTERS, |machine| -> Result<(), Fail> {
-            is_young(machine)?;
-            if let Err(MemoryAt(round)) = machine.run(&rt, ROUNDS, &plan, &Open) {
-                println!(rt; "round {round} of a run is refused")?;
-                let made = round - 1;
-                let due = describe_after(&rt, rt.alloc(), made)?;
-                assert!(rt; describe(rt.alloc(), machine)? == due);
-                is_young(machine)?;
-                machine.run(&rt, ROUNDS - made, &plan, &Open)?;
-            }
-            assert!(rt; have_counted(machine)?, "{workers} workers, wave {wave}");
-            Ok(())
+        let counted = on_machine(rt.alloc(), COUNTERS, |machine| -> Result<bool, Fail> {
+            count_by_run(&rt, rt.alloc(), machine, &plan)
         })?;
+        assert!(rt; counted, "{workers} workers, wave {wave}");
     }
     Ok(())
 }

@@ -1,11 +1,16 @@
 //! Rounds of machines, and what can be read between them.
 
+use crate::expectations::{expect, expect_by};
 use crate::machines::{activity, has_written, on_machine};
-use crate::ways::{Way, ways};
+use crate::ways::Way;
 use cp_private::outside::{Holder, Stage};
 use cp_private::private::Activity;
 use cp_rounds::gate::Open;
+use cp_rounds::machine::Machine;
+use cp_rounds::state::ProcState;
+use std::sync::Wait;
 use std::test::Fail;
+use std::thread::Threads;
 
 pub(crate) const SEVENS: &str =
     "type p = process; begin display(7) end; var a, b: p; begin init a, b end.";
@@ -16,115 +21,116 @@ const FIVES: &str = "type p = process; var x: integer;
 
 #[test]
 fn started_processes_run_a_round_later(rt: HostRuntime) -> Result<(), Fail> {
-    for way in ways() {
-        on_machine(rt.alloc(), SEVENS, |machine| -> Result<(), Fail> {
-            assert_eq!(rt; machine.kernel().stage(1), Stage::Begun, "{way:?}");
-            assert_eq!(rt; machine.kernel().stage(2), Stage::Unstarted, "{way:?}");
-            assert_eq!(rt; activity(machine, 2)?, Activity::NotBegun, "{way:?}");
-            way.make(&rt, machine, 1, 10, &Open)?;
-            assert_eq!(rt; machine.kernel().stage(2), Stage::Begun, "{way:?}");
-            assert_eq!(rt; activity(machine, 2)?, Activity::Running, "{way:?}");
-            assert!(rt; has_written(machine, 2, b""), "{way:?}");
-            way.make(&rt, machine, 1, 10, &Open)?;
-            assert_eq!(rt; activity(machine, 1)?, Activity::Ended, "{way:?}");
-            assert_eq!(rt; activity(machine, 3)?, Activity::Ended, "{way:?}");
-            assert!(rt; has_written(machine, 2, b"7"), "{way:?}");
-            assert!(rt; has_written(machine, 3, b"7"), "{way:?}");
-            assert_eq!(rt; machine.rounds(), 2, "{way:?}");
-            Ok(())
-        })?;
-    }
-    Ok(())
+    let unstarted = "stage 1: Begun
+        stage 2: Unstarted
+        activity 2: NotBegun";
+    let started = "stage 2: Begun
+        activity 2: Running
+        out 2: '' ''";
+    let ended = "activity 1: Ended
+        activity 3: Ended
+        out 2: '7' ''
+        out 3: '7' ''
+        rounds 2";
+    let stops = [(0, 10, unstarted), (1, 10, started), (1, 10, ended)];
+    expect(&rt, rt.alloc(), SEVENS, &stops)
 }
 
 // In a round with two steps a turn, the initial process starts the other one, which displays 5 in
 // the next round. Word 0 of a process is its mark, and its variables follow.
 #[test]
 fn a_machine_is_read_between_rounds(rt: HostRuntime) -> Result<(), Fail> {
-    for way in ways() {
-        on_machine(rt.alloc(), FIVES, |machine| -> Result<(), Fail> {
-            assert_eq!(rt; machine.program().processes(), 2);
-            assert_eq!(rt; machine.processes(), 2);
-            assert_eq!(rt; machine.monitors(), 0);
-            assert_eq!(rt; machine.rounds(), 0);
-            assert_eq!(rt; machine.private(2).ok_or("process 2")?.words(), 2);
-            assert_eq!(rt; machine.word(2, 1), 0);
-            way.make(&rt, machine, 2, 2, &Open)?;
-            assert_eq!(rt; machine.rounds(), 2, "{way:?}");
-            assert_eq!(rt; activity(machine, 1)?, Activity::Ended, "{way:?}");
-            assert_eq!(rt; activity(machine, 2)?, Activity::Running, "{way:?}");
-            assert_eq!(rt; machine.word(2, 1), 5, "{way:?}");
-            assert!(rt; has_written(machine, 2, b"5"), "{way:?}");
-            way.make(&rt, machine, 1, 2, &Open)?;
-            assert_eq!(rt; machine.word(2, 1), -5, "{way:?}");
-            assert!(rt; has_written(machine, 2, b"5-5"), "{way:?}");
-            Ok(())
-        })?;
-    }
-    Ok(())
+    let unstarted = "processes 2 of 2
+        monitors 0 of 0
+        rounds 0
+        words 2: 2
+        word 2 1: 0";
+    let positive = "rounds 2
+        activity 1: Ended
+        activity 2: Running
+        word 2 1: 5
+        out 2: '5' ''";
+    let negative = "word 2 1: -5
+        out 2: '5-5' ''";
+    let stops = [(0, 2, unstarted), (2, 2, positive), (1, 2, negative)];
+    expect(&rt, rt.alloc(), FIVES, &stops)
 }
 
 #[test]
 fn a_run_of_no_rounds_changes_nothing(rt: HostRuntime) -> Result<(), Fail> {
-    for way in ways() {
-        on_machine(rt.alloc(), SEVENS, |machine| -> Result<(), Fail> {
-            way.make(&rt, machine, 0, 10, &Open)?;
-            assert_eq!(rt; machine.rounds(), 0, "{way:?}");
-            assert_eq!(rt; machine.kernel().stage(2), Stage::Unstarted, "{way:?}");
-            Ok(())
-        })?;
-    }
-    Ok(())
+    let unchanged = "rounds 0
+        stage 2: Unstarted";
+    expect(&rt, rt.alloc(), SEVENS, &[(0, 10, unchanged)])
 }
 
 // A run shares its threads for 4,096 rounds at a time.
 #[test]
 fn a_run_has_more_rounds_than_share_their_threads(rt: HostRuntime) -> Result<(), Fail> {
     let text = "var x: integer; begin cycle x := x + 1 end end.";
-    for way in ways().into_iter().filter(|way| way.is_run) {
-        on_machine(rt.alloc(), text, |machine| -> Result<(), Fail> {
-            way.make(&rt, machine, 10_000, 2, &Open)?;
-            assert_eq!(rt; machine.rounds(), 10_000, "{way:?}");
-            assert_eq!(rt; machine.word(1, 1), 10_000, "{way:?}");
-            Ok(())
-        })?;
+    let made = "rounds 10000
+        word 1 1: 10000";
+    for (workers, wave) in [(1, 255), (3, 255), (3, 1)] {
+        let way = Way::new(true, workers, 1, wave);
+        expect_by(&rt, rt.alloc(), way, text, 1, &[], &[(10_000, 2, made)])?;
     }
     Ok(())
 }
 
+// Makes a round. Returns whether process 0 has ended, with the word and the transcript of process 1.
+fn reads_0_as_1<R: Threads + Wait + Sync>(rt: &R, machine: &mut Machine) -> Result<bool, Fail> {
+    Way::new(true, 1, 1, 1).make(rt, machine, 1, 10, &Open)?;
+    let state = activity(machine, 0)?;
+    Ok(state == Activity::Ended && machine.word(0, 1) == 3 && has_written(machine, 0, b"3"))
+}
+
 #[test]
 fn the_number_0_is_read_as_1(rt: HostRuntime) -> Result<(), Fail> {
-    on_machine(
-        rt.alloc(),
-        "var x: integer; begin x := 3; display(x) end.",
-        |machine| -> Result<(), Fail> {
-            Way::new(true, 1, 1, 1).make(&rt, machine, 1, 10, &Open)?;
-            assert_eq!(rt; activity(machine, 0)?, Activity::Ended);
-            assert_eq!(rt; machine.word(0, 1), 3);
-            assert!(rt; has_written(machine, 0, b"3"));
-            Ok(())
-        },
-    )
+    let text = "var x: integer; begin x := 3; display(x) end.";
+    let is_read = on_machine(rt.alloc(), text, |machine| -> Result<bool, Fail> {
+        reads_0_as_1(&rt, machine)
+    })?;
+    assert!(rt; is_read);
+    Ok(())
+}
+
+// Whether the process with this number is read as one that has ended without a word.
+fn is_no_process(machine: &Machine, p: u32) -> bool {
+    let number = p as usize;
+    machine.private(number).is_none()
+        && has_written(machine, number, b"")
+        && machine.word(number, 0) == 0
+        && machine.state(p) == ProcState::Ended
+        && machine.kernel().transcript(number).is_empty()
+}
+
+fn is_no_monitor(machine: &Machine, m: u32) -> bool {
+    let kernel = machine.kernel();
+    kernel.holder(m) == Holder::Unset && kernel.askers(m).is_empty()
+}
+
+fn has_begun(machine: &Machine, p: u32) -> bool {
+    let kernel = machine.kernel();
+    kernel.stage(p) == Stage::Begun && kernel.is_begun(p)
+}
+
+// Whether what isn't there in the machine of `SEVENS` reads as nothing.
+fn is_nothing_else(machine: &Machine) -> bool {
+    is_no_process(machine, 4)
+        && machine.word(3, 1000) == 0
+        && machine.kernel().word(1000) == 0
+        && is_no_monitor(machine, 0)
+        && is_no_monitor(machine, 1)
+        && is_no_monitor(machine, 1000)
+        && has_begun(machine, 0)
+        && has_begun(machine, 4)
+        && has_begun(machine, 1000)
 }
 
 #[test]
 fn what_is_not_there_reads_as_nothing(rt: HostRuntime) -> Result<(), Fail> {
-    on_machine(rt.alloc(), SEVENS, |machine| -> Result<(), Fail> {
-        let kernel = machine.kernel();
-        assert!(rt; machine.private(4).is_none());
-        assert!(rt; has_written(machine, 4, b""));
-        assert_eq!(rt; machine.word(4, 0), 0);
-        assert_eq!(rt; machine.word(3, 1000), 0);
-        assert_eq!(rt; kernel.word(1000), 0);
-        assert!(rt; kernel.transcript(4).is_empty());
-        for m in [0, 1, 1000] {
-            assert_eq!(rt; kernel.holder(m), Holder::Unset);
-            assert!(rt; kernel.askers(m).is_empty());
-        }
-        for p in [0, 4, 1000] {
-            assert_eq!(rt; kernel.stage(p), Stage::Begun);
-            assert!(rt; kernel.is_begun(p));
-        }
-        Ok(())
-    })
+    let is_nothing = on_machine(rt.alloc(), SEVENS, |machine| -> Result<bool, Fail> {
+        Ok(is_nothing_else(machine))
+    })?;
+    assert!(rt; is_nothing);
+    Ok(())
 }

@@ -1,15 +1,17 @@
 //! What a machine tells of its processes, monitors and variables between rounds.
 
+use crate::expectations::expect;
 use crate::machines::{machine_of, on_machine, on_program};
-use crate::monitors::expect_gate;
-use crate::ways::{Way, ways};
-use cp_model::state::Fault;
-use cp_private::outside::Holder;
+use crate::ways::Way;
+use cp_program::program::Program;
 use cp_rounds::gate::Open;
 use cp_rounds::machine::Machine;
 use cp_rounds::place::{Kind, Owner, Place, Value};
-use cp_rounds::state::ProcState;
+use cp_scope::Tables;
+use std::alloc::Global;
+use std::sync::Wait;
 use std::test::Fail;
+use std::thread::Threads;
 
 // `b` is delayed in round 2. Then `c` finds the queue taken, and `d` asks for the gate that `c`
 // holds for good. The words of `m` are its mark, `x` and `q`, and those of the processes their mark,
@@ -22,48 +24,28 @@ const TAKEN: &str = "type m = monitor; var x: integer; q: queue;
     t = process; var z: integer; begin cycle z := 1 end end;
     var g: m; b, c, d: p; e: s; f: t; h: s; begin init g, b(g), c(g), d(g), e, f end.";
 
-// The states of all processes after two rounds, and that of a process that there isn't.
-const AFTER_TWO_ROUNDS: [(u32, ProcState); 8] = [
-    (1, ProcState::Ended),
-    (
-        2,
-        ProcState::Delayed {
-            monitor: 1,
-            queue: 2,
-        },
-    ),
-    (3, ProcState::Faulted(Fault::QueueTaken)),
-    (4, ProcState::Asking(1)),
-    (5, ProcState::Waiting),
-    (6, ProcState::Ready),
-    (7, ProcState::Unstarted),
-    (8, ProcState::Ended),
-];
-
-// Whether the processes have these states.
-fn has_states(machine: &Machine, states: &[(u32, ProcState)]) -> bool {
-    for (process, state) in states {
-        if machine.state(*process) != *state {
-            return false;
-        }
-    }
-    true
-}
-
 #[test]
 fn each_process_has_a_state(rt: HostRuntime) -> Result<(), Fail> {
-    for way in ways() {
-        on_machine(rt.alloc(), TAKEN, |machine| -> Result<(), Fail> {
-            way.make(&rt, machine, 1, 10, &Open)?;
-            assert!(rt; has_states(machine, &[(2, ProcState::Ready)]));
-            way.make(&rt, machine, 1, 10, &Open)?;
-            assert!(rt; has_states(machine, &AFTER_TWO_ROUNDS));
-            expect_gate(&rt, machine, 1, Holder::Process(3), &[4], way);
-            Ok(())
-        })?;
-    }
-    Ok(())
+    let two_rounds = "state 1: Ended
+        state 2: Delayed { monitor: 1, queue: 2 }
+        state 3: Faulted(QueueTaken)
+        state 4: Asking(1)
+        state 5: Waiting
+        state 6: Ready
+        state 7: Unstarted
+        holder 1: Process(3)
+        askers 1: [4]";
+    let stops = [(1, 10, "state 2: Ready"), (1, 10, two_rounds)];
+    expect(&rt, rt.alloc(), TAKEN, &stops)
 }
+
+// The queue before the first round.
+const EMPTY: [(Owner, usize, Kind, Value); 1] = [(
+    Owner::Monitor(1),
+    2,
+    Kind::Queue,
+    Value::Queue(None),
+)];
 
 // Places, and their values after two rounds. The last place is none of the machine.
 const VALUES: [(Owner, usize, Kind, Value); 5] = [
@@ -94,23 +76,35 @@ fn has_values(machine: &Machine, values: &[(Owner, usize, Kind, Value)]) -> bool
     true
 }
 
+// Makes two rounds. Returns whether the queue is empty before and the values are right after them.
+fn shows_values<R: Threads + Wait + Sync>(rt: &R, machine: &mut Machine) -> Result<bool, Fail> {
+    if !has_values(machine, &EMPTY) {
+        return Ok(false);
+    }
+    Way::new(true, 1, 1, 255).make(rt, machine, 2, 10, &Open)?;
+    Ok(has_values(machine, &VALUES))
+}
+
 #[test]
 fn each_place_has_a_value(rt: HostRuntime) -> Result<(), Fail> {
-    on_machine(rt.alloc(), TAKEN, |machine| -> Result<(), Fail> {
-        let q = (Owner::Monitor(1), 2, Kind::Queue, Value::Queue(None));
-        assert!(rt; has_values(machine, &[q]));
-        Way::new(true, 1, 1, 255).make(&rt, machine, 2, 10, &Open)?;
-        assert!(rt; has_values(machine, &VALUES));
-        Ok(())
-    })
+    let are_shown = on_machine(rt.alloc(), TAKEN, |machine| -> Result<bool, Fail> {
+        shows_values(&rt, machine)
+    })?;
+    assert!(rt; are_shown);
+    Ok(())
+}
+
+// Returns the rounds of a machine that is halted at its start.
+fn rounds_at_start(alloc: Global, program: Program, tables: &Tables<'_>) -> Result<u64, Fail> {
+    let machine = machine_of(alloc, program, tables)?;
+    Ok(machine.halt().rounds())
 }
 
 #[test]
 fn a_halted_machine_keeps_its_rounds(rt: HostRuntime) -> Result<(), Fail> {
-    on_program(rt.alloc(), TAKEN, |program, tables| -> Result<(), Fail> {
-        let machine = machine_of(rt.alloc(), program, tables)?;
-        let halted = machine.halt();
-        assert!(rt; halted.rounds() == 0);
-        Ok(())
-    })
+    let rounds = on_program(rt.alloc(), TAKEN, |program, tables| -> Result<u64, Fail> {
+        rounds_at_start(rt.alloc(), program, tables)
+    })?;
+    assert_eq!(rt; rounds, 0);
+    Ok(())
 }

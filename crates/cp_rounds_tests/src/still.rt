@@ -38,6 +38,70 @@ fn until_still<R: Threads + Wait + Sync>(
     Ok(machine.run_until_still(rt, limit, plan, &Open)?)
 }
 
+// Makes rounds until nothing can move. Returns how many were made and whether the machine is still
+// after them, and fails unless it moved before and has counted them.
+fn first_end<R: Threads + Wait + Sync>(
+    rt: &R,
+    machine: &mut Machine,
+    limit: u32,
+    plan: &Plan,
+) -> Result<(u32, bool), Fail> {
+    if machine.is_still() {
+        return Err("the machine is still at its start".into());
+    }
+    let made = until_still(rt, machine, limit, plan)?;
+    if machine.rounds() != u64::from(made) {
+        return Err("the machine has counted other rounds".into());
+    }
+    Ok((made, machine.is_still()))
+}
+
+// Fails unless a machine that is still makes no more rounds.
+fn stays_still<R: Threads + Wait + Sync>(
+    rt: &R,
+    machine: &mut Machine,
+    limit: u32,
+    plan: &Plan,
+) -> Result<(), Fail> {
+    if until_still(rt, machine, limit, plan)? != 0 {
+        return Err("the machine was still and has made rounds".into());
+    }
+    Ok(())
+}
+
+// Makes rounds until nothing can move, and then tries to make more. Returns how many were made and
+// whether the machine is still.
+fn end<R: Threads + Wait + Sync>(
+    rt: &R,
+    machine: &mut Machine,
+    limit: u32,
+    plan: &Plan,
+) -> Result<(u32, bool), Fail> {
+    let (made, is_still) = first_end(rt, machine, limit, plan)?;
+    if is_still {
+        stays_still(rt, machine, limit, plan)?;
+    }
+    Ok((made, is_still))
+}
+
+// Returns how many rounds the machine of a text makes until nothing can move, and whether it is
+// still after them.
+fn end_of<R: Threads + Wait + Sync>(
+    rt: &R,
+    alloc: Global,
+    text: &str,
+    limit: u32,
+    plan: &Plan,
+) -> Result<(u32, bool), Fail> {
+    on_machine_with(
+        alloc,
+        text,
+        5,
+        &[],
+        |machine| -> Result<(u32, bool), Fail> { end(rt, machine, limit, plan) },
+    )
+}
+
 // Expects a text to be still after so many rounds and no fewer, whatever the limit and the workers.
 fn expect_still<R: Abort + Threads + Wait + Sync>(
     rt: &R,
@@ -48,22 +112,8 @@ fn expect_still<R: Abort + Threads + Wait + Sync>(
 ) -> Result<(), Fail> {
     for (workers, limit) in [(1, due), (1, due.saturating_add(1)), (3, 1_000_000)] {
         let plan = Plan::new(turn, workers, 1, 255)?;
-        on_machine_with(alloc, text, 5, &[], |machine| -> Result<(), Fail> {
-            assert!(rt; !machine.is_still(), "{text}");
-            assert_eq!(rt;
-                until_still(rt, machine, limit, &plan)?,
-                due,
-                "{text} {limit}"
-            );
-            assert!(rt; machine.is_still(), "{text} {limit}");
-            assert_eq!(rt; machine.rounds(), u64::from(due), "{text} {limit}");
-            assert_eq!(rt;
-                until_still(rt, machine, limit, &plan)?,
-                0,
-                "{text} {limit}"
-            );
-            Ok(())
-        })?;
+        let end = end_of(rt, alloc, text, limit, &plan)?;
+        assert!(rt; end == (due, true), "{text} {limit}");
     }
     Ok(())
 }
@@ -85,12 +135,8 @@ fn rounds_end_at_the_limit(rt: HostRuntime) -> Result<(), Fail> {
         (COUNTS_TO_1000, 1000),
         (WAITS, 4),
     ] {
-        on_machine_with(rt.alloc(), text, 5, &[], |machine| -> Result<(), Fail> {
-            assert_eq!(rt; until_still(&rt, machine, limit, &plan)?, limit, "{text}");
-            assert!(rt; !machine.is_still(), "{text}");
-            assert_eq!(rt; machine.rounds(), u64::from(limit), "{text}");
-            Ok(())
-        })?;
+        let end = end_of(&rt, rt.alloc(), text, limit, &plan)?;
+        assert!(rt; end == (limit, false), "{text} {limit}");
     }
     Ok(())
 }

@@ -20,5 +20,8 @@ pub(crate) fn tree_of(alloc: Global, text: &str) -> Result<Tree, Fail> {
 
 /// Returns the program and the tables of an accepted text.
 pub(crate) fn compiled<'t>(alloc: Global, tree: &'t Tree) -> Result<CompiledText<'t>, Fail> {
-    Ok(check(alloc, tree).map_err(|_| "the text is refused")?)
+    let Ok(compiled) = check(alloc, tree) else {
+        return Err("the text is refused".into());
+    };
+    Ok(compiled)
 }

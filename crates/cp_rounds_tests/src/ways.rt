@@ -12,7 +12,7 @@ use std::thread::Threads;
 
 // Whether it is one run, whose rounds share their threads, or rounds that each have threads of
 // their own.
-#[derive(Clone, Copy, Debug)]
+#[derive(Clone, Copy)]
 pub(crate) struct Way {
     pub(crate) is_run: bool,
     pub(crate) workers: u32,
@@ -20,18 +20,16 @@ pub(crate) struct Way {
     pub(crate) wave: u32,
 }
 
-// Returns ways with one worker and with several, with all processes in one wave and with one
-// process a wave.
-pub(crate) fn ways() -> [Way; 6] {
-    [
-        Way::new(true, 1, 1, 255),
-        Way::new(true, 3, 1, 255),
-        Way::new(true, 3, 1, 1),
-        Way::new(false, 1, 1, 255),
-        Way::new(false, 3, 1, 255),
-        Way::new(false, 3, 1, 1),
-    ]
-}
+// Ways with one worker and with several, with all processes in one wave and with one process a
+// wave: whether it is a run, the workers, and the processes in a wave.
+pub(crate) const WAYS: [(bool, u32, u32); 6] = [
+    (true, 1, 255),
+    (true, 3, 255),
+    (true, 3, 1),
+    (false, 1, 255),
+    (false, 3, 255),
+    (false, 3, 1),
+];
 
 // Fails unless a machine has room for many more rounds.
 pub(crate) fn is_young(machine: &Machine) -> Result<(), Fail>

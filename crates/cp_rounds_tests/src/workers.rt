@@ -4,7 +4,11 @@ use crate::gates::{Counting, EachWaits, Meeting, PrivateTurnsMeet, WavesMeet};
 use crate::machines::on_machine;
 use crate::rounds::SEVENS;
 use crate::ways::Way;
+use cp_rounds::gate::TurnGate;
+use std::alloc::Global;
+use std::sync::Wait;
 use std::test::Fail;
+use std::thread::Threads;
 
 // From round 4 on all processes have ended, and the gate is still called for each of them.
 const TWO: &str = "type p = process; begin display(7) end; var a, b: p; begin init a, b end.";
@@ -12,18 +16,28 @@ const TWO: &str = "type p = process; begin display(7) end; var a, b: p; begin in
 const FOUR: &str =
     "type p = process; begin display(7) end; var a, b, c, d: p; begin init a, b, c, d end.";
 
+// Makes rounds of the machine of a text.
+fn make<R: Threads + Wait + Sync, G: TurnGate>(
+    rt: &R,
+    alloc: Global,
+    text: &str,
+    way: Way,
+    rounds: u32,
+    turn: u32,
+    gate: &G,
+) -> Result<(), Fail> {
+    on_machine(alloc, text, |machine| -> Result<(), Fail> {
+        way.make(rt, machine, rounds, turn, gate)
+    })
+}
+
 #[test]
 fn two_private_turns_are_made_at_once(rt: HostRuntime) -> Result<(), Fail> {
     for is_run in [true, false] {
-        on_machine(rt.alloc(), TWO, |machine| -> Result<(), Fail> {
-            let gate = PrivateTurnsMeet(Meeting::new());
-            Way::new(is_run, 2, 1, 255).make(&rt, machine, 1000, 10, &gate)?;
-            assert!(rt;
-                gate.0.seen.iter().all(|seen| seen.get() > 0),
-                "run: {is_run}"
-            );
-            Ok(())
-        })?;
+        let gate = PrivateTurnsMeet(Meeting::new());
+        let way = Way::new(is_run, 2, 1, 255);
+        make(&rt, rt.alloc(), TWO, way, 1000, 10, &gate)?;
+        assert!(rt; gate.0.is_seen_by_both(), "run: {is_run}");
     }
     Ok(())
 }
@@ -31,15 +45,10 @@ fn two_private_turns_are_made_at_once(rt: HostRuntime) -> Result<(), Fail> {
 #[test]
 fn a_kernel_turn_is_made_beside_the_next_wave(rt: HostRuntime) -> Result<(), Fail> {
     for is_run in [true, false] {
-        on_machine(rt.alloc(), TWO, |machine| -> Result<(), Fail> {
-            let gate = WavesMeet(Meeting::new());
-            Way::new(is_run, 2, 1, 1).make(&rt, machine, 1000, 10, &gate)?;
-            assert!(rt;
-                gate.0.seen.iter().all(|seen| seen.get() > 0),
-                "run: {is_run}"
-            );
-            Ok(())
-        })?;
+        let gate = WavesMeet(Meeting::new());
+        let way = Way::new(is_run, 2, 1, 1);
+        make(&rt, rt.alloc(), TWO, way, 1000, 10, &gate)?;
+        assert!(rt; gate.0.is_seen_by_both(), "run: {is_run}");
     }
     Ok(())
 }
@@ -47,15 +56,10 @@ fn a_kernel_turn_is_made_beside_the_next_wave(rt: HostRuntime) -> Result<(), Fai
 #[test]
 fn no_process_is_kept_for_one_worker(rt: HostRuntime) -> Result<(), Fail> {
     for is_run in [true, false] {
-        on_machine(rt.alloc(), FOUR, |machine| -> Result<(), Fail> {
-            let gate = EachWaits::new();
-            Way::new(is_run, 2, 1, 255).make(&rt, machine, 1000, 10, &gate)?;
-            assert!(rt;
-                gate.seen.iter().all(|seen| seen.get() > 0),
-                "run: {is_run}"
-            );
-            Ok(())
-        })?;
+        let gate = EachWaits::new();
+        let way = Way::new(is_run, 2, 1, 255);
+        make(&rt, rt.alloc(), FOUR, way, 1000, 10, &gate)?;
+        assert!(rt; gate.each_has_seen_all(), "run: {is_run}");
     }
     Ok(())
 }
@@ -66,15 +70,13 @@ fn no_process_is_kept_for_one_worker(rt: HostRuntime) -> Result<(), Fail> {
 fn the_gate_is_called_once_for_each_turn(rt: HostRuntime) -> Result<(), Fail> {
     for is_run in [true, false] {
         for wave in [1, 2, 3, 255] {
-            on_machine(rt.alloc(), SEVENS, |machine| -> Result<(), Fail> {
-                let gate = Counting::new();
-                Way::new(is_run, 64, 1, wave).make(&rt, machine, 5, 1, &gate)?;
-                assert!(rt;
-                    gate.calls() == [(0, 0), (5, 5), (5, 5), (5, 5)],
-                    "run: {is_run}, wave {wave}"
-                );
-                Ok(())
-            })?;
+            let gate = Counting::new();
+            let way = Way::new(is_run, 64, 1, wave);
+            make(&rt, rt.alloc(), SEVENS, way, 5, 1, &gate)?;
+            assert!(rt;
+                gate.calls() == [(0, 0), (5, 5), (5, 5), (5, 5)],
+                "run: {is_run}, wave {wave}"
+            );
         }
     }
     Ok(())
