@@ -2,7 +2,7 @@
 //! out by hand.
 
 use super::traces::{Case, FAULT_INSIDE, ONE_ITEM, STEPS, due, trace_of};
-use cp_observe::tracing::TraceForm;
+use cp_plan::trace::TraceForm;
 use std::alloc::{AllocError, Global};
 use std::test::Fail;
 

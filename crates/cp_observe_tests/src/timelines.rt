@@ -2,7 +2,7 @@
 //! was worked out by hand.
 
 use super::traces::{Case, FAULT_INSIDE, ONE_ITEM, PHILOSOPHERS, STEPS, due, trace_of};
-use cp_observe::tracing::TraceForm;
+use cp_plan::trace::TraceForm;
 use std::test::Fail;
 
 const LEGEND: &[u8] =

@@ -1,7 +1,7 @@
 //! Traces of whole texts as objects, worked out by hand.
 
 use super::traces::{Case, FAULT_INSIDE, ONE_ITEM, PHILOSOPHERS, VALUES, due, trace_of};
-use cp_observe::tracing::TraceForm;
+use cp_plan::trace::TraceForm;
 use std::test::Fail;
 
 const ONE_ITEM_TOLD: &str =
