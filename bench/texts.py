@@ -52,7 +52,7 @@ DECLARATIONS = {
         ''.join(f't{k}c{n}=class;var a,b:' + (f't{k}c{n - 1}' if n else 'integer') + ';begin end;' for n in range(17)) for k in range(1500)) + 'begin end.',
     '600 arrays of 199 dimensions': 'type ' + ''.join(f'a{k}x=array[' + ','.join(['boolean'] * 199) + ']of char;' for k in range(600)) + 'begin end.',
     '20,000 routines with 8,000 words': 'type s=1..5;r=record ' + ';'.join(f'{a}:integer;{b}:s' for a, b in zip(NAMES[:4000], NAMES[4000:8000])) + ' end;'
-                                        + ''.join(f'procedure {name};var r0x:r;begin end;' for name in NAMES[8000:28_000]) + 'begin end.',
+                                        + ''.join(f'procedure {name};var rx:r;begin end;' for name in NAMES[8000:28_000]) + 'begin end.',
     'indices in indices, 190 deep': 'var v:array[1..9]of 1..9;x:1..9;begin ' + f'x:={INDICES};' * 1700 + 'end.',
 }
 
