@@ -14,6 +14,9 @@ mod TablesStand
 mod CodeStands
 mod UnitsStand
 pub mod Pasting
+mod PlansWrite
+mod ArraysPlanned
+mod PartsPlanned
 mod PlansStand
 mod PartsStart
 mod StartsStand

@@ -14,7 +14,7 @@ pub use Rattle.cp_program_model.specs.Known.{Plannable, PlannableMembers}
 use Rattle.cp_program_model.specs.Layout.{Part, distance, farther, head_words, member_part, of_class, part}
 use Rattle.cp_program_model.proofs.Found.{part_whole}
 use Rattle.cp_program_model.proofs.Pasting.{copies}
-use Rattle.cp_program_model.proofs.PlansStand.{image, image_length, image_of_class, images}
+use Rattle.cp_program_model.proofs.PlansWrite.{image, image_length, image_of_class, images}
 
 -- ---- Parts
 

@@ -20,7 +20,10 @@ use Rattle.cp_program_model.specs.Plans.{placed, placed_variables, plan_of_compo
 use Rattle.cp_program_model.specs.Starts.{AreZero, Starts, StartsComponent, block, fill, paste, repeat_block, carry_out, unset, word}
 use Rattle.cp_program_model.proofs.CallsStand.{distinct_apart}
 use Rattle.cp_program_model.proofs.Pasting.{fill_is_paste, paste_inside, paste_length, paste_outside}
-use Rattle.cp_program_model.proofs.PlansStand.{Follow, Plannable, PlannableMembers, all_planned, fill_before_is, image, image_length, image_of_class, images, images_length, parts_planned, planned, planned_part}
+use Rattle.cp_program_model.specs.Known.{Plannable, PlannableMembers}
+use Rattle.cp_program_model.proofs.PlansWrite.{fill_before_is, image, image_length, image_of_class, images, images_length}
+use Rattle.cp_program_model.proofs.PartsPlanned.{Follow, parts_planned}
+use Rattle.cp_program_model.proofs.PlansStand.{all_planned, planned, planned_part}
 use Rattle.cp_program_model.proofs.PartsStart.{PartOf, members_start, part_behind, parts_start}
 
 -- ---- Lengths

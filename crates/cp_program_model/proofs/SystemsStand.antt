@@ -20,7 +20,7 @@ use Rattle.cp_program_model.specs.Scopes.{Scope, declared_type, groups_of, or_ze
 use Rattle.cp_program_model.specs.Plans.{plan_of_routine}
 use Rattle.cp_program_model.specs.CodeNeeds.{need_of_all}
 use Rattle.cp_program_model.specs.Compile.{Compiled, body_scope, code_unit, routine_scope, unit_code, with_body, with_routine, with_routines, with_system, with_unit}
-use Rattle.cp_program_model.proofs.PlansStand.{Plannable, PlannableMembers}
+use Rattle.cp_program_model.specs.Known.{Plannable, PlannableMembers}
 use Rattle.cp_program_model.proofs.ScopesStand.{SystemKnown, UnitsThere, standing}
 use Rattle.cp_program_model.proofs.Standing.{UnitThere}
 use Rattle.cp_program_model.proofs.StartsStand.{ByValue, routine_starts}
