@@ -4,7 +4,7 @@
 //! to the left. An operand that is itself a term is boxed, while numbers, words and temps are
 //! stored inline.
 
-ghost use Rattle.std.specs.Prelude.{◌≡◌, IfOk, IfSome};
+ghost use Rattle.std.specs.Prelude.{◌≡◌, ◌++◌, ◌∷◌, [], IfOk, IfSome, OnOk};
 ghost use Rattle.cp_program_model.specs.Terms as plain;
 ghost use Rattle.cp_program_model.specs.TermsFor.{move_spot, move_root};
 ghost use Rattle.cp_model.specs.Erase.{operator_of};
@@ -97,6 +97,17 @@ pub struct Term {
     pub rest: Vec<Application>,
 }
 
+// Adds an item. The first one takes room for itself alone, since most lists have no other.
+fn push_exactly<X: Drop>(list: &mut Vec<X>, item: X) -> Result<(), AllocError>
+    ensures { OnOk result (list.new.items ≡ list.old.items ++ item ∷ []) }
+{
+    if list.is_empty() {
+        list.reserve_exact(1)?;
+    }
+    list.push(item)?;
+    Ok(())
+}
+
 impl Root {
     /// The root `words` words further on, if its offset fits in 32 bits.
     pub fn advance(self, words: u32) -> Option<Root>
@@ -130,13 +141,14 @@ impl Spot {
             (λ s. view.spot s ≡ plain.Element (view.spot self) low high size 0 (view.term value)) }
     {
         let Spot { root, mut indices } = self;
-        indices.push(Index {
+        let index = Index {
             low,
             high,
             size,
             plus: 0,
             value,
-        })?;
+        };
+        push_exactly(&mut indices, index)?;
         Ok(Spot { root, indices })
     }
 
@@ -270,7 +282,7 @@ impl Term {
     {
         let operand = right.into_operand(alloc)?;
         let Term { first, mut rest } = self;
-        rest.push(Application::new(operator, operand))?;
+        push_exactly(&mut rest, Application::new(operator, operand))?;
         Ok(Term { first, rest })
     }
 }

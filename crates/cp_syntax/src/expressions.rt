@@ -14,7 +14,7 @@ ghost use Rattle.cp_grammar.specs.Expressions as spec;
 ghost use Rattle.cp_syntax.specs.Nests.{FactorsAt};
 
 use crate::levels::{Level, Nested, read_at};
-use crate::lists::{Item, Node, one_or_more, repeated, separated};
+use crate::lists::{Item, Node, lone, one_or_more, repeated, separated};
 use crate::operators::{product_operator, relation_operator, sign, sum_operator};
 use crate::tokens::{Read, after, place, sees};
 use cp_grammar::Stop;
@@ -159,8 +159,7 @@ fn relation(alloc: Global, left: Expression, right: Operation) -> Result<Express
         (λ e. view.expression e ≡ s.Binary (view.expression left) right.operator right.at
         (view.expression right.operand)) }
 {
-    let mut rest = Vec::new(alloc);
-    rest.push(right)?;
+    let rest = lone(alloc, right)?;
     join(alloc, left, rest)
 }
 

@@ -1,13 +1,13 @@
 //! Items one after another, with or without symbols between them.
 
-ghost use Rattle.std.specs.Prelude.{◌≡◌, map, [], Bool, Option};
+ghost use Rattle.std.specs.Prelude.{◌≡◌, ◌∷◌, map, [], Bool, IfOk, Option};
 ghost use Rattle.cp_model.specs.declared.token.Kind.{Kind};
 ghost use Rattle.cp_grammar.specs.Reading.{kind_at, Reader, Gives};
 ghost use Rattle.cp_grammar.specs.Reading as reading;
 
 use crate::tokens::{Read, after, sees};
 use cp_model::token::{Symbol, Token};
-use std::alloc::Global;
+use std::alloc::{AllocError, Global};
 
 /// A part of the syntax tree that occurs in lists, and how the rules `R` read it.
 pub trait Node<R>: Drop {
@@ -57,13 +57,23 @@ pub fn read_while<X: Item<R>, R: Copy>(
     Ok((found, rest))
 }
 
+/// Returns a list of one item. Most lists have no more, so it has room for that one alone.
+pub fn lone<X: Drop>(alloc: Global, item: X) -> Result<Vec<X>, AllocError>
+    ensures { IfOk result (λ list. list.items ≡ item ∷ []) }
+{
+    let mut list = Vec::with_capacity(alloc, 1)?;
+    list.push(item)?;
+    Ok(list)
+}
+
 /// Reads items as long as the next token begins one.
 pub fn repeated<X: Item<R>, R: Copy>(alloc: Global, rules: R, tokens: &[Token]) -> Read<'_, Vec<X>>
     requires { X.is_readable rules }
     ensures { Gives (λ v. map X.view v.items) result
         (reading.repeat_while X.begins (X.reader rules) [] tokens.now) }
 {
-    read_while(Vec::new(alloc), rules, tokens)
+    let room = if X::begins(tokens) { 1 } else { 0 };
+    read_while(Vec::with_capacity(alloc, room)?, rules, tokens)
 }
 
 /// Reads one item, and more as long as the next token begins one.
@@ -78,9 +88,7 @@ pub fn one_or_more<X: Item<R>, R: Copy>(
         (reading.one_or_more X.begins (X.reader rules) tokens.now) }
 {
     let (first, rest) = X::read(rules, tokens)?;
-    let mut found = Vec::new(alloc);
-    found.push(first)?;
-    read_while(found, rules, rest)
+    read_while(lone(alloc, first)?, rules, rest)
 }
 
 /// Reads one or more items, with this symbol between them.
@@ -95,8 +103,7 @@ pub fn separated<X: Node<R>, R: Copy>(
         (reading.separated_by symbol (X.reader rules) tokens.now) }
 {
     let (first, rest) = X::read(rules, tokens)?;
-    let mut found = Vec::new(alloc);
-    found.push(first)?;
+    let mut found = lone(alloc, first)?;
     let mut rest = rest;
     for _turn in 0..rest.len() {
         if !sees(rest, symbol) {

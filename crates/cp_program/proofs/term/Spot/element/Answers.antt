@@ -23,8 +23,8 @@ returns c =
     let high = narrow c.args.high in
     let new : PlainIndex = record { low = low; high = high; size = c.args.size; plus = 0; value = term c.args.value } in
     let item : Index-F Application Operand Index Spot Term = record { low = low; high = high; size = c.args.size; plus = 0; value = c.args.value } in
-    let pushed : map index c.push.new.self.items ≡ is ++ new ∷ [] =
-    ap (map index) c.in_ok-push.ensures.items
+    let pushed : map index c.push_exactly.new.list.items ≡ is ++ new ∷ [] =
+    ap (map index) c.in_ok-push_exactly.ensures
     ∙ map-append index s.indices.items (roll-Index item ∷ [])
     ∙ ap (λ x. is ++ x ∷ []) (index_rolled low high c.args.size 0 c.args.value) in
     spot_rolled s.root _

@@ -12,8 +12,8 @@ returns c =
     let t = out-Term c.args.self in
     let xs = map application t.rest.items in
     let new : PlainApplication = record { operator = operator_of c.args.operator; operand = operand c.in_ok-operand.operand } in
-    let pushed : map application c.push.new.self.items ≡ xs ++ new ∷ [] =
-    ap (map application) c.in_ok-push.ensures.items
+    let pushed : map application c.push_exactly.new.list.items ≡ xs ++ new ∷ [] =
+    ap (map application) c.in_ok-push_exactly.ensures
     ∙ map-append application t.rest.items _
     ∙ ap (λ x. xs ++ x ∷ []) c.new.ensures in
     term_rolled t.first _
