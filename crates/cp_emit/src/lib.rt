@@ -6,7 +6,8 @@
 //! - `need`: the words, temps and frames that an operation or a unit needs.
 //! - `call`: the calls of a statement's terms.
 //! - `table`: where a `case` leads.
-//! - `plan`: the plans of types, and of parts that lie one after another.
+//! - `plan`: the plans so far, and what they are made from. `pieces`: what the pieces of a plan are.
+//! - `parts`: the plans of parts that lie one after another. `type_plans`: the plans of types.
 //! - `starts`: plans for the start values of the words of activations and components.
 //! - `draft`: a plan in progress, which is made from its end.
 //! - `members`: what plans are made from.
@@ -21,9 +22,12 @@ pub mod emission;
 pub mod emitter;
 mod members;
 pub mod need;
+mod parts;
+mod pieces;
 pub mod plan;
 pub mod starts;
 pub mod table;
+mod type_plans;
 pub mod unit;
 
 pub use emitter::{CodedCall, Emitter};

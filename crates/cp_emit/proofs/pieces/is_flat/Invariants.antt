@@ -2,7 +2,7 @@ use Rattle.std.proofs.Common.{◌≡◌, List, drop}
 use Rattle.cp_program_model.specs.Plans as text
 use Rattle.cp_program_model.specs.Programs as code
 use Rattle.cp_program.specs.View.{plan_of}
-use Rattle.cp_emit.proofs.plan.is_flat.Given as goal
+use Rattle.cp_emit.proofs.pieces.is_flat.Given as goal
 
 -- The pieces so far are no parts.
 abbrev pub invariant-loop-piece : goal.invariant-loop-piece

@@ -2,7 +2,7 @@ use Rattle.std.proofs.Common.{rules, ◌≡◌, ◌∙◌, true, false, ap, sym}
 use Rattle.std.specs.Prelude.{◌&&◌}
 use Rattle.cp_program_model.specs.Plans.{is_flat}
 use Rattle.cp_program.specs.View.{plan_of}
-use Rattle.cp_emit.proofs.plan.is_light.Goals as goal
+use Rattle.cp_emit.proofs.pieces.is_light.Goals as goal
 
 pub returns-then-is_short : goal.returns-then-is_short
 returns-then-is_short c = λ known.

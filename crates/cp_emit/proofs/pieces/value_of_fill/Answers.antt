@@ -3,7 +3,7 @@ use Rattle.cp_program_model.specs.Plans.{value_of_fill}
 use Rattle.cp_program.specs.View.{plan_of}
 use Rattle.cp_program.specs.declared.program.StartPiece.TheVariants as start
 use Rattle.cp_emit.proofs.TypesPlanned.{no_fill, one_only}
-use Rattle.cp_emit.proofs.plan.value_of_fill.Goals as goal
+use Rattle.cp_emit.proofs.pieces.value_of_fill.Goals as goal
 
 pub returns-then-pieces-ne1 : goal.returns-then-pieces-ne1
 returns-then-pieces-ne1 c = λ known.

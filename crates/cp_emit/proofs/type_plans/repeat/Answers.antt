@@ -2,7 +2,7 @@ use Rattle.std.proofs.Common.{rules, ◌≡◌, ◌∙◌, true, false, ap, sym}
 use Rattle.cp_program_model.specs.Programs as code
 use Rattle.cp_scope.proofs.Unrefused.{on_ok}
 use Rattle.cp_emit.proofs.TypesPlanned.{no_repeats, some_repeats}
-use Rattle.cp_emit.proofs.plan.repeat.Goals as goal
+use Rattle.cp_emit.proofs.type_plans.repeat.Goals as goal
 
 pub returns-then-is_once : goal.returns-then-is_once
 returns-then-is_once c = λ known none.
