@@ -4,10 +4,10 @@ use std::hint;
 use std::sync::Wait;
 use std::sync::atomic::{AtomicU64, Ordering};
 
-// How many times a thread looks for a change before it sleeps: for some 50 microseconds, in which the
-// calling thread makes the kernel turns of a large round, so that no thread has to be woken for the
-// next one.
-const LOOKS: u32 = 10_000;
+// How many times a thread looks for a change before it sleeps: for 50 to 250 microseconds, in which
+// the calling thread makes the kernel turns of a large round and begins the next one, so that no
+// thread has to be woken for it.
+const LOOKS: u32 = 50_000;
 
 /// How often something has happened, for threads that wait until it happens again.
 #[derive(Drop)]
@@ -38,6 +38,16 @@ impl Signal {
     /// Counts once more, and wakes the threads that wait.
     pub fn give(&self) {
         self.count.fetch_add(1, Ordering::SeqCst);
+        self.wake();
+    }
+
+    /// Counts up to this number, and wakes the threads that wait. No other thread may count.
+    pub fn raise(&self, count: u64) {
+        self.count.store(count, Ordering::SeqCst);
+        self.wake();
+    }
+
+    fn wake(&self) {
         if self.asleep.load(Ordering::SeqCst) > 0 {
             self.count.wake_all();
         }

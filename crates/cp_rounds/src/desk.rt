@@ -14,6 +14,10 @@ use std::alloc::{AllocError, Global};
 use std::mem;
 use std::sync::{Mutex, OnceToken, Wait};
 
+// How many chunks are laid before the threads hear of them. Each time they do, those that sleep are
+// woken, and whoever counts up a number that others look at waits for them.
+const HEARD_AT_ONCE: usize = 8;
+
 /// The tasks of a chunk in order of process, each in a slot.
 pub type Tasks<'a, C> = Vec<Option<Task<'a, C>>>;
 
@@ -72,7 +76,7 @@ fn swap_for_made<'a, C: Course>(tray: &mut Tray<'a, C>, room: &mut Tasks<'a, C>)
 #[derive(Drop)]
 pub struct Desk<'a, C: Course> {
     trays: Vec<Mutex<Tray<'a, C>>>,
-    // A chunk of the round has been laid.
+    // How many chunks of the round have been laid.
     laid: Signal,
 }
 
@@ -96,11 +100,19 @@ impl<'a, C: Course> Desk<'a, C> {
 
     // Lays the tasks of a chunk, and takes the room that was there for them.
     fn lay<R: Wait>(&self, rt: &R, chunk: usize, tasks: &mut Tasks<'a, C>) {
-        let Some(tray) = self.trays.get(chunk) else {
-            return;
-        };
-        swap_for_room(&mut *tray.lock(rt), tasks);
-        self.laid.give();
+        if let Some(tray) = self.trays.get(chunk) {
+            swap_for_room(&mut *tray.lock(rt), tasks);
+        }
+    }
+
+    // Lays the tasks of the last chunk, if there are any, and lets the threads hear of all chunks.
+    fn lay_last<R: Wait>(&self, rt: &R, place: Cursor, tasks: &mut Tasks<'a, C>) {
+        let mut laid = place.chunk;
+        if place.slot > 0 {
+            self.lay(rt, place.chunk, tasks);
+            laid = laid.wrapping_add(1);
+        }
+        self.laid.raise(laid as u64);
     }
 
     // Puts a task into its slot, and lays the tasks of its chunk if it is the last of them. Returns
@@ -120,6 +132,9 @@ impl<'a, C: Course> Desk<'a, C> {
         let next = place.next(plan);
         if next.chunk != place.chunk {
             self.lay(rt, place.chunk, tasks);
+            if next.chunk % HEARD_AT_ONCE == 0 {
+                self.laid.raise(next.chunk as u64);
+            }
         }
         next
     }
@@ -160,9 +175,7 @@ impl<'a, C: Course> Desk<'a, C> {
             let task = Task::new(start, round, i + 1, moment, private);
             place = self.put(rt, plan, place, task, tasks);
         }
-        if place.slot > 0 {
-            self.lay(rt, place.chunk, tasks);
-        }
+        self.lay_last(rt, place, tasks);
     }
 
     /// Begins a round, of which nothing is laid.
