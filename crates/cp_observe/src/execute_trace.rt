@@ -18,10 +18,20 @@ use cp_plan::trace::Tracing;
 use cp_report::roster::Roster;
 use cp_rounds::gate::TurnGate;
 use cp_rounds::halted::Halted;
-use std::alloc::Global;
+use std::alloc::{AllocError, Global};
 use std::io::{Read, Write};
 use std::sync::Wait;
 use std::thread::Threads;
+
+// Returns the first of these names that no process and no monitor has, if there is one.
+fn first_unknown<'a>(roster: &Roster, names: &[&'a str]) -> Result<Option<&'a str>, AllocError> {
+    for name in names {
+        if roster.member(name.as_bytes())?.is_none() {
+            return Ok(Some(*name));
+        }
+    }
+    Ok(None)
+}
 
 /// Returns the first of these names that no process and no monitor of a text has, if there is one.
 ///
@@ -36,12 +46,7 @@ pub fn unknown_name<'a>(
     let tree = accept(alloc, text)?;
     let tables = tables_of(alloc, &tree)?;
     let roster = Roster::of(alloc, &tables)?;
-    for name in names {
-        if roster.member(name.as_bytes())?.is_none() {
-            return Ok(Some(*name));
-        }
-    }
-    Ok(None)
+    Ok(first_unknown(&roster, names)?)
 }
 
 /// Runs the text of one reader on the input of another, and writes in the form of the trace what

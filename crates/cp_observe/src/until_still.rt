@@ -1,8 +1,10 @@
 //! Running a program until nothing can move: from its input to the outcome.
 
-ghost use Rattle.std.specs.Prelude.{◌≡◌, IfErr, IfOk};
+ghost use Rattle.std.specs.Prelude.{◌≡◌, ℕ, List, IfErr, IfOk};
 ghost use Rattle.cp_model.specs.Rules.{Accepted};
+ghost use Rattle.cp_model.specs.Syntax as s;
 ghost use Rattle.cp_model.specs.View as view;
+ghost use Rattle.cp_execute.specs.Executed.{IsAtStart, setup_of};
 ghost use Rattle.cp_observe.specs.Outcomes.{IsOutcome};
 ghost use Rattle.cp_accept.specs.declared.refusal.Refusal.TheVariants as refusal;
 
@@ -14,6 +16,7 @@ use cp_execute::running::machine_at_start;
 use cp_outcome::verdict::{Verdict, verdict_on};
 use cp_plan::outcome::{OutcomeForm, UntilStill};
 use cp_rounds::gate::TurnGate;
+use cp_rounds::machine::Machine;
 use std::alloc::Global;
 use std::sync::Wait;
 use std::thread::Threads;
@@ -23,6 +26,30 @@ use std::thread::Threads;
 pub(crate) struct Outcome {
     pub(crate) verdict: Verdict,
     pub(crate) bytes: Vec<u8>,
+}
+
+// Runs a machine at its start until nothing can move, and returns the outcome in a form.
+fn outcome_of<'t, H: Threads + Wait + Sync, G: TurnGate>(
+    rt: &H,
+    alloc: Global,
+    text: &'t Text,
+    machine: &mut Machine<'_, 't>,
+    how: &UntilStill,
+    form: OutcomeForm<u32>,
+    gate: &G,
+) -> Result<Outcome, Refusal>
+    requires first { machine.old.rounds ≡ 0 }
+    ensures outcome { IfOk result (λ outcome. (t : s.Tree) (input : List ℕ)
+        → IsAtStart (setup_of t input how.now.tick.rounds) machine.old
+        → IsOutcome how.now form t input outcome.verdict outcome.bytes.items) }
+    ensures memory { IfErr result (λ e. e ≡ refusal.Memory) }
+{
+    let Ok(_rounds) = machine.run_until_still(rt, how.limit, &how.plan, gate) else {
+        return Err(Refusal::Memory);
+    };
+    let verdict = verdict_on(machine);
+    let bytes = told(alloc, text, machine, verdict, form)?;
+    Ok(Outcome { verdict, bytes })
 }
 
 /// Runs the program of an accepted text until nothing can move, and returns the outcome in a form.
@@ -40,17 +67,12 @@ pub(crate) fn outcome_after_run<H: Threads + Wait + Sync, G: TurnGate>(
     gate: &G,
 ) -> Result<Outcome, Refusal>
     requires accepted { Accepted (view.tree text.now.tree) }
-    ensures outcome { IfOk result (λ outcome. IsOutcome how.now form (view.tree text.now.tree) input.now
-        outcome.verdict outcome.bytes.items) }
+    ensures outcome { IfOk result (λ outcome. IsOutcome how.now form
+        (view.tree text.now.tree) input.now outcome.verdict outcome.bytes.items) }
     ensures memory { IfErr result (λ e. e ≡ refusal.Memory) }
 {
     let compiled = compile_accepted(alloc, &text.tree)?;
     let CompiledText { program, tables } = compiled;
     let mut machine = machine_at_start(alloc, program, &tables, input, how.tick)?;
-    let Ok(_rounds) = machine.run_until_still(rt, how.limit, &how.plan, gate) else {
-        return Err(Refusal::Memory);
-    };
-    let verdict = verdict_on(&machine);
-    let bytes = told(alloc, text, &machine, verdict, form)?;
-    Ok(Outcome { verdict, bytes })
+    outcome_of(rt, alloc, text, &mut machine, how, form, gate)
 }

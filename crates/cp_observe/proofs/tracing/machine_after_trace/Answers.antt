@@ -1,43 +1,21 @@
-use Rattle.std.proofs.Common.{◌≡◌, ◌∙◌, ◌+◌, ◌-◌, ℕ, ap, arith, subst, sym}
+use Rattle.std.proofs.Common.{subst, sym}
 use Rattle.std.proofs.lemmas.Result.{err_from_is_err_and}
-use Rattle.cp_accept.proofs.Faults.{from_ok}
-use Rattle.cp_machine_model.specs.Machines as plain
 use Rattle.cp_machine_model.specs.InState.{IsIn}
 use Rattle.cp_model.specs.Rounds.{run}
 use Rattle.cp_model.specs.Start.{start}
-use Rattle.cp_model.specs.States.{numbers_from}
 use Rattle.cp_model.specs.View as view
-use Rattle.cp_rounds.specs.InStates.{MakesRounds}
-use Rattle.cp_rounds.specs.Views.{machine_of, processes_of}
 use Rattle.cp_execute.specs.Executed.{setup_of}
-use Rattle.cp_trace.proofs.RoundsMade.{more_made, rounds_count}
 use Rattle.cp_observe.proofs.tracing.machine_after_trace.Goals as goal
-
-pub trace_rounds-requires-clause-count : goal.trace_rounds-requires-clause-count
-trace_rounds-requires-clause-count g c =
-    let how = c.args.how.now in
-    let old = c.in_ok-machine.machine in
-    let n = c.min-untold.result in
-    let made = from_ok c.run.result (sym c.if-is_err.ensures.value) c.run.ensures.done in
-    let none = c.in_ok-machine.ensures.rounds in
-    let count = ap (λ (m : plain.Machine). m.rounds) made ∙ rounds_count how.plan.turn.steps (numbers_from 1 (processes_of old)) n (machine_of old) in
-    Prim.omega (arith, count, none)
 
 pub returns-clause-state : goal.returns-clause-state
 returns-clause-state g c =
     let how = c.args.how.now in
-    let t = how.plan.turn.steps in
     let setup = setup_of (view.tree c.args.tree.now) c.args.input.now how.tick.rounds in
-    let n = c.min-untold.result in
-    let first = from_ok c.run.result (sym c.if-is_err.ensures.value) c.run.ensures.state in
-    let told = c.in_ok-trace_rounds.ensures.state in
-    let all = more_made t n (how.rounds - n) c.in_ok-machine.machine c.run.new.self c.trace_rounds.new.machine first told in
-    let sum : n + (how.rounds - n) ≡ how.rounds = Prim.omega (arith, c.min-untold.ensures) in
     let begun = c.in_ok-machine.ensures.state (view.tree c.args.tree.now) c.in_ok-compiled.ensures.program in
-    let I = subst (λ (k : ℕ). MakesRounds t k c.in_ok-machine.machine c.trace_rounds.new.machine) sum all setup (start setup) begun in
-    subst (λ m. IsIn m setup (run setup t how.rounds (start setup))) (sym c.halt.ensures) I
+    subst (λ m. IsIn m setup (run setup how.plan.turn.steps how.rounds (start setup))) (sym c.halt.ensures)
+    (c.in_ok-trace_all.ensures.state setup (start setup) begun)
 
-pub returns-in_err-trace_rounds-clause-fault : goal.returns-in_err-trace_rounds-clause-fault
-returns-in_err-trace_rounds-clause-fault g c =
-    let p = err_from_is_err_and c.from_residual-in_err-trace_rounds.result c.from_residual-in_err-trace_rounds.ensures.1 in
-    rw (p.1, p.2) c.in_err-trace_rounds.ensures.fault
+pub returns-in_err-trace_all-clause-fault : goal.returns-in_err-trace_all-clause-fault
+returns-in_err-trace_all-clause-fault g c =
+    let p = err_from_is_err_and c.from_residual-in_err-trace_all.result c.from_residual-in_err-trace_all.ensures.1 in
+    rw (p.1, p.2) c.in_err-trace_all.ensures.fault
