@@ -1,31 +1,15 @@
 #!/usr/bin/env python3
 """Measures the compiler: milliseconds to compile texts of 256 KiB to 1 MiB, and the memory of the whole program at 1 MiB.
 
-Build the program first (`rt run < stdin` in crates/bench leaves out/bench), then call this script. A process scans and parses a
-text and compiles it once, and another compiles it so many times more. The difference of their processor times over these turns
-is what is printed, of the trial with the least.
+A process scans and parses a text and compiles it once, and another compiles it so many times more. The difference of their
+processor times over these turns is what is shown, of the trial with the least. It takes a minute.
 """
-import itertools
-import pathlib
-import resource
-import string
-import subprocess
+from measuring import BENCH, call, short_names, show
 
-ROOT = pathlib.Path(__file__).resolve().parent.parent
-PROGRAM = ROOT / 'crates' / 'bench' / 'out' / 'bench'
 KIB = 1024
 SIZES = [256 * KIB, 512 * KIB, 1024 * KIB]
 TURNS = 4
 TRIALS = 3
-
-
-def names():
-    """Short names with a digit in each, so that none is a reserved or a standard one."""
-    for length in itertools.count(2):
-        for parts in itertools.product(string.ascii_lowercase, *[string.digits + string.ascii_lowercase] * (length - 1)):
-            word = ''.join(parts)
-            if any(c.isdigit() for c in word):
-                yield word
 
 
 def repeated(head, piece, tail):
@@ -37,7 +21,7 @@ def named(head, piece, tail):
     """A text that repeats a piece with a new name each time."""
     def text(size):
         parts, left = [], size - len(head) - len(tail)
-        for name in names():
+        for name in short_names():
             part = piece.replace('NAME', name)
             if len(part) > left:
                 return head + ''.join(parts) + tail
@@ -60,31 +44,18 @@ TEXTS = {
 }
 
 
-def spent(text, turns):
-    """The processor time of this many compilations, including the scanner's and the parser's."""
-    before = resource.getrusage(resource.RUSAGE_CHILDREN)
-    subprocess.run([PROGRAM, 'compile', str(turns)], input=text.encode(), capture_output=True, check=True)
-    after = resource.getrusage(resource.RUSAGE_CHILDREN)
-    return after.ru_utime - before.ru_utime
-
-
-def milliseconds(text):
-    """Milliseconds a compilation, of the best trial."""
-    return min(spent(text, 1 + TURNS) - spent(text, 1) for _ in range(TRIALS)) * 1000 / TURNS
-
-
-def megabytes(text):
-    """The most memory that the program takes for a text."""
-    words = ['/usr/bin/env', 'python3', '-c',
-             'import resource,subprocess,sys;subprocess.run([sys.argv[1],"compile"],input=sys.stdin.buffer.read(),capture_output=True);'
-             'print(resource.getrusage(resource.RUSAGE_CHILDREN).ru_maxrss)', str(PROGRAM)]
-    return int(subprocess.run(words, input=text.encode(), capture_output=True, check=True).stdout) / 1024
+def measure(text):
+    """Milliseconds a compilation, of the best trial, and the megabytes that the program takes."""
+    trials = [[call([BENCH, 'compile', times], text.encode(), ending=b' shared words\n') for times in (1 + TURNS, 1)] for _ in range(TRIALS)]
+    return min(more.processor - once.processor for more, once in trials) * 1000 / TURNS, min(once.megabytes for _, once in trials)
 
 
 def main():
-    print(f"{'text':24}" + ''.join(f'{size // KIB:>8} KiB' for size in SIZES) + '   MB at 1 MiB')
+    rows = []
     for name, make in TEXTS.items():
-        print(f'{name:24}' + ''.join(f'{milliseconds(make(size)):12.0f}' for size in SIZES) + f'{megabytes(make(SIZES[-1])):14.0f}')
+        found = [measure(make(size)) for size in SIZES]
+        rows.append([name, *(f'{milliseconds:.0f}' for milliseconds, _ in found), f'{found[-1][1]:.0f}'])
+    show('the compiler', ['Text of', *(f'{size // KIB} KiB' for size in SIZES), 'MB at 1 MiB'], rows)
 
 
 if __name__ == '__main__':

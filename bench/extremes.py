@@ -1,28 +1,17 @@
 #!/usr/bin/env python3
-"""Measures extreme texts: seconds and memory of `cpm run` with deep calls, large arrays and many dimensions.
-
-Build the program first (`rt run < stdin` in crates/cpm leaves out/cpm), then call this script. Each should take less than a second.
-"""
+"""Measures extreme texts: seconds and memory of `cpm run` with deep calls, large arrays and many dimensions. Each should take less than a second."""
 import itertools
-import os
 import pathlib
-import string
-import subprocess
 import tempfile
-import time
 
-ROOT = pathlib.Path(__file__).resolve().parent.parent
-PROGRAM = ROOT / 'crates' / 'cpm' / 'out' / 'cpm'
+from measuring import CPM, least, short_names, show
+
 TRIALS = 3
 TURN = 10_000
 
 
 def names(count):
-    """Short names with a digit in each, so that none is a reserved or a standard one."""
-    letters = string.ascii_lowercase
-    words = (a + ''.join(rest) + d for length in itertools.count() for rest in itertools.product(letters, repeat=length)
-             for a in letters for d in string.digits)
-    return list(itertools.islice(words, count))
+    return list(itertools.islice(short_names(), count))
 
 
 def chain(count):
@@ -64,37 +53,25 @@ def listed_dimensions(count):
 
 # The text and the number of rounds. An owner has at most 65,536 words, and a process has one in front of its variables.
 CASES = {
-    'a chain of 20,000 routines': (chain(20_000), 4),
-    'a chain as deep as a text can have': (chain(35_000), 8),
-    'a chain of 15,000 functions': (functions(15_000), 4),
-    '32,767 words copied, by 5,000 assignments': (copies(32_767), 1),
-    'half of an array of 65,534 words copied, by 5,000 assignments': (shifted_copies(32_767), 1),
-    '199 dimensions nested': (nested_dimensions(199), 1),
-    '20,000 dimensions in a list': (listed_dimensions(20_000), 1),
+    '20,000 routines, each of which calls the one before': (chain(20_000), 4),
+    '35,000 routines, as deep as a text can have': (chain(35_000), 8),
+    '15,000 functions, each with the value of the one before': (functions(15_000), 4),
+    '5,000 copies of an array of 32,767 words': (copies(32_767), 1),
+    '5,000 copies of half of an array of 65,534 words': (shifted_copies(32_767), 1),
+    '199 arrays in one another': (nested_dimensions(199), 1),
+    '20,000 dimensions in a list; each assignment evaluates 40,000 indices': (listed_dimensions(20_000), 1),
 }
 
 
-def measure(file, rounds):
-    """The least seconds of a few trials, and kilobytes."""
-    words = [PROGRAM, 'run', file, '--rounds', str(rounds), '--turn', str(TURN), '--workers', '1']
-    trials = []
-    for _ in range(TRIALS):
-        start = time.perf_counter()
-        process = subprocess.Popen(words, stdout=subprocess.DEVNULL)
-        _, status, usage = os.wait4(process.pid, 0)
-        if status != 0:
-            raise SystemExit(f'{words} failed')
-        trials.append((time.perf_counter() - start, usage.ru_maxrss))
-    return min(trials)
-
-
 def main():
+    rows = []
     with tempfile.TemporaryDirectory() as folder:
         file = pathlib.Path(folder) / 'text.cp'
         for what, (text, rounds) in CASES.items():
             file.write_text(text)
-            seconds, kilobytes = measure(file, rounds)
-            print(f'{what:62} {len(text):>9} bytes {rounds} rounds {seconds:6.2f} s {kilobytes / 1024:5.0f} MB')
+            took = least(TRIALS, [CPM, 'run', file, '--rounds', rounds, '--turn', TURN, '--workers', 1])
+            rows.append([what, f'{len(text):,}', rounds, f'{took.seconds:.1f}', f'{took.megabytes:.0f} MB'])
+    show('extreme texts', ['Text', 'Bytes', 'Rounds', 'Seconds', 'Memory'], rows)
 
 
 if __name__ == '__main__':

@@ -1,30 +1,30 @@
 #!/usr/bin/env python3
-"""Measures replays: the time of 1,000 rounds of 100,000 private steps each, against a run of as many steps on one thread, and the memory of both.
+"""Measures replays: instructions a private step of `cpm replay`, which reads the order of each step, and of `cpm run` on one worker.
 
-Build the program bench first (`rt run < stdin` in crates/bench leaves out/bench), then call this script.
+A count is the difference of two calls under `valgrind --tool=callgrind`, of more and of fewer steps. It takes a minute.
 """
 import pathlib
-import resource
-import subprocess
-import time
+import tempfile
 
-BENCH = pathlib.Path(__file__).resolve().parent
-PROGRAM = BENCH.parent / 'crates' / 'bench' / 'out' / 'bench'
-TEXT = b'var x: integer; begin cycle x := 0; while x < 30000 do x := x + 1 end end.'
-TRIALS = 3
+from measuring import CPM, instructions, show
 
-
-def measure(part, rounds):
-    """The least seconds of some trials, and the most memory in MB so far of any program that was called."""
-    seconds = []
-    for _ in range(TRIALS):
-        start = time.monotonic()
-        subprocess.run([PROGRAM, part, str(rounds)], input=TEXT, capture_output=True, check=True)
-        seconds.append(time.monotonic() - start)
-    return min(seconds), resource.getrusage(resource.RUSAGE_CHILDREN).ru_maxrss / 1024
+TEXT = 'var x: integer; begin cycle x := 0; while x < 30000 do x := x + 1 end end.'
+TURN = 10_000
+FEWER, MORE = 10, 30
 
 
-for rounds in (10, 100, 1000):
-    ran, _ = measure('run', rounds)
-    replayed, memory = measure('replay', rounds)
-    print(f'{rounds} rounds: run {ran:.2f} s, replay {replayed:.2f} s, {replayed / ran:.2f} times as long; at most {memory:.0f} MB')
+def main():
+    with tempfile.TemporaryDirectory() as folder:
+        text, order = pathlib.Path(folder) / 'text.cp', pathlib.Path(folder) / 'order'
+        text.write_text(TEXT)
+        taken = {'run': [], 'replay': []}
+        for rounds in (FEWER, MORE):
+            order.write_text('P1 ' * (TURN * rounds - 1) + 'P1\n')
+            taken['run'].append(instructions([CPM, 'run', text, '--rounds', rounds, '--turn', TURN, '--workers', 1])[0])
+            taken['replay'].append(instructions([CPM, 'replay', text, order])[0])
+    ran, replayed = ((more - fewer) / (TURN * (MORE - FEWER)) for fewer, more in taken.values())
+    show('replays', ['Run', 'Replay', 'Times as many'], [[f'{ran:.0f}', f'{replayed:.0f}', f'{replayed / ran:.2f}']])
+
+
+if __name__ == '__main__':
+    main()

@@ -1,18 +1,12 @@
 #!/usr/bin/env python3
 """Measures the scanner: nanoseconds a byte on texts of words, numbers, comments, marks and more, from 64 KiB to 1 MiB.
 
-Build the program first (`rt run < stdin` in crates/bench leaves out/bench), then call this script. A process scans a text
-once, and another scans it so many times more that 16 MiB are scanned. The difference of their times over these bytes is
-what is printed, of the trial with the least: the processor time of the program itself, and in the last column, for 1 MiB,
-that of the system on its behalf (it hands out the memory of the tokens, page by page).
+A process scans a text once, and another scans it so many times more that 16 MiB are scanned. The difference of their times over
+these bytes is what is shown, of the trial with the least: the processor time of the program itself, and in the last column, for
+1 MiB, that of the system on its behalf (it hands out the memory of the tokens, page by page). It takes half a minute.
 """
-import pathlib
-import resource
-import subprocess
-import sys
+from measuring import BENCH, call, show
 
-ROOT = pathlib.Path(__file__).resolve().parent.parent
-PROGRAM = ROOT / 'crates' / 'bench' / 'out' / 'bench'
 KIB = 1024
 SIZES = [64 * KIB, 128 * KIB, 256 * KIB, 512 * KIB, 1024 * KIB]
 BYTES_A_TRIAL = 16 * 1024 * KIB
@@ -40,35 +34,25 @@ def texts(size):
     yield 'one number', b'0' * size
 
 
-def times(text, turns):
-    """The processor times of a process that scans the text this many times: its own, and the system's."""
-    before = resource.getrusage(resource.RUSAGE_CHILDREN)
-    answer = subprocess.run([PROGRAM, 'scan', str(turns)], input=text, capture_output=True, check=True).stdout
-    after = resource.getrusage(resource.RUSAGE_CHILDREN)
-    if not answer.endswith(b' tokens\n'):
-        sys.exit(f'refused: {answer!r}')
-    return after.ru_utime - before.ru_utime, after.ru_stime - before.ru_stime
-
-
 def nanoseconds_a_byte(text):
     """The program's own time and the system's, of the trial in which the first is least."""
     turns = BYTES_A_TRIAL // len(text)
     trials = []
     for _ in range(TRIALS):
-        once, often = times(text, 1), times(text, turns + 1)
-        trials.append([(b - a) * 1e9 / (turns * len(text)) for a, b in zip(once, often)])
+        once, often = (call([BENCH, 'scan', times], text, ending=b' tokens\n') for times in (1, turns + 1))
+        spent = often.processor - once.processor, often.system - once.system
+        trials.append([seconds * 1e9 / (turns * len(text)) for seconds in spent])
     return min(trials)
 
 
 def main():
-    print('| Text of | ' + ' | '.join(f'{size // KIB} KiB' for size in SIZES) + ' | system, 1024 KiB |')
-    print('|---|' + '---|' * (len(SIZES) + 1))
     rows = {}
     for size in SIZES:
         for name, text in texts(size):
             rows.setdefault(name, []).append(nanoseconds_a_byte(text))
-    for name, cells in rows.items():
-        print(f'| {name} | ' + ' | '.join(f'{own:.1f}' for own, _ in cells) + f' | {cells[-1][1]:.1f} |')
+    show('the scanner', ['Text of', *(f'{size // KIB} KiB' for size in SIZES), 'system, 1024 KiB'],
+         [[name, *(f'{own:.1f}' for own, _ in cells), f'{cells[-1][1]:.1f}'] for name, cells in rows.items()])
 
 
-main()
+if __name__ == '__main__':
+    main()

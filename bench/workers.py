@@ -1,19 +1,23 @@
 #!/usr/bin/env python3
 """Measures rounds by workers: private steps a second, and what workers cost where there is nothing to share.
 
-Build the program first (`rt run < stdin` in crates/cpm leaves out/cpm), then call this script. It takes the best of some trials, side by
-side: each trial runs every case once.
+Let nothing else run meanwhile. The least time of some trials counts, each of which runs every case once, so that all meet the same
+machine. It takes a minute.
 """
 import pathlib
 import subprocess
 import tempfile
 import time
 
-ROOT = pathlib.Path(__file__).resolve().parent.parent
-PROGRAM = ROOT / 'crates' / 'cpm' / 'out' / 'cpm'
-TRIALS = 3
+from measuring import CPM, show
+
+TRIALS = 5
+WORKERS = 1, 2, 4
 PROCESSES = 253
 COUNTING = 'var x: integer; begin cycle x := (x + 1) mod 30000 end end'
+# The turn, the number of rounds, and the chunk.
+TURNS = [(10_000, 30, 1), (100, 2_000, 1), (100, 2_000, 16)]
+IDLE_ROUNDS = 20_000
 
 
 def counting_text():
@@ -28,7 +32,7 @@ def ended_text():
 
 def command(text, rounds, turn, workers, chunk=1):
     numbers = {'--rounds': rounds, '--turn': turn, '--workers': workers, '--chunk': chunk}
-    return [PROGRAM, 'run', text, *(word for name, number in numbers.items() for word in (name, str(number)))]
+    return [CPM, 'run', text, *(word for name, number in numbers.items() for word in (name, str(number)))]
 
 
 def seconds(words, copies=1):
@@ -47,18 +51,26 @@ def best(cases):
     return {name: min(trial[name] for trial in trials) for name in cases}
 
 
-def measure_turns(text, turn, rounds, chunk):
-    """Private steps a second by workers, and by as many programs of one worker side by side."""
-    cases = {workers: (command(text, rounds, turn, workers, chunk), 1) for workers in (1, 2, 4)}
-    apart = {f'{copies} programs': (command(text, rounds, turn, 1), copies) for copies in (2, 4)}
+def turns_row(text, turn, rounds, chunk):
+    """Millions of private steps a second by workers, and the parts that these are of as many programs of one worker side by side."""
+    cases = {workers: (command(text, rounds, turn, workers, chunk), 1) for workers in WORKERS}
+    apart = {f'{copies} programs': (command(text, rounds, turn, 1), copies) for copies in WORKERS[1:]}
     times = best({**cases, **apart})
-    steps = PROCESSES * turn * rounds
-    for workers in cases:
-        line = f'turns of {turn}, chunks of {chunk}, {workers} workers: {steps / times[workers] / 1e6:.1f} million steps a second'
-        if workers > 1:
-            alone = workers * steps / times[f'{workers} programs']
-            line += f', {steps / times[workers] / alone:.2f} of {workers} programs beside each other'
-        print(line)
+    steps = PROCESSES * turn * rounds / 1e6
+    speeds = [f'{steps / times[workers]:.0f}' for workers in WORKERS]
+    parts = [f"{times[f'{workers} programs'] / times[workers] / workers:.2f}" for workers in WORKERS[1:]]
+    return [f'{turn:,} steps', chunk, *speeds, *parts]
+
+
+def measure_turns(text):
+    header = ['Turn', 'Chunk', '1 worker', '2 workers', '4 workers', '2 workers against 2 programs', '4 against 4']
+    show('rounds by workers', header, [turns_row(text, *case) for case in TURNS])
+
+
+def measure_idle_rounds(text):
+    times = best({workers: (command(text, IDLE_ROUNDS, 100, workers), 1) for workers in WORKERS})
+    row = [f'{times[workers] / IDLE_ROUNDS * 1e6:.2f}' for workers in WORKERS]
+    show('idle rounds', ['Microseconds a round', '1 worker', '2 workers', '4 workers'], [['of 254 processes that have ended', *row]])
 
 
 def main():
@@ -66,12 +78,8 @@ def main():
         counting, ended = pathlib.Path(folder) / 'counting.cp', pathlib.Path(folder) / 'ended.cp'
         counting.write_text(counting_text())
         ended.write_text(ended_text())
-        measure_turns(counting, 10_000, 30, 1)
-        for chunk in (1, 16):
-            measure_turns(counting, 100, 2_000, chunk)
-        times = best({workers: (command(ended, 5_000, 100, workers), 1) for workers in (1, 2, 4)})
-        for workers, took in times.items():
-            print(f'no private steps, {workers} workers: {took / 5_000 * 1e6:.1f} microseconds a round')
+        measure_turns(counting)
+        measure_idle_rounds(ended)
 
 
 if __name__ == '__main__':

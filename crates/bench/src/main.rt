@@ -1,17 +1,15 @@
 //! Does a part of cpm's work over and over, for the scripts of `bench/` to measure: `bench PART N`
-//! works N times, once by default, on the text on standard input. PART is `scan`, `compile`, which
-//! doesn't judge the text, or `run` or `replay`, which make many steps of its initial process.
+//! works N times, once by default, on the text on standard input. PART is `scan` or `compile`, which
+//! doesn't judge the text.
 #![tactic(auto)]
 
 mod compiling;
 mod scanning;
-mod turning;
 
 use compiling::compile_often;
 use scanning::scan_often;
 use std::env;
 use std::io::{self, Read};
-use turning::turn_often;
 
 // How many times to do the work.
 fn times(words: &[String]) -> u32 {
@@ -35,8 +33,6 @@ fn main(rt: HostRuntime) -> io::Result<()> {
     let times = times(&words);
     match part(&words) {
         "compile" => compile_often(&rt, &text, times),
-        "run" => turn_often(&rt, rt.alloc(), &text, times, false),
-        "replay" => turn_often(&rt, rt.alloc(), &text, times, true),
         _ => scan_often(&rt, &text, times),
     }
 }
