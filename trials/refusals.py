@@ -16,6 +16,7 @@ MEMORY = (3, b'', b'fault M\n')
 KINDS = ('ALLOCATION', 'THREAD', 'READ', 'WRITE')
 LEAST_OF_RUN = {'ALLOCATION': 500, 'THREAD': 1, 'READ': 400, 'WRITE': 150}
 LEAST_OF_REPLAY = {'ALLOCATION': 300, 'THREAD': 0, 'READ': 600, 'WRITE': 150}
+LEAST_OF_OUTCOME = {'ALLOCATION': 300, 'THREAD': 1, 'READ': 300, 'WRITE': 150}
 LEAST_OF_NAMED = {'ALLOCATION': 400, 'THREAD': 1, 'READ': 350, 'WRITE': 80}
 
 # The tests of cp_rounds_tests that look at a machine after a refusal, and the fewest times that they have to see one.
@@ -105,7 +106,7 @@ def told(what, counts):
 
 
 def refuse_in_turn(resumed):
-    """Refuses the calls of two runs, a replay and an explanation. `resumed` is a text in which a process resumes another. Returns what was tried."""
+    """Refuses the calls of two runs, a replay, an outcome, a trace and an explanation. `resumed` is a text in which a process resumes another. Returns what was tried."""
     with tempfile.TemporaryDirectory() as name:
         folder = pathlib.Path(name)
         refusing = Refusing(folder)
@@ -119,8 +120,12 @@ def refuse_in_turn(resumed):
         given.write_bytes(b'hello')
         by_name = ['run', ROOT / 'docs' / 'tutorial' / 'capitals.cp', '--rounds', '2', '--in', f't={given}']
         named = refuse_all(refusing, 'run with a named input', by_name, LEAST_OF_NAMED)
+        decided = refuse_all(refusing, 'outcome', ['outcome', 'squarers.cp', '--turn', '4'], LEAST_OF_OUTCOME, answered=6)
+        traced = {kind: refuse_each(refusing, kind, ['trace', 'squarers.cp', '--rounds', '3', '--turn', '4'], 0) for kind in ('READ', 'WRITE')}
+        expect_at_least('writes of a trace', traced['WRITE'], 200)
         explained = refuse_all(refusing, 'explanation', ['explain', 'rules/c4_recursion.cp'], dict.fromkeys(KINDS, 0), answered=1)
         waves = [refuse_each(refusing, 'THREAD', ['run', 'squarers.cp', '--rounds', '5', '--workers', '4', '--wave', wave], 0) for wave in '12']
         expect_at_least('thread starts of 4 workers', sum(waves), 3)
         met = sum(refuse_rounds(refusing, test) for test in TESTS)
-    return '; '.join([told('a run', ran), told('a replay', made), told('a run with a named input', named), told('an explanation', explained), f'of machines in tests {met} calls'])
+    return '; '.join([told('a run', ran), told('a replay', made), told('a run with a named input', named), told('an outcome', decided),
+                      f'of a trace {traced["READ"]} reads and {traced["WRITE"]} writes', told('an explanation', explained), f'of machines in tests {met} calls'])

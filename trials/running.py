@@ -1,6 +1,7 @@
 """What the trials share: the built program, how it is run, and the list of what is wrong."""
 import os
 import pathlib
+import re
 import subprocess
 
 ROOT = pathlib.Path(__file__).resolve().parent.parent
@@ -17,6 +18,12 @@ def run(words, environment=None, folder=EXAMPLES, program=PROGRAM, **how):
     how = {'stdin': subprocess.DEVNULL, 'stdout': subprocess.PIPE, 'stderr': subprocess.PIPE, **how}
     ended = subprocess.run([program, *words], cwd=folder, timeout=60, env={**os.environ, **(environment or {})}, **how)
     return ended.returncode, ended.stdout, ended.stderr
+
+
+def is_answer(wanted, found):
+    """Whether an answer is the one that is wanted, where a line `...` stands for any lines."""
+    parts = re.split(r'^\.\.\.\n', wanted, flags=re.M)
+    return re.fullmatch('(?:.*\n)*?'.join(map(re.escape, parts)), found) is not None
 
 
 def expect(what, found, wanted):

@@ -14,14 +14,13 @@ Each folder is a module of statements, each file a text with its answers:
 
 Lines before the first == say what the text shows. `make_rows.py` writes crates/cp_rows/specs, proofs and src/rows.rt; for the texts
 that COMPILED names, the statement that their compiled programs behave as the meaning does, in specs/Runs.antt and proofs of
-crates/cp_machine_rows; and the cases as JSON, which the program cp_worked reads. `make_rows.py --list` prints these, and
+crates/cp_machine_rows. `make_rows.py --list` prints the cases as JSON, and
 `make_rows.py --unchanged` fails if the files differ from what it would write.
 """
 import json, pathlib, re, sys
 
 HERE = pathlib.Path(__file__).resolve().parent
 CRATES = HERE.parent / 'crates'
-CASES = CRATES / 'cp_worked' / 'stdin'
 # Texts of monitors and queues, of input, of chains of askers, and of routines, types and loops. Each has several answers, so it has a name.
 COMPILED = ('examples/buffer', 'meaning/input_in_subrange', 'monitors/a_chain_of_askers', 'processes/routines_types_and_loops')
 WRITTEN = {}
@@ -210,7 +209,6 @@ def main():
         return sys.stdout.write(listed())
     count = write_rows()
     write_compiled()
-    write(CASES, listed())
     changed = [path for path, text in WRITTEN.items() if not path.exists() or path.read_text() != text]
     if '--unchanged' in sys.argv:
         sys.exit(f'written anew by worked/make_rows.py: {changed}' if changed else 0)

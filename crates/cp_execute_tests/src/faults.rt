@@ -1,19 +1,31 @@
 //! Reads and writes that fail at one place after another while two counting processes run, and a
 //! writer that takes one byte at a time.
 
-use super::jobs::job;
-use super::streams::{Narrow, Slow};
+use super::streams::{NOWHERE, Narrow, Slow};
 use super::texts::{AFTER_THREE_ROUNDS, COUNTERS, SEVEN};
 use cp_accept::refusal::Refusal;
 use cp_execute::execute::{Job, execute};
+use cp_plan::plan::Plan;
+use cp_plan::run::Run;
+use cp_plan::tick::Tick;
 use cp_rounds::gate::Open;
-use std::alloc::Global;
+use std::alloc::{AllocError, Global};
 use std::sync::Wait;
 use std::test::Fail;
 use std::thread::Threads;
 
-// A place that no read or write reaches.
-const NOWHERE: usize = 1_000_000;
+// A run of `rounds` rounds with turns of `turn` steps.
+fn job(rounds: u32, turn: u32) -> Result<Job, AllocError> {
+    match (Plan::new(turn, 2, 1, 255), Tick::new(1)) {
+        (Ok(plan), Ok(tick)) => Ok(Job::Run(Run {
+            rounds,
+            plan,
+            tick,
+            chains: false,
+        })),
+        _ => Err(AllocError),
+    }
+}
 
 // The places at which the text, the input and the writer fail.
 #[derive(Clone, Copy)]
@@ -23,14 +35,6 @@ struct Fails {
     out: usize,
 }
 
-fn slow(text: &[u8], fails_at: usize) -> Slow<'_> {
-    Slow {
-        text,
-        at: 0,
-        fails_at,
-    }
-}
-
 // What `execute` returns and writes, byte by byte.
 fn run<H: Threads + Wait + Sync>(
     rt: &H,
@@ -38,13 +42,9 @@ fn run<H: Threads + Wait + Sync>(
     job: &Job,
     fails: Fails,
 ) -> (Result<(), Refusal>, Vec<u8>) {
-    let mut text = slow(COUNTERS, fails.text);
-    let mut input = slow(b"ab", fails.input);
-    let mut out = Narrow {
-        taken: Vec::new(alloc),
-        fails_at: fails.out,
-        full_at: NOWHERE,
-    };
+    let mut text = Slow::new(COUNTERS, fails.text);
+    let mut input = Slow::new(b"ab", fails.input);
+    let mut out = Narrow::new(alloc, fails.out, NOWHERE);
     let answer = execute(rt, alloc, &mut text, &mut input, job, &Open, &mut out);
     (answer, out.taken)
 }
@@ -110,11 +110,7 @@ fn each_write_fails_in_turn(rt: HostRuntime) -> Result<(), Fail> {
 #[test]
 fn a_writer_that_takes_nine_bytes_has_the_first_line(rt: HostRuntime) -> Result<(), Fail> {
     for (fails_at, full_at) in [(9, NOWHERE), (NOWHERE, 9)] {
-        let mut out = Narrow {
-            taken: Vec::new(rt.alloc()),
-            fails_at,
-            full_at,
-        };
+        let mut out = Narrow::new(rt.alloc(), fails_at, full_at);
         let (mut text, mut input) = (SEVEN, b"".as_slice());
         let job = job(2, 10)?;
         let answer = execute(

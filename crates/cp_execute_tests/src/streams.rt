@@ -9,12 +9,25 @@ use std::io;
 use std::io::{Cursor, Read, Write};
 use std::test::*;
 
+// A place that no read or write reaches.
+pub(crate) const NOWHERE: usize = 1_000_000;
+
 // A reader that returns one byte at a time, and fails at one place.
 #[derive(Drop)]
 pub(crate) struct Slow<'a> {
-    pub(crate) text: &'a [u8],
-    pub(crate) at: usize,
-    pub(crate) fails_at: usize,
+    text: &'a [u8],
+    at: usize,
+    fails_at: usize,
+}
+
+impl<'a> Slow<'a> {
+    pub(crate) fn new(text: &'a [u8], fails_at: usize) -> Slow<'a> {
+        Slow {
+            text,
+            at: 0,
+            fails_at,
+        }
+    }
 }
 
 impl<'a> Read for Slow<'a> {
@@ -37,8 +50,18 @@ impl<'a> Read for Slow<'a> {
 #[derive(Drop)]
 pub(crate) struct Narrow {
     pub(crate) taken: Vec<u8>,
-    pub(crate) fails_at: usize,
-    pub(crate) full_at: usize,
+    fails_at: usize,
+    full_at: usize,
+}
+
+impl Narrow {
+    pub(crate) fn new(alloc: Global, fails_at: usize, full_at: usize) -> Narrow {
+        Narrow {
+            taken: Vec::new(alloc),
+            fails_at,
+            full_at,
+        }
+    }
 }
 
 impl Write for Narrow {
@@ -61,12 +84,7 @@ impl Write for Narrow {
 }
 
 fn read_slowly(alloc: Global, text: &[u8], fails_at: usize) -> Result<Vec<u8>, ReadError> {
-    let mut reader = Slow {
-        text,
-        at: 0,
-        fails_at,
-    };
-    read_text(alloc, &mut reader)
+    read_text(alloc, &mut Slow::new(text, fails_at))
 }
 
 #[test]
@@ -103,11 +121,7 @@ fn no_byte_beyond_the_limit_is_read(rt: HostRuntime) {
 }
 
 fn write_narrowly(alloc: Global, fails_at: usize, full_at: usize) -> (Vec<u8>, bool) {
-    let mut out = Narrow {
-        taken: Vec::new(alloc),
-        fails_at,
-        full_at,
-    };
+    let mut out = Narrow::new(alloc, fails_at, full_at);
     let written = write_all(&mut out, b"abc");
     (out.taken, written == Err(WriteFailed))
 }

@@ -1,7 +1,7 @@
 //! What is expected of the machine of a text, however its rounds are made.
 
 use crate::description::describe;
-use crate::machines::on_machine_with;
+use crate::machines::on_machine;
 use crate::ways::{WAYS, Way};
 use cp_rounds::gate::Open;
 use cp_rounds::machine::Machine;
@@ -69,43 +69,29 @@ fn expect_stops<R: Abort + Threads + Wait + Sync>(
     Ok(())
 }
 
-// Expects what is due of a text whose first processes have these inputs, in one way.
+// Expects what is due of a text in one way.
 pub(crate) fn expect_by<R: Abort + Threads + Wait + Sync>(
     rt: &R,
     alloc: Global,
     way: Way,
     text: &str,
-    tick: u32,
-    inputs: &[&[u8]],
     stops: &[Stop<'_>],
 ) -> Result<(), Fail> {
-    on_machine_with(alloc, text, tick, inputs, |machine| -> Result<(), Fail> {
+    on_machine(alloc, text, |machine| -> Result<(), Fail> {
         expect_stops(rt, alloc, machine, way, stops)
     })
 }
 
-// Expects what is due of a text whose first processes have these inputs, in each way.
-pub(crate) fn expect_with<R: Abort + Threads + Wait + Sync>(
-    rt: &R,
-    alloc: Global,
-    text: &str,
-    tick: u32,
-    inputs: &[&[u8]],
-    stops: &[Stop<'_>],
-) -> Result<(), Fail> {
-    for (is_run, workers, wave) in WAYS {
-        let way = Way::new(is_run, workers, 1, wave);
-        expect_by(rt, alloc, way, text, tick, inputs, stops)?;
-    }
-    Ok(())
-}
-
-// Expects what is due of a text, with a tick of one round and without input, in each way.
+// Expects what is due of a text in each way.
 pub(crate) fn expect<R: Abort + Threads + Wait + Sync>(
     rt: &R,
     alloc: Global,
     text: &str,
     stops: &[Stop<'_>],
 ) -> Result<(), Fail> {
-    expect_with(rt, alloc, text, 1, &[], stops)
+    for (is_run, workers, wave) in WAYS {
+        let way = Way::new(is_run, workers, 1, wave);
+        expect_by(rt, alloc, way, text, stops)?;
+    }
+    Ok(())
 }

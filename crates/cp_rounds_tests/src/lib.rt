@@ -3,8 +3,6 @@
 #![tactic(auto)]
 
 #[cfg(test)]
-mod components;
-#[cfg(test)]
 mod description;
 #[cfg(test)]
 mod expectations;
@@ -12,12 +10,6 @@ mod expectations;
 mod gates;
 #[cfg(test)]
 mod machines;
-#[cfg(test)]
-mod monitors;
-#[cfg(test)]
-mod plans;
-#[cfg(test)]
-mod processes;
 #[cfg(test)]
 mod refusals;
 #[cfg(test)]

@@ -13,21 +13,14 @@ use cp_scope::Tables;
 use std::alloc::Global;
 use std::test::Fail;
 
-// Returns the inputs of all processes, of which the first ones are given.
-pub(crate) fn inputs_for(
-    alloc: Global,
-    program: &Program,
-    inputs: &[&[u8]],
-) -> Result<Vec<Vec<u8>>, Fail>
+// Returns an empty input for each process.
+pub(crate) fn inputs_for(alloc: Global, program: &Program) -> Result<Vec<Vec<u8>>, Fail>
     ensures { IfOk result
         (λ all. length all.items ≡ length (view.program program.now).processes) }
 {
     let mut all = Vec::new(alloc);
-    for i in 0..program.processes() {
-        match inputs.get(i) {
-            Some(input) => all.push(input.to_vec(alloc)?)?,
-            None => all.push(Vec::new(alloc))?,
-        }
+    for _process in 0..program.processes() {
+        all.push(Vec::new(alloc))?;
     }
     if all.len() != program.processes() {
         return Err("there is an input for each process".into());
@@ -35,15 +28,14 @@ pub(crate) fn inputs_for(
     Ok(all)
 }
 
-// Returns the machine of a compiled text, with the inputs of its first processes.
-pub(crate) fn machine_with<'r, 't>(
+// Returns the machine of a compiled text, without input.
+fn machine_with<'r, 't>(
     alloc: Global,
     program: Program,
     tables: &'r Tables<'t>,
     tick: u32,
-    inputs: &[&[u8]],
 ) -> Result<Machine<'r, 't>, Fail> {
-    let inputs = inputs_for(alloc, &program, inputs)?;
+    let inputs = inputs_for(alloc, &program)?;
     Ok(Machine::new(alloc, program, tables, inputs, Tick::new(tick)?)?)
 }
 
@@ -53,7 +45,7 @@ pub(crate) fn machine_of<'r, 't>(
     program: Program,
     tables: &'r Tables<'t>,
 ) -> Result<Machine<'r, 't>, Fail> {
-    machine_with(alloc, program, tables, 1, &[])
+    machine_with(alloc, program, tables, 1)
 }
 
 // Tests the program and the tables of a text. A test that owned them and its machine would have to
@@ -70,19 +62,18 @@ pub(crate) fn on_program<T: Drop, F: Copy + Fn(Program, &Tables<'_>) -> Result<T
     test(program, &tables)
 }
 
-// Tests the machine of a text, with the inputs of its first processes.
+// Tests the machine of a text, without input.
 pub(crate) fn on_machine_with<T: Drop, F: Copy + Fn(&mut Machine<'_, '_>) -> Result<T, Fail>>(
     alloc: Global,
     text: &str,
     tick: u32,
-    inputs: &[&[u8]],
     test: F,
 ) -> Result<T, Fail>
     requires { F.IsAlwaysCallable test }
 {
     let tree = tree_of(alloc, text)?;
     let CompiledText { program, tables } = compiled(alloc, &tree)?;
-    let mut machine = machine_with(alloc, program, &tables, tick, inputs)?;
+    let mut machine = machine_with(alloc, program, &tables, tick)?;
     test(&mut machine)
 }
 
@@ -94,7 +85,7 @@ pub(crate) fn on_machine<T: Drop, F: Copy + Fn(&mut Machine<'_, '_>) -> Result<T
 ) -> Result<T, Fail>
     requires { F.IsAlwaysCallable test }
 {
-    on_machine_with(alloc, text, 1, &[], test)
+    on_machine_with(alloc, text, 1, test)
 }
 
 pub(crate) fn activity(machine: &Machine, p: usize) -> Result<Activity, Fail> {

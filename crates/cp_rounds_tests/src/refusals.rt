@@ -62,7 +62,7 @@ fn machine_unless_refused<'r, 't>(
     tables: &'r Tables<'t>,
 ) -> Result<Option<Machine<'r, 't>>, Fail> {
     let tick = Tick::new(1)?;
-    let inputs = inputs_for(alloc, &program, &[])?;
+    let inputs = inputs_for(alloc, &program)?;
     Ok(Machine::new(alloc, program, tables, inputs, tick).ok())
 }
 

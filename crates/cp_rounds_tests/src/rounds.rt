@@ -71,7 +71,7 @@ fn a_run_has_more_rounds_than_share_their_threads(rt: HostRuntime) -> Result<(),
         word 1 1: 10000";
     for (workers, wave) in [(1, 255), (3, 255), (3, 1)] {
         let way = Way::new(true, workers, 1, wave);
-        expect_by(&rt, rt.alloc(), way, text, 1, &[], &[(10_000, 2, made)])?;
+        expect_by(&rt, rt.alloc(), way, text, &[(10_000, 2, made)])?;
     }
     Ok(())
 }

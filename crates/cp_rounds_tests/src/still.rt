@@ -93,13 +93,9 @@ fn end_of<R: Threads + Wait + Sync>(
     limit: u32,
     plan: &Plan,
 ) -> Result<(u32, bool), Fail> {
-    on_machine_with(
-        alloc,
-        text,
-        5,
-        &[],
-        |machine| -> Result<(u32, bool), Fail> { end(rt, machine, limit, plan) },
-    )
+    on_machine_with(alloc, text, 5, |machine| -> Result<(u32, bool), Fail> {
+        end(rt, machine, limit, plan)
+    })
 }
 
 // Expects a text to be still after so many rounds and no fewer, whatever the limit and the workers.
