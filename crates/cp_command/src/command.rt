@@ -20,7 +20,7 @@ pub const STANDARD_INPUT: &str = "-";
 pub const VERSION: &str = "0.1.0";
 
 /// What cpm is asked to do. A file's name may be that of standard input.
-#[derive(Debug, Drop)]
+#[derive(Drop)]
 pub enum Command<'a> {
     /// `--version`: prints the version.
     Version,
@@ -83,7 +83,7 @@ pub enum Command<'a> {
 }
 
 /// Where the inputs of the processes come from.
-#[derive(Debug, Drop)]
+#[derive(Drop)]
 pub enum Inputs<'a> {
     /// From nowhere: all are empty.
     Empty,

@@ -12,7 +12,7 @@ use cp_scope::CompileError;
 use std::alloc::Global;
 
 /// A term for the value of a call, and the first temp after it.
-#[derive(Debug, Drop)]
+#[derive(Drop)]
 pub struct MadeTerm {
     pub term: Term,
     pub temps: u32,

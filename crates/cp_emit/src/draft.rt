@@ -11,7 +11,7 @@ use cp_scope::CompileError;
 use std::alloc::Global;
 
 /// A plan in progress: the pieces that are planned so far, the last one first.
-#[derive(Debug, Drop)]
+#[derive(Drop)]
 pub struct Draft {
     pub(crate) starts: Vec<StartPiece>,
 }

@@ -11,7 +11,7 @@ use cp_program::program::CodeUnit;
 
 /// A call that is made before a statement, the temp that takes its value, and its place in the
 /// text.
-#[derive(Debug, Drop)]
+#[derive(Drop)]
 pub struct CodedCall {
     pub call: Call,
     pub into: u32,
@@ -20,7 +20,7 @@ pub struct CodedCall {
 
 /// The operations with their origins, and the units so far. The unit in progress begins at the
 /// operation `first`, and each of its activations has `words` words.
-#[derive(Debug, Drop)]
+#[derive(Drop)]
 pub struct Emitter {
     pub(crate) operations: Vec<Operation>,
     pub(crate) origins: Vec<usize>,

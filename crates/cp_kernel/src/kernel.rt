@@ -5,7 +5,7 @@ ghost use Rattle.std.specs.Prelude.{◌≡◌, ◌<◌, ◌^◌, length};
 use cp_private::outside::{Gate, Stage};
 
 /// What is known of all monitors and processes, and the shared words.
-#[derive(Debug, Drop)]
+#[derive(Drop)]
 pub struct Kernel {
     /// The words of all monitors, and the parameters that wait for their processes.
     pub(crate) shared: Vec<i32>,

@@ -9,7 +9,7 @@ use std::alloc::{AllocError, Global};
 use std::marker::Model;
 
 /// A name: a word that isn't reserved, in lower case. Contracts see it as the list of its bytes.
-#[derive(Debug, Drop)]
+#[derive(Drop)]
 pub struct Name {
     letters: Vec<u8>,
 }
@@ -116,7 +116,7 @@ pub enum Symbol {
 }
 
 /// What a token is.
-#[derive(Debug, Drop)]
+#[derive(Drop)]
 pub enum Kind {
     Name(Name),
     /// At most 32767 in the tokens of a text.
@@ -127,7 +127,7 @@ pub enum Kind {
 }
 
 /// A token and its span in the text.
-#[derive(Debug, Drop)]
+#[derive(Drop)]
 pub struct Token {
     pub kind: Kind,
     pub span: Span,

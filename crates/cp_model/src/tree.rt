@@ -8,14 +8,14 @@
 use crate::token::Name;
 
 /// A name at a place of the text.
-#[derive(Debug, Drop)]
+#[derive(Drop)]
 pub struct Identifier {
     pub name: Name,
     pub at: usize,
 }
 
 /// A constant as it is written: in a definition, a subrange or a label.
-#[derive(Debug, Drop)]
+#[derive(Drop)]
 pub enum Constant {
     Number { at: usize, value: u16 },
     /// A number after a `-`. The place is that of the `-`.
@@ -27,7 +27,7 @@ pub enum Constant {
 /// A type as it is written. Enumerations and system types occur only in definitions, each with its
 /// own name.
 #[cycle(types)]
-#[derive(Debug, Drop)]
+#[derive(Drop)]
 pub enum TypeExpression {
     Named(Identifier),
     Subrange(Constant, Constant),
@@ -45,7 +45,7 @@ pub enum TypeExpression {
 
 /// Fields of one type, or variables of one type.
 #[cycle(types)]
-#[derive(Debug, Drop)]
+#[derive(Drop)]
 pub struct Fields {
     pub names: Vec<Identifier>,
     pub of: TypeExpression,
@@ -78,7 +78,7 @@ pub enum Sign {
 
 /// An expression.
 #[cycle(expressions)]
-#[derive(Debug, Drop)]
+#[derive(Drop)]
 pub enum Expression {
     Number {
         at: usize,
@@ -115,7 +115,7 @@ pub enum Expression {
 
 /// An operator, its place, and its right operand.
 #[cycle(expressions)]
-#[derive(Debug, Drop)]
+#[derive(Drop)]
 pub struct Operation {
     pub operator: Operator,
     pub at: usize,
@@ -124,7 +124,7 @@ pub struct Operation {
 
 /// A name, followed by the selectors that pick a part of what it names.
 #[cycle(expressions)]
-#[derive(Debug, Drop)]
+#[derive(Drop)]
 pub struct Designator {
     pub root: Identifier,
     pub selectors: Vec<Selector>,
@@ -132,7 +132,7 @@ pub struct Designator {
 
 /// A selector. The place of a field is that of the `.`.
 #[cycle(expressions)]
-#[derive(Debug, Drop)]
+#[derive(Drop)]
 pub enum Selector {
     Field { at: usize, name: Identifier },
     /// At least one index between `[` and `]`. `v[i, j]` means `v[i][j]`.
@@ -141,7 +141,7 @@ pub enum Selector {
 
 /// An index. Its place is that of the `[` or the `,` before it.
 #[cycle(expressions)]
-#[derive(Debug, Drop)]
+#[derive(Drop)]
 pub struct Index {
     pub at: usize,
     pub value: Expression,
@@ -156,7 +156,7 @@ pub enum Direction {
 
 /// A statement.
 #[cycle(statements)]
-#[derive(Debug, Drop)]
+#[derive(Drop)]
 pub enum Statement {
     Empty,
     /// The place is that of the `:=`.
@@ -206,28 +206,28 @@ pub enum Statement {
 
 /// One labelled statement of a `case`. There is at least one label.
 #[cycle(statements)]
-#[derive(Debug, Drop)]
+#[derive(Drop)]
 pub struct Arm {
     pub labels: Vec<Constant>,
     pub body: Statement,
 }
 
 /// A component that an `init` names, with or without arguments.
-#[derive(Debug, Drop)]
+#[derive(Drop)]
 pub struct InitItem {
     pub component: Identifier,
     pub arguments: Vec<Expression>,
 }
 
 /// The statements between a `begin` and its `end`. The place is that of the `begin`.
-#[derive(Debug, Drop)]
+#[derive(Drop)]
 pub struct Body {
     pub at: usize,
     pub statements: Vec<Statement>,
 }
 
 /// Parameters of one type.
-#[derive(Debug, Drop)]
+#[derive(Drop)]
 pub struct Parameters {
     /// The place of the word `var`, if it stands before them.
     pub by_reference: Option<usize>,
@@ -236,7 +236,7 @@ pub struct Parameters {
 }
 
 /// A procedure or a function.
-#[derive(Debug, Drop)]
+#[derive(Drop)]
 pub struct Routine {
     /// The place of the word `entry`, if there is one.
     pub entry: Option<usize>,
@@ -257,7 +257,7 @@ pub enum Sort {
 }
 
 /// A system type.
-#[derive(Debug, Drop)]
+#[derive(Drop)]
 pub struct System {
     pub sort: Sort,
     pub parameters: Vec<Parameters>,
@@ -267,7 +267,7 @@ pub struct System {
 }
 
 /// What a type definition gives a name to.
-#[derive(Debug, Drop)]
+#[derive(Drop)]
 pub enum Defined {
     Written(TypeExpression),
     Enumeration(Vec<Identifier>),
@@ -275,28 +275,28 @@ pub enum Defined {
 }
 
 /// The definition of a constant.
-#[derive(Debug, Drop)]
+#[derive(Drop)]
 pub struct ConstantDefinition {
     pub name: Identifier,
     pub value: Constant,
 }
 
 /// The definition of a type.
-#[derive(Debug, Drop)]
+#[derive(Drop)]
 pub struct TypeDefinition {
     pub name: Identifier,
     pub defined: Defined,
 }
 
 /// The definitions after one word `const` or `type`. There is at least one.
-#[derive(Debug, Drop)]
+#[derive(Drop)]
 pub enum Section {
     Constants(Vec<ConstantDefinition>),
     Types(Vec<TypeDefinition>),
 }
 
 /// The syntax tree of a text. Its variables, routines and body are those of the initial process.
-#[derive(Debug, Drop)]
+#[derive(Drop)]
 pub struct Tree {
     pub sections: Vec<Section>,
     pub variables: Vec<Fields>,

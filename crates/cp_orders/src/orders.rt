@@ -7,7 +7,7 @@ use crate::event::Event;
 
 /// The events of several rounds, one round after the other. The module `rounds` has the calls that
 /// read them.
-#[derive(Debug, Drop)]
+#[derive(Drop)]
 pub struct Orders {
     pub(crate) events: Vec<Event>,
     /// For each round, the number of events up to its end.

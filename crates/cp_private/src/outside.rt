@@ -12,7 +12,7 @@ pub enum Holder {
 
 /// The gate of a monitor: its holder, and the numbers of its askers, in the order in which they
 /// asked.
-#[derive(Debug, Drop)]
+#[derive(Drop)]
 pub struct Gate {
     pub holder: Holder,
     pub askers: Vec<u32>,

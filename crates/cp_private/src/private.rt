@@ -35,7 +35,7 @@ pub(crate) struct Frame {
 }
 
 /// The private state of a process.
-#[derive(Debug, Drop)]
+#[derive(Drop)]
 pub struct Private {
     /// The number of the process, from 1.
     pub(crate) number: usize,

@@ -9,7 +9,7 @@ use crate::arm::Arm;
 use std::collections::BTreeMap;
 
 /// The arms in text order, and the place of the first arm with each label.
-#[derive(Debug, Drop)]
+#[derive(Drop)]
 pub struct Arms {
     pub(crate) arms: Vec<Arm>,
     pub(crate) places: BTreeMap<i32, u32>,

@@ -24,7 +24,7 @@ pub enum Target {
 }
 
 /// What is passed to the parameter that lies `at` words from the first word of the new activation.
-#[derive(Debug, Drop)]
+#[derive(Drop)]
 pub enum Argument {
     /// A value, which must lie within the bounds.
     Value {
@@ -51,7 +51,7 @@ pub enum Argument {
 
 /// A call of a unit. The new activation begins `words` words after the caller's first word, and the
 /// arguments are put there. Its temps begin after the first `temps` temps of the caller.
-#[derive(Debug, Drop)]
+#[derive(Drop)]
 pub struct Call {
     /// The number of the called unit.
     pub routine: u32,
@@ -63,7 +63,7 @@ pub struct Call {
 
 /// Where a `case` leads: the place of each number from the lowest label on, or the place of each
 /// label.
-#[derive(Debug, Drop)]
+#[derive(Drop)]
 pub enum Table {
     Dense { low: i32, places: Vec<Option<u32>> },
     Sparse(Arms),
@@ -83,7 +83,7 @@ pub struct Counting {
 }
 
 /// The work of one step. Bounds are those of the type of the variable that is written.
-#[derive(Debug, Drop)]
+#[derive(Drop)]
 pub enum Operation {
     Set {
         to: Spot,

@@ -18,7 +18,7 @@ pub enum StartPiece {
 /// The code of a routine or of the body of a system type: the place of its first operation, how the
 /// words of its activations start, and how many words, temps and frames it needs with all that it
 /// calls.
-#[derive(Debug, Drop)]
+#[derive(Drop)]
 pub struct CodeUnit {
     pub start: u32,
     pub starts: Vec<StartPiece>,
@@ -51,14 +51,14 @@ pub struct Process {
 
 /// The start values of the words of the variables of one type, or of the components of one system
 /// type. Its parts have plans before it in the program.
-#[derive(Debug, Drop)]
+#[derive(Drop)]
 pub struct StartPlan {
     pub starts: Vec<StartPiece>,
 }
 
 /// A program. Monitors have the numbers from 1 on, and so do processes, of which the first is the
 /// initial one.
-#[derive(Debug, Drop)]
+#[derive(Drop)]
 pub struct Program {
     operations: Vec<Operation>,
     /// The origin of each operation: the byte of the text, counted from 0, at which what it comes

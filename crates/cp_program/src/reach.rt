@@ -4,7 +4,7 @@ ghost use Rattle.std.specs.Prelude.{◌+◌, ◌<◌, ◌^◌, length};
 
 /// The memory of a process: its words and temps, and where those of the running activation and
 /// component begin.
-#[derive(Debug, Drop)]
+#[derive(Drop)]
 pub struct Memory {
     pub words: Vec<i32>,
     pub temps: Vec<i32>,

@@ -37,7 +37,7 @@ pub enum Function {
 
 /// An operand of a term.
 #[cycle(terms)]
-#[derive(Debug, Drop)]
+#[derive(Drop)]
 pub enum Operand {
     Number(i32),
     /// A word of the activation.
@@ -63,7 +63,7 @@ pub enum Operand {
 /// An operator and its right operand. Most right operands are numbers, so these have a case of
 /// their own.
 #[cycle(terms)]
-#[derive(Debug, Drop)]
+#[derive(Drop)]
 pub enum Application {
     WithNumber(Operator, i32),
     WithOperand(Operator, Operand),
@@ -72,7 +72,7 @@ pub enum Application {
 /// An index: the bounds of the array, the size of an element in words, the offset of a part within
 /// the element, and the value of the index.
 #[cycle(terms)]
-#[derive(Debug, Drop)]
+#[derive(Drop)]
 pub struct Index {
     pub low: i32,
     pub high: i32,
@@ -83,7 +83,7 @@ pub struct Index {
 
 /// The place of a variable or of a part of one.
 #[cycle(terms)]
-#[derive(Debug, Drop)]
+#[derive(Drop)]
 pub struct Spot {
     pub root: Root,
     pub indices: Vec<Index>,
@@ -91,7 +91,7 @@ pub struct Spot {
 
 /// An expression.
 #[cycle(terms)]
-#[derive(Debug, Drop)]
+#[derive(Drop)]
 pub struct Term {
     pub first: Operand,
     pub rest: Vec<Application>,

@@ -9,7 +9,7 @@ use std::alloc::Global;
 
 /// The spot of a designator, the first temp after the values of its calls, and the number of the
 /// type of its place, if it has one.
-#[derive(Debug, Drop)]
+#[derive(Drop)]
 pub struct MadeSpot {
     pub spot: Spot,
     pub temps: u32,
@@ -17,14 +17,14 @@ pub struct MadeSpot {
 }
 
 /// An argument, and the first temp after the values of its calls.
-#[derive(Debug, Drop)]
+#[derive(Drop)]
 pub struct MadeArgument {
     pub argument: Argument,
     pub temps: u32,
 }
 
 /// Arguments, and the first temp after the values of their calls.
-#[derive(Debug, Drop)]
+#[derive(Drop)]
 pub struct MadeArguments {
     pub arguments: Vec<Argument>,
     pub temps: u32,
