@@ -2,13 +2,13 @@
 """Measures the compiler: milliseconds to compile texts of 256 KiB to 1 MiB, and the memory of the whole program at 1 MiB.
 
 A process scans and parses a text and compiles it once, and another compiles it so many times more. The difference of their
-processor times over these turns is what is shown, of the trial with the least. It takes a minute.
+processor times over these turns is what is shown, of the trial with the least. It takes some minutes.
 """
 from measuring import BENCH, call, short_names, show
 
 KIB = 1024
 SIZES = [256 * KIB, 512 * KIB, 1024 * KIB]
-TURNS = 4
+TURNS = 12
 TRIALS = 3
 
 

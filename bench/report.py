@@ -16,8 +16,6 @@ TEXT = f'''type p = process; var a: array [1..10000] of integer; i: integer;
 begin for i := 1 to 10000 do a[i] := 3 * i end;
 var {NAMES}: p; begin init {NAMES} end.'''
 PLAN = ['--turn', 10_000, '--workers', 1]
-# The exit of an outcome that its limit ends.
-RUNNING = 7
 
 
 def main():
@@ -27,7 +25,7 @@ def main():
         run = [CPM, 'run', text, '--rounds', 10, *PLAN]
         report = subprocess.run(list(map(str, run)), capture_output=True, check=True).stdout
         with_report = least(TRIALS, run)
-        without = least(TRIALS, [CPM, 'outcome', text, '--limit', 10, *PLAN], status=RUNNING)
+        without = least(TRIALS, [CPM, 'outcome', text, '--limit', 10, *PLAN])
     length = len(report) / 1e6
     lines = report.count(b'\n')
     speed = length / (with_report.seconds - without.seconds)

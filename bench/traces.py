@@ -16,7 +16,7 @@ caller = process(c: counter; k: integer); var x: integer; begin cycle c.add(k); 
 var c: counter; ''' + ', '.join(f'p{k}' for k in range(10)) + ''': caller;
 begin init c, ''' + ', '.join(f'p{k}(c, {k})' for k in range(10)) + ' end.'
 # Examples that are soon still, and the exit of their outcome.
-STILL = {'seven': 0, 'sieve': 0, 'squarers': 6}
+STILL = {'seven': 0, 'sieve': 5, 'squarers': 6}
 
 
 def row(name, words):
