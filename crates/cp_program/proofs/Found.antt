@@ -25,19 +25,24 @@ told o n r is h = subst (λ x. IfSome x (λ m. r ≡ Ok m)) is h
 pub found : {A : Type 0} (o : Option A) (r s : Result A Fault) → r ≡ s → IfSome o (λ m. r ≡ Ok m) → IfSome o (λ m. s ≡ Ok m)
 found o r s is h = subst (λ x. IfSome o (λ m. x ≡ Ok m)) is h
 
--- A term of one operand and one application.
-pub value_single : (v : View) (t : Term) (x : Application) (n : ℤ) → (out-Term t).rest.items ≡ x ∷ []
-    → value_of v (view.operand (out-Term t).first) ≡ Ok n → apply_operation v n (view.application x) ≡ value_of v (view.term t)
-value_single v t x n is known =
-    keep (apply_operation v n (view.application x))
-    ∙ (ap (λ xs. chain_value v n (map view.application xs)) (sym is)
-    ∙ (ap (λ r. bind r (λ k. chain_value v k (map view.application (out-Term t).rest.items))) (sym known)
-    ∙ (sym (value_chain v (view.operand (out-Term t).first) (map view.application (out-Term t).rest.items))
-    ∙ ap (value_of v) (sym (term_is t)))))
+-- A chain of one application.
+pub chain_lone : (v : View) (n : ℤ) (x : Application) (xs : List Application) → xs ≡ x ∷ []
+    → apply_operation v n (view.application x) ≡ chain_value v n (map view.application xs)
+chain_lone v n x xs is =
+    keep (apply_operation v n (view.application x)) ∙ ap (λ ys. chain_value v n (map view.application ys)) (sym is)
   where
     keep : (r : Result ℤ Fault) → r ≡ bind r (λ z. Ok z)
     keep (Ok z) = refl
     keep (Err f) = refl
+
+-- A term of one operand and one application.
+pub value_single : (v : View) (t : Term) (x : Application) (n : ℤ) → (out-Term t).rest.items ≡ x ∷ []
+    → value_of v (view.operand (out-Term t).first) ≡ Ok n → apply_operation v n (view.application x) ≡ value_of v (view.term t)
+value_single v t x n is known =
+    chain_lone v n x (out-Term t).rest.items is
+    ∙ (ap (λ r. bind r (λ k. chain_value v k (map view.application (out-Term t).rest.items))) (sym known)
+    ∙ (sym (value_chain v (view.operand (out-Term t).first) (map view.application (out-Term t).rest.items))
+    ∙ ap (value_of v) (sym (term_is t))))
 
 -- A list with one item.
 pub one : {A : Type 0} (xs : List A) (d : A) → 1 ≤ length xs → length xs < 2 → xs ≡ get_or xs 0 d ∷ []

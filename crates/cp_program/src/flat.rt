@@ -167,7 +167,21 @@ impl Application {
     }
 }
 
-// The value of a chain whose first operands have the value `first`, if the others are flat.
+// The value of a chain whose first operands have the value `first`, if the others are flat. It isn't
+// inlined, so that a term of one operator saves no registers.
+#[inline(never)]
+fn long_flat_value(first: i32, rest: &[Application], memory: &Memory, shared: &[i32]) -> Option<i32>
+    ensures { (clock : ℕ) → IfSome result (λ n. chain_value
+        (view_with memory.now shared.now clock) first (map view.application rest.now) ≡ Ok n) }
+{
+    let mut n = first;
+    for x in rest {
+        n = x.flat_value_after(n, memory, shared)?;
+    }
+    Some(n)
+}
+
+// The same. Most chains have one operator, and need no loop.
 #[inline(always)]
 fn flat_value_of_chain(
     first: i32,
@@ -178,11 +192,10 @@ fn flat_value_of_chain(
     ensures { (clock : ℕ) → IfSome result (λ n. chain_value
         (view_with memory.now shared.now clock) first (map view.application rest.now) ≡ Ok n) }
 {
-    let mut n = first;
-    for x in rest {
-        n = x.flat_value_after(n, memory, shared)?;
+    match rest {
+        [x] => x.flat_value_after(first, memory, shared),
+        _ => long_flat_value(first, rest, memory, shared),
     }
-    Some(n)
 }
 
 // The value of a chain whose first operands have the value `first`, if the others are near.

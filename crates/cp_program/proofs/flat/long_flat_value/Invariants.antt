@@ -1,7 +1,7 @@
 use Rattle.std.proofs.Common.{◌≡◌, ℕ, drop, map}
 use Rattle.cp_program.specs.Reaches.{chain_value, view_with}
 use Rattle.cp_program.specs.View as view
-use Rattle.cp_program.proofs.flat.flat_value_of_chain.Given as goal
+use Rattle.cp_program.proofs.flat.long_flat_value.Given as goal
 
 -- The remaining operands lead from the value so far to the value of the chain.
 abbrev pub invariant-loop-x : goal.invariant-loop-x
