@@ -1,0 +1,101 @@
+#!/usr/bin/env python3
+"""Builds cpm without proving anything, in five minutes, to try or measure a change whose proofs are still to come.
+
+    trials/unproved.py PROGRAM [--bare]      then CPM=PROGRAM python3 trials/answers.py
+
+`rt try` compiles the sources, and hands a module to clang. A copy of the kit, of links but for that clang, keeps the module, which is then compiled
+and linked as `rt run` does it. It has tests of all that is proved of a built program; --bare leaves them out and inlines what the sources say. So its
+steps take some 5 percent more instructions than those of the proved program: compare two such builds with each other.
+"""
+import pathlib
+import re
+import shutil
+import subprocess
+import sys
+import tempfile
+
+ROOT = pathlib.Path(__file__).resolve().parent.parent
+KIT = pathlib.Path(shutil.which('rt')).resolve().parent.parent
+CLANG = KIT / 'toolchain' / 'bin' / 'clang'
+# Keeps the module that it is given, and does what the kit's clang does.
+KEEPER = '''#!/bin/sh
+for word; do
+  case "$word" in
+    *.bc) cp "$word" "{module}" ;;
+  esac
+done
+exec {clang} "$@"
+'''
+INLINED = {'always': 'alwaysinline', 'never': 'noinline'}
+
+
+def copy_kit(folder, module):
+    """Makes a kit of links, whose clang keeps the module that it is given."""
+    for part in KIT.iterdir():
+        if part.name not in ('bin', 'toolchain'):
+            (folder / part.name).symlink_to(part)
+    for part in ('bin', 'toolchain', 'toolchain/bin'):
+        (folder / part).mkdir()
+        for file in (KIT / part).iterdir():
+            place = folder / part / file.name
+            if file.name in ('rt', 'rtlib.py'):
+                # These find the kit by their own place.
+                shutil.copy(file, place)
+            elif file != CLANG and file != CLANG.parent:
+                place.symlink_to(file)
+    keeper = folder / 'toolchain' / 'bin' / 'clang'
+    keeper.write_text(KEEPER.format(module=module, clang=CLANG))
+    keeper.chmod(0o755)
+
+
+def inline_marks():
+    """The functions that the sources mark to be inlined or not, by their type, or else their module, and their name."""
+    marks = {}
+    for file in ROOT.glob('crates/*/src/**/*.rt'):
+        owner = mark = None
+        for line in file.read_text().splitlines():
+            block = re.match(r'impl(?:<[^>]*>)?\s+(?:[\w:<>, ]+ for )?(\w+)', line)
+            found = re.match(r'\s*#\[inline\((always|never)\)\]', line)
+            function = re.match(r'\s*(?:pub(?:\([a-z]+\))? )?(?:const )?fn (\w+)', line)
+            owner = block[1] if block else None if line.startswith('}') else owner
+            if function and mark:
+                marks[owner or file.stem, function[1]] = INLINED[mark]
+            mark = found[1] if found else None if function else mark
+    return marks
+
+
+def bare_line(line, marks):
+    """A line of a module without tests, with the mark of the function that it defines."""
+    name = re.match(r'define internal .*@"(cp[^"<]*)', line)
+    mark = name and marks.get(tuple(name[1].split('::')[-2:]))
+    if mark:
+        line = line.replace(') #', f') {mark} #', 1)
+    return line.replace(' sanitize_address', '').replace('"frame-pointer"="all"', '"frame-pointer"="none"')
+
+
+def strip(module, stripped):
+    """Writes a module without what ends a program where a test fails, so that clang leaves the tests out."""
+    text = module.with_suffix('.ll')
+    subprocess.run([CLANG, '-S', '-emit-llvm', module, '-o', text], check=True)
+    marks = inline_marks()
+    with open(text) as lines, open(stripped, 'w') as out:
+        out.writelines(bare_line(line, marks) for line in lines if 'call void @llvm.trap()' not in line)
+
+
+def main(program, *words):
+    with tempfile.TemporaryDirectory() as name:
+        folder = pathlib.Path(name)
+        module, bare, objects = folder / 'module.bc', folder / 'bare.ll', folder / 'program.o'
+        (folder / 'kit').mkdir()
+        copy_kit(folder / 'kit', module)
+        # The program that it runs asks for a text on standard input, and is given none.
+        subprocess.run([folder / 'kit' / 'bin' / 'rt', 'try'], cwd=ROOT / 'crates' / 'cpm', stdin=subprocess.DEVNULL, stdout=subprocess.DEVNULL)
+        if '--bare' in words:
+            strip(module, bare)
+        subprocess.run([CLANG, '-O3', '-c', bare if '--bare' in words else module, '-o', objects], check=True)
+        archives = [KIT / 'c' / archive for archive in ('libos_c.a', 'liblibc_c.a')]
+        subprocess.run([KIT / 'bin' / 'rattle-link', '--target', 'x86_64-unknown-linux-gnu', '--toolchain', KIT / 'toolchain', '-o', program, objects, *archives], check=True)
+
+
+if __name__ == '__main__':
+    main(*sys.argv[1:])
