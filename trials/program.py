@@ -5,6 +5,7 @@
 It prints what is wrong and how much was tried, with --quiet only what is wrong, and ends with status 0 if nothing was wrong.
 """
 import concurrent.futures
+import itertools
 import json
 import pathlib
 import re
@@ -18,15 +19,9 @@ from refusals import refuse_in_turn
 from running import EXAMPLES, ROOT, expect, expect_at_least, run, wrong
 
 RESUMED = 'monitors/the_resumed_process_goes_ahead_of_askers 1'
-
-
-def plan(workers, chunk, wave):
-    return ['--workers', str(workers), '--chunk', str(chunk), '--wave', str(wave)]
-
-
-# Few and many workers, each with the shortest and the longest chunks, and short waves.
-PLANS = [*(plan(workers, chunk, 255) for workers in (1, 2, 7, 64) for chunk in (1, 255)),
-         plan(2, 1, 1), plan(2, 1, 2), plan(2, 1, 3), plan(4, 3, 2), plan(7, 3, 10), plan(64, 3, 64), plan(64, 255, 7)]
+# One worker, few and many, with the shortest and the longest chunks and waves.
+PLANS = [['--workers', workers, '--chunk', chunk, '--wave', wave]
+         for workers, chunk, wave in itertools.product(('1', '2', '3', '4', '7', '64'), ('1', '2', '255'), ('1', '2', '16', '255'))]
 
 
 def try_examples():
