@@ -98,7 +98,9 @@ impl<'a, C: Course> Task<'a, C> {
     }
 
     /// Returns the number of the process.
-    pub fn process(&self) -> usize {
+    pub fn process(&self) -> usize
+        ensures { result ≡ self.now.process }
+    {
         self.process
     }
 
