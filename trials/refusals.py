@@ -12,15 +12,17 @@ import tempfile
 from running import PROGRAM, ROOT, ROUNDS, expect, expect_at_least, expect_one_of, run, wrong
 
 MEMORY = (3, b'', b'fault M\n')
-# What is refused, and the fewest refusals of each that a run and a replay have to reach.
+# What is refused, and the fewest refusals of each: a little below what docs/PROOFS.md tells, since builds differ by a few allocations.
 KINDS = ('ALLOCATION', 'THREAD', 'READ', 'WRITE')
-LEAST_OF_RUN = {'ALLOCATION': 500, 'THREAD': 1, 'READ': 400, 'WRITE': 150}
-LEAST_OF_REPLAY = {'ALLOCATION': 300, 'THREAD': 0, 'READ': 600, 'WRITE': 150}
-LEAST_OF_OUTCOME = {'ALLOCATION': 300, 'THREAD': 1, 'READ': 300, 'WRITE': 150}
-LEAST_OF_NAMED = {'ALLOCATION': 400, 'THREAD': 1, 'READ': 350, 'WRITE': 80}
+LEAST_OF_RUN = {'ALLOCATION': 530, 'THREAD': 1, 'READ': 430, 'WRITE': 165}
+LEAST_OF_REPLAY = {'ALLOCATION': 560, 'THREAD': 0, 'READ': 610, 'WRITE': 165}
+LEAST_OF_OUTCOME = {'ALLOCATION': 470, 'THREAD': 1, 'READ': 300, 'WRITE': 170}
+LEAST_OF_NAMED = {'ALLOCATION': 475, 'THREAD': 1, 'READ': 350, 'WRITE': 80}
+LEAST_OF_EXPLANATION = {'ALLOCATION': 175, 'THREAD': 0, 'READ': 190, 'WRITE': 385}
+LEAST_OF_TRACE = {'READ': 300, 'WRITE': 255}
 
 # The tests of cp_rounds_tests that look at a machine after a refusal, and the fewest times that they have to see one.
-TESTS = {'a_refused_machine_is_made_again': 10, 'a_refused_round_leaves_the_machine_as_it_was': 400, 'a_refused_run_has_made_the_rounds_before': 200}
+TESTS = {'a_refused_machine_is_made_again': 12, 'a_refused_round_leaves_the_machine_as_it_was': 550, 'a_refused_run_has_made_the_rounds_before': 220}
 
 
 class Refusing:
@@ -121,9 +123,10 @@ def refuse_in_turn(resumed):
         by_name = ['run', ROOT / 'docs' / 'tutorial' / 'capitals.cp', '--rounds', '2', '--in', f't={given}']
         named = refuse_all(refusing, 'run with a named input', by_name, LEAST_OF_NAMED)
         decided = refuse_all(refusing, 'outcome', ['outcome', 'squarers.cp', '--turn', '4'], LEAST_OF_OUTCOME, answered=6)
-        traced = {kind: refuse_each(refusing, kind, ['trace', 'squarers.cp', '--rounds', '3', '--turn', '4'], 0) for kind in ('READ', 'WRITE')}
-        expect_at_least('writes of a trace', traced['WRITE'], 200)
-        explained = refuse_all(refusing, 'explanation', ['explain', 'rules/c4_recursion.cp'], dict.fromkeys(KINDS, 0), answered=1)
+        traced = {kind: refuse_each(refusing, kind, ['trace', 'squarers.cp', '--rounds', '3', '--turn', '4'], 0) for kind in LEAST_OF_TRACE}
+        for kind, least in LEAST_OF_TRACE.items():
+            expect_at_least(f'a trace: {kind}', traced[kind], least)
+        explained = refuse_all(refusing, 'explanation', ['explain', 'rules/c4_recursion.cp'], LEAST_OF_EXPLANATION, answered=1)
         waves = [refuse_each(refusing, 'THREAD', ['run', 'squarers.cp', '--rounds', '5', '--workers', '4', '--wave', wave], 0) for wave in '12']
         expect_at_least('thread starts of 4 workers', sum(waves), 3)
         met = sum(refuse_rounds(refusing, test) for test in TESTS)
