@@ -173,6 +173,7 @@ impl Private {
     pub fn reserve(&mut self, turn: Turn) -> Result<(), AllocError>
         ensures room { OnOk result (HasRoomFor self.new turn.steps) }
         ensures content { (input : List ℕ) → private_of self.new input ≡ private_of self.old input }
+        ensures pause { self.new.pause ≡ self.old.pause }
     {
         self.output.reserve(11 * turn.steps() as usize)
     }
@@ -187,6 +188,7 @@ impl Private {
         ensures room { OnOk result (HasRoomFor self.new (2 * turn.steps)) }
         ensures number { self.new.number ≡ self.old.number }
         ensures content { (input : List ℕ) → private_of self.new input ≡ private_of self.old input }
+        ensures pause { self.new.pause ≡ self.old.pause }
     {
         self.output.reserve(22 * turn.steps() as usize)
     }
@@ -248,6 +250,7 @@ impl Private {
             ≡ record (private_of self.old input) { output = [] } }
         ensures empty { vec_len self.new.output ≡ 0 }
         ensures room { vec_capacity self.old.output ≤ vec_capacity self.new.output }
+        ensures pause { self.new.pause ≡ self.old.pause }
     {
         self.output.clear();
     }
@@ -259,6 +262,7 @@ impl Private {
         ensures meaning { Wakes self.old self.new }
         ensures number { self.new.number ≡ self.old.number }
         ensures output { self.new.output ≡ self.old.output }
+        ensures pause { self.new.pause ≡ self.old.pause }
     {
         law::between_turns();
         if matches!(self.activity, Activity::Waiting) {
@@ -268,8 +272,10 @@ impl Private {
 
     /// Begins the process, with its parameters, which wait among the shared words.
     pub fn begin(&mut self, program: &Program, shared: &[i32])
-        ensures { (input : List ℕ) (k : Kernel) → k.shared ≡ shared.now → private_of self.new input
+        ensures content { (input : List ℕ) (k : Kernel) → k.shared ≡ shared.now
+            → private_of self.new input
             ≡ plain.begin_from (view.program program.now) k (private_of self.old input) }
+        ensures pause { self.new.pause ≡ self.old.pause }
     {
         if let Some(process) = program.process(self.number) {
             let from = process.parameters as usize + 1;

@@ -15,13 +15,13 @@ returns-in-Fresh-clause-begun c =
     let k = kernel_of c.args.kernel.now in
     let o = states.private_of c.args.private.now input in
     let fresh = sym (ap states.stage c.in-Fresh.is) ∙ (c.stage.ensures ∙ ap (stage_of k.stages) (c.number.ensures.number input)) in
-    c.begin.ensures input k (sym c.deref.ensures.value) ∙ ap (plain.begin_if program k o) fresh
+    c.begin.ensures.content input k (sym c.deref.ensures.value) ∙ ap (plain.begin_if program k o) fresh
 
 pub returns-in-Fresh-clause-number : goal.returns-in-Fresh-clause-number
 returns-in-Fresh-clause-number c =
     let program = view.program c.args.program.now in
     let k = kernel_of c.args.kernel.now in
-    ap (λ (o : PrivateState). o.number) (c.begin.ensures [] k (sym c.deref.ensures.value)) ∙ begun_number program k (states.private_of c.args.private.now [])
+    ap (λ (o : PrivateState). o.number) (c.begin.ensures.content [] k (sym c.deref.ensures.value)) ∙ begun_number program k (states.private_of c.args.private.now [])
 
 pub returns-in_default : goal.returns-in_default
 returns-in_default c = record {
