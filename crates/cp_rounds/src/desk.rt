@@ -21,7 +21,8 @@ const HEARD_AT_ONCE: usize = 8;
 /// The tasks of a chunk in order of process, each in a slot.
 pub type Tasks<'a, C> = Vec<Option<Task<'a, C>>>;
 
-/// Returns room for the tasks of a chunk of this many processes.
+/// Returns room for the tasks of a chunk of this many processes. One more slot stays empty, so that
+/// no cache line holds words of two chunks, whose turns may be made at the same time.
 ///
 /// # Errors
 ///
@@ -30,8 +31,9 @@ pub fn room_for_tasks<'a, C: Course>(
     alloc: Global,
     processes: usize,
 ) -> Result<Tasks<'a, C>, AllocError> {
-    let mut tasks = Vec::with_capacity(alloc, processes)?;
-    for _process in 0..processes {
+    let slots = processes.saturating_add(1);
+    let mut tasks = Vec::with_capacity(alloc, slots)?;
+    for _slot in 0..slots {
         tasks.push(None)?;
     }
     Ok(tasks)

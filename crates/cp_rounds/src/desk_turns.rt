@@ -39,14 +39,11 @@ impl<'a, C: Course, G: TurnGate> Work for DeskTurns<'a, C, G> {
             return;
         };
         for slot in tasks.iter_mut() {
-            // The turn is made on a task taken out of its slot, so that threads don't write to the
-            // same cache line.
-            if let Some(mut task) = slot.take() {
+            if let Some(task) = slot {
                 if !task.is_made() {
                     self.gate.begin(task.process());
                     task.make(self.setting, self.plan.turn);
                 }
-                *slot = Some(task);
             }
         }
         self.desk.put_back(rt, chunk, tasks);
