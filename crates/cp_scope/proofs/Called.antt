@@ -227,6 +227,24 @@ routine_found g types ts rs x f all number here =
       index = subst (λ y. routine_index y rs ≡ f.index) ((bytes_eq-Decides x a.routine.name).0 a.name) (a.index ∙ sym place);
     })
 
+-- Each routine has a table.
+table_there : (g : GlobalScope) (types : Types) (ts : List RoutineTable) (rs : List Routine) (k : ℕ) (r : Routine)
+    → AreRoutines g types ts rs → slice_get rs k ≡ Some r → slice_get ts k ≡ None → ⊥
+table_there g types [] [] k r all there none = absurd (cc)
+table_there g types (u ∷ ts) [] k r all there none = absurd all
+table_there g types [] (q ∷ rs) k r all there none = absurd all
+table_there g types (u ∷ ts) (q ∷ rs) zero r all there none = absurd (cc)
+table_there g types (u ∷ ts) (q ∷ rs) (suc k) r all there none = table_there g types ts rs k r all.1 there none
+
+-- So a routine whose name has a number isn't missing.
+pub not_missing : (g : GlobalScope) (types : Types) (ts : List RoutineTable) (rs : List Routine) (x : Name) (k : ℕ)
+    → AreRoutines g types ts rs → routine_number x 0 rs ≡ Some k → slice_get ts k ≡ None
+    → RoutineIs g types rs None (find (λ r. bytes_eq x r.name) rs)
+not_missing g types ts rs x k all number none =
+    let a : IsAmong x 0 k rs = subst (Sought x 0 rs) number (sought x 0 rs) in
+    let place : k ≡ a.before = omega (arith, a.number) in
+    absurd (table_there g types ts rs a.before a.routine all a.there (subst (λ j. slice_get ts j ≡ None) place none))
+
 pub not_found : (g : GlobalScope) (types : Types) (rs : List Routine) (x : Name) → routine_number x 0 rs ≡ None
     → RoutineIs g types rs None (find (λ r. bytes_eq x r.name) rs)
 not_found g types rs x none = subst (RoutineIs g types rs None) (sym (subst (Sought x 0 rs) none (sought x 0 rs))) tt

@@ -1,5 +1,6 @@
 -- What stands for something still stands for it after types are added.
-use Rattle.std.proofs.Common.{◌≡◌, ◌++◌, ◌∷◌, ◌∙◌, ℕ, zero, suc, ℤ, List, [], Option, None, Some, ap, length, map, refl, slice_get}
+use Rattle.std.proofs.Common.{◌≡◌, ◌<◌, ◌++◌, ◌∷◌, ◌∙◌, ⊎_elim, ℕ, zero, suc, ℤ, List, [], Option, None, Some, ap, arith, length, map, refl, slice_get}
+use Rattle.std.proofs.lemmas.Option.{slice_get_cases, slice_get_within}
 use Rattle.cp_model.specs.Abstract.{BaseType, Name}
 use Rattle.cp_model.specs.Types.{ArrayOf, ComponentOf, GlobalScope, Members, MoreMembers, NoMembers, NoType, Queue, RecordOf, ResolvedType, Simple, array_type}
 use Rattle.cp_model.specs.declared.tree.TypeExpression.{TypeExpression}
@@ -44,6 +45,14 @@ module _ (old new : Types) (grows : Grows old new) where
 
   pub still_scope : (names : Names) (g : GlobalScope) → ScopeStands names old g → ScopeStands names new g
   still_scope names g s = record { constants = s.constants; types = λ x. still_means _ _ (s.types x) }
+
+-- A number of a system type stays one.
+pub still_within : (old new : Types) → Grows old new → (k : ℕ) → k < length old.systems.items → k < length new.systems.items
+still_within old new grows k within =
+    ⊎_elim
+    (λ found. slice_get_within new.systems.items k found.0 (grows.systems k found.0 found.2))
+    (λ past. absurd (omega (arith, within, past.0)))
+    (slice_get_cases old.systems.items k).1
 
 -- ---- One item more
 

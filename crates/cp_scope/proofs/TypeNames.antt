@@ -1,5 +1,5 @@
 -- Names are recorded with the names of their types, one after another.
-use Rattle.std.proofs.Common.{◌≡◌, ◌∷◌, ◌∙◌, Bool, true, false, ℕ, List, [], Option, None, Some, Box, Vec, Global, ap, arith, if◌then◌else◌, length, map, refl, sym, ◌≤◌}
+use Rattle.std.proofs.Common.{◌≡◌, ◌∷◌, ◌∙◌, Bool, true, false, ℕ, List, [], Option, None, Some, Box, Vec, Global, ap, arith, if◌then◌else◌, length, map, refl, sym, ◌<◌, ◌≤◌}
 use Rattle.std.specs.Borrow.{Bor}
 use Rattle.std.specs.Str.{bytes_eq}
 use Rattle.cp_model.specs.Abstract.{Group, Name}
@@ -45,6 +45,18 @@ array_has_no_name at indices element some =
         → [] ≡ type_name (erase.arrays (erase.type_expressions (view.types_of (map view.type_expression is))) (erase.type_expression (view.type_expression element.value)))
     go [] some = absurd (omega (arith, some))
     go (i ∷ is) some = refl
+
+-- An array without index types is its element type.
+pub array_is_element : (at : ℕ) (indices : Vec TypeExpression Global) (element : Box TypeExpression Global) → length indices.items < 1
+    → type_name (erase.type_expression (view.type_expression element.value)) ≡ type_name (erase.type_expression (view.type_expression (tree.Array at indices element)))
+array_is_element at indices element none =
+    go indices.items none ∙ ap (λ t. type_name (erase.type_expression t)) (sym (view_array at indices element))
+  where
+    go : (is : List TypeExpression) → length is < 1
+        → type_name (erase.type_expression (view.type_expression element.value))
+        ≡ type_name (erase.arrays (erase.type_expressions (view.types_of (map view.type_expression is))) (erase.type_expression (view.type_expression element.value)))
+    go [] none = refl
+    go (i ∷ is) none = absurd (omega (arith, none))
 
 pub record_has_no_name : (at : ℕ) (groups : Vec Fields Global) → [] ≡ type_name (erase.type_expression (view.type_expression (tree.Record at groups)))
 record_has_no_name at groups = ap (λ t. type_name (erase.type_expression t)) (sym (view_record at groups))

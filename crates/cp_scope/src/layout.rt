@@ -223,8 +223,7 @@ impl<'t> Layouts<'t> {
         ensures complete { OnOk result (length types.now.rows.items ≤ length self.new.rows.items) }
     {
         for number in self.rows.len()..types.rows.len() {
-            let row = types.row(number).ok_or(CompileError::Unaccepted)?;
-            let layout = self.row(names, types, row)?;
+            let layout = self.row(names, types, &types.rows[number])?;
             self.rows.push(layout)?;
         }
         Ok(())

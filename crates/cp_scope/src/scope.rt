@@ -206,16 +206,16 @@ impl<'s, 't> Scope<'s, 't> {
     }
 
     // The routine of this system type that a bare name calls.
-    fn own_callee<'n>(&self, name: &[u8]) -> Result<Option<Callee<'s, 't, 'n>>, CompileError>
-        ensures { IfOk result (λ c. (s : code.Scope) → IsScope self.now s → CalleeIs self.now s c
-            (calls.callee (code.environment s) (a.Plain name.now))) }
+    fn own_callee<'n>(&self, name: &[u8]) -> Option<Callee<'s, 't, 'n>>
+        ensures { (s : code.Scope) → IsScope self.now s → CalleeIs self.now s result
+            (calls.callee (code.environment s) (a.Plain name.now)) }
     {
         if self.local(name).is_some() {
-            return Ok(None);
+            return None;
         }
-        match self.system.routine(name)? {
-            None => Ok(None),
-            Some(routine) => Ok(Some(Callee { routine, of: None })),
+        match self.system.routine(name) {
+            None => None,
+            Some(routine) => Some(Callee { routine, of: None }),
         }
     }
 
@@ -232,7 +232,7 @@ impl<'s, 't> Scope<'s, 't> {
             None => Ok(None),
             Some(of) => match self.tables.system(of.system) {
                 None => Err(CompileError::Unaccepted),
-                Some(system) => match system.routine(name)? {
+                Some(system) => match system.routine(name) {
                     None => Ok(None),
                     Some(routine) => Ok(Some(Callee {
                         routine,
@@ -272,7 +272,7 @@ impl<'s, 't> Scope<'s, 't> {
     {
         let name = d.root.name.as_bytes();
         match d.selectors.as_slice() {
-            [] => self.own_callee(name),
+            [] => Ok(self.own_callee(name)),
             [only] => self.selected_callee(name, only),
             [first, second, ..] => {
                 refuse_no_index(first)?;

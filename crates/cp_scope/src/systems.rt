@@ -155,14 +155,14 @@ impl<'t> SystemTable<'t> {
     }
 
     /// The first routine with this name.
-    pub fn routine(&self, name: &[u8]) -> Result<Option<IndexedRoutine<'_, 't>>, CompileError>
-        ensures { IfOk result (λ r. RoutineFound self.now name.now r) }
+    pub fn routine(&self, name: &[u8]) -> Option<IndexedRoutine<'_, 't>>
+        ensures { RoutineFound self.now name.now result }
     {
         match self.routine_names.find(name) {
-            None => Ok(None),
+            None => None,
             Some(index) => match self.routine_at(index) {
-                None => Err(CompileError::Unaccepted),
-                Some(table) => Ok(Some(IndexedRoutine { index, table })),
+                None => None,
+                Some(table) => Some(IndexedRoutine { index, table }),
             },
         }
     }

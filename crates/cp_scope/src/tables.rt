@@ -38,7 +38,7 @@ impl<'t> Layouts<'t> {
     {
         let mut tables = Vec::new(self.alloc);
         for number in 0..types.systems.len() {
-            let y = types.system(number).ok_or(CompileError::Unaccepted)?;
+            let y = types.systems[number];
             let table = self.system(names, types, &y.parameters, &y.variables, &y.routines)?;
             tables.push(table)?;
         }
@@ -55,8 +55,7 @@ impl<'t> Tables<'t> {
     }
 
     /// Makes the tables of any text. Fails if memory runs out, a name is declared twice in the
-    /// outermost scope, an enumeration has more values than there are ordinals, or a variable is
-    /// declared as an array without an index type.
+    /// outermost scope, or an enumeration has more values than there are ordinals.
     pub fn of_tree(alloc: Global, tree: &'t Tree) -> Result<Tables<'t>, CompileError>
         ensures { IfOk result (λ tables. TablesStand
             (globals (erase.abstract (view.tree tree.now))) tables tree.now) }

@@ -12,19 +12,23 @@ use cp_model::tree::{Fields, Identifier, Parameters, TypeExpression};
 use cp_names::NameTable;
 use std::alloc::Global;
 
-// The name of a written type, empty if the type isn't a bare name.
-fn type_name<'t>(of: &'t TypeExpression) -> Result<&'t [u8], CompileError>
-    ensures { IfOk result (λ name.
-        name.now ≡ type_name (erase.type_expression (view.type_expression of.now))) }
+// The name of a written type, empty if the type isn't a bare name. An array without index types is
+// its element type.
+fn type_name<'t>(of: &'t TypeExpression) -> &'t [u8]
+    ensures { result.now ≡ type_name (erase.type_expression (view.type_expression of.now)) }
 {
     match of {
-        TypeExpression::Named(x) => Ok(x.name.as_bytes()),
-        TypeExpression::Array { indices, .. } => match indices.as_slice() {
-            [] => Err(CompileError::Unaccepted),
-            [_, ..] => Ok(&[]),
+        TypeExpression::Named(x) => x.name.as_bytes(),
+        TypeExpression::Array {
+            indices,
+            element,
+            ..
+        } => match indices.as_slice() {
+            [] => type_name(element),
+            [_, ..] => &[],
         },
-        TypeExpression::Subrange(_, _) => Ok(&[]),
-        TypeExpression::Record { .. } => Ok(&[]),
+        TypeExpression::Subrange(_, _) => &[],
+        TypeExpression::Record { .. } => &[],
     }
 }
 
@@ -69,8 +73,7 @@ pub fn variable_types<'t>(
 {
     let mut table = NameTable::new(alloc);
     for group in groups {
-        let of = type_name(&group.of)?;
-        add_names(&mut table, &group.names, of)?;
+        add_names(&mut table, &group.names, type_name(&group.of))?;
     }
     Ok(table)
 }

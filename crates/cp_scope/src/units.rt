@@ -2,7 +2,7 @@
 //!
 //! Units have numbers in text order: the routines of a system type, then its body.
 
-ghost use Rattle.std.specs.Prelude.{◌≡◌, ◌+◌, IfOk};
+ghost use Rattle.std.specs.Prelude.{◌≡◌, ◌+◌, IfOk, length};
 ghost use Rattle.cp_model.specs.Calls as calls;
 ghost use Rattle.cp_model.specs.Components as components;
 ghost use Rattle.cp_program_model.specs.Scopes as code;
@@ -47,17 +47,23 @@ impl<'s, 't> Scope<'s, 't> {
         self.firsts.find(of).unwrap_or(0)
     }
 
+    // The number of routines of a component's system type.
+    fn routine_count(&self, c: &Component) -> usize
+        ensures { (s : code.Scope) (n : components.Component) → IsScope self.now s
+            → Names self.now s c.now n → result ≡ length n.system.routines }
+    {
+        match self.tables.types.system(c.system) {
+            Some(of) => of.routines.len(),
+            None => 0,
+        }
+    }
+
     /// The unit of a component's body.
     pub fn body_of(&self, c: &Component) -> Result<u32, CompileError>
         ensures { IfOk result (λ unit. (s : code.Scope) (n : components.Component)
             → IsScope self.now s → Names self.now s c.now n → unit ≡ code.body_of s n) }
     {
-        let of = self
-            .tables
-            .types
-            .system(c.system)
-            .ok_or(CompileError::Unaccepted)?;
-        unit_after(self.first_of(c), of.routines.len())
+        unit_after(self.first_of(c), self.routine_count(c))
     }
 
     /// The unit of a called routine.

@@ -1,4 +1,5 @@
-use Rattle.std.proofs.Common.{◌≡◌, ◌∙◌, ap, arith, length, length-append, subst, sym}
+use Rattle.std.proofs.Common.{◌≡◌, ◌∙◌, ap, arith, length, length-append, refl, rules, subst, sym}
+use Rattle.std.proofs.lemmas.Option.{slice_get_read}
 use Rattle.std.specs.Prelude.{Some}
 use Rattle.cp_scope.specs.Layouts.{AreLaid}
 use Rattle.cp_scope.specs.Standing.{row_at}
@@ -10,8 +11,9 @@ loop-number-preserved c =
     let types = c.args.types.now in
     let before = c.loop-number.self.rows.items in
     let items = c.in_ok-push.ensures.items in
-    let row = c.in_ok-row.row.now in
-    let there : row_at types c.loop-number.number ≡ Some row = grind (arith, c.row.ensures, c.ok_or.ensures.value, c.in_ok-row.was, c.in_ok-row.ensures.value, c.in_ok-row.ensures.ok_part) in
+    let row = c.index.result.now in
+    let there : row_at types c.loop-number.number ≡ Some row =
+    slice_get_read types.rows.items (length types.rows.items) c.loop-number.number row refl (search rules) c.index.ensures in
     let at : row_at types (length before) ≡ Some row = ap (row_at types) c.loop-number.invariant.count ∙ there in
     record {
       count = grind (arith, length-append, items, c.loop-number.invariant.count);

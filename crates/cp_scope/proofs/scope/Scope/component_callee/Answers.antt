@@ -2,19 +2,19 @@ use Rattle.std.proofs.Common.{None, Some, sym}
 use Rattle.cp_scope.proofs.Called.{component_called, component_known}
 use Rattle.cp_scope.proofs.scope.Scope.component_callee.Goals as goal
 
-pub returns-in-None-2 : goal.returns-in-None-2
-returns-in-None-2 c = λ s i.
+pub returns-in-None-routine : goal.returns-in-None-routine
+returns-in-None-routine c = λ s i.
     let x = c.args.component.now in
     let f = c.in-Some.of in
     let found = (rw c.in-Some.is at c.component.ensures) s.globals i.parameters i.variables i.routines i.system in
     component_called c.args.self.now s i x c.args.name.now f c.in-Some-system.system.now None (component_known c.args.self.now s i x (Some f) found)
-    (sym c.in-Some-system.ensures) (rw c.in-None-2.is at c.in_ok-routine-in-Some-system.ensures)
+    (sym c.in-Some-system.ensures) (rw c.in-None-routine.is at c.routine.ensures)
 
-pub returns-in-Some-2 : goal.returns-in-Some-2
-returns-in-Some-2 c = λ s i.
+pub returns-in-Some-routine : goal.returns-in-Some-routine
+returns-in-Some-routine c = λ s i.
     let x = c.args.component.now in
     let f = c.in-Some.of in
     let found = (rw c.in-Some.is at c.component.ensures) s.globals i.parameters i.variables i.routines i.system in
-    component_called c.args.self.now s i x c.args.name.now f c.in-Some-system.system.now (Some c.in-Some-2.routine)
+    component_called c.args.self.now s i x c.args.name.now f c.in-Some-system.system.now (Some c.in-Some-routine.routine)
     (component_known c.args.self.now s i x (Some f) found) (sym c.in-Some-system.ensures)
-    (rw c.in-Some-2.is at c.in_ok-routine-in-Some-system.ensures)
+    (rw c.in-Some-routine.is at c.routine.ensures)

@@ -14,11 +14,11 @@ pub returns-in-None : goal.returns-in-None
 returns-in-None c = λ s i.
     let x = c.args.name.now in
     let other = is_local_found c.args.self.now.tables.now.types s x c.local.result (c.local.ensures s i) ∙ sym c.is_some.ensures ∙ c.if-is_some.false in
-    own_called c.args.self.now s i x None other (subst (λ o. RoutineFound c.args.self.now.system.now x o) c.in-None.is c.in_ok-routine.ensures)
+    own_called c.args.self.now s i x None other (subst (λ o. RoutineFound c.args.self.now.system.now x o) c.in-None.is c.routine.ensures)
 
 pub returns-in-Some : goal.returns-in-Some
 returns-in-Some c = λ s i.
     let x = c.args.name.now in
     let other = is_local_found c.args.self.now.tables.now.types s x c.local.result (c.local.ensures s i) ∙ sym c.is_some.ensures ∙ c.if-is_some.false in
     own_called c.args.self.now s i x (Some c.in-Some.routine) other
-    (subst (λ o. RoutineFound c.args.self.now.system.now x o) c.in-Some.is c.in_ok-routine.ensures)
+    (subst (λ o. RoutineFound c.args.self.now.system.now x o) c.in-Some.is c.routine.ensures)
