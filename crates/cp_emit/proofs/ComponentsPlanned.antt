@@ -1,9 +1,7 @@
 -- The plans of the components of system types, one after another.
-use Rattle.std.proofs.Common.{◌≡◌, ◌≤◌, ◌<◌, ◌∙◌, ◌+◌, ◌∷◌, ℕ, zero, suc, List, [], None, Some, ap, sym, subst, length, slice_get, ◌⊎◌, ⊎_elim, arith}
+use Rattle.std.proofs.Common.{◌≡◌, ◌<◌, ◌∙◌, ◌+◌, ◌∷◌, ℕ, zero, suc, List, [], None, Some, ap, sym, length, slice_get, ◌⊎◌, ⊎_elim, arith}
 use Prim.{grind}
 use Rattle.std.specs.Borrow.{Bor}
-use Rattle.cp_model.specs.Abstract as a
-use Rattle.cp_model.specs.Declarations.{declarations}
 use Rattle.cp_model.specs.Erase as erase
 use Rattle.cp_model.specs.Types.{GlobalScope}
 use Rattle.cp_model.specs.View as tree_view

@@ -1,11 +1,10 @@
 -- The plan of a type is that of its row.
-use Rattle.std.proofs.Common.{◌≡◌, ◌≢◌, ◌∙◌, ◌*◌, ℕ, zero, suc, ℤ, pos, negsuc, List, [], ◌∷◌, Bool, true, false, Option, None, Some, Vec, Global, get_or, refl, ap, sym, subst, length, map, arith}
+use Rattle.std.proofs.Common.{◌≡◌, ◌≢◌, ◌∙◌, ℕ, zero, suc, ℤ, pos, negsuc, List, [], ◌∷◌, Bool, true, false, None, Some, Vec, Global, get_or, refl, ap, sym, subst, length, map, arith}
 use Rattle.std.specs.Prelude.{if◌then◌else◌, nat_le}
 use Rattle.std.specs.Borrow.{Bor}
 use Rattle.std.proofs.lemmas.Option.{same_Some}
-use Rattle.cp_model.specs.Abstract.{Name}
 use Rattle.cp_model.specs.Erase as erase
-use Rattle.cp_model.specs.Types.{ArrayOf, ComponentOf, GlobalScope, Members, NoType, Queue, RecordOf, ResolvedType, Simple}
+use Rattle.cp_model.specs.Types.{ArrayOf, ComponentOf, Members, NoType, Queue, RecordOf, ResolvedType, Simple}
 use Rattle.cp_model.specs.View as tree_view
 use Rattle.cp_model.specs.declared.tree.System.{System}
 use Rattle.cp_program_model.specs.Plans.{plan_before, plan_of_elements, plan_of_word, repeats, value_of_fill}

@@ -1,5 +1,5 @@
 -- When a planner knows the types of a text, and how it grows.
-use Rattle.std.specs.Prelude.{◌≡◌, ◌<◌, ◌++◌, Bool, true, false, ℕ, List, Some, length, slice_get}
+use Rattle.std.specs.Prelude.{◌≡◌, ◌<◌, ◌++◌, true, false, ℕ, List, Some, length, slice_get}
 use Rattle.cp_model.specs.Types.{GlobalScope, ResolvedType}
 use Rattle.cp_program_model.specs.Plans as text
 use Rattle.cp_program_model.specs.Plans.{plan}

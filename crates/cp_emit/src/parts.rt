@@ -39,8 +39,9 @@ impl<'a, 't> Planner<'a, 't> {
 
     /// Plans a part before everything planned so far.
     pub(crate) fn put(&self, part: Placed, draft: &mut Draft) -> Result<(), CompileError>
-        ensures { OnOk result (plan_of (known_of self.now) draft.new ≡ text_plans.plan_before part.at
-            (plan_at (known_of self.now) part.plan) (plan_of (known_of self.now) draft.old)) }
+        ensures { OnOk result (plan_of (known_of self.now) draft.new
+            ≡ text_plans.plan_before part.at (plan_at (known_of self.now) part.plan)
+            (plan_of (known_of self.now) draft.old)) }
     {
         let pieces = self.starts(part.plan);
         if is_short(pieces) {
@@ -97,7 +98,8 @@ impl<'a, 't> Planner<'a, 't> {
     ) -> Result<Draft, CompileError>
         ensures { IfOk result (λ draft. (g : GlobalScope) (ms : Members) → Knows self.now g
             → AreMembers (types_of self.now) (map entry members.now) ms
-            → plan_of (known_of self.now) draft ≡ text_plans.plan_of_parts (text_plans.placed zeros g ms at)) }
+            → plan_of (known_of self.now) draft
+            ≡ text_plans.plan_of_parts (text_plans.placed zeros g ms at)) }
     {
         let mut parts = self.place(zeros, members, at)?;
         self.arrange(&mut parts);

@@ -139,7 +139,7 @@ impl<'a, 't> Planner<'a, 't> {
         self.plan_elements(plan, self.words(element)?, count_of(low, high)?)
     }
 
-    // Plans a variable of the type `of`.
+    // Plans a variable of the type `of`. Nothing is planned for a number that no type has.
     fn plan_type(&self, zeros: bool, of: usize) -> Result<Draft, CompileError>
         ensures { IfOk result (λ draft. (g : GlobalScope) (t : ResolvedType) → Knows self.now g
             → Stands (types_of self.now) of t
@@ -155,10 +155,10 @@ impl<'a, 't> Planner<'a, 't> {
             Some(TypeRow::Queue) => self.plan_word(zeros, 0),
             Some(TypeRow::Component { system, members }) => match types.system(*system) {
                 Some(system) => self.plan_component(zeros, system, members),
-                None => Err(CompileError::Unaccepted),
+                None => Ok(Draft::new(self.alloc)),
             },
             Some(TypeRow::Unknown) => Ok(Draft::new(self.alloc)),
-            None => Err(CompileError::Unaccepted),
+            None => Ok(Draft::new(self.alloc)),
         }
     }
 

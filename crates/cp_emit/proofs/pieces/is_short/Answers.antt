@@ -1,4 +1,4 @@
-use Rattle.std.proofs.Common.{rules, ◌≡◌, ◌∙◌, ap, length, sym}
+use Rattle.std.proofs.Common.{ap, sym}
 use Rattle.std.specs.Prelude.{nat_le}
 use Rattle.cp_program.proofs.PlansKnown.{pieces_counted}
 use Rattle.cp_emit.proofs.pieces.is_short.Goals as goal

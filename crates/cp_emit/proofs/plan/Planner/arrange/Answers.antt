@@ -1,9 +1,8 @@
-use Rattle.std.proofs.Common.{rules, ◌≡◌, ◌≤◌, ◌<◌, ◌+◌, ◌-◌, ◌∙◌, suc, List, true, false, ap, get_or, length, map, subst, sym, arith}
+use Rattle.std.proofs.Common.{rules, ◌≡◌, ◌≤◌, ◌<◌, ◌+◌, ◌-◌, ◌∙◌, suc, List, true, false, ap, get_or, length, map, sym, arith}
 use Rattle.std.specs.Prelude.{nat_lt}
 use Rattle.std.specs.List.{swap}
 use Rattle.std.proofs.lemmas.Bool.{le-ltb, lt-ltb}
 use Rattle.std.proofs.lemmas.List.{length-map}
-use Rattle.cp_program_model.specs.Plans as text
 use Rattle.cp_program_model.specs.Plans.{weight}
 use Rattle.cp_emit.specs.declared.plan.Placed.{Placed}
 use Rattle.cp_emit.specs.Planning.{known_of, placed_in}

@@ -1,4 +1,4 @@
-use Rattle.std.proofs.Common.{rules, ◌≡◌, ◌≢◌, ◌∙◌, ◌*◌, List, [], Option, None, Some, ap, sym, length, take}
+use Rattle.std.proofs.Common.{rules, ◌≡◌, ◌≢◌, ◌∙◌, ◌*◌, List, [], None, Some, ap, sym, length, take}
 use Rattle.cp_program_model.specs.Plans.{plan_before, plan_of_elements, value_of_fill}
 use Rattle.cp_program_model.specs.Programs as code
 use Rattle.cp_program.specs.View as view

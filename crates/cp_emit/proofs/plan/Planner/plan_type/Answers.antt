@@ -1,15 +1,12 @@
-use Rattle.std.proofs.Common.{rules, ◌≡◌, ◌∙◌, Bor, Some, ap}
-use Rattle.std.specs.Prelude.{pos}
-use Rattle.cp_model.specs.Abstract as a
-use Rattle.cp_model.specs.declared.tree.System.{System}
+use Rattle.std.proofs.Common.{rules, ◌≡◌, ◌∙◌, Some, ap}
 use Rattle.cp_program_model.specs.Plans.{plan, plan_of_word}
-use Rattle.cp_scope.specs.Standing.{row_at, simple_of, system_at}
+use Rattle.cp_scope.specs.Standing.{row_at}
 use Rattle.cp_scope.specs.declared.types.TypeRow.TheVariants as row
 use Rattle.cp_scope.proofs.Unrefused.{if_ok}
 use Rattle.cp_program.proofs.Wide.{narrow}
 use Rattle.cp_emit.specs.Drafts.{plan_of}
 use Rattle.cp_emit.specs.Planning.{known_of, types_of}
-use Rattle.cp_emit.proofs.TypesPlanned.{as_array, as_component, as_queue, as_record, as_simple, as_unknown}
+use Rattle.cp_emit.proofs.TypesPlanned.{as_array, as_queue, as_record, as_simple}
 use Rattle.cp_emit.proofs.plan.Planner.plan_type.Goals as goal
 
 pub returns-in-Some-Simple : goal.returns-in-Some-Simple
