@@ -44,6 +44,11 @@ calls_from e cs next = calls_at (map coded_call cs) (place_of e) next
 abbrev pub operation_from : Emitter → List CodedCall → Operation → Emitted
 operation_from e cs o = with_calls (map coded_call cs) (view.operation o) (place_of e)
 
+-- The origins of the operations of calls.
+abbrev pub origins_of_calls : List CodedCall → List ℕ
+origins_of_calls [] = []
+origins_of_calls (c ∷ cs) = origins_of_calls cs ++ c.at ∷ []
+
 -- The unit in progress, once it ends.
 abbrev pub unit_ended : List op.StartPlan → Emitter → ℕ → List StartPiece → op.CodeUnit
 unit_ended known e entry starts =

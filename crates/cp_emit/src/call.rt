@@ -30,6 +30,8 @@ pub fn make_call(
     ensures calls { OnOk result
         (map coded_call calls.new.items ≡ map coded_call calls.old.items ++
         record { call = view.call call; into = into } ∷ []) }
+    ensures origins { OnOk result
+        (map (λ c. c.at) calls.new.items ≡ map (λ c. c.at) calls.old.items ++ at ∷ []) }
     ensures term { IfOk result (λ made. view.term made.term ≡ plain.Made into) }
     ensures temps { IfOk result (λ made. made.temps ≡ suc into) }
 {

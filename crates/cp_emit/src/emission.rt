@@ -2,7 +2,7 @@
 //! is emitted.
 
 ghost use Rattle.std.specs.Prelude.{◌≡◌, [], ◌∷◌, ◌++◌, IfOk, OnOk, length, map};
-ghost use Rattle.cp_emit.specs.Emission.{Emits, Goes, calls_from, changed_at, operation_from, operations_of, place_of, with_body, with_repeated};
+ghost use Rattle.cp_emit.specs.Emission.{Emits, Goes, calls_from, changed_at, operation_from, operations_of, origins_of_calls, place_of, with_body, with_repeated};
 ghost use Rattle.cp_program.specs.View as view;
 
 use crate::emitter::{CodedCall, Emitter};
@@ -70,6 +70,8 @@ impl Emitter {
     pub fn push(&mut self, operation: Operation, at: usize) -> Result<u32, CompileError>
         ensures place { IfOk result (λ place. place ≡ place_of self.old) }
         ensures emits { OnOk result (Emits self.old self.new (view.operation operation ∷ [])) }
+        ensures origin { OnOk result
+            (self.new.origins.items ≡ self.old.origins.items ++ at ∷ []) }
     {
         let place = self.place()?;
         let own = Need::of(&self.units, &operation)?;
@@ -106,6 +108,8 @@ impl Emitter {
             (λ entry. entry ≡ (calls_from self.old calls.items next).entry) }
         ensures emits { OnOk result
             (Emits self.old self.new (calls_from self.old calls.items next).operations) }
+        ensures origins { OnOk result
+            (self.new.origins.items ≡ self.old.origins.items ++ origins_of_calls calls.items) }
     {
         let mut left = calls;
         let mut entry = next;
@@ -132,6 +136,8 @@ impl Emitter {
             (λ entry. entry ≡ (operation_from self.old calls.items operation).entry) }
         ensures emits { OnOk result
             (Emits self.old self.new (operation_from self.old calls.items operation).operations) }
+        ensures origins { OnOk result (self.new.origins.items
+            ≡ self.old.origins.items ++ at ∷ origins_of_calls calls.items) }
     {
         let place = self.push(operation, at)?;
         self.emit_calls(calls, place)

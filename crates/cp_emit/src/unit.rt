@@ -17,6 +17,7 @@ impl Emitter {
     /// Creates an emitter without operations and units.
     pub fn new(alloc: Global) -> Emitter
         ensures operations { operations_of result ≡ [] }
+        ensures origins { result.origins.items ≡ [] }
         ensures units { (known : List StartPlan) → units_of known result ≡ [] }
     {
         Emitter {
@@ -32,6 +33,7 @@ impl Emitter {
     /// Begins a unit whose activations have `words` words.
     pub fn begin(&mut self, words: u32)
         ensures operations { operations_of self.new ≡ operations_of self.old }
+        ensures origins { self.new.origins ≡ self.old.origins }
         ensures units { self.new.units ≡ self.old.units }
         ensures first { self.new.first ≡ place_of self.old }
         ensures words { self.new.words ≡ words }
@@ -46,6 +48,7 @@ impl Emitter {
     pub fn end(&mut self, entry: u32, starts: Vec<StartPiece>) -> Result<(), CompileError>
         ensures memory { IfErr result (λ e. e ≡ error.Memory) }
         ensures operations { OnOk result (operations_of self.new ≡ operations_of self.old) }
+        ensures origins { OnOk result (self.new.origins ≡ self.old.origins) }
         ensures unit { OnOk result ((known : List StartPlan) → units_of known self.new
             ≡ units_of known self.old ++ unit_ended known self.old entry starts.items ∷ []) }
     {
@@ -80,6 +83,7 @@ impl Emitter {
     pub fn into_parts(self) -> (Vec<Operation>, Vec<usize>, Vec<CodeUnit>)
         ensures operations { map view.operation result.0.items ≡ operations_of self }
         ensures origins { length result.1.items ≡ place_of self }
+        ensures origins_are { result.1 ≡ self.origins }
         ensures units { (known : List StartPlan)
             → map (view.code_unit known) result.2.items ≡ units_of known self }
     {

@@ -2,7 +2,7 @@ use Rattle.std.proofs.Common.{rules, ◌≡◌, ◌+◌, [], ◌∷◌, ◌++◌
 use Rattle.cp_program_model.specs.CodedStatements.{calls_at}
 use Rattle.cp_program_model.specs.Programs as code
 use Rattle.cp_program.specs.View as view
-use Rattle.cp_emit.specs.Emission.{coded_call, operations_of, place_of}
+use Rattle.cp_emit.specs.Emission.{coded_call, operations_of, origins_of_calls, place_of}
 use Rattle.cp_emit.proofs.CallsEmitted.{back_of, front_of}
 use Rattle.cp_emit.proofs.emitter.Emitter.emit_calls.Goals as goal
 
@@ -34,4 +34,9 @@ loop-made-preserved c =
         first_is = c.in_ok-entry.ensures.emits.first_is ∙ i.emits.first_is;
         words_are = c.in_ok-entry.ensures.emits.words_are ∙ i.emits.words_are;
       };
+      origins =
+          c.in_ok-entry.ensures.origin
+          ∙ (ap (λ xs. xs ++ c.in-Some.made.at ∷ []) i.origins
+          ∙ (append_assoc c.args.self.now.origins.items (origins_of_calls (drop (length left) all)) (c.in-Some.made.at ∷ [])
+          ∙ ap (λ cs. c.args.self.now.origins.items ++ origins_of_calls cs) (sym (back_of all left rest c.in-Some.made i.left last))));
     }

@@ -1,6 +1,6 @@
-use Rattle.std.proofs.Common.{◌≡◌, drop, length, map, take, vec_len}
+use Rattle.std.proofs.Common.{◌≡◌, ◌++◌, drop, length, map, take, vec_len}
 use Rattle.cp_program_model.specs.CodedStatements.{calls_at}
-use Rattle.cp_emit.specs.Emission.{Emits, coded_call, place_of}
+use Rattle.cp_emit.specs.Emission.{Emits, coded_call, origins_of_calls, place_of}
 use Rattle.cp_emit.proofs.emitter.Emitter.emit_calls.Given as goal
 
 -- The calls that are no longer left have been emitted.
@@ -11,6 +11,7 @@ invariant-loop-made l =
       left : l.left.items ≡ take (length l.left.items) l.fn.calls.items;
       entry : l.entry ≡ made.entry;
       emits : Emits l.fn.self l.self made.operations;
+      origins : l.self.origins.items ≡ l.fn.self.origins.items ++ origins_of_calls (drop (length l.left.items) l.fn.calls.items);
     }
 
 abbrev pub decreases-loop-made : goal.decreases-loop-made
