@@ -1,5 +1,5 @@
 -- The arguments of an `init`.
-use Rattle.std.proofs.Common.{◌≡◌, ℕ, Bool, true, Some, map, refl, slice_get, subst}
+use Rattle.std.proofs.Common.{◌≡◌, ℕ, Bool, false, true, [], Some, map, refl, slice_get, subst}
 use Rattle.cp_model.specs.Abstract as a
 use Rattle.cp_model.specs.Abstract.{Name, System}
 use Rattle.cp_model.specs.Components as components
@@ -15,6 +15,7 @@ use Rattle.cp_scope.specs.declared.systems.Component.{Component}
 use Rattle.cp_scope.specs.declared.systems.SystemTable.{SystemTable}
 use Rattle.cp_scope.specs.declared.types.Simple as simple
 use Rattle.cp_scope.specs.declared.types.Types.{Types}
+use Rattle.cp_scope.specs.Expressions.{is_simple}
 use Rattle.cp_scope.specs.Scopes.{IsScope, Names}
 use Rattle.cp_scope.specs.Standing.{simple_of}
 use Rattle.cp_scope.specs.Variables.{AreDeclared, declared_entry}
@@ -56,3 +57,13 @@ component_argument s y x b (ArrayOf low' high t) e low is = absurd (cc)
 component_argument s y x b (RecordOf ms) e low is = absurd (cc)
 component_argument s y x b Queue e low is = absurd (cc)
 component_argument s y x b NoType e low is = absurd (cc)
+
+pub other_argument : (s : Scope) (y : System) (x : Name) (b : Bool) (t : ResolvedType) (e : a.Expression) (low : ℕ) → is_simple t ≡ false
+    → is_component t ≡ false
+    → record { argument = plain.Right 0 plain.Own; calls = []; temps = low } ≡ init_argument s y (x, record { by_reference = b; type = t }) e low
+other_argument s y x b (ComponentOf r inner) e low simple component = absurd (cc)
+other_argument s y x b (Simple c low' high start) e low simple component = absurd (cc)
+other_argument s y x b (ArrayOf low' high t) e low simple component = refl
+other_argument s y x b (RecordOf ms) e low simple component = refl
+other_argument s y x b Queue e low simple component = refl
+other_argument s y x b NoType e low simple component = refl

@@ -12,3 +12,4 @@ pub mod Sequencing
 pub mod Counting
 pub mod Cases
 pub mod Initialising
+pub mod Targets

@@ -20,6 +20,7 @@ ghost use Rattle.cp_translate.specs.Translated.{IsSpot};
 
 use crate::made::MadeSpot;
 use crate::translator::Translator;
+use crate::types::bounds_of;
 use cp_emit::{CodedCall, Emitter};
 use cp_model::tree::{Designator, Expression};
 use cp_program::operation::Operation;
@@ -71,13 +72,12 @@ impl<'s, 't> Translator<'s, 't> {
             (place_of emitter.old) next)) }
     {
         let of = self.scope.place_type(d)?;
-        let simple = self.scope.tables().types.simple(of);
-        let simple = simple.ok_or(CompileError::Unaccepted)?;
+        let within = bounds_of(self.scope.tables().types.simple(of));
         let mut calls = Vec::new(self.alloc);
         let made = self.term(e, low, &mut calls)?;
         let set = Operation::SetResult {
-            low: simple.low,
-            high: simple.high,
+            low: within.low,
+            high: within.high,
             value: made.term,
             next,
         };
@@ -126,7 +126,7 @@ impl<'s, 't> Translator<'s, 't> {
             (place_of emitter.old) next)) }
     {
         let mut calls = calls;
-        let size = self.words(to.of.ok_or(CompileError::Unaccepted)?)?;
+        let size = self.place_words(to.of)?;
         let from = self.argument_spot(e, to.temps, &mut calls)?;
         let copy = Operation::CopyWords {
             to: to.spot,

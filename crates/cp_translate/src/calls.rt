@@ -20,6 +20,7 @@ ghost use Rattle.cp_program.specs.View as view;
 ghost use Rattle.cp_translate.specs.Translated.{AreArguments, IsTerm};
 
 use crate::made::MadeArguments;
+use crate::starts::{part_start, right_start};
 use crate::translator::Translator;
 use cp_emit::CodedCall;
 use cp_emit::call::{MadeTerm, make_call};
@@ -41,8 +42,7 @@ impl<'s, 't> Translator<'s, 't> {
         ensures { IfOk result (λ at. (s : code.Scope) → IsScope self.now.scope s
             → at ≡ part_start (layout.member s.globals s.system name.now)) }
     {
-        let part = self.scope.member(name).ok_or(CompileError::Unaccepted)?;
-        part.at.ok_or(CompileError::Unaccepted)
+        part_start(self.scope.member(name))
     }
 
     // The word of the component that holds a right.
@@ -50,8 +50,7 @@ impl<'s, 't> Translator<'s, 't> {
         ensures { IfOk result (λ at. (s : code.Scope) → IsScope self.now.scope s
             → at ≡ right_start (layout.right s.globals s.system name.now)) }
     {
-        let right = self.scope.right(name).ok_or(CompileError::Unaccepted)?;
-        small_number(right.at)
+        right_start(self.scope.right(name))
     }
 
     /// The target of a call of a routine of another component.
@@ -62,9 +61,7 @@ impl<'s, 't> Translator<'s, 't> {
             (declarations s.globals s.system.variables) of.entry n
             → view.target t ≡ target_of (environment s) (Some n)) }
     {
-        let types = &self.scope.tables().types;
-        let system = types.system(of.system).ok_or(CompileError::Unaccepted)?;
-        match (system.sort, of.is_parameter) {
+        match (self.sort(&of), of.is_parameter) {
             (Sort::Class, false) => Ok(Target::Class(self.class_at(of.name)?)),
             (Sort::Class, true) => Ok(Target::ClassRight(self.right_at(of.name)?)),
             (Sort::Monitor, false) => {

@@ -20,19 +20,18 @@ ghost use Rattle.cp_program.specs.View as view;
 ghost use Rattle.cp_translate.specs.Initialisation.{IsTable};
 
 use crate::standard::lone_name;
+use crate::starts::{part_start, right_start};
 use crate::translator::Translator;
-use cp_model::tree::{Designator, Expression};
+use cp_model::tree::{Designator, Expression, Sort};
 use cp_program::operation::Target;
-use cp_scope::{CompileError, Component, SystemTable, small_number};
+use cp_scope::{CompileError, Component, SystemTable};
 
 /// The word at which a member lies in a component of a system type.
 pub fn member_at(table: &SystemTable, name: &[u8]) -> Result<u32, CompileError>
     ensures { IfOk result (λ at. (g : GlobalScope) (types : Types) (y : a.System)
         → IsTable g types table.now y → at ≡ part_start (layout.member g y name.now)) }
 {
-    let part = table.members.parts.find(name);
-    let part = part.ok_or(CompileError::Unaccepted)?;
-    part.at.ok_or(CompileError::Unaccepted)
+    part_start(table.members.parts.find(name))
 }
 
 /// The word that holds a right in a component of a system type.
@@ -40,8 +39,7 @@ pub fn right_at(table: &SystemTable, name: &[u8]) -> Result<u32, CompileError>
     ensures { IfOk result (λ at. (g : GlobalScope) (types : Types) (y : a.System)
         → IsTable g types table.now y → at ≡ right_start (layout.right g y name.now)) }
 {
-    let right = table.rights.find(name).ok_or(CompileError::Unaccepted)?;
-    small_number(right.at)
+    right_start(table.rights.find(name))
 }
 
 /// The designator that an expression consists of, perhaps in parentheses. Any other expression is
@@ -68,6 +66,17 @@ impl<'s, 't> Translator<'s, 't> {
     {
         let types = &self.scope.tables().types;
         self.scope.system().component(types, name)
+    }
+
+    /// The sort of a component.
+    pub fn sort(&self, component: &Component) -> Sort
+        ensures { (s : code.Scope) (n : components.Component)
+            → Names self.now.scope s component.now n → erase.sort_of result ≡ n.system.sort }
+    {
+        match self.scope.tables().types.system(component.system) {
+            Some(system) => system.sort,
+            None => Sort::Process,
+        }
     }
 
     /// The table of a component's system type.

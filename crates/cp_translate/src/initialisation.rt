@@ -1,6 +1,6 @@
 //! `init` statements.
 
-ghost use Rattle.std.specs.Prelude.{◌≡◌, Some, IfOk, List, map};
+ghost use Rattle.std.specs.Prelude.{◌≡◌, [], Some, IfOk, List, map};
 ghost use Rattle.cp_model.specs.Abstract as a;
 ghost use Rattle.cp_model.specs.Abstract.{Name};
 ghost use Rattle.cp_model.specs.Components as components;
@@ -12,6 +12,7 @@ ghost use Rattle.cp_program_model.specs.CodedTerms.{CodedArguments, call_of, ini
 ghost use Rattle.cp_program_model.specs.Programs as op;
 ghost use Rattle.cp_program_model.specs.Scopes as code;
 ghost use Rattle.cp_program_model.specs.Scopes.{environment, target_of};
+ghost use Rattle.cp_program_model.specs.Terms as plain;
 ghost use Rattle.cp_emit.specs.Emission.{coded_call, place_of};
 ghost use Rattle.cp_emit.specs.declared.emitter.CodedCall.{CodedCall};
 ghost use Rattle.cp_scope.specs.Scopes.{IsScope, Names};
@@ -27,8 +28,22 @@ use crate::made::{MadeArgument, MadeArguments, no_arguments};
 use crate::translator::Translator;
 use cp_emit::{CodedCall, Emitter};
 use cp_model::tree::{Expression, InitItem, Sort};
-use cp_program::operation::{Argument, Call, Operation};
+use cp_program::operation::{Argument, Call, Operation, Target};
 use cp_scope::{CompileError, Component, Declared, SystemTable, small_number};
+
+// What is passed to a parameter that is neither a simple value nor a right.
+fn no_value(low: u32) -> MadeArgument
+    ensures { (calls : List CodedCall) → IsArgument (map coded_call calls) calls result
+        (record { argument = plain.Right 0 plain.Own; calls = []; temps = low }) }
+{
+    MadeArgument {
+        argument: Argument::Right {
+            at: 0,
+            of: Target::Own,
+        },
+        temps: low,
+    }
+}
 
 impl<'s, 't> Translator<'s, 't> {
     // Passes a right to a component.
@@ -70,7 +85,7 @@ impl<'s, 't> Translator<'s, 't> {
             }
             None => {
                 if !types.is_component(parameter.of) {
-                    return Err(CompileError::Unaccepted);
+                    return Ok(no_value(low));
                 }
                 self.right(right_at(table, parameter.name)?, e, low)
             }
@@ -164,11 +179,7 @@ impl<'s, 't> Translator<'s, 't> {
             → map view.argument arguments.items ≡ xs.arguments
             → view.operation o ≡ coded.init_operation s n n.system.sort xs low next) }
     {
-        let types = &self.scope.tables().types;
-        let system = types
-            .system(component.system)
-            .ok_or(CompileError::Unaccepted)?;
-        match system.sort {
+        match self.sort(&component) {
             Sort::Class => {
                 let call = self.init_call(component, arguments, low)?;
                 Ok(Operation::InitClass { call, next })
@@ -204,7 +215,7 @@ impl<'s, 't> Translator<'s, 't> {
         emitter.emit(calls, operation, origin)
     }
 
-    // Emits the initialisation of a named component. A name that means no component is refused.
+    // Emits the initialisation of a named component, and nothing if the name means none.
     fn init_item(
         &self,
         item: &InitItem,
@@ -217,7 +228,7 @@ impl<'s, 't> Translator<'s, 't> {
             (erase.expressions (tree.init_item item.now).arguments)) low next) }
     {
         match self.component(item.component.name.as_bytes()) {
-            None => Err(CompileError::Unaccepted),
+            None => Ok(next),
             Some(component) => {
                 let origin = item.component.at;
                 self.init_component(component, &item.arguments, low, next, origin, emitter)

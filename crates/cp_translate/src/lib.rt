@@ -33,6 +33,7 @@ mod origins;
 mod parts;
 mod procedures;
 mod standard;
+mod starts;
 mod statements;
 mod translator;
 mod types;

@@ -74,22 +74,23 @@ impl<'s, 't> Translator<'s, 't> {
         root_of(self.scope.local(name), self.scope.member(name))
     }
 
-    /// The place where the variable with this name begins. Any other name is refused.
+    /// The place where the variable with this name begins. Any other name has the first word of the
+    /// activation.
     pub fn variable_root(&self, name: &[u8]) -> Result<Root, CompileError>
         ensures { IfOk result (λ r. (s : code.Scope) → IsScope self.now.scope s
             → view.root r ≡ root_or_first (root_named s name.now)) }
     {
-        self.root(name)?.ok_or(CompileError::Unaccepted)
+        Ok(self.root(name)?.unwrap_or(Root::Local(0)))
     }
 
-    // The value of the constant with this name. Any other name is refused.
-    fn constant(&self, name: &[u8]) -> Result<Term, CompileError>
-        ensures { IfOk result (λ t. (s : code.Scope) → IsScope self.now.scope s
-            → view.term t ≡ plain.Number (ordinal_or_zero (lookup name.now s.globals.constants))) }
+    // The value of the constant with this name. Any other name stands for 0.
+    fn constant(&self, name: &[u8]) -> Term
+        ensures { (s : code.Scope) → IsScope self.now.scope s → view.term result
+            ≡ plain.Number (ordinal_or_zero (lookup name.now s.globals.constants)) }
     {
         match self.scope.tables().names.constants.find(name) {
-            Some(value) => Ok(Term::number(self.alloc, value.ordinal)),
-            None => Err(CompileError::Unaccepted),
+            Some(value) => Term::number(self.alloc, value.ordinal),
+            None => Term::number(self.alloc, 0),
         }
     }
 
@@ -103,7 +104,7 @@ impl<'s, 't> Translator<'s, 't> {
         }
         match self.root(name)? {
             Some(root) => Ok(Term::variable(self.alloc, root)),
-            None => self.constant(name),
+            None => Ok(self.constant(name)),
         }
     }
 }

@@ -15,6 +15,7 @@ ghost use Rattle.cp_program.specs.View as view;
 ghost use Rattle.cp_translate.specs.Statements.{Enters};
 
 use crate::translator::Translator;
+use crate::types::bounds_of;
 use cp_emit::Emitter;
 use cp_emit::table::table_of;
 use cp_judge::places::first_token;
@@ -127,12 +128,11 @@ impl<'s, 't> Translator<'s, 't> {
             → view.counting k ≡ coded.counting s name.now (erase.is_down direction) low 0 next) }
     {
         let of = self.scope.named_place_type(name);
-        let simple = self.scope.tables().types.simple(of);
-        let simple = simple.ok_or(CompileError::Unaccepted)?;
+        let within = bounds_of(self.scope.tables().types.simple(of));
         Ok(Counting {
             variable: self.variable_root(name)?,
-            low: simple.low,
-            high: simple.high,
+            low: within.low,
+            high: within.high,
             down: is_down(direction),
             temp: low,
             body: 0,

@@ -22,6 +22,7 @@ ghost use Rattle.cp_translate.specs.Statements.{Enters, StatementOf};
 use crate::calls::words_before;
 use crate::standard::lone_name;
 use crate::translator::Translator;
+use crate::types::bounds_of;
 use cp_emit::{CodedCall, Emitter};
 use cp_model::tree::{Designator, Expression};
 use cp_program::operation::Operation;
@@ -87,13 +88,12 @@ impl<'s, 't> Translator<'s, 't> {
             (with_calls c.calls (op.Accept c.spot (coded.low_of t) (coded.high_of t) next)
             (place_of emitter.old))) }
     {
-        let simple = self.scope.expression_type(e)?;
-        let simple = simple.ok_or(CompileError::Unaccepted)?;
+        let within = bounds_of(self.scope.expression_type(e)?);
         let (to, calls) = self.passed_spot(e, low)?;
         let accept = Operation::Accept {
             to,
-            low: simple.low,
-            high: simple.high,
+            low: within.low,
+            high: within.high,
             next,
         };
         emitter.emit(calls, accept, origin)

@@ -3,12 +3,36 @@
 ghost use Rattle.std.specs.Prelude.{◌≡◌, IfOk};
 ghost use Rattle.cp_model.specs.Types.{ResolvedType};
 ghost use Rattle.cp_typing.specs.Words.{words};
+ghost use Rattle.cp_program_model.specs.CodedStatements.{high_of, low_of};
 ghost use Rattle.cp_program_model.specs.Scopes as code;
+ghost use Rattle.cp_scope.specs.Expressions.{SimpleIs};
+ghost use Rattle.cp_scope.specs.Places.{TypeIs};
 ghost use Rattle.cp_scope.specs.Scopes.{IsScope};
 ghost use Rattle.cp_scope.specs.Standing.{Stands};
 
 use crate::translator::Translator;
-use cp_scope::CompileError;
+use cp_scope::{CompileError, Simple};
+
+/// The least and the greatest value of a type.
+#[derive(Clone, Copy)]
+pub struct Bounds {
+    pub low: i32,
+    pub high: i32,
+}
+
+/// The bounds of a simple type. Those of any other type are 0.
+pub fn bounds_of(of: Option<Simple>) -> Bounds
+    ensures low { (t : ResolvedType) → SimpleIs of.entry t → result.low ≡ low_of t }
+    ensures high { (t : ResolvedType) → SimpleIs of.entry t → result.high ≡ high_of t }
+{
+    match of {
+        Some(simple) => Bounds {
+            low: simple.low,
+            high: simple.high,
+        },
+        None => Bounds { low: 0, high: 0 },
+    }
+}
 
 impl<'s, 't> Translator<'s, 't> {
     /// The size in words of a variable of the type `of`.
@@ -19,6 +43,17 @@ impl<'s, 't> Translator<'s, 't> {
         match self.scope.tables().layouts.words(of) {
             Some(words) => Ok(words),
             None => Err(CompileError::Unaccepted),
+        }
+    }
+
+    /// The size in words of a variable of the type `of`, where `None` stands for no type.
+    pub fn place_words(&self, of: Option<usize>) -> Result<u32, CompileError>
+        ensures { IfOk result (λ n. (s : code.Scope) (t : ResolvedType) → IsScope self.now.scope s
+            → TypeIs self.now.scope.tables.now.types of t → n ≡ words s.globals t) }
+    {
+        match of {
+            Some(of) => self.words(of),
+            None => Ok(0),
         }
     }
 }

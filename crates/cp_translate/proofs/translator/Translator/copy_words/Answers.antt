@@ -6,10 +6,8 @@ use Rattle.cp_program_model.specs.Programs as op
 use Rattle.cp_program.specs.declared.operation.Operation.TheVariants as operation
 use Rattle.cp_translate.proofs.Answered.{both_ok}
 use Rattle.cp_translate.proofs.Emitting.{entered}
-use Rattle.std.proofs.Common.{ℕ, Option}
 use Rattle.cp_typing.specs.Words.{words}
 use Rattle.cp_emit.specs.Emission.{place_of}
-use Rattle.cp_scope.specs.Places.{TypeIs}
 use Rattle.cp_translate.specs.Statements.{Enters}
 use Rattle.cp_translate.proofs.Storing.{copies}
 use Rattle.cp_translate.proofs.translator.Translator.copy_words.Goals as goal
@@ -19,10 +17,8 @@ returns c =
     both_ok c.emit.result
     (λ place at emits s to t e scope type other there.
     let d = coded_variable s (erase.expression (tree.expression c.args.e.now)) c.args.to.temps in
-    let types = c.args.self.now.scope.tables.now.types in
     let made = c.in_ok-from.ensures s scope in
-    let stands = subst (λ (o : Option ℕ). TypeIs types o t) c.in_ok-ok_or.ensures.ok_part type in
-    let long = c.in_ok-size.ensures s t scope stands in
+    let long = c.in_ok-size.ensures s t scope type in
     subst (Enters c.args.emitter.now c.emit.new.self place) (sym (copies s.globals t to e d (place_of c.args.emitter.now) c.args.next other))
     (entered c.args.emitter.now c.emit.new.self place c.argument_spot.new.calls.items (to.calls ++ d.calls)
     (operation.CopyWords c.args.to.spot c.in_ok-from.from.spot c.in_ok-size.size c.args.next)

@@ -1,4 +1,4 @@
-use Rattle.std.proofs.Common.{rules, ◌≡◌, ◌∙◌, true, ap, map, subst, sym}
+use Rattle.std.proofs.Common.{rules, ◌≡◌, ◌∙◌, false, true, ap, map, subst, sym}
 use Rattle.cp_model.specs.Declarations.{is_component}
 use Rattle.cp_model.specs.Erase as erase
 use Rattle.cp_model.specs.View as tree
@@ -10,7 +10,7 @@ use Rattle.cp_emit.specs.Emission.{coded_call}
 use Rattle.cp_scope.proofs.Unrefused.{if_ok}
 use Rattle.cp_translate.specs.Initialisation.{right_argument}
 use Rattle.cp_translate.specs.Translated.{IsArgument}
-use Rattle.cp_translate.proofs.Initialising.{component_argument, simple_argument}
+use Rattle.cp_translate.proofs.Initialising.{component_argument, other_argument, simple_argument}
 use Rattle.cp_translate.proofs.translator.Translator.init_argument.Goals as goal
 
 pub returns-in_ok-made-in-Some : goal.returns-in_ok-made-in-Some
@@ -26,6 +26,16 @@ returns-in_ok-made-in-Some c = λ s y p scope is named stands.
     subst (IsArgument before after c.simple_value.result) (simple_argument s y p.0 p.1 e c.args.low x same)
     (subst (λ n. IsArgument before after c.simple_value.result (record { argument = plain.Value n x.low x.high d.term; calls = d.calls; temps = d.temps })) at
     (c.simple_value.ensures before after s.globals d (lone_spot (plain.Rooted (plain.Local 0)) 0) (c.in_ok-made-in-Some.ensures s scope)))
+
+pub returns-then-not-is_component : goal.returns-then-not-is_component
+returns-then-not-is_component c = λ s y p scope is named stands.
+    let calls = c.args.calls.now.items in
+    let e = erase.expression (tree.expression c.args.e.now) in
+    let known : c.is_component.result ≡ false = search rules in
+    let component : is_component p.1.type ≡ false = sym ((rw c.tables.ensures at c.is_component.ensures) p.1.type stands) ∙ known in
+    let other = (rw (c.tables.ensures, c.in-None.is) at c.simple.ensures) p.1.type stands in
+    subst (IsArgument (map coded_call calls) calls c.no_value.result)
+    (other_argument s y p.0 p.1.by_reference p.1.type e c.args.low other component) (c.no_value.ensures calls)
 
 pub returns-in_ok-right_at-in-None : goal.returns-in_ok-right_at-in-None
 returns-in_ok-right_at-in-None c =

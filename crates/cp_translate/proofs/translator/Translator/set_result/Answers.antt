@@ -1,4 +1,4 @@
-use Rattle.std.proofs.Common.{rules, subst}
+use Rattle.std.proofs.Common.{rules, ◌∙◌}
 use Rattle.std.specs.Int.{w32}
 use Rattle.std.specs.Prelude.{FitsSigned}
 use Rattle.std.proofs.lemmas.Int.{to_z-of_z}
@@ -11,25 +11,24 @@ use Rattle.cp_program.specs.declared.operation.Operation.TheVariants as operatio
 use Rattle.cp_translate.proofs.Answered.{both_ok}
 use Rattle.cp_translate.proofs.Emitting.{entered}
 use Rattle.cp_typing.specs.StaticTypes.{place_type}
-use Rattle.cp_program_model.specs.CodedStatements as coded
+use Rattle.cp_program_model.specs.CodedStatements.{high_of, low_of}
 use Rattle.cp_program_model.specs.Scopes.{environment}
-use Rattle.cp_emit.specs.Emission.{place_of}
-use Rattle.cp_translate.specs.Statements.{Enters}
 use Rattle.cp_translate.proofs.translator.Translator.set_result.Goals as goal
 
 pub returns : goal.returns
 returns c =
     both_ok c.emit.result
     (λ place at emits s scope.
-    let x = c.in_ok-simple.simple in
+    let x = c.bounds_of-within.result in
     let low : FitsSigned w32 x.low = search rules in
     let high : FitsSigned w32 x.high = search rules in
     let t = place_type (environment s) (erase.designator (tree.designator c.args.d.now)) in
     let d = coded_term s (erase.expression (tree.expression c.args.e.now)) c.args.low in
     let made = rw c.new-calls.ensures.items at (c.in_ok-made.ensures s scope) in
-    let same = (rw (c.tables.ensures, c.in_ok-simple.ensures.ok_part) at c.simple-simple.ensures) t (c.in_ok-of.ensures s scope) in
-    subst (λ u. Enters c.args.emitter.now c.emit.new.self place (coded.set_result u d (place_of c.args.emitter.now) c.args.next)) same
-    (entered c.args.emitter.now c.emit.new.self place c.term.new.calls.items d.calls
-    (operation.SetResult (narrow x.low) (narrow x.high) c.in_ok-made.made.term c.args.next) (op.SetResult x.low x.high d.term c.args.next)
-    made.calls (λ i. op.SetResult (to_z-of_z w32 x.low low i) (to_z-of_z w32 x.high high i) (made.term i) c.args.next) at emits))
+    let of = (rw c.tables.ensures at c.simple.ensures) t (c.in_ok-of.ensures s scope) in
+    entered c.args.emitter.now c.emit.new.self place c.term.new.calls.items d.calls
+    (operation.SetResult (narrow x.low) (narrow x.high) c.in_ok-made.made.term c.args.next) (op.SetResult (low_of t) (high_of t) d.term c.args.next)
+    made.calls
+    (λ i. op.SetResult ((to_z-of_z w32 x.low low ∙ c.bounds_of-within.ensures.low t of) i)
+    ((to_z-of_z w32 x.high high ∙ c.bounds_of-within.ensures.high t of) i) (made.term i) c.args.next) at emits)
     c.emit.ensures.entry c.emit.ensures.emits
