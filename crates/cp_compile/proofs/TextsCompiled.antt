@@ -1,5 +1,5 @@
 -- Definitions are compiled one after another.
-use Rattle.std.proofs.Common.{◌≡◌, ◌∷◌, ◌++◌, ◌∙◌, ℕ, List, [], Option, None, Some, Box, Global, Vec, ◌≤◌, ap, arith, if◌then◌else◌, length, map, refl, subst, sym}
+use Rattle.std.proofs.Common.{◌<◌, ◌≡◌, ◌∷◌, ◌++◌, ◌∙◌, ℕ, List, [], Option, None, Some, Box, Global, Vec, ◌≤◌, ap, arith, if◌then◌else◌, length, map, refl, subst, sym}
 use Rattle.std.proofs.lemmas.Option.{same_Some}
 use Rattle.std.specs.Borrow.{Bor}
 use Rattle.std.specs.Str.{bytes_eq}
@@ -106,6 +106,19 @@ array_has_no_units firsts at indices element some =
         → 0 ≡ first_of_type firsts (erase.arrays (erase.type_expressions (tree.types_of (map tree.type_expression is))) (erase.type_expression (tree.type_expression element.value)))
     go [] some = absurd (omega (arith, some))
     go (i ∷ is) some = refl
+
+-- Without an index, an array is its element.
+pub array_is_element : (firsts : List (Name × ℕ)) (at : ℕ) (indices : Vec TypeExpression Global) (element : Box TypeExpression Global) → length indices.items < 1
+    → first_of_type firsts (erase.type_expression (tree.type_expression element.value))
+    ≡ first_of_type firsts (erase.type_expression (tree.type_expression (written.Array at indices element)))
+array_is_element firsts at indices element none =
+    go indices.items none ∙ ap (λ t. first_of_type firsts (erase.type_expression t)) (sym (view_array at indices element))
+  where
+    go : (is : List TypeExpression) → length is < 1
+        → first_of_type firsts (erase.type_expression (tree.type_expression element.value))
+        ≡ first_of_type firsts (erase.arrays (erase.type_expressions (tree.types_of (map tree.type_expression is))) (erase.type_expression (tree.type_expression element.value)))
+    go [] none = refl
+    go (i ∷ is) none = absurd (omega (arith, none))
 
 pub record_has_no_units : (firsts : List (Name × ℕ)) (at : ℕ) (groups : Vec Fields Global)
     → 0 ≡ first_of_type firsts (erase.type_expression (tree.type_expression (written.Record at groups)))

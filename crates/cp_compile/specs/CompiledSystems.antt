@@ -6,12 +6,15 @@ use Rattle.cp_model.specs.Types.{GlobalScope}
 use Rattle.cp_model.specs.declared.tree.Fields.{Fields}
 use Rattle.cp_model.specs.declared.tree.Parameters.{Parameters}
 use Rattle.cp_model.specs.declared.tree.Routine as tree
-use Rattle.cp_emit.specs.Planning.{Knows}
+use Rattle.cp_program_model.specs.Compile.{Compiled}
+use Rattle.cp_emit.specs.declared.emitter.Emitter.{Emitter}
+use Rattle.cp_emit.specs.Planning.{Knows, known_of}
 use Rattle.cp_scope.specs.Layouts.{AreLaid}
 use Rattle.cp_scope.specs.Scopes.{IsWritten}
 use Rattle.cp_scope.specs.Standing.{ScopeStands}
 use Rattle.cp_scope.specs.Systems.{SystemStands}
 use Rattle.cp_scope.specs.Texts.{AreSystems}
+use Rattle.cp_compile.specs.Compiles.{IsCompiled}
 use Rattle.cp_compile.specs.declared.system.SystemCompiler.{SystemCompiler}
 
 -- The tables stand for the text with the outermost scope `g`, and for the system type `s`.
@@ -27,3 +30,8 @@ pub record IsSystem (of : SystemCompiler) (g : GlobalScope) (s : System) (firsts
   pub planned : of.planner.now.tables.now ≡ of.tables.now
   pub knows : Knows of.planner.now g
   pub firsts_are : (x : Name) → lookup x of.firsts.now ≡ lookup x firsts
+
+-- The compiler makes of an emitter that holds `before` one that holds `after`.
+abbrev pub Makes : SystemCompiler → Emitter → Emitter → Compiled → Compiled → Type 0
+Makes of old new before after =
+    IsCompiled (known_of of.planner.now) old before → IsCompiled (known_of of.planner.now) new after

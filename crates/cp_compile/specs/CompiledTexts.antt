@@ -7,10 +7,10 @@ use Rattle.cp_model.specs.Erase as erase
 use Rattle.cp_model.specs.Names.{lookup}
 use Rattle.cp_model.specs.Types.{ComponentOf, GlobalScope, Members}
 use Rattle.cp_model.specs.View as tree
-use Rattle.cp_program_model.specs.Compile.{CompiledTypes}
+use Rattle.cp_program_model.specs.Compile.{CompiledTypes, with_definition, with_definitions}
 use Rattle.cp_program_model.specs.Programs.{StartPlan}
 use Rattle.cp_emit.specs.declared.emitter.Emitter.{Emitter}
-use Rattle.cp_emit.specs.Planning.{Knows}
+use Rattle.cp_emit.specs.Planning.{Knows, known_of}
 use Rattle.cp_scope.specs.Layouts.{AreLaid}
 use Rattle.cp_scope.specs.Numbering.{system_of}
 use Rattle.cp_scope.specs.Standing.{ScopeStands, row_at}
@@ -70,3 +70,21 @@ defined_name (a.ConstantDef x c) = x
 pub record IsDefined (known : List StartPlan) (emitter : Emitter) (first : ℕ) (d : Definition) (before after : CompiledTypes) : Type 0 where
   pub compiled : IsCompiled known emitter after.compiled
   pub firsts : after.firsts ≡ (defined_name d, first) ∷ before.firsts
+
+-- ---- What a compiler makes of an emitter and of the first units, the old ones into the new ones
+
+-- It compiles what the definition defines, whose first unit is `first`.
+abbrev pub DefinesType : TextCompiler → Emitter → Emitter → List (Name × ℕ) → Definition → ℕ → Type 0
+DefinesType of old new firsts d first =
+    (g : GlobalScope) (m : CompiledTypes) → IsText of g → IsNamed g d → TypesAre (known_of of.planner.now) old firsts m
+    → IsDefined (known_of of.planner.now) new first d m (with_definition g d m)
+
+abbrev pub CompilesOne : TextCompiler → Emitter → Emitter → List (Name × ℕ) → List (Name × ℕ) → Definition → Type 0
+CompilesOne of old new before after d =
+    (g : GlobalScope) (m : CompiledTypes) → IsText of g → IsNamed g d → TypesAre (known_of of.planner.now) old before m
+    → TypesAre (known_of of.planner.now) new after (with_definition g d m)
+
+abbrev pub CompilesAll : TextCompiler → Emitter → Emitter → List (Name × ℕ) → List (Name × ℕ) → List Definition → Type 0
+CompilesAll of old new before after ds =
+    (g : GlobalScope) (m : CompiledTypes) → IsText of g → AreNamed g ds → TypesAre (known_of of.planner.now) old before m
+    → TypesAre (known_of of.planner.now) new after (with_definitions g ds m)

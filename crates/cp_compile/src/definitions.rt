@@ -7,9 +7,9 @@ ghost use Rattle.cp_model.specs.Erase as erase;
 ghost use Rattle.cp_model.specs.Types.{ComponentOf, GlobalScope, Members};
 ghost use Rattle.cp_model.specs.Names.{lookup};
 ghost use Rattle.cp_model.specs.View as tree;
-ghost use Rattle.cp_program_model.specs.Compile.{CompiledTypes, first_of_type, with_definition, with_definitions, with_system};
+ghost use Rattle.cp_program_model.specs.Compile.{CompiledTypes, first_of_type, with_system};
 ghost use Rattle.cp_emit.specs.Planning.{known_of};
-ghost use Rattle.cp_compile.specs.CompiledTexts.{AreNamed, IsDefined, IsNamed, IsSystemText, IsText, TypesAre, system_number};
+ghost use Rattle.cp_compile.specs.CompiledTexts.{CompilesAll, CompilesOne, DefinesType, IsSystemText, IsText, TypesAre, system_number};
 ghost use Rattle.cp_compile.specs.Compiles.{IsCompiled};
 
 use crate::system::SystemCompiler;
@@ -34,21 +34,22 @@ struct SystemText<'s, 't> {
 }
 
 // The first unit of a written type. For a name, it is that of the type that the name means.
-fn first_of_type_expression(
-    t: &TypeExpression,
-    firsts: &NameTable<u32>,
-) -> Result<u32, CompileError>
-    ensures { IfOk result (λ n.
-        n ≡ first_of_type firsts.now (erase.type_expression (tree.type_expression t.now))) }
+fn first_of_type_expression(t: &TypeExpression, firsts: &NameTable<u32>) -> u32
+    ensures { result
+        ≡ first_of_type firsts.now (erase.type_expression (tree.type_expression t.now)) }
 {
     match t {
-        TypeExpression::Named(x) => Ok(firsts.find(x.name.as_bytes()).unwrap_or(0)),
-        TypeExpression::Array { indices, .. } => match indices.as_slice() {
-            [] => Err(CompileError::Unaccepted),
-            [_, ..] => Ok(0),
+        TypeExpression::Named(x) => firsts.find(x.name.as_bytes()).unwrap_or(0),
+        TypeExpression::Array {
+            indices,
+            element,
+            ..
+        } => match indices.as_slice() {
+            [] => first_of_type_expression(element, firsts),
+            [_, ..] => 0,
         },
-        TypeExpression::Subrange(_, _) => Ok(0),
-        TypeExpression::Record { .. } => Ok(0),
+        TypeExpression::Subrange(_, _) => 0,
+        TypeExpression::Record { .. } => 0,
     }
 }
 
@@ -87,8 +88,8 @@ impl<'s, 't> TextCompiler<'s, 't> {
         ensures { IfOk result (λ first. (g : GlobalScope) (m : CompiledTypes) (s : a.System)
             (ms : Members) → IsText self.now g → lookup name.now g.types ≡ Some (ComponentOf s ms)
             → TypesAre (known_of self.now.planner.now) emitter.old firsts.now m
-            → IsCompiled (known_of self.now.planner.now) emitter.new (with_system g m.firsts s m.compiled)
-            × (first ≡ length m.compiled.units)) }
+            → IsCompiled (known_of self.now.planner.now) emitter.new
+            (with_system g m.firsts s m.compiled) × (first ≡ length m.compiled.units)) }
     {
         let found = self.system_text(name)?;
         let first = emitter.units()?;
@@ -118,14 +119,11 @@ impl<'s, 't> TextCompiler<'s, 't> {
         firsts: &NameTable<'t, u32>,
         emitter: &mut Emitter,
     ) -> Result<u32, CompileError>
-        ensures { IfOk result (λ first. (g : GlobalScope) (m : CompiledTypes) → IsText self.now g
-            → IsNamed g (erase.type_definition (tree.type_definition d.now))
-            → TypesAre (known_of self.now.planner.now) emitter.old firsts.now m → IsDefined (known_of self.now.planner.now) emitter.new first
-            (erase.type_definition (tree.type_definition d.now)) m
-            (with_definition g (erase.type_definition (tree.type_definition d.now)) m)) }
+        ensures { IfOk result (DefinesType self.now emitter.old emitter.new firsts.now
+            (erase.type_definition (tree.type_definition d.now))) }
     {
         match &d.defined {
-            Defined::Written(t) => first_of_type_expression(t, firsts),
+            Defined::Written(t) => Ok(first_of_type_expression(t, firsts)),
             Defined::Enumeration(_) => Ok(0),
             Defined::System(_) => self.system(d.name.name.as_bytes(), firsts, emitter),
         }
@@ -138,10 +136,8 @@ impl<'s, 't> TextCompiler<'s, 't> {
         firsts: &mut NameTable<'t, u32>,
         emitter: &mut Emitter,
     ) -> Result<(), CompileError>
-        ensures { OnOk result ((g : GlobalScope) (m : CompiledTypes) → IsText self.now g
-            → IsNamed g (erase.type_definition (tree.type_definition d.now))
-            → TypesAre (known_of self.now.planner.now) emitter.old firsts.old m → TypesAre (known_of self.now.planner.now) emitter.new firsts.new
-            (with_definition g (erase.type_definition (tree.type_definition d.now)) m)) }
+        ensures { OnOk result (CompilesOne self.now emitter.old emitter.new firsts.old firsts.new
+            (erase.type_definition (tree.type_definition d.now))) }
     {
         let first = self.first_of(d, firsts, emitter)?;
         add_name(firsts, d.name.name.as_bytes(), first)?;
@@ -155,11 +151,8 @@ impl<'s, 't> TextCompiler<'s, 't> {
         firsts: &mut NameTable<'t, u32>,
         emitter: &mut Emitter,
     ) -> Result<(), CompileError>
-        ensures { OnOk result ((g : GlobalScope) (m : CompiledTypes) → IsText self.now g
-            → AreNamed g (map erase.type_definition (map tree.type_definition list.now))
-            → TypesAre (known_of self.now.planner.now) emitter.old firsts.old m → TypesAre (known_of self.now.planner.now) emitter.new firsts.new
-            (with_definitions g
-            (map erase.type_definition (map tree.type_definition list.now)) m)) }
+        ensures { OnOk result (CompilesAll self.now emitter.old emitter.new firsts.old firsts.new
+            (map erase.type_definition (map tree.type_definition list.now))) }
     {
         for d in list {
             self.definition(d, firsts, emitter)?;
@@ -173,10 +166,8 @@ impl<'s, 't> TextCompiler<'s, 't> {
         firsts: &mut NameTable<'t, u32>,
         emitter: &mut Emitter,
     ) -> Result<(), CompileError>
-        ensures { OnOk result ((g : GlobalScope) (m : CompiledTypes) → IsText self.now g
-            → AreNamed g (erase.section (tree.section_of section.now))
-            → TypesAre (known_of self.now.planner.now) emitter.old firsts.old m → TypesAre (known_of self.now.planner.now) emitter.new firsts.new
-            (with_definitions g (erase.section (tree.section_of section.now)) m)) }
+        ensures { OnOk result (CompilesAll self.now emitter.old emitter.new firsts.old firsts.new
+            (erase.section (tree.section_of section.now))) }
     {
         match section {
             Section::Constants(_) => Ok(()),
@@ -191,10 +182,8 @@ impl<'s, 't> TextCompiler<'s, 't> {
         firsts: &mut NameTable<'t, u32>,
         emitter: &mut Emitter,
     ) -> Result<(), CompileError>
-        ensures { OnOk result ((g : GlobalScope) (m : CompiledTypes) → IsText self.now g
-            → AreNamed g (erase.sections (map tree.section_of sections.now))
-            → TypesAre (known_of self.now.planner.now) emitter.old firsts.old m → TypesAre (known_of self.now.planner.now) emitter.new firsts.new
-            (with_definitions g (erase.sections (map tree.section_of sections.now)) m)) }
+        ensures { OnOk result (CompilesAll self.now emitter.old emitter.new firsts.old firsts.new
+            (erase.sections (map tree.section_of sections.now))) }
     {
         for section in sections {
             self.section(section, firsts, emitter)?;

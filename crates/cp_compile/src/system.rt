@@ -10,9 +10,8 @@ ghost use Rattle.cp_program_model.specs.StandsFor.{end_of};
 ghost use Rattle.cp_scope.specs.Routines.{RoutineStands};
 ghost use Rattle.cp_scope.specs.Systems.{routines_of};
 ghost use Rattle.cp_program.specs.View as view;
-ghost use Rattle.cp_emit.specs.Planning.{known_of};
-ghost use Rattle.cp_compile.specs.Compiles.{IsCompiled, body_of};
-ghost use Rattle.cp_compile.specs.CompiledSystems.{IsSystem};
+ghost use Rattle.cp_compile.specs.Compiles.{body_of};
+ghost use Rattle.cp_compile.specs.CompiledSystems.{IsSystem, Makes};
 
 use crate::unit::compile_unit;
 use cp_emit::Emitter;
@@ -55,9 +54,8 @@ impl<'s, 't> SystemCompiler<'s, 't> {
         ensures { OnOk result ((g : GlobalScope) (s : System) (firsts : List (Name × ℕ))
             (c : Compiled) → IsSystem self.now g s firsts
             → RoutineStands g self.now.tables.now.types table.now
-            (erase.routine (tree.routine text.now)) → IsCompiled (known_of self.now.planner.now) emitter.old c
-            → IsCompiled (known_of self.now.planner.now) emitter.new (with_routine g s firsts self.now.first
-            (erase.routine (tree.routine text.now)) c)) }
+            (erase.routine (tree.routine text.now)) → Makes self.now emitter.old emitter.new c
+            (with_routine g s firsts self.now.first (erase.routine (tree.routine text.now)) c)) }
     {
         let is_function = text.result_type.is_some();
         let scope = Scope::new(
@@ -88,7 +86,7 @@ impl<'s, 't> SystemCompiler<'s, 't> {
     fn routines(&self, texts: &[Routine], emitter: &mut Emitter) -> Result<(), CompileError>
         ensures { OnOk result ((g : GlobalScope) (s : System) (firsts : List (Name × ℕ))
             (c : Compiled) → IsSystem self.now g s firsts → s.routines ≡ routines_of texts.now
-            → IsCompiled (known_of self.now.planner.now) emitter.old c → IsCompiled (known_of self.now.planner.now) emitter.new
+            → Makes self.now emitter.old emitter.new c
             (with_routines g s firsts self.now.first (routines_of texts.now) c)) }
     {
         for i in 0..texts.len() {
@@ -108,7 +106,7 @@ impl<'s, 't> SystemCompiler<'s, 't> {
     ) -> Result<(), CompileError>
         ensures { OnOk result ((g : GlobalScope) (s : System) (firsts : List (Name × ℕ))
             (c : Compiled) → IsSystem self.now g s firsts → s.sort ≡ erase.sort_of sort
-            → s.body ≡ body_of body.now → IsCompiled (known_of self.now.planner.now) emitter.old c → IsCompiled (known_of self.now.planner.now) emitter.new
+            → s.body ≡ body_of body.now → Makes self.now emitter.old emitter.new c
             (with_body g s firsts self.now.first c)) }
     {
         let scope = Scope::new(self.tables, self.system, None, self.firsts, self.first);
@@ -137,8 +135,8 @@ impl<'s, 't> SystemCompiler<'s, 't> {
         ensures { OnOk result ((g : GlobalScope) (s : System) (firsts : List (Name × ℕ))
             (c : Compiled) → IsSystem self.now g s firsts → self.now.first ≡ length c.units
             → s.sort ≡ erase.sort_of sort → s.routines ≡ routines_of routines.now
-            → s.body ≡ body_of body.now → IsCompiled (known_of self.now.planner.now) emitter.old c
-            → IsCompiled (known_of self.now.planner.now) emitter.new (with_system g firsts s c)) }
+            → s.body ≡ body_of body.now
+            → Makes self.now emitter.old emitter.new c (with_system g firsts s c)) }
     {
         self.routines(routines, emitter)?;
         self.body(sort, body, origin, emitter)
