@@ -1,6 +1,6 @@
 -- The scopes with which the units of a system type are compiled, and its routines, one after
 -- another.
-use Rattle.std.proofs.Common.{◌≡◌, ◌∷◌, ◌∙◌, ℕ, zero, suc, List, [], Option, None, Some, ap, drop, is_some, refl, slice_get, subst, sym}
+use Rattle.std.proofs.Common.{◌≡◌, ◌<◌, ◌∷◌, ◌∙◌, ℕ, zero, suc, List, [], Option, None, Some, ap, arith, drop, is_some, length, refl, slice_get, subst, sym}
 use Rattle.std.specs.Borrow.{Bor}
 use Rattle.cp_model.specs.Abstract.{Name, Routine, Statement, System}
 use Rattle.cp_model.specs.Declarations.{Variable}
@@ -119,3 +119,19 @@ routine_known of g s firsts is texts rest i x t all step here =
     routine_stands g of.tables.now.types of.system.now.routines.items (routines_of texts) i t (erase.routine (tree.routine x))
     (subst (AreRoutines g of.tables.now.types of.system.now.routines.items) (sym is.written.routines ∙ all) is.system.routines) here
     (routine_there texts rest i x step)
+
+-- There is a table for each routine.
+pub table_there : (g : GlobalScope) (types : Types) (ts : List RoutineTable) (texts : List tree_routine.Routine) (i : ℕ)
+    → AreRoutines g types ts (routines_of texts) → i < length texts → slice_get ts i ≡ None → ⊥
+table_there g types [] [] i h within none = omega (arith, within)
+table_there g types [] (x ∷ xs) i h within none = h
+table_there g types (t ∷ ts) [] i h within none = h
+table_there g types (t ∷ ts) (x ∷ xs) zero h within none = absurd (cc)
+table_there g types (t ∷ ts) (x ∷ xs) (suc i) h within none = table_there g types ts xs i h.1 (omega (arith, within)) none
+
+pub routine_has_table : (of : SystemCompiler) (g : GlobalScope) (s : System) (firsts : List (Name × ℕ)) → IsSystem of g s firsts
+    → (texts : List tree_routine.Routine) (i : ℕ) → s.routines ≡ routines_of texts → i < length texts
+    → slice_get of.system.now.routines.items i ≡ None → ⊥
+routine_has_table of g s firsts is texts i all =
+    table_there g of.tables.now.types of.system.now.routines.items texts i
+    (subst (AreRoutines g of.tables.now.types of.system.now.routines.items) (sym is.written.routines ∙ all) is.system.routines)

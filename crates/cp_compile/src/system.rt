@@ -90,7 +90,10 @@ impl<'s, 't> SystemCompiler<'s, 't> {
             (with_routines g s firsts self.now.first (routines_of texts.now) c)) }
     {
         for i in 0..texts.len() {
-            let table = self.system.routine_at(i).ok_or(CompileError::Unaccepted)?;
+            let Some(table) = self.system.routine_at(i) else {
+                // There is a table for each routine.
+                continue;
+            };
             self.routine(table, &texts[i], emitter)?;
         }
         Ok(())

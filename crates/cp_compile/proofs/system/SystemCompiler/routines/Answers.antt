@@ -1,4 +1,4 @@
-use Rattle.std.proofs.Common.{rules, ◌≡◌, ◌+◌, ◌∷◌, ◌∙◌, List, Some, ap, drop, refl, slice_get, subst, sym}
+use Rattle.std.proofs.Common.{rules, ◌≡◌, ◌+◌, ◌∷◌, ◌∙◌, List, None, Some, ap, drop, refl, slice_get, subst, sym}
 use Rattle.std.proofs.lemmas.List.{at_drop_more, drop_all}
 use Rattle.cp_model.specs.Erase as erase
 use Rattle.cp_model.specs.View as tree
@@ -6,7 +6,7 @@ use Rattle.cp_model.specs.declared.tree.Routine.{Routine}
 use Rattle.cp_scope.specs.Systems.{routines_of}
 use Rattle.cp_emit.specs.Planning.{known_of}
 use Rattle.cp_compile.specs.Compiles.{IsCompiled}
-use Rattle.cp_compile.proofs.SystemsCompiled.{PartlyCompiled, one_routine, routine_known}
+use Rattle.cp_compile.proofs.SystemsCompiled.{PartlyCompiled, one_routine, routine_has_table, routine_known}
 use Rattle.cp_compile.proofs.system.SystemCompiler.routines.Goals as goal
 
 pub loop-i-init : goal.loop-i-init
@@ -18,7 +18,7 @@ loop-i-preserved c = λ g s firsts d i all is.
     let texts = c.args.texts.now in
     let k = c.loop-i.i in
     let x = c.index-texts-i.result in
-    let table = c.in_ok-table.table.now in
+    let table = c.in-Some.table.now in
     let step : drop k texts ≡ x ∷ drop (k + 1) texts =
     at_drop_more (λ (rs : List Routine). rs) texts k x c.loop-i-test.true ∙ ap (λ (r : Routine). r ∷ drop (k + 1) texts) (sym c.index-texts-i.is) in
     let here : slice_get of.system.now.routines.items k ≡ Some table = search rules in
@@ -28,6 +28,12 @@ loop-i-preserved c = λ g s firsts d i all is.
     (c.loop-i.invariant g s firsts d i all is) in
     one_routine of g s firsts (erase.routine (tree.routine x)) (routines_of (drop (k + 1) texts)) (routines_of texts) d c.loop-i.emitter c.routine.new.emitter some
     (λ e so. c.in_ok-routine.ensures g s firsts e i stands so)
+
+pub loop-i-preserved-in_default : goal.loop-i-preserved-in_default
+loop-i-preserved-in_default c = λ g s firsts d i all is.
+    let of = c.args.self.now in
+    let none : slice_get of.system.now.routines.items c.loop-i.i ≡ None = search rules in
+    absurd (routine_has_table of g s firsts i c.args.texts.now c.loop-i.i all c.loop-i-test.true none)
 
 pub returns : goal.returns
 returns c = λ g s firsts d i all is.
