@@ -1,6 +1,7 @@
 pub mod Syntax
 pub mod View
 pub mod Characters
+pub mod Letters
 pub mod Spelling
 pub mod Languages
 pub mod GrammarExpressions

@@ -3,45 +3,101 @@
 //! Which tokens a text has is defined in `specs/Spelling.antt` and described in docs/language.md,
 //! "Tokens".
 
-ghost use Rattle.std.specs.Prelude.{◌≡◌, IfOk};
+ghost use Rattle.std.specs.Prelude.{◌≡◌, ◌≤◌, IfOk, length, map, take};
+ghost use Rattle.cp_model.specs.Characters.{lower};
 
 use std::alloc::{AllocError, Global};
 use std::marker::Model;
 
-/// A name: a word that isn't reserved, in lower case. Contracts see it as the list of its bytes.
+// As many bytes as make a name 16 bytes long, with its length and the variant of its letters.
+const SHORT: usize = 14;
+
+// The letters of a short name.
+#[derive(Clone, Copy)]
+struct ShortWord {
+    length: u8,
+    letters: [u8; SHORT],
+    ghost fits: { length ≤ 14 },
+}
+
+impl ShortWord {
+    fn in_lower_case(word: &[u8]) -> ShortWord
+        requires { length word.now ≤ 14 }
+        ensures { take result.length result.letters ≡ map lower word.now }
+    {
+        let mut letters = [0; SHORT];
+        letters[..word.len()].copy_from_slice(word);
+        letters.make_ascii_lowercase();
+        ShortWord {
+            length: word.len() as u8,
+            letters,
+        }
+    }
+
+    fn as_bytes(&self) -> &[u8]
+        ensures { result.now ≡ take self.now.length self.now.letters }
+    {
+        &self.letters[..usize::from(self.length)]
+    }
+}
+
+// Nearly all names are short, and a text has up to half a million, so these need no allocation.
+#[derive(Drop)]
+enum Letters {
+    Short(ShortWord),
+    Long(Box<Vec<u8>>),
+}
+
+/// A name: a word in lower case that, in the tokens of a text, isn't reserved. Contracts see it as
+/// the list of its bytes.
 #[derive(Drop)]
 pub struct Name {
-    letters: Vec<u8>,
+    letters: Letters,
 }
 
 impl Model for Name {
     ghost use Rattle.std.specs.Prelude.{ℕ, List};
+    ghost use Rattle.cp_model.specs.Letters.{bytes_of};
 
     ghost Value = { List ℕ };
 
-    ghost view = { λ name. name.letters.items };
+    ghost view = { λ name. bytes_of name.letters };
 }
 
 impl Name {
-    /// The name that is spelled with these letters, digits and underscores.
-    pub fn new(letters: Vec<u8>) -> Name
-        ensures { result ≡ letters.items }
+    /// Returns a word of letters, digits and underscores in lower case. Fails only if memory runs
+    /// out.
+    pub fn new(alloc: Global, word: &[u8]) -> Result<Name, AllocError>
+        ensures { IfOk result (λ name. name ≡ map lower word.now) }
     {
-        Name { letters }
+        let letters = if word.len() <= SHORT {
+            Letters::Short(ShortWord::in_lower_case(word))
+        } else {
+            Letters::Long(Box::new(alloc, word.to_ascii_lowercase(alloc)?)?)
+        };
+        Ok(Name { letters })
     }
 
     /// The bytes of the name.
     pub fn as_bytes(&self) -> &[u8]
         ensures { result.now ≡ self.now }
     {
-        self.letters.as_slice()
+        match &self.letters {
+            Letters::Short(word) => word.as_bytes(),
+            Letters::Long(word) => word.as_slice(),
+        }
     }
 
     /// Returns a copy of the name. Fails only if memory runs out.
     pub fn copy(&self, alloc: Global) -> Result<Name, AllocError>
         ensures { IfOk result (λ name. name ≡ self.now) }
     {
-        let letters = Vec::from_slice(alloc, self.as_bytes())?;
+        let letters = match &self.letters {
+            Letters::Short(word) => Letters::Short(*word),
+            Letters::Long(word) => {
+                Letters::Long(Box::new(alloc, Vec::from_slice(alloc, word.as_slice())?)?)
+            }
+        };
         Ok(Name { letters })
     }
 }

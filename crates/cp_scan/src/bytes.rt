@@ -42,13 +42,6 @@ pub fn is_printable(b: u8) -> bool
     matches!(b, b' '..=b'~')
 }
 
-/// Converts a letter to lower case.
-pub fn lower(b: u8) -> u8
-    ensures { result ≡ character.lower b }
-{
-    b.to_ascii_lowercase()
-}
-
 /// The byte at an index, or 0 after the end.
 pub fn byte_at(text: &[u8], i: usize) -> u8
     ensures value { result ≡ head_or_zero (drop i text.now) }

@@ -2,12 +2,11 @@
 //! names. `word` of `specs/Pieces.antt` defines what is read.
 
 ghost use Rattle.std.specs.Prelude.{◌≡◌, ◌<◌, map, IfOk, take};
-ghost use Rattle.cp_model.specs.Characters as character;
 ghost use Rattle.cp_model.specs.Spelling as spelling;
 ghost use Rattle.cp_scan.specs.Pieces as spec;
 ghost use Rattle.cp_scan.specs.Words.{kind_or_name};
 
-use crate::bytes::{lower, word_length};
+use crate::bytes::word_length;
 use crate::piece::Front;
 use crate::refusal::Cause;
 use cp_model::token::{Kind, Name, Symbol};
@@ -70,19 +69,13 @@ fn look_up(table: &[(&[u8], Symbol)], letters: &[u8]) -> Option<Symbol>
 }
 
 // The kind of a word in lower case.
-fn kind_of_word(letters: Vec<u8>) -> Kind
-    ensures { result ≡ spelling.kind_of_word letters.items }
+fn kind_of_word(word: Name) -> Kind
+    ensures { result ≡ spelling.kind_of_word word }
 {
-    match look_up(&RESERVED_WORDS, letters.as_slice()) {
+    match look_up(&RESERVED_WORDS, word.as_bytes()) {
         Some(symbol) => Kind::Symbol(symbol),
-        None => Kind::Name(Name::new(letters)),
+        None => Kind::Name(word),
     }
-}
-
-fn lower_letters(alloc: Global, text: &[u8]) -> Result<Vec<u8>, AllocError>
-    ensures { IfOk result (λ letters. letters.items ≡ map character.lower text.now) }
-{
-    text.iter().map(|b| lower(*b)).collect(alloc)
 }
 
 /// Reads the word at the front of a text. Fails only if memory runs out.
@@ -94,6 +87,6 @@ pub fn word(alloc: Global, text: &[u8]) -> Result<Front, AllocError>
     if n > LONGEST_WORD {
         return Ok(Err(Cause::Word));
     }
-    let letters = lower_letters(alloc, &text[..n])?;
-    Ok(Ok((Some(kind_of_word(letters)), n)))
+    let word = Name::new(alloc, &text[..n])?;
+    Ok(Ok((Some(kind_of_word(word)), n)))
 }

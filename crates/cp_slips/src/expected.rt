@@ -103,7 +103,7 @@ pub fn begin_a_text(alloc: Global, tokens: &[Token], at: usize) -> Result<bool, 
 impl Candidate {
     fn kind(self, alloc: Global) -> Result<Kind, AllocError> {
         Ok(match self {
-            Candidate::Name => Kind::Name(Name::new(Vec::from_slice(alloc, b"x")?)),
+            Candidate::Name => Kind::Name(Name::new(alloc, b"x")?),
             Candidate::Number => Kind::Number(1),
             Candidate::Character => Kind::Character(b'a'),
             Candidate::Symbol(symbol) => Kind::Symbol(symbol),
