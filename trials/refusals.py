@@ -14,11 +14,11 @@ from running import PROGRAM, ROOT, ROUNDS, expect, expect_at_least, expect_one_o
 MEMORY = (3, b'', b'fault M\n')
 # What is refused, and the fewest refusals of each: a little below what docs/PROOFS.md tells, since builds differ by a few allocations.
 KINDS = ('ALLOCATION', 'THREAD', 'READ', 'WRITE')
-LEAST_OF_RUN = {'ALLOCATION': 530, 'THREAD': 1, 'READ': 430, 'WRITE': 165}
-LEAST_OF_REPLAY = {'ALLOCATION': 560, 'THREAD': 0, 'READ': 610, 'WRITE': 165}
-LEAST_OF_OUTCOME = {'ALLOCATION': 470, 'THREAD': 1, 'READ': 300, 'WRITE': 170}
-LEAST_OF_NAMED = {'ALLOCATION': 475, 'THREAD': 1, 'READ': 350, 'WRITE': 80}
-LEAST_OF_EXPLANATION = {'ALLOCATION': 175, 'THREAD': 0, 'READ': 190, 'WRITE': 385}
+LEAST_OF_RUN = {'ALLOCATION': 415, 'THREAD': 1, 'READ': 430, 'WRITE': 165}
+LEAST_OF_REPLAY = {'ALLOCATION': 450, 'THREAD': 0, 'READ': 610, 'WRITE': 165}
+LEAST_OF_OUTCOME = {'ALLOCATION': 415, 'THREAD': 1, 'READ': 300, 'WRITE': 170}
+LEAST_OF_NAMED = {'ALLOCATION': 370, 'THREAD': 1, 'READ': 350, 'WRITE': 80}
+LEAST_OF_EXPLANATION = {'ALLOCATION': 150, 'THREAD': 0, 'READ': 190, 'WRITE': 385}
 LEAST_OF_TRACE = {'READ': 300, 'WRITE': 255}
 
 # The tests of cp_rounds_tests that look at a machine after a refusal, and the fewest times that they have to see one.

@@ -32,9 +32,10 @@ fn list_place(list: &[Statement]) -> Option<usize> {
 pub fn statement_place(s: &Statement) -> Option<usize> {
     match s {
         Statement::Empty => None,
-        Statement::Assign { target: d, .. } | Statement::Call(d, _) => Some(d.root.at),
+        Statement::Assign(a) => Some(a.target.root.at),
+        Statement::Call(d, _) => Some(d.root.at),
         Statement::Init { at, .. } => Some(*at),
-        Statement::For { variable, .. } => Some(variable.at),
+        Statement::For { header, .. } => Some(header.variable.at),
         Statement::If { condition: e, .. }
         | Statement::IfElse { condition: e, .. }
         | Statement::While { condition: e, .. }

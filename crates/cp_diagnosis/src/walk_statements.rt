@@ -17,11 +17,11 @@ impl<'t> Finder<'t> {
     fn statement(&mut self, s: &'t Statement) {
         match s {
             Statement::Empty => {}
-            Statement::Assign { target, at, value } => {
-                self.designator(target, NameRole::Target, Call::No);
-                self.mark(*at, Mark::Becomes);
-                self.pair(*at, Pair::Sides(target, value));
-                self.expression(value);
+            Statement::Assign(a) => {
+                self.designator(&a.target, NameRole::Target, Call::No);
+                self.mark(a.at, Mark::Becomes);
+                self.pair(a.at, Pair::Sides(&a.target, &a.value));
+                self.expression(&a.value);
             }
             Statement::Call(d, list) => {
                 self.designator(
@@ -37,16 +37,11 @@ impl<'t> Finder<'t> {
                 self.mark(*at, Mark::Init);
                 self.items(items);
             }
-            Statement::For {
-                variable,
-                from,
-                last,
-                body,
-                ..
-            } => {
+            Statement::For { header, body } => {
+                let variable = &header.variable;
                 self.name(variable, NameRole::Counter);
-                self.expression_for(from, Purpose::Bound(variable));
-                self.expression_for(last, Purpose::Bound(variable));
+                self.expression_for(&header.from, Purpose::Bound(variable));
+                self.expression_for(&header.last, Purpose::Bound(variable));
                 self.statement(body);
             }
             _ => self.control_statement(s),

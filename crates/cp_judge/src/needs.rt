@@ -144,8 +144,8 @@ pub fn need_of_statement(env: &Environment, s: &Statement) -> usize
 {
     match s {
         Statement::Empty => 0,
-        Statement::Assign { target, value, .. } => {
-            need_of_designator(env, target).max(need_of_expression(env, value))
+        Statement::Assign(a) => {
+            need_of_designator(env, &a.target).max(need_of_expression(env, &a.value))
         }
         Statement::Call(d, list) => need_of_designator(env, d).max(need_of_expressions(env, list)),
         Statement::Compound(list) => need_of_statements(env, list),
@@ -165,13 +165,9 @@ pub fn need_of_statement(env: &Environment, s: &Statement) -> usize
         Statement::Repeat { body, condition } => {
             need_of_statements(env, body).max(need_of_expression(env, condition))
         }
-        Statement::For {
-            from,
-            last,
-            body,
-            ..
-        } => {
-            let bounds = need_of_expression(env, from).max(need_of_expression(env, last));
+        Statement::For { header, body } => {
+            let from = need_of_expression(env, &header.from);
+            let bounds = from.max(need_of_expression(env, &header.last));
             bounds.max(need_of_statement(env, body))
         }
         Statement::Cycle(list) => need_of_statements(env, list),

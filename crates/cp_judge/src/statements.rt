@@ -14,7 +14,7 @@ use crate::initialisation::judge_init;
 use crate::labels::{Labels, judge_labels, selector_base};
 use crate::procedures::judge_call;
 use crate::telling::Told;
-use cp_model::tree::{Arm, Expression, Identifier, Statement};
+use cp_model::tree::{Arm, Expression, ForHeader, Statement};
 use std::alloc::{AllocError, Global};
 
 /// Judges a statement. Fails only if memory runs out for the labels of a `case`.
@@ -30,7 +30,7 @@ pub fn statement(
 {
     match s {
         Statement::Empty => {}
-        Statement::Assign { target, at, value } => judge_assignment(env, told, target, *at, value),
+        Statement::Assign(a) => judge_assignment(env, told, &a.target, a.at, &a.value),
         Statement::Call(d, list) => judge_call(env, told, d, list),
         Statement::Compound(list) => statements(env, alloc, told, list)?,
         Statement::If { condition: e, then } => judge_branch(env, alloc, told, then, e)?,
@@ -45,13 +45,7 @@ pub fn statement(
         Statement::Case { selector: e, arms } => judge_case(env, alloc, told, arms, e)?,
         Statement::While { condition: e, body } => judge_branch(env, alloc, told, body, e)?,
         Statement::Repeat { body, condition: e } => judge_repeat(env, alloc, told, body, e)?,
-        Statement::For {
-            variable,
-            from,
-            last,
-            body,
-            ..
-        } => judge_for(env, alloc, told, body, variable, from, last)?,
+        Statement::For { header, body } => judge_for(env, alloc, told, body, header)?,
         Statement::Cycle(list) => statements(env, alloc, told, list)?,
         Statement::Init { at, items } => judge_init(env, told, *at, items),
     }
@@ -83,16 +77,14 @@ fn judge_for(
     alloc: Global,
     told: &mut Told,
     body: &Statement,
-    v: &Identifier,
-    from: &Expression,
-    last: &Expression,
+    header: &ForHeader,
 ) -> Result<(), AllocError>
     ensures { OnOk result
         (told.new ≡ least told.old
-        (parts.for_header env.now v.now (view.expression from.now) (view.expression last.now)
-        ++ st.statement env.now (view.statement body.now))) }
+        (parts.for_header env.now header.now.variable (view.expression header.now.from)
+        (view.expression header.now.last) ++ st.statement env.now (view.statement body.now))) }
 {
-    for_header(env, told, v, from, last);
+    for_header(env, told, &header.variable, &header.from, &header.last);
     statement(env, alloc, told, body)
 }
 

@@ -154,46 +154,56 @@ pub enum Direction {
     Down,
 }
 
-/// A statement.
+/// A value that is assigned. The place is that of the `:=`.
+#[derive(Drop)]
+pub struct Assignment {
+    pub target: Designator,
+    pub at: usize,
+    pub value: Expression,
+}
+
+/// What stands between the words `for` and `do`.
+#[derive(Drop)]
+pub struct ForHeader {
+    pub variable: Identifier,
+    pub from: Expression,
+    pub direction: Direction,
+    pub last: Expression,
+}
+
+/// A statement. Its larger parts are boxed, since an empty one takes as much as any other, and a
+/// text can have a million of them.
 #[cycle(statements)]
 #[derive(Drop)]
 pub enum Statement {
     Empty,
-    /// The place is that of the `:=`.
-    Assign {
-        target: Designator,
-        at: usize,
-        value: Expression,
-    },
+    Assign(Box<Assignment>),
     /// A procedure call, with or without arguments.
-    Call(Designator, Vec<Expression>),
+    Call(Box<Designator>, Vec<Expression>),
     Compound(Vec<Statement>),
     If {
-        condition: Expression,
+        condition: Box<Expression>,
         then: Box<Statement>,
     },
     IfElse {
-        condition: Expression,
+        condition: Box<Expression>,
         then: Box<Statement>,
         otherwise: Box<Statement>,
     },
     Case {
-        selector: Expression,
+        selector: Box<Expression>,
         arms: Vec<Arm>,
     },
     While {
-        condition: Expression,
+        condition: Box<Expression>,
         body: Box<Statement>,
     },
     Repeat {
         body: Vec<Statement>,
-        condition: Expression,
+        condition: Box<Expression>,
     },
     For {
-        variable: Identifier,
-        from: Expression,
-        direction: Direction,
-        last: Expression,
+        header: Box<ForHeader>,
         body: Box<Statement>,
     },
     Cycle(Vec<Statement>),

@@ -4,7 +4,7 @@ use crate::flow::{Flow, Reach, Times};
 use crate::note::Saying;
 use crate::walk::Walk;
 use cp_declared::places::statement_place;
-use cp_model::tree::{Arm, Direction, Expression, Statement};
+use cp_model::tree::{Arm, Direction, Expression, ForHeader, Statement};
 use std::alloc::AllocError;
 
 // What is known before a statement that runs on a condition.
@@ -72,7 +72,7 @@ impl<'t> Walk<'t> {
     fn statement(&mut self, s: &'t Statement) -> Result<(), AllocError> {
         match s {
             Statement::Empty => Ok(()),
-            Statement::Assign { target, value, .. } => self.assignment(target, value),
+            Statement::Assign(a) => self.assignment(&a.target, &a.value),
             Statement::Call(d, list) => self.procedure_call(d, list),
             Statement::Compound(list) => self.statements(list),
             Statement::Init { items, .. } => self.init_items(items),
@@ -136,16 +136,10 @@ impl<'t> Walk<'t> {
                 };
                 self.runs(body, times)
             }
-            Statement::For {
-                from,
-                direction,
-                last,
-                body,
-                ..
-            } => {
-                self.expression(from)?;
-                self.expression(last)?;
-                let times = self.times(from, *direction, last);
+            Statement::For { header, body } => {
+                self.expression(&header.from)?;
+                self.expression(&header.last)?;
+                let times = self.times(header);
                 self.runs(body, times)
             }
             Statement::Repeat { body, condition } => {
@@ -220,11 +214,13 @@ impl<'t> Walk<'t> {
     }
 
     // How often the statement of a `for` runs, if its bounds are constants.
-    fn times(&self, from: &Expression, direction: Direction, last: &Expression) -> Times {
-        let (Some(from), Some(last)) = (self.names.value(from), self.names.value(last)) else {
+    fn times(&self, header: &ForHeader) -> Times {
+        let from = self.names.value(&header.from);
+        let last = self.names.value(&header.last);
+        let (Some(from), Some(last)) = (from, last) else {
             return Times::Unknown;
         };
-        let (low, high) = match direction {
+        let (low, high) = match header.direction {
             Direction::Up => (from, last),
             Direction::Down => (last, from),
         };

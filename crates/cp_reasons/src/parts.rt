@@ -59,14 +59,9 @@ impl<'t> Parts<'t> {
                 self.add(body)?;
                 self.add_expression(condition)
             }
-            Statement::For {
-                from,
-                last,
-                body,
-                ..
-            } => {
-                self.add_expression(from)?;
-                self.add_expression(last)?;
+            Statement::For { header, body } => {
+                self.add_expression(&header.from)?;
+                self.add_expression(&header.last)?;
                 self.add_statement(body)
             }
             _ => self.add_simple(s),
@@ -85,9 +80,9 @@ impl<'t> Parts<'t> {
     fn add_simple(&mut self, s: &'t Statement) -> Result<(), AllocError> {
         self.statements.push(s)?;
         match s {
-            Statement::Assign { target, value, .. } => {
-                self.add_designator(target)?;
-                self.add_expression(value)
+            Statement::Assign(a) => {
+                self.add_designator(&a.target)?;
+                self.add_expression(&a.value)
             }
             Statement::Call(d, arguments) => {
                 self.add_designator(d)?;

@@ -13,7 +13,7 @@ use crate::lists::{Node, separated};
 use crate::names::identifier;
 use crate::tokens::{Read, after, place, sees};
 use cp_model::token::{Symbol, Token};
-use cp_model::tree::{InitItem, Statement};
+use cp_model::tree::{Assignment, InitItem, Statement};
 use std::alloc::Global;
 
 /// Reads an assignment or a call of a procedure.
@@ -25,11 +25,15 @@ pub fn assignment_or_call(alloc: Global, room: usize, tokens: &[Token]) -> Read<
     if sees(rest, Symbol::Assign) {
         let at = place(rest);
         let (value, left) = expression(alloc, room, after(rest))?;
-        let target = d;
-        return Ok((Statement::Assign { target, at, value }, left));
+        let assignment = Assignment {
+            target: d,
+            at,
+            value,
+        };
+        return Ok((Statement::Assign(Box::new(alloc, assignment)?), left));
     }
     let (arguments, rest) = optional_arguments(alloc, room, rest)?;
-    Ok((Statement::Call(d, arguments), rest))
+    Ok((Statement::Call(Box::new(alloc, d)?, arguments), rest))
 }
 
 /// Reads the word `init` and the components after it.

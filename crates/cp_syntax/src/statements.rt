@@ -16,7 +16,7 @@ use crate::simple_statements::{assignment_or_call, init};
 use crate::tokens::{Read, after, expect, peek, place, sees};
 use cp_grammar::Stop;
 use cp_model::token::{Kind, Symbol, Token};
-use cp_model::tree::{Arm, Body, Direction, Statement};
+use cp_model::tree::{Arm, Body, Direction, ForHeader, Statement};
 use std::alloc::Global;
 
 impl Nested for Statement {
@@ -112,6 +112,7 @@ fn conditional<F: Fn(Global, usize, &[Token]) -> Read<'_, Statement> + Copy>(
 {
     let inner = inner(level, tokens)?;
     let (condition, rest) = expression(inner.alloc, inner.room, after(tokens))?;
+    let condition = Box::new(level.alloc, condition)?;
     let (_, rest) = expect(rest, Symbol::Then)?;
     let (then, rest) = read_at(inner, rest)?;
     let then = Box::new(level.alloc, then)?;
@@ -140,6 +141,7 @@ fn case<F: Fn(Global, usize, &[Token]) -> Read<'_, Statement> + Copy>(
 {
     let inner = inner(level, tokens)?;
     let (selector, rest) = expression(inner.alloc, inner.room, after(tokens))?;
+    let selector = Box::new(level.alloc, selector)?;
     let (_, rest) = expect(rest, Symbol::Of)?;
     let (arms, rest) = separated(level.alloc, inner, Symbol::Semicolon, rest)?;
     let (_, rest) = expect(rest, Symbol::End)?;
@@ -156,6 +158,7 @@ fn while_loop<F: Fn(Global, usize, &[Token]) -> Read<'_, Statement> + Copy>(
 {
     let inner = inner(level, tokens)?;
     let (condition, rest) = expression(inner.alloc, inner.room, after(tokens))?;
+    let condition = Box::new(level.alloc, condition)?;
     let (_, rest) = expect(rest, Symbol::Do)?;
     let (body, rest) = read_at(inner, rest)?;
     let body = Box::new(level.alloc, body)?;
@@ -174,6 +177,7 @@ fn repeat_loop<F: Fn(Global, usize, &[Token]) -> Read<'_, Statement> + Copy>(
     let (body, rest) = statements(inner, after(tokens))?;
     let (_, rest) = expect(rest, Symbol::Until)?;
     let (condition, rest) = expression(inner.alloc, inner.room, rest)?;
+    let condition = Box::new(level.alloc, condition)?;
     Ok((Statement::Repeat { body, condition }, rest))
 }
 
@@ -193,17 +197,15 @@ fn for_loop<F: Fn(Global, usize, &[Token]) -> Read<'_, Statement> + Copy>(
     let (last, rest) = expression(inner.alloc, inner.room, rest)?;
     let (_, rest) = expect(rest, Symbol::Do)?;
     let (body, rest) = read_at(inner, rest)?;
+    let header = ForHeader {
+        variable,
+        from,
+        direction,
+        last,
+    };
+    let header = Box::new(level.alloc, header)?;
     let body = Box::new(level.alloc, body)?;
-    Ok((
-        Statement::For {
-            variable,
-            from,
-            direction,
-            last,
-            body,
-        },
-        rest,
-    ))
+    Ok((Statement::For { header, body }, rest))
 }
 
 #[tactic(auto, unfolding(cp_grammar::specs::Statements::cycle_of))]

@@ -20,7 +20,7 @@ pub fn first_place(list: &[Statement]) -> Option<usize> {
 fn place(s: &Statement) -> Option<usize> {
     match s {
         Statement::Empty => None,
-        Statement::Assign { target, .. } => Some(target.root.at),
+        Statement::Assign(a) => Some(a.target.root.at),
         Statement::Call(d, _) => Some(d.root.at),
         Statement::Compound(list) | Statement::Cycle(list) => first_place(list),
         Statement::If { condition, .. }
@@ -30,7 +30,7 @@ fn place(s: &Statement) -> Option<usize> {
         Statement::Repeat { body, condition } => {
             Some(first_place(body).unwrap_or(first_token(condition)))
         }
-        Statement::For { variable, .. } => Some(variable.at),
+        Statement::For { header, .. } => Some(header.variable.at),
         Statement::Init { at, .. } => Some(*at),
     }
 }

@@ -13,7 +13,7 @@ ghost use Rattle.cp_translate.specs.Statements.{ArmsOf, StatementOf};
 use crate::origins::first_place;
 use crate::translator::Translator;
 use cp_emit::Emitter;
-use cp_model::tree::{Arm, Direction, Expression, Identifier, Statement};
+use cp_model::tree::{Arm, Expression, ForHeader, Statement};
 use cp_program::arm::Arm as CodedArm;
 use cp_program::operation::Operation;
 use cp_scope::CompileError;
@@ -34,9 +34,7 @@ impl<'s, 't> Translator<'s, 't> {
     {
         match s {
             Statement::Empty => Ok(next),
-            Statement::Assign { target, value, .. } => {
-                self.assign(target, value, low, next, emitter)
-            }
+            Statement::Assign(a) => self.assign(&a.target, &a.value, low, next, emitter),
             Statement::Call(d, es) => self.perform(d, es, low, next, emitter),
             Statement::Compound(list) => self.statements(list, low, next, emitter),
             Statement::If { condition, then } => {
@@ -59,13 +57,7 @@ impl<'s, 't> Translator<'s, 't> {
             Statement::Repeat { body, condition } => {
                 self.repeat(body, condition, low, next, emitter)
             }
-            Statement::For {
-                variable,
-                from,
-                direction,
-                last,
-                body,
-            } => self.for_loop(body, variable, from, *direction, last, low, next, emitter),
+            Statement::For { header, body } => self.for_loop(body, header, low, next, emitter),
             Statement::Cycle(list) => self.cycle(list, low, emitter),
             Statement::Init { items, .. } => self.initialise(items, low, next, emitter),
         }
@@ -174,27 +166,26 @@ impl<'s, 't> Translator<'s, 't> {
     fn for_loop(
         &self,
         body: &Statement,
-        variable: &Identifier,
-        from: &Expression,
-        direction: Direction,
-        last: &Expression,
+        header: &ForHeader,
         low: u32,
         next: u32,
         emitter: &mut Emitter,
     ) -> Result<u32, CompileError>
         ensures { IfOk result (StatementOf self.now.scope emitter.old emitter.new
-            (a.For variable.now.name (erase.is_down direction)
-            (erase.expression (tree.expression from.now))
-            (erase.expression (tree.expression last.now))
+            (a.For header.now.variable.name (erase.is_down header.now.direction)
+            (erase.expression (tree.expression header.now.from))
+            (erase.expression (tree.expression header.now.last))
             (erase.statement (tree.statement body.now))) low next) }
     {
         let inner = low.checked_add(2).ok_or(CompileError::Unaccepted)?;
-        let mut counting = self.counting(variable.name.as_bytes(), direction, low, next)?;
+        let variable = &header.variable;
+        let name = variable.name.as_bytes();
+        let mut counting = self.counting(name, header.direction, low, next)?;
         let place = emitter.push(Operation::ForNext(counting), variable.at)?;
         let first = self.statement(body, inner, place, emitter)?;
         emitter.close_loop(place, first);
         counting.body = first;
-        self.start_counting(counting, from, last, variable.at, emitter)
+        self.start_counting(counting, &header.from, &header.last, variable.at, emitter)
     }
 
     #[cycle(statements)]

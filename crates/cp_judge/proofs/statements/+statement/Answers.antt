@@ -24,7 +24,8 @@ judge_branch-returns t c =
 pub judge_for-returns : goal.judge_for-returns
 judge_for-returns t c =
     let env = c.args.env.now in
-    let header = parts.for_header env c.args.v.now (expression c.args.from.now) (expression c.args.last.now) in
+    let h = c.args.header.now in
+    let header = parts.for_header env h.variable (expression h.from) (expression h.last) in
     on_ok c.statement.result
     (more_told c.args.told.now c.for_header.new.told c.statement.new.told header (st.statement env (statement c.args.body.now)) c.for_header.ensures)
     c.statement.ensures
@@ -47,40 +48,41 @@ judge_repeat-returns t c =
 
 pub statement-returns-in_ok-judge_branch-in-If : goal.statement-returns-in_ok-judge_branch-in-If
 statement-returns-in_ok-judge_branch-in-If t c =
-    let v : statement c.args.s.now ≡ s.If (expression c.in-If.e) (statement c.in-If.then.value) = rw c.in-If.is (view_if c.in-If.e c.in-If.then) in
-    (rw c.deref-in-If.ensures at c.in_ok-judge_branch-in-If.ensures) ∙ ap (λ x. least c.args.told.now (st.statement c.args.env.now x)) (sym v)
+    let v : statement c.args.s.now ≡ s.If (expression c.in-If.e.value) (statement c.in-If.then.value) = rw c.in-If.is (view_if c.in-If.e c.in-If.then) in
+    (rw (c.deref-in-If.ensures, c.deref-in-If-2.ensures) at c.in_ok-judge_branch-in-If.ensures) ∙ ap (λ x. least c.args.told.now (st.statement c.args.env.now x)) (sym v)
 
 pub statement-returns-in_ok-judge_branch-in-While : goal.statement-returns-in_ok-judge_branch-in-While
 statement-returns-in_ok-judge_branch-in-While t c =
-    let v : statement c.args.s.now ≡ s.While (expression c.in-While.e) (statement c.in-While.body.value) = rw c.in-While.is (view_while c.in-While.e c.in-While.body) in
-    (rw c.deref-in-While.ensures at c.in_ok-judge_branch-in-While.ensures) ∙ ap (λ x. least c.args.told.now (st.statement c.args.env.now x)) (sym v)
+    let v : statement c.args.s.now ≡ s.While (expression c.in-While.e.value) (statement c.in-While.body.value) = rw c.in-While.is (view_while c.in-While.e c.in-While.body) in
+    (rw (c.deref-in-While.ensures, c.deref-in-While-2.ensures) at c.in_ok-judge_branch-in-While.ensures) ∙ ap (λ x. least c.args.told.now (st.statement c.args.env.now x)) (sym v)
 
 pub statement-returns-in_ok-statement-in-IfElse : goal.statement-returns-in_ok-statement-in-IfElse
 statement-returns-in_ok-statement-in-IfElse t c =
     let env = c.args.env.now in
-    let e = expression c.in-IfElse.e in
+    let e = expression c.in-IfElse.e.value in
     let x = statement c.in-IfElse.then.value in
     let y = statement c.in-IfElse.otherwise.value in
     let v : statement c.args.s.now ≡ s.IfElse e x y = rw c.in-IfElse.is (view_if_else c.in-IfElse.e c.in-IfElse.then c.in-IfElse.otherwise) in
     then_told c.args.told.now c.judge_branch-in-IfElse.new.told c.statement.new.told (violations_of (st.c2_condition env e) ++ st.statement env x) (st.statement env y)
-    (st.statement env (statement c.args.s.now)) (rw c.deref-in-IfElse.ensures at c.in_ok-judge_branch-in-IfElse.ensures)
-    (rw c.deref-in-IfElse-2.ensures at c.in_ok-statement-in-IfElse.ensures) (ap (st.statement env) v)
+    (st.statement env (statement c.args.s.now)) (rw (c.deref-in-IfElse.ensures, c.deref-in-IfElse-2.ensures) at c.in_ok-judge_branch-in-IfElse.ensures)
+    (rw c.deref-in-IfElse-3.ensures at c.in_ok-statement-in-IfElse.ensures) (ap (st.statement env) v)
 
 pub statement-returns-in_ok-judge_case-in-Case : goal.statement-returns-in_ok-judge_case-in-Case
 statement-returns-in_ok-judge_case-in-Case t c =
-    let v : statement c.args.s.now ≡ s.Case (expression c.in-Case.e) (arms_of (map arm c.in-Case.arms.items)) = rw c.in-Case.is (view_case c.in-Case.e c.in-Case.arms) in
-    (rw c.deref-in-Case.ensures.value at c.in_ok-judge_case-in-Case.ensures) ∙ ap (λ x. least c.args.told.now (st.statement c.args.env.now x)) (sym v)
+    let v : statement c.args.s.now ≡ s.Case (expression c.in-Case.e.value) (arms_of (map arm c.in-Case.arms.items)) = rw c.in-Case.is (view_case c.in-Case.e c.in-Case.arms) in
+    (rw (c.deref-in-Case.ensures.value, c.deref-in-Case-2.ensures) at c.in_ok-judge_case-in-Case.ensures) ∙ ap (λ x. least c.args.told.now (st.statement c.args.env.now x)) (sym v)
 
 pub statement-returns-in_ok-judge_repeat-in-Repeat : goal.statement-returns-in_ok-judge_repeat-in-Repeat
 statement-returns-in_ok-judge_repeat-in-Repeat t c =
-    let v : statement c.args.s.now ≡ s.Repeat (statements_of (map statement c.in-Repeat.body.items)) (expression c.in-Repeat.e) = rw c.in-Repeat.is (view_repeat c.in-Repeat.body c.in-Repeat.e) in
-    (rw c.deref-in-Repeat.ensures.value at c.in_ok-judge_repeat-in-Repeat.ensures) ∙ ap (λ x. least c.args.told.now (st.statement c.args.env.now x)) (sym v)
+    let v : statement c.args.s.now ≡ s.Repeat (statements_of (map statement c.in-Repeat.body.items)) (expression c.in-Repeat.e.value) = rw c.in-Repeat.is (view_repeat c.in-Repeat.body c.in-Repeat.e) in
+    (rw (c.deref-in-Repeat.ensures.value, c.deref-in-Repeat-2.ensures) at c.in_ok-judge_repeat-in-Repeat.ensures) ∙ ap (λ x. least c.args.told.now (st.statement c.args.env.now x)) (sym v)
 
 pub statement-returns-in_ok-judge_for-in-For : goal.statement-returns-in_ok-judge_for-in-For
 statement-returns-in_ok-judge_for-in-For t c =
-    let v : statement c.args.s.now ≡ s.For c.in-For.variable (expression c.in-For.from) c.in-For.direction (expression c.in-For.last) (statement c.in-For.body.value) =
-    rw c.in-For.is (view_for c.in-For.variable c.in-For.from c.in-For.direction c.in-For.last c.in-For.body) in
-    (rw c.deref-in-For.ensures at c.in_ok-judge_for-in-For.ensures) ∙ ap (λ x. least c.args.told.now (st.statement c.args.env.now x)) (sym v)
+    let h = c.in-For.header.value in
+    let v : statement c.args.s.now ≡ s.For h.variable (expression h.from) h.direction (expression h.last) (statement c.in-For.body.value) =
+    rw c.in-For.is (view_for c.in-For.header c.in-For.body) in
+    (rw (c.deref-in-For.ensures, c.deref-in-For-2.ensures) at c.in_ok-judge_for-in-For.ensures) ∙ ap (λ x. least c.args.told.now (st.statement c.args.env.now x)) (sym v)
 
 pub statements-loop-s-preserved : goal.statements-loop-s-preserved
 statements-loop-s-preserved t c =

@@ -132,9 +132,10 @@ for_loop-returns t c =
     if_ok c.start_counting.result
     (λ place h s scope.
     let y = erase.statement (tree.statement c.args.body.now) in
-    let e = erase.expression (tree.expression c.args.from.now) in
-    let f = erase.expression (tree.expression c.args.last.now) in
-    let counts = rw c.as_bytes.ensures at (c.in_ok-counting.ensures s scope) in
+    let header = c.args.header.now in
+    let e = erase.expression (tree.expression header.from) in
+    let f = erase.expression (tree.expression header.last) in
+    let counts = rw c.as_bytes-name.ensures at (c.in_ok-counting.ensures s scope) in
     let closed =
     body_made (with_body first) old c.push.new.self c.statement.new.emitter c.close_loop.new.self (op.ForNext (view.counting open')) c.in_ok-place.place first
     (λ at to. emitted s y (c.args.low + 2) at to) c.in_ok-place.ensures.place c.in_ok-place.ensures.emits
@@ -147,7 +148,7 @@ for_loop-returns t c =
     (with_calls ((coded_term s e n).calls ++ (coded_term s f (coded_term s e n).temps).calls)
     (op.For start (coded_term s e n).term (coded_term s f (coded_term s e n).temps).term) (place_of c.close_loop.new.self)))
     (ap (λ (k : op.Counting). k.temp) counts) (h s scope) in
-    for_entered s c.args.variable.now.name (erase.is_down c.args.direction) e f y c.args.low c.args.next first place (view.counting open') old
+    for_entered s header.variable.name (erase.is_down header.direction) e f y c.args.low c.args.next first place (view.counting open') old
     c.close_loop.new.self c.start_counting.new.emitter counts closed begins)
     c.start_counting.ensures
 
@@ -196,18 +197,18 @@ pub statement-returns-in-Case : goal.statement-returns-in-Case
 statement-returns-in-Case t c =
     let old = c.args.emitter.now in
     let all = tree.arms_of (map tree.arm c.in-Case.arms.items) in
-    let e = tree.expression c.in-Case.selector in
+    let e = tree.expression c.in-Case.selector.value in
     let v : tree.statement c.args.s.now ≡ syntax.Case e all = rw c.in-Case.is (view_case c.in-Case.selector c.in-Case.arms) in
     if_ok c.case.result
     (λ place h s scope.
     subst (λ x. Enters old c.case.new.emitter place (emitted s (erase.statement x) c.args.low (place_of old) c.args.next)) (sym v)
-    ((rw c.deref-in-Case.ensures.value at h) s scope))
+    ((rw (c.deref-in-Case.ensures.value, c.deref-in-Case-2.ensures) at h) s scope))
     c.case.ensures
 
 pub statement-returns-in_ok-yes-in-IfElse : goal.statement-returns-in_ok-yes-in-IfElse
 statement-returns-in_ok-yes-in-IfElse t c =
     let old = c.args.emitter.now in
-    let e = tree.expression c.in-IfElse.condition in
+    let e = tree.expression c.in-IfElse.condition.value in
     let x = tree.statement c.in-IfElse.then.value in
     let y = tree.statement c.in-IfElse.otherwise.value in
     let v : tree.statement c.args.s.now ≡ syntax.IfElse e x y =
@@ -220,13 +221,13 @@ statement-returns-in_ok-yes-in-IfElse t c =
     subst (λ z. Enters old c.test-in-IfElse.new.emitter place (emitted s (erase.statement z) c.args.low (place_of old) c.args.next)) (sym v)
     (if_entered s d (coded_term s d c.args.low) (erase.statement x) (erase.statement y) c.args.low c.args.next c.in_ok-no-in-IfElse.no
     c.in_ok-yes-in-IfElse.yes place old c.statement-in-IfElse.new.emitter c.statement-in-IfElse-2.new.emitter c.test-in-IfElse.new.emitter last first
-    (h s scope)))
+    ((rw c.deref-in-IfElse-3.ensures at h) s scope)))
     c.test-in-IfElse.ensures
 
 pub statement-returns-in_ok-yes-in-If : goal.statement-returns-in_ok-yes-in-If
 statement-returns-in_ok-yes-in-If t c =
     let old = c.args.emitter.now in
-    let e = tree.expression c.in-If.condition in
+    let e = tree.expression c.in-If.condition.value in
     let x = tree.statement c.in-If.then.value in
     let v : tree.statement c.args.s.now ≡ syntax.If e x = rw c.in-If.is (view_if c.in-If.condition c.in-If.then) in
     if_ok c.test.result
@@ -235,5 +236,5 @@ statement-returns-in_ok-yes-in-If t c =
     let first = rw c.deref-in-If.ensures at (c.in_ok-yes-in-If.ensures s scope) in
     subst (λ z. Enters old c.test.new.emitter place (emitted s (erase.statement z) c.args.low (place_of old) c.args.next)) (sym v)
     (if_entered s d (coded_term s d c.args.low) (erase.statement x) a.Nothing c.args.low c.args.next c.args.next c.in_ok-yes-in-If.yes place old old
-    c.statement.new.emitter c.test.new.emitter (nothing_entered old c.args.next) first (h s scope)))
+    c.statement.new.emitter c.test.new.emitter (nothing_entered old c.args.next) first ((rw c.deref-in-If-2.ensures at h) s scope)))
     c.test.ensures
