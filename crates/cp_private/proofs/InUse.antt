@@ -1,14 +1,8 @@
 -- The frames in use.
-use Rattle.std.proofs.Common.{◌≡◌, ℕ, zero, suc, ◌≤◌, ◌<◌, List, [], ◌∷◌, ◌++◌, take, drop, Some, length, slice_set, refl, ap, sym, ◌∙◌, arith}
+use Rattle.std.proofs.Common.{◌≡◌, ℕ, zero, suc, ◌≤◌, ◌<◌, List, [], ◌∷◌, Some, length, slice_set, refl, ap, arith}
 use Rattle.std.specs.Prelude.{slice_get, slice_index_or}
-use Rattle.std.specs.List.{refill}
-use Rattle.std.proofs.Math.Seq.{take-append_seam}
 use Rattle.cp_private.specs.States.{frame, frame_or_none, frames_in}
 use Rattle.cp_private.specs.declared.private.Frame.{Frame}
-
--- The frame in an unused place.
-abbrev pub blank : Frame
-blank = record { counter = 0; base = 0; temp = 0; component = 0; into = 0; gate = 0; held = 0 }
 
 get_is : (fs : List Frame) (n : ℕ) (d : Frame) → n < length fs → slice_get fs n ≡ Some (slice_index_or fs n d)
 get_is [] n d h = absurd (omega arith)
@@ -43,7 +37,3 @@ frames_more fs n f h = λ i. frame_or_none (get_set fs n f h i) ∷ frames_below
 pub length-frames : (n : ℕ) (fs : List Frame) → length (frames_in n fs) ≡ n
 length-frames zero fs = refl
 length-frames (suc n) fs = ap suc (length-frames n fs)
-
--- A write of all elements.
-pub refilled : (xs ws : List Frame) → length ws ≡ length xs → refill (length xs) xs ws ≡ ws
-refilled xs ws h = ap (λ n. take n (ws ++ drop (length ws) xs)) (sym h) ∙ take-append_seam ws (drop (length ws) xs)

@@ -37,3 +37,15 @@ stepped program clock o x there running private =
     ap (λ y. if is_running o.activity then (if is_private o y then after y else o) else o) there
     ∙ ap (λ b. if b then (if is_private o (Some x) then after (Some x) else o) else o) running
     ∙ ap (λ b. if b then after (Some x) else o) private
+
+-- The same, of what the code's private states stand for.
+pub private_acted : (program : Program) (w : Outside) (old new : Private) (input : List ℕ) (x : Operation) → IsAlone w
+    → operation_of program (private_of old input) ≡ Some x → is_running (private_of old input).activity ≡ true
+    → is_private (private_of old input) (Some x) ≡ true
+    → join new input [] ≡ (act program (outside_of w (length old.memory.words.items)) (join old input []) x).0
+    → private_of new input ≡ private_step program w.clock (private_of old input)
+private_acted program w old new input x unread there running private made =
+    let o = private_of old input in
+    let here : (act program (outside_of w (length old.memory.words.items)) (join old input []) x).0 ≡ (act program (alone w.clock o) o x).0 =
+    λ i. (act program (outside_alone w old input unread i) (sym (private_joined old input) i) x).0 in
+    private_joined new input ∙ (made ∙ (here ∙ sym (stepped program w.clock o x there running private)))

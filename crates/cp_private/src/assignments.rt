@@ -136,7 +136,7 @@ impl Private {
         ensures kept { KeepsRest self.old shared.old self.new shared.new }
     {
         let n = self.evaluate(shared, outside, value)?;
-        let at = self.memory.base as usize;
+        let at = self.memory.base;
         self.set_within(shared, at, n, Bounds::new(*low, *high), *next)
     }
 

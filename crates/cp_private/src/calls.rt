@@ -1,6 +1,6 @@
 //! Calls of routines.
 
-ghost use Rattle.std.specs.Prelude.{◌≡◌, ◌+◌, true, ℕ, List, IfSome, MatchOption, length, nat_le};
+ghost use Rattle.std.specs.Prelude.{◌≡◌, ◌+◌, ◌<◌, ◌^◌, true, ℕ, List, IfSome, MatchOption, length, nat_le};
 ghost use Rattle.cp_program_model.specs.Programs.{CodeUnit as PlainUnit, StartPlan};
 ghost use Rattle.cp_private.specs.Keeping.{IsAddressable, KeepsRest};
 ghost use Rattle.cp_private.specs.Calls.{HasRoom, back};
@@ -21,10 +21,11 @@ use cp_program::operation::Call;
 use cp_program::program::{CodeUnit, Program};
 
 // Whether there are `count` elements after the `before` elements that begin at `first`.
-fn fits(first: u32, before: u32, count: u32, all: usize) -> bool
+fn fits(first: usize, before: u32, count: u32, all: usize) -> bool
+    requires { first < 2 ^ 32 }
     ensures { result ≡ nat_le (first + before + count) all }
 {
-    first as usize + before as usize + count as usize <= all
+    first + before as usize + count as usize <= all
 }
 
 impl Private {
@@ -86,8 +87,8 @@ impl Private {
         }
     }
 
-    /// Calls a routine. Within the loop over steps it would take registers from all other steps.
-    #[inline(never)]
+    /// Calls a routine.
+    #[inline(always)]
     pub(crate) fn call(
         &mut self,
         program: &Program,
@@ -109,7 +110,7 @@ impl Private {
         if !callee.is_set {
             return Err(Fault::NotInitialised);
         }
-        let to = self.memory.base as usize + call.words as usize;
+        let to = self.memory.base + call.words as usize;
         let destination = Destination { to, home: to };
         self.pass_all(shared, outside, destination, &call.arguments)?;
         self.start_words(shared, to, program, &unit.starts);

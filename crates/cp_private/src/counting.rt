@@ -50,7 +50,7 @@ impl Private {
             return Err(Fault::Range);
         }
         let at = self.reach(shared, outside).root_place(counting.variable);
-        let temp = self.memory.temp as usize + counting.temp as usize;
+        let temp = self.memory.temp + counting.temp as usize;
         self.set_word(shared, at, n);
         self.set_temp(temp, n);
         self.set_temp(temp + 1, last);
@@ -96,7 +96,7 @@ impl Private {
             counting.now.temp)) (word o.temps (o.temp + counting.now.temp + 1))) }
         ensures kept { KeepsRest self.old shared.old self.new shared.new }
     {
-        let temp = self.memory.temp as usize + counting.temp as usize;
+        let temp = self.memory.temp + counting.temp as usize;
         let n = self.temp_at(temp);
         let last = self.temp_at(temp + 1);
         if n == last {

@@ -60,7 +60,7 @@ impl Private {
         if depth == 0 {
             return None;
         }
-        Some(self.frames.as_slice()[depth - 1])
+        Some(self.frames[depth - 1])
     }
 
     fn push_frame(&mut self, frame: Frame)
@@ -70,12 +70,13 @@ impl Private {
         ensures kept { KeepsOwn self.old self.new }
     {
         let depth = self.depth;
-        self.frames.as_mut_slice()[depth] = frame;
+        self.frames[depth] = frame;
         self.depth = depth + 1;
     }
 
     /// Enters the unit in the component whose routine is called. A frame keeps what the caller
     /// needs.
+    #[inline(always)]
     pub(crate) fn enter(&mut self, callee: Called, unit: &CodeUnit, call: &Call, link: Back)
         requires frame { self.old.depth < length self.old.frames.items }
         requires base { self.old.memory.base + call.now.words < 2 ^ 32 }
@@ -89,18 +90,18 @@ impl Private {
     {
         let frame = Frame {
             counter: link.counter,
-            base: self.memory.base,
-            temp: self.memory.temp,
-            component: self.memory.component,
+            base: self.memory.base as u32,
+            temp: self.memory.temp as u32,
+            component: self.memory.component as u32,
             into: link.into,
             gate: callee.gate,
             held: self.gate,
         };
         self.pause = self.counter;
         self.counter = unit.start;
-        self.memory.base += call.words;
-        self.memory.temp += call.temps;
-        self.memory.component = callee.component as u32;
+        self.memory.base += call.words as usize;
+        self.memory.temp += call.temps as usize;
+        self.memory.component = callee.component;
         self.gate = innermost_gate(callee.gate, self.gate);
         self.push_frame(frame);
     }
@@ -118,7 +119,7 @@ impl Private {
         if !function {
             return Ok(None);
         }
-        let value = self.word(shared, self.memory.base as usize);
+        let value = self.word(shared, self.memory.base);
         if value == UNSET {
             return Err(Fault::NoResult);
         }
@@ -136,9 +137,9 @@ impl Private {
     {
         self.depth -= 1;
         self.counter = caller.counter;
-        self.memory.base = caller.base;
-        self.memory.temp = caller.temp;
-        self.memory.component = caller.component;
+        self.memory.base = caller.base as usize;
+        self.memory.temp = caller.temp as usize;
+        self.memory.component = caller.component as usize;
         self.gate = caller.held;
         if let Some(value) = value {
             self.set_temp(caller.temp as usize + caller.into as usize, value);

@@ -62,7 +62,7 @@ impl Private {
         if self.word(shared, at) != 0 {
             return Err(Fault::InitialisedTwice);
         }
-        let from = self.memory.base as usize + call.words as usize;
+        let from = self.memory.base + call.words as usize;
         let destination = Destination { to: from, home: at };
         self.pass_all(shared, outside, destination, &call.arguments)?;
         self.settle(shared, from, at, call.arguments.len());
@@ -105,7 +105,7 @@ impl Private {
         if monitor.is_set {
             return Err(Fault::InitialisedTwice);
         }
-        let from = self.memory.base as usize + call.words as usize;
+        let from = self.memory.base + call.words as usize;
         let destination = Destination { to: from, home: at };
         self.pass_all(shared, outside, destination, &call.arguments)?;
         self.settle(shared, from, at, call.arguments.len());
@@ -137,7 +137,7 @@ impl Private {
         if outside.is_started(process) {
             return Err(Fault::InitialisedTwice);
         }
-        let from = self.memory.base as usize + words as usize;
+        let from = self.memory.base + words as usize;
         let to = self.memory.words.len() + parameters_start(program, process) as usize;
         let destination = Destination { to: from, home: to };
         self.pass_all(shared, outside, destination, arguments)?;

@@ -16,7 +16,6 @@ use cp_machine_model::law;
 use cp_plan::turn::Turn;
 use cp_program::program::{Process, Program};
 use cp_program::reach::Memory;
-use smallvec::SmallVec;
 use std::alloc::{AllocError, Global};
 
 /// A process has fewer words, and fewer temps, than this.
@@ -107,11 +106,11 @@ impl Private {
             memory: Memory {
                 words: first_words(alloc, program, process, count)?,
                 temps: Vec::from_elem(alloc, 0, temps)?,
-                base: process.words,
+                base: process.words as usize,
                 temp: 0,
                 component: 0,
             },
-            frames: SmallVec::from_elem(alloc, Frame::default(), needs.frames as usize)?,
+            frames: Vec::from_elem(alloc, Frame::default(), needs.frames as usize)?,
             depth: 0,
             output: Vec::new(alloc),
             consumed: 0,
@@ -158,7 +157,7 @@ impl Private {
                 temp: self.memory.temp,
                 component: self.memory.component,
             },
-            frames: SmallVec::from_slice(alloc, self.frames.as_slice())?,
+            frames: Vec::from_slice(alloc, &self.frames)?,
             depth: self.depth,
             output: Vec::from_slice(alloc, &self.output)?,
             consumed: self.consumed,

@@ -4,7 +4,6 @@ ghost use Rattle.std.specs.Prelude.{◌≤◌, ◌<◌, ◌^◌, length};
 
 use cp_model::state::Fault;
 use cp_program::reach::Memory;
-use smallvec::SmallVec;
 
 /// Whether a process runs.
 #[derive(Clone, Copy, Debug, PartialEq, Eq)]
@@ -51,7 +50,7 @@ pub struct Private {
     /// which hold the values of calls and the counters of `for`.
     pub(crate) memory: Memory,
     /// Room for all frames. The first `depth` frames are in use.
-    pub(crate) frames: SmallVec<Frame, 1>,
+    pub(crate) frames: Vec<Frame>,
     pub(crate) depth: usize,
     /// The output that isn't in the transcript yet.
     pub(crate) output: Vec<u8>,

@@ -23,8 +23,10 @@ use cp_program::term::{Spot, Term};
 #[derive(Clone, Copy)]
 pub(crate) enum Attempt {
     Made,
-    /// Not made: the operation calls a routine or returns from one.
+    /// Not made: the operation calls a routine.
     Calls,
+    /// Not made: the operation returns from a routine.
+    Returns,
     /// Not made: the operation is rare, or its terms go deeper or fault.
     Rare,
 }
@@ -71,10 +73,10 @@ impl Private {
         ensures ready { IsReady self.old → IsReady self.new }
     {
         // Both are found or nothing is done, so the place needn't be kept while the value is found.
-        let Some(n) = value.near_value(&self.memory, &[]) else {
+        let Some(n) = value.near_value(&self.memory) else {
             return false;
         };
-        let Some(at) = to.near_place(&self.memory, &[]) else {
+        let Some(at) = to.near_place(&self.memory) else {
             return false;
         };
         self.write_within(at, n, low, high, next)
@@ -97,7 +99,7 @@ impl Private {
         ensures kept { KeepsOwn self.old self.new }
         ensures ready { IsReady self.old → IsReady self.new }
     {
-        let Some(n) = value.near_value(&self.memory, &[]) else {
+        let Some(n) = value.near_value(&self.memory) else {
             return false;
         };
         let at = self.memory.local(*at);
@@ -121,7 +123,7 @@ impl Private {
         ensures kept { KeepsOwn self.old self.new }
         ensures ready { IsReady self.old → IsReady self.new }
     {
-        let Some(n) = value.near_value(&self.memory, &[]) else {
+        let Some(n) = value.near_value(&self.memory) else {
             return false;
         };
         let at = self.memory.member(*at);
@@ -138,10 +140,10 @@ impl Private {
         ensures kept { KeepsOwn self.old self.new }
         ensures ready { IsReady self.old → IsReady self.new }
     {
-        let Some(n) = value.near_value(&self.memory, &[]) else {
+        let Some(n) = value.near_value(&self.memory) else {
             return false;
         };
-        let at = self.memory.base as usize;
+        let at = self.memory.base;
         self.write_within(at, n, low, high, next)
     }
 
@@ -155,7 +157,7 @@ impl Private {
         ensures kept { KeepsOwn self.old self.new }
         ensures ready { IsReady self.old → IsReady self.new }
     {
-        let Some(n) = value.near_value(&self.memory, &[]) else {
+        let Some(n) = value.near_value(&self.memory) else {
             return false;
         };
         self.counter = if n == 1 { *yes } else { *no };
@@ -207,8 +209,8 @@ impl Private {
                 self.counter = *body;
                 Attempt::Made
             }
-            Operation::Procedure { .. } | Operation::Function { .. } | Operation::Return { .. } =>
-                Attempt::Calls,
+            Operation::Procedure { .. } | Operation::Function { .. } => Attempt::Calls,
+            Operation::Return { .. } => Attempt::Returns,
             _ => Attempt::Rare,
         }
     }

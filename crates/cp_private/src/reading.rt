@@ -75,7 +75,7 @@ impl Private {
             (plain.view_of (outside_of outside.now own) (join self.now input shared.now))
             (view.term term.now) }
     {
-        match term.near_value(&self.memory, shared) {
+        match term.near_value(&self.memory) {
             Some(n) => Ok(n),
             None => self.deep_value(shared, outside, term),
         }
@@ -95,7 +95,7 @@ impl Private {
             (plain.view_of (outside_of outside.now own) (join self.now input shared.now))
             (view.spot spot.now)) }
     {
-        match spot.near_place(&self.memory, shared) {
+        match spot.near_place(&self.memory) {
             Some(at) => Ok(at),
             None => self.deep_place(shared, outside, spot),
         }

@@ -10,7 +10,6 @@ ghost use Rattle.cp_machine_model.specs.Steps as plain;
 
 use crate::private::{Activity, Private};
 use cp_program::reach::Memory;
-use smallvec::SmallVec;
 use std::alloc::Global;
 
 #[inline(always)]
@@ -57,7 +56,7 @@ impl Private {
                 temp: 0,
                 component: 0,
             },
-            frames: SmallVec::new(alloc),
+            frames: Vec::new(alloc),
             depth: 0,
             output: Vec::new(alloc),
             consumed: 0,

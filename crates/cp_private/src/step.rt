@@ -1,7 +1,9 @@
 //! One step of a process.
 
 ghost use Rattle.std.specs.Prelude.{◌≡◌, false, true, ℕ, List, [], Some, length};
-ghost use Rattle.cp_private.specs.Keeping.{IsAddressable, KeepsOwnButOutput, KeepsRestButOutput};
+ghost use Rattle.cp_private.specs.Keeping.{IsAddressable, KeepsOwn, KeepsOwnButOutput, KeepsRestButOutput};
+ghost use Rattle.cp_private.specs.Calls.{back};
+ghost use Rattle.cp_machine_model.specs.Calling.{call_step};
 ghost use Rattle.cp_private.specs.Rooms.{HasRoomFor};
 ghost use Rattle.cp_private.specs.States.{IsAlone, IsReady, IsStep, effect, join, outside_of, private_of};
 ghost use Rattle.cp_program_model.specs.Programs as code;
@@ -15,7 +17,7 @@ use crate::outside::Outside;
 use crate::private::{Activity, Private};
 use crate::quick::Attempt;
 use cp_model::state::Fault;
-use cp_program::operation::{Operation, Target};
+use cp_program::operation::{Call, Operation, Target};
 use cp_program::program::Program;
 use cp_program::term::Root;
 
@@ -156,6 +158,26 @@ impl Private {
         matches!(self.activity, Activity::Running) && self.gate == 0
     }
 
+    // Makes a private call. Returns whether one more step may be private. Within the loop over steps
+    // it would take registers from all other steps.
+    #[inline(never)]
+    fn take_call(&mut self, program: &Program, outside: &Outside, call: &Call, link: Back) -> bool
+        ensures step { let w = outside_of outside.now (length self.old.memory.words.items) in
+            let input = outside.now.input.now in join self.new input []
+            ≡ (call_step (view.program program.now) w (join self.old input []) (view.call call.now)
+            (back link)).0 }
+        ensures ready { result ≡ true → IsReady self.new }
+        ensures rest { result ≡ false → (program : code.Program) (clock : ℕ) (input : List ℕ)
+            → plain.private_step program clock (private_of self.new input)
+            ≡ private_of self.new input }
+        ensures kept { KeepsOwn self.old self.new }
+    {
+        if let Err(fault) = self.call(program, &mut [], outside, call, link) {
+            self.activity = Activity::Faulted(fault);
+        }
+        self.is_ready()
+    }
+
     // Makes the next step of a process that is ready, which is that of the operation, if the step is
     // private. Returns whether one more step may be private.
     #[inline(always)]
@@ -206,6 +228,37 @@ impl Private {
         self.take_step_of(operation, program, outside)
     }
 
+    // The same for an operation that calls.
+    #[inline(always)]
+    fn take_call_of(&mut self, operation: &Operation, program: &Program, outside: &Outside) -> bool
+        requires alone { IsAlone outside.now }
+        requires ready { IsReady self.old }
+        requires room { HasRoomFor self.old 1 }
+        requires next { plain.operation_of (view.program program.now)
+            (private_of self.old outside.now.input.now) ≡ Some (view.operation operation.now) }
+        ensures step { private_of self.new outside.now.input.now ≡ plain.private_step
+            (view.program program.now) outside.now.clock
+            (private_of self.old outside.now.input.now) }
+        ensures ready { result ≡ true → IsReady self.new }
+        ensures rest { result ≡ false → plain.private_step (view.program program.now)
+            outside.now.clock (private_of self.new outside.now.input.now)
+            ≡ private_of self.new outside.now.input.now }
+        ensures kept { KeepsOwnButOutput self.old self.new }
+    {
+        if needs_kernel(operation) {
+            return false;
+        }
+        match operation {
+            Operation::Procedure { call, next } => {
+                self.take_call(program, outside, call, Back::new(*next, 0))
+            }
+            Operation::Function { call, into, next } => {
+                self.take_call(program, outside, call, Back::new(*next, *into))
+            }
+            _ => self.take_rare_step(operation, program, outside),
+        }
+    }
+
     /// Makes the next step of a process that is ready, if the step is private. Returns whether one
     /// more step may be private.
     #[inline(always)]
@@ -222,12 +275,14 @@ impl Private {
             ≡ private_of self.new outside.now.input.now }
         ensures kept { KeepsOwnButOutput self.old self.new }
     {
-        let Some(operation) = program.operation(self.counter) else {
+        if !program.has_operation(self.counter) {
             return false;
-        };
+        }
+        let operation = program.operation_at(self.counter);
         match self.take_quick_step(operation) {
             Attempt::Made => true,
-            Attempt::Calls => self.take_step_of(operation, program, outside),
+            Attempt::Calls => self.take_call_of(operation, program, outside),
+            Attempt::Returns => self.take_step_of(operation, program, outside),
             Attempt::Rare => self.take_rare_step(operation, program, outside),
         }
     }

@@ -78,7 +78,7 @@ impl Private {
         ensures place { result ≡ self.now.memory.component + at }
         ensures small { result < 2 ^ 33 }
     {
-        self.memory.component as usize + at as usize
+        self.memory.component + at as usize
     }
 
     // Returns the address of the class to which a word of the component holds a right.
@@ -136,7 +136,7 @@ impl Private {
     {
         match target {
             Target::Own => Called {
-                component: self.memory.component as usize,
+                component: self.memory.component,
                 is_set: true,
                 gate: 0,
             },

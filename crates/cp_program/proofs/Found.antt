@@ -1,6 +1,6 @@
 -- What is found in registers is what the definitions find.
 use Rattle.std.proofs.Math.ListN.{get_or}
-use Rattle.std.proofs.Common.{arith, Box, Global, ℕ, length, ◌≤◌, ◌<◌, ◌≡◌, ℤ, List, [], ◌∷◌, map, Option, Some, Result, Ok, Err, IfSome, refl, ap, sym, subst, ◌∙◌}
+use Rattle.std.proofs.Common.{arith, Box, Global, ℕ, length, ◌≤◌, ◌<◌, ◌≡◌, ℤ, List, [], ◌∷◌, map, Option, None, Some, Result, Ok, Err, IfSome, refl, ap, sym, subst, ◌∙◌}
 use Rattle.cp_model.specs.declared.state.Fault.{Fault}
 use Rattle.cp_machine_model.specs.Values.{View, bind, value_of}
 use Rattle.cp_model.specs.Erase.{operator_of}
@@ -24,6 +24,11 @@ told o n r is h = subst (λ x. IfSome x (λ m. r ≡ Ok m)) is h
 -- What is found of one result is found of the same result in other words.
 pub found : {A : Type 0} (o : Option A) (r s : Result A Fault) → r ≡ s → IfSome o (λ m. r ≡ Ok m) → IfSome o (λ m. s ≡ Ok m)
 found o r s is h = subst (λ x. IfSome o (λ m. x ≡ Ok m)) is h
+
+-- A number that was found is the result.
+pub found_as : {A : Type 0} (o : Option A) (n : A) (r : Result A Fault) → r ≡ Ok n → IfSome o (λ m. n ≡ m) → IfSome o (λ m. r ≡ Ok m)
+found_as None n r is h = h
+found_as (Some m) n r is h = is ∙ ap (λ k. Ok k) h
 
 -- A chain of one application.
 pub chain_lone : (v : View) (n : ℤ) (x : Application) (xs : List Application) → xs ≡ x ∷ []
@@ -55,6 +60,16 @@ pub application_with : (o : Operator) (x : Operand)
 application_with o x =
     ap view.application (sym (application_case.rolls-WithOperand o x))
     ∙ fold-roll-Application PlainApplication plain.Term PlainIndex plain.Spot plain.Term application_layer operand_layer index_layer spot_layer term_layer _
+
+pub operand_local : (at : ℕ) → view.operand (operand_case.Local at) ≡ plain.Item (plain.Rooted (plain.Local at))
+operand_local at =
+    ap view.operand (sym (operand_case.rolls-Local at))
+    ∙ fold-roll-Operand PlainApplication plain.Term PlainIndex plain.Spot plain.Term application_layer operand_layer index_layer spot_layer term_layer _
+
+pub operand_member : (at : ℕ) → view.operand (operand_case.Member at) ≡ plain.Item (plain.Rooted (plain.Member at))
+operand_member at =
+    ap view.operand (sym (operand_case.rolls-Member at))
+    ∙ fold-roll-Operand PlainApplication plain.Term PlainIndex plain.Spot plain.Term application_layer operand_layer index_layer spot_layer term_layer _
 
 pub operand_through : (parameter plus : ℕ)
     → view.operand (operand_case.Through parameter plus) ≡ plain.Item (plain.Rooted (plain.Through parameter plus))

@@ -8,7 +8,7 @@
 //! These functions find what those of `evaluation` find, in a result that fits registers, or find
 //! nothing where a term or spot goes deeper or has a fault: then `evaluation` is asked.
 
-ghost use Rattle.std.specs.Prelude.{◌≡◌, ℕ, ◌+◌, ◌<◌, ◌^◌, ◌++◌, ◌∷◌, [], IfSome, Ok, map};
+ghost use Rattle.std.specs.Prelude.{◌≡◌, ℕ, ℤ, List, ◌+◌, ◌<◌, ◌^◌, ◌++◌, ◌∷◌, [], IfSome, Ok, map};
 ghost use Rattle.cp_program_model.specs.Functions as functions;
 ghost use Rattle.cp_program_model.specs.Terms as terms;
 ghost use Rattle.cp_model.specs.Abstract as abstract;
@@ -78,47 +78,47 @@ fn apply(operator: Operator, a: i32, b: i32) -> Option<i32>
 impl Operand {
     // The value of a flat operand.
     #[inline(always)]
-    fn flat_value(&self, memory: &Memory, shared: &[i32]) -> Option<i32>
-        ensures { (clock : ℕ) → IfSome result (λ n. values.value_of
-            (view_with memory.now shared.now clock) (view.operand self.now) ≡ Ok n) }
+    fn flat_value(&self, memory: &Memory) -> Option<i32>
+        ensures { (shared : List ℤ) (clock : ℕ) → IfSome result (λ n. values.value_of
+            (view_with memory.now shared clock) (view.operand self.now) ≡ Ok n) }
     {
         match self {
             Operand::Number(n) => Some(*n),
-            Operand::Local(at) => Some(memory.word(shared, memory.local(*at))),
-            Operand::Member(at) => Some(memory.word(shared, memory.member(*at))),
+            Operand::Local(at) => memory.own_word(memory.local(*at)),
+            Operand::Member(at) => memory.own_word(memory.member(*at)),
             _ => None,
         }
     }
 
     // The value of a near operand.
     #[inline(always)]
-    fn near_value(&self, memory: &Memory, shared: &[i32]) -> Option<i32>
-        ensures { (clock : ℕ) → IfSome result (λ n. values.value_of
-            (view_with memory.now shared.now clock) (view.operand self.now) ≡ Ok n) }
+    fn near_value(&self, memory: &Memory) -> Option<i32>
+        ensures { (shared : List ℤ) (clock : ℕ) → IfSome result (λ n. values.value_of
+            (view_with memory.now shared clock) (view.operand self.now) ≡ Ok n) }
     {
         match self {
             Operand::Number(n) => Some(*n),
-            Operand::Local(at) => Some(memory.word(shared, memory.local(*at))),
-            Operand::Member(at) => Some(memory.word(shared, memory.member(*at))),
-            _ => self.further_value(memory, shared),
+            Operand::Local(at) => memory.own_word(memory.local(*at)),
+            Operand::Member(at) => memory.own_word(memory.member(*at)),
+            _ => self.further_value(memory),
         }
     }
 
     #[inline(always)]
-    fn further_value(&self, memory: &Memory, shared: &[i32]) -> Option<i32>
-        ensures { (clock : ℕ) → IfSome result (λ n. values.value_of
-            (view_with memory.now shared.now clock) (view.operand self.now) ≡ Ok n) }
+    fn further_value(&self, memory: &Memory) -> Option<i32>
+        ensures { (shared : List ℤ) (clock : ℕ) → IfSome result (λ n. values.value_of
+            (view_with memory.now shared clock) (view.operand self.now) ≡ Ok n) }
     {
         match self {
-            Operand::Item(s) => s.flat_word(memory, shared),
-            Operand::Nested(t) => t.flat_value(memory, shared),
+            Operand::Item(s) => s.flat_word(memory),
+            Operand::Nested(t) => t.flat_value(memory),
             Operand::Made(temp) => Some(memory.made(*temp)),
             Operand::Through { parameter, plus } => {
                 let (parameter, plus) = (*parameter, *plus);
-                let at = memory.root_place(shared, Root::Through { parameter, plus });
-                Some(memory.word(shared, at))
+                let at = memory.own_root_place(Root::Through { parameter, plus })?;
+                memory.own_word(at)
             }
-            Operand::Not(t) => Some(truth(t.flat_value(memory, shared)? == 0)),
+            Operand::Not(t) => Some(truth(t.flat_value(memory)? == 0)),
             _ => None,
         }
     }
@@ -139,28 +139,28 @@ impl Application {
     }
 
     #[inline(always)]
-    fn flat_value_after(&self, left: i32, memory: &Memory, shared: &[i32]) -> Option<i32>
-        ensures { (clock : ℕ) → IfSome result (λ n. apply_operation
-            (view_with memory.now shared.now clock) left (view.application self.now) ≡ Ok n) }
+    fn flat_value_after(&self, left: i32, memory: &Memory) -> Option<i32>
+        ensures { (shared : List ℤ) (clock : ℕ) → IfSome result (λ n. apply_operation
+            (view_with memory.now shared clock) left (view.application self.now) ≡ Ok n) }
     {
         match self {
             Application::WithNumber(operator, number) => apply(*operator, left, *number),
             Application::WithOperand(operator, operand) => {
-                let right = operand.flat_value(memory, shared)?;
+                let right = operand.flat_value(memory)?;
                 apply(*operator, left, right)
             }
         }
     }
 
     #[inline(always)]
-    fn near_value_after(&self, left: i32, memory: &Memory, shared: &[i32]) -> Option<i32>
-        ensures { (clock : ℕ) → IfSome result (λ n. apply_operation
-            (view_with memory.now shared.now clock) left (view.application self.now) ≡ Ok n) }
+    fn near_value_after(&self, left: i32, memory: &Memory) -> Option<i32>
+        ensures { (shared : List ℤ) (clock : ℕ) → IfSome result (λ n. apply_operation
+            (view_with memory.now shared clock) left (view.application self.now) ≡ Ok n) }
     {
         match self {
             Application::WithNumber(operator, number) => apply(*operator, left, *number),
             Application::WithOperand(operator, operand) => {
-                let right = operand.near_value(memory, shared)?;
+                let right = operand.near_value(memory)?;
                 apply(*operator, left, right)
             }
         }
@@ -170,48 +170,40 @@ impl Application {
 // The value of a chain whose first operands have the value `first`, if the others are flat. It isn't
 // inlined, so that a term of one operator saves no registers.
 #[inline(never)]
-fn long_flat_value(first: i32, rest: &[Application], memory: &Memory, shared: &[i32]) -> Option<i32>
-    ensures { (clock : ℕ) → IfSome result (λ n. chain_value
-        (view_with memory.now shared.now clock) first (map view.application rest.now) ≡ Ok n) }
+fn long_flat_value(first: i32, rest: &[Application], memory: &Memory) -> Option<i32>
+    ensures { (shared : List ℤ) (clock : ℕ) → IfSome result (λ n. chain_value
+        (view_with memory.now shared clock) first (map view.application rest.now) ≡ Ok n) }
 {
     let mut n = first;
     for x in rest {
-        n = x.flat_value_after(n, memory, shared)?;
+        n = x.flat_value_after(n, memory)?;
     }
     Some(n)
 }
 
 // The same. Most chains have one operator, and need no loop.
 #[inline(always)]
-fn flat_value_of_chain(
-    first: i32,
-    rest: &[Application],
-    memory: &Memory,
-    shared: &[i32],
-) -> Option<i32>
-    ensures { (clock : ℕ) → IfSome result (λ n. chain_value
-        (view_with memory.now shared.now clock) first (map view.application rest.now) ≡ Ok n) }
+fn flat_value_of_chain(first: i32, rest: &[Application], memory: &Memory) -> Option<i32>
+    ensures { (shared : List ℤ) (clock : ℕ) → IfSome result (λ n. chain_value
+        (view_with memory.now shared clock) first (map view.application rest.now) ≡ Ok n) }
 {
     match rest {
-        [x] => x.flat_value_after(first, memory, shared),
-        _ => long_flat_value(first, rest, memory, shared),
+        [x] => x.flat_value_after(first, memory),
+        _ => long_flat_value(first, rest, memory),
     }
 }
 
 // The value of a chain whose first operands have the value `first`, if the others are near.
 #[inline(always)]
-fn near_value_of_chain(
-    first: i32,
-    rest: &[Application],
-    memory: &Memory,
-    shared: &[i32],
-) -> Option<i32>
-    ensures { (clock : ℕ) → IfSome result (λ n. chain_value
-        (view_with memory.now shared.now clock) first (map view.application rest.now) ≡ Ok n) }
+fn near_value_of_chain(first: i32, rest: &[Application], memory: &Memory) -> Option<i32>
+    ensures { (shared : List ℤ) (clock : ℕ) → IfSome result (λ n. chain_value
+        (view_with memory.now shared clock) first (map view.application rest.now) ≡ Ok n) }
 {
     let mut n = first;
-    for x in rest {
-        n = x.near_value_after(n, memory, shared)?;
+    let mut left = rest;
+    while let Some((x, after)) = left.split_first() {
+        n = x.near_value_after(n, memory)?;
+        left = after;
     }
     Some(n)
 }
@@ -219,22 +211,22 @@ fn near_value_of_chain(
 impl Term {
     // The value of a term whose operands are flat.
     #[inline(never)]
-    fn flat_value(&self, memory: &Memory, shared: &[i32]) -> Option<i32>
-        ensures { (clock : ℕ) → IfSome result (λ n. values.value_of
-            (view_with memory.now shared.now clock) (view.term self.now) ≡ Ok n) }
+    fn flat_value(&self, memory: &Memory) -> Option<i32>
+        ensures { (shared : List ℤ) (clock : ℕ) → IfSome result (λ n. values.value_of
+            (view_with memory.now shared clock) (view.term self.now) ≡ Ok n) }
     {
-        let first = self.first.flat_value(memory, shared)?;
-        flat_value_of_chain(first, &self.rest, memory, shared)
+        let first = self.first.flat_value(memory)?;
+        flat_value_of_chain(first, &self.rest, memory)
     }
 
     /// Evaluates a term, if its operands are near.
     #[inline(always)]
-    pub fn near_value(&self, memory: &Memory, shared: &[i32]) -> Option<i32>
-        ensures { (clock : ℕ) → IfSome result (λ n. values.value_of
-            (view_with memory.now shared.now clock) (view.term self.now) ≡ Ok n) }
+    pub fn near_value(&self, memory: &Memory) -> Option<i32>
+        ensures { (shared : List ℤ) (clock : ℕ) → IfSome result (λ n. values.value_of
+            (view_with memory.now shared clock) (view.term self.now) ≡ Ok n) }
     {
-        let first = self.first.near_value(memory, shared)?;
-        near_value_of_chain(first, &self.rest, memory, shared)
+        let first = self.first.near_value(memory)?;
+        near_value_of_chain(first, &self.rest, memory)
     }
 }
 
@@ -253,11 +245,11 @@ fn offset(i: &Index, n: i32) -> Option<usize>
 impl Index {
     // The value of an index that is a flat operand, or one with an operator and a number.
     #[inline(always)]
-    fn flat_value(&self, memory: &Memory, shared: &[i32]) -> Option<i32>
-        ensures { (clock : ℕ) → IfSome result (λ n. values.value_of
-            (view_with memory.now shared.now clock) (view.term self.now.value) ≡ Ok n) }
+    fn flat_value(&self, memory: &Memory) -> Option<i32>
+        ensures { (shared : List ℤ) (clock : ℕ) → IfSome result (λ n. values.value_of
+            (view_with memory.now shared clock) (view.term self.now.value) ≡ Ok n) }
     {
-        let n = self.value.first.flat_value(memory, shared)?;
+        let n = self.value.first.flat_value(memory)?;
         match self.value.rest.as_slice() {
             [] => Some(n),
             [x] => x.with_number(n),
@@ -267,11 +259,11 @@ impl Index {
 
     // The place to which the index leads from another.
     #[inline(always)]
-    fn flat_place(&self, from: usize, memory: &Memory, shared: &[i32]) -> Option<usize>
-        ensures { (clock : ℕ) → IfSome result (λ at. elements_place
-            (view_with memory.now shared.now clock) from (view.index self.now ∷ []) ≡ Ok at) }
+    fn flat_place(&self, from: usize, memory: &Memory) -> Option<usize>
+        ensures { (shared : List ℤ) (clock : ℕ) → IfSome result (λ at. elements_place
+            (view_with memory.now shared clock) from (view.index self.now ∷ []) ≡ Ok at) }
     {
-        let n = self.flat_value(memory, shared)?;
+        let n = self.flat_value(memory)?;
         let far = offset(self, n)?;
         from.checked_add(far)
     }
@@ -279,59 +271,54 @@ impl Index {
 
 // The place to which the indices lead, starting from the place `from`.
 #[inline(always)]
-fn flat_place_of_element(
-    from: usize,
-    indices: &[Index],
-    memory: &Memory,
-    shared: &[i32],
-) -> Option<usize>
-    ensures { (clock : ℕ) → IfSome result (λ at. elements_place
-        (view_with memory.now shared.now clock) from (map view.index indices.now) ≡ Ok at) }
+fn flat_place_of_element(from: usize, indices: &[Index], memory: &Memory) -> Option<usize>
+    ensures { (shared : List ℤ) (clock : ℕ) → IfSome result (λ at. elements_place
+        (view_with memory.now shared clock) from (map view.index indices.now) ≡ Ok at) }
 {
     let mut at = from;
     for i in indices {
-        at = i.flat_place(at, memory, shared)?;
+        at = i.flat_place(at, memory)?;
     }
     Some(at)
 }
 
 impl Spot {
     #[inline(always)]
-    fn place_of_indices(&self, memory: &Memory, shared: &[i32]) -> Option<usize>
-        ensures { (clock : ℕ) → IfSome result (λ at. values.place_of
-            (view_with memory.now shared.now clock) (view.spot self.now) ≡ Ok at) }
+    fn place_of_indices(&self, memory: &Memory) -> Option<usize>
+        ensures { (shared : List ℤ) (clock : ℕ) → IfSome result (λ at. values.place_of
+            (view_with memory.now shared clock) (view.spot self.now) ≡ Ok at) }
     {
-        let from = memory.root_place(shared, self.root);
-        flat_place_of_element(from, &self.indices, memory, shared)
+        let from = memory.own_root_place(self.root)?;
+        flat_place_of_element(from, &self.indices, memory)
     }
 
     #[inline(never)]
-    fn flat_place(&self, memory: &Memory, shared: &[i32]) -> Option<usize>
-        ensures { (clock : ℕ) → IfSome result (λ at. values.place_of
-            (view_with memory.now shared.now clock) (view.spot self.now) ≡ Ok at) }
+    fn flat_place(&self, memory: &Memory) -> Option<usize>
+        ensures { (shared : List ℤ) (clock : ℕ) → IfSome result (λ at. values.place_of
+            (view_with memory.now shared clock) (view.spot self.now) ≡ Ok at) }
     {
-        self.place_of_indices(memory, shared)
+        self.place_of_indices(memory)
     }
 
     /// The place of a variable or of a part of one, if the spot is flat.
     #[inline(always)]
-    pub fn near_place(&self, memory: &Memory, shared: &[i32]) -> Option<usize>
-        ensures { (clock : ℕ) → IfSome result (λ at. values.place_of
-            (view_with memory.now shared.now clock) (view.spot self.now) ≡ Ok at) }
+    pub fn near_place(&self, memory: &Memory) -> Option<usize>
+        ensures { (shared : List ℤ) (clock : ℕ) → IfSome result (λ at. values.place_of
+            (view_with memory.now shared clock) (view.spot self.now) ≡ Ok at) }
     {
         if self.indices.is_empty() {
-            return Some(memory.root_place(shared, self.root));
+            return memory.own_root_place(self.root);
         }
-        self.flat_place(memory, shared)
+        self.flat_place(memory)
     }
 
     // The word at the place of the spot.
     #[inline(never)]
-    fn flat_word(&self, memory: &Memory, shared: &[i32]) -> Option<i32>
-        ensures { (clock : ℕ) → IfSome result (λ n. values.value_of
-            (view_with memory.now shared.now clock) (terms.Item (view.spot self.now)) ≡ Ok n) }
+    fn flat_word(&self, memory: &Memory) -> Option<i32>
+        ensures { (shared : List ℤ) (clock : ℕ) → IfSome result (λ n. values.value_of
+            (view_with memory.now shared clock) (terms.Item (view.spot self.now)) ≡ Ok n) }
     {
-        let at = self.place_of_indices(memory, shared)?;
-        Some(memory.word(shared, at))
+        let at = self.place_of_indices(memory)?;
+        memory.own_word(at)
     }
 }

@@ -1,6 +1,6 @@
 //! The words of a memory, and the places of variables in it.
 
-ghost use Rattle.std.specs.Prelude.{◌≡◌, ℕ, ◌+◌, ◌<◌, ◌^◌, ◌++◌};
+ghost use Rattle.std.specs.Prelude.{◌≡◌, ℕ, ℤ, List, IfSome, ◌+◌, ◌<◌, ◌^◌, ◌++◌};
 ghost use Rattle.cp_program_model.specs.Layout as layout;
 ghost use Rattle.cp_program_model.specs.Starts as starts;
 ghost use Rattle.cp_machine_model.specs.Values as values;
@@ -31,15 +31,13 @@ pub(crate) fn natural(n: i32) -> usize
 }
 
 impl Memory {
-    // The word at a place, or 0 if there is no such word.
+    // The word at a place, if it is one of the process's own.
     #[inline(always)]
-    pub(crate) fn word(&self, shared: &[i32], at: usize) -> i32
-        ensures { result ≡ starts.word (self.now.words.items ++ shared.now) at }
+    pub(crate) fn own_word(&self, at: usize) -> Option<i32>
+        ensures { (shared : List ℤ) → IfSome result
+            (λ n. starts.word (self.now.words.items ++ shared) at ≡ n) }
     {
-        match self.words.get(at) {
-            Some(n) => *n,
-            None => word(shared, at - self.words.len()),
-        }
+        self.words.get(at).copied()
     }
 
     /// The place of a word of the activation.
@@ -48,7 +46,7 @@ impl Memory {
         ensures place { result ≡ self.now.base + at }
         ensures small { result < 2 ^ 33 }
     {
-        self.base as usize + at as usize
+        self.base + at as usize
     }
 
     /// The place of a word of the component.
@@ -57,7 +55,7 @@ impl Memory {
         ensures place { result ≡ self.now.component + at }
         ensures small { result < 2 ^ 33 }
     {
-        self.component as usize + at as usize
+        self.component + at as usize
     }
 
     // The temp with this number, counted from the first temp of the running activation.
@@ -65,21 +63,20 @@ impl Memory {
     pub(crate) fn made(&self, temp: u32) -> i32
         ensures { result ≡ starts.word self.now.temps.items (self.now.temp + temp) }
     {
-        word(&self.temps, self.temp as usize + temp as usize)
+        word(&self.temps, self.temp + temp as usize)
     }
 
-    // The place where a variable begins.
+    // The place where a variable begins, if it is found among the process's own words.
     #[inline(always)]
-    pub(crate) fn root_place(&self, shared: &[i32], root: Root) -> usize
-        ensures place { (clock : ℕ) → result ≡ values.root_place
-            (view_with self.now shared.now clock) (view.root root) }
-        ensures small { result < 2 ^ 33 }
+    pub(crate) fn own_root_place(&self, root: Root) -> Option<usize>
+        ensures { (shared : List ℤ) (clock : ℕ) → IfSome result (λ at. values.root_place
+            (view_with self.now shared clock) (view.root root) ≡ at) }
     {
         match root {
-            Root::Local(at) => self.local(at),
-            Root::Member(at) => self.member(at),
+            Root::Local(at) => Some(self.local(at)),
+            Root::Member(at) => Some(self.member(at)),
             Root::Through { parameter, plus } => {
-                natural(self.word(shared, self.local(parameter))) + plus as usize
+                Some(natural(self.own_word(self.local(parameter))?) + plus as usize)
             }
         }
     }

@@ -1,6 +1,6 @@
 //! Programs, which consist of operations, units of code and components.
 
-ghost use Rattle.std.specs.Prelude.{◌≡◌, ◌-◌, length, map, option_map, slice_get, take};
+ghost use Rattle.std.specs.Prelude.{◌≡◌, ◌-◌, ◌<◌, true, false, None, Some, length, map, option_map, slice_get, take};
 ghost use Rattle.cp_program.specs.View as view;
 ghost use Rattle.cp_program.specs.View.{origins_of, plans_in, plans_of};
 
@@ -103,6 +103,26 @@ impl Program {
             plans,
             shared,
         }
+    }
+
+    /// Whether there is an operation at a place.
+    #[inline(always)]
+    pub fn has_operation(&self, place: u32) -> bool
+        ensures there { result ≡ true → place < length (view.program self.now).operations }
+        ensures none { result ≡ false
+            → slice_get (view.program self.now).operations place ≡ None }
+    {
+        (place as usize) < self.operations.len()
+    }
+
+    /// The operation at a place.
+    #[inline(always)]
+    pub fn operation_at(&self, place: u32) -> &Operation
+        requires { place < length (view.program self.now).operations }
+        ensures { slice_get (view.program self.now).operations place
+            ≡ Some (view.operation result.now) }
+    {
+        &self.operations[place as usize]
     }
 
     /// The operation at a place, if there is one.

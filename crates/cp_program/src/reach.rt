@@ -9,11 +9,12 @@ pub struct Memory {
     pub words: Vec<i32>,
     pub temps: Vec<i32>,
     /// The first word of the running activation.
-    pub base: u32,
+    pub base: usize,
     /// The first temp of the running activation.
-    pub temp: u32,
+    pub temp: usize,
     /// The first word of the running component.
-    pub component: u32,
+    pub component: usize,
+    ghost small: { (base < 2 ^ 32) × (temp < 2 ^ 32) × (component < 2 ^ 32) },
 }
 
 /// The memory of a process, the shared words, whose places follow those of its own words, and the

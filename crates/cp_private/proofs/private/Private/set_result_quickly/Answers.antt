@@ -13,7 +13,7 @@ returns-clause-step c =
     let o = join c.args.self.now input [] in
     let base = c.args.self.now.memory.base in
     let n = c.in-Some.n in
-    let valued : value_of (view_of w o) (view.term c.args.value.now) ≡ Ok n = c.in-Some.ensures w.clock in
+    let valued : value_of (view_of w o) (view.term c.args.value.now) ≡ Ok n = c.in-Some.ensures [] w.clock in
     let whole : to_z w32 (of_z w32 n) ≡ n = search rules in
     rw valued
     (c.write_within.ensures.step yes input ∙ ap (λ k. (set_within o c.args.low.now c.args.high.now base k c.args.next.now).0) whole)

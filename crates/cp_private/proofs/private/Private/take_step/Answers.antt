@@ -1,5 +1,5 @@
 use Rattle.std.proofs.Common.{◌≡◌, false, true, Some, ap, sym, ◌∙◌}
-use Rattle.std.specs.Prelude.{if◌then◌else◌, not, option_map}
+use Rattle.std.specs.Prelude.{if◌then◌else◌, not}
 use Rattle.cp_machine_model.specs.PrivateStates.{is_running}
 use Rattle.cp_machine_model.specs.Steps.{act, alone, is_kernel_operation, is_private, operation_of}
 use Rattle.cp_program.specs.View as view
@@ -16,8 +16,8 @@ returns-in-Made-clause-step c =
     let clock = c.args.outside.now.clock in
     let program = view.program c.args.program.now in
     let o = private_of old input in
-    let x = view.operation c.in-Some.operation.now in
-    let there : operation_of program o ≡ Some x = sym c.operation.ensures ∙ ap (option_map (λ y. view.operation y.now)) c.in-Some.is in
+    let x = view.operation c.operation_at-operation.result.now in
+    let there : operation_of program o ≡ Some x = c.operation_at-operation.ensures in
     let running : is_running o.activity ≡ true = c.requires.ready.running in
     let private : is_private o (Some x) ≡ true =
     ap (λ b. if b then false else not (is_kernel_operation x)) (held_none old.gate c.requires.ready.free) ∙ ap not (c.take_quick_step.ensures.private c.in-Made.is) in

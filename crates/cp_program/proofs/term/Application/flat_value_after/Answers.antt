@@ -7,11 +7,11 @@ use Rattle.cp_program.proofs.Found.{application_with, found, told}
 use Rattle.cp_program.proofs.term.Application.flat_value_after.Goals as goal
 
 pub returns-in_ok-right-in-WithOperand : goal.returns-in_ok-right-in-WithOperand
-returns-in_ok-right-in-WithOperand c clock =
-    let v = view_with c.args.memory.now c.args.shared.now clock in
+returns-in_ok-right-in-WithOperand c shared clock =
+    let v = view_with c.args.memory.now shared clock in
     let x = c.in-WithOperand in
     let right = c.in_ok-right-in-WithOperand.right in
-    let known : value_of v (view.operand x.operand) ≡ Ok right = told _ right _ c.in_ok-right-in-WithOperand.was (c.flat_value.ensures clock) in
+    let known : value_of v (view.operand x.operand) ≡ Ok right = told _ right _ c.in_ok-right-in-WithOperand.was (c.flat_value.ensures shared clock) in
     let parted : view.application c.args.self.now ≡ record { operator = operator_of x.operator; operand = view.operand x.operand } =
     ap view.application x.is ∙ application_with x.operator x.operand in
     let same : to_z w32 (of_z w32 right) ≡ right = search rules in

@@ -7,13 +7,13 @@ use Rattle.cp_program.proofs.Found.{found, told}
 use Rattle.cp_program.proofs.term.Index.flat_place.Goals as goal
 
 pub returns : goal.returns
-returns c clock =
-    let v = view_with c.args.memory.now c.args.shared.now clock in
+returns c shared clock =
+    let v = view_with c.args.memory.now shared clock in
     let from = c.args.from in
     let i = view.index c.args.self.now in
     let n = c.in_ok-n.n in
     let far = c.in_ok-far.far in
-    let valued : value_of v i.value ≡ Ok n = ap (λ x. value_of v x.value) (index_is c.args.self.now) ∙ told _ n _ c.in_ok-n.was (c.flat_value.ensures clock) in
+    let valued : value_of v i.value ≡ Ok n = ap (λ x. value_of v x.value) (index_is c.args.self.now) ∙ told _ n _ c.in_ok-n.was (c.flat_value.ensures shared clock) in
     let moved : offset_of i n ≡ Ok far = search rules in
     found c.checked_add.result (Ok (from + far)) _
     (ap (λ r. bind r (λ k. Ok (from + k))) (sym moved)

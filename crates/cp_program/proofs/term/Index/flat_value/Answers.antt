@@ -7,11 +7,11 @@ use Rattle.cp_program.proofs.Found.{found, one, told, value_single}
 use Rattle.cp_program.proofs.term.Index.flat_value.Goals as goal
 
 pub returns-in-len1 : goal.returns-in-len1
-returns-in-len1 c clock =
-    let v = view_with c.args.memory.now c.args.shared.now clock in
+returns-in-len1 c shared clock =
+    let v = view_with c.args.memory.now shared clock in
     let n = c.in_ok-n.n in
     let t = c.args.self.now.value in
-    let known : value_of v (view.operand (out-Term t).first) ≡ Ok n = told _ n _ c.in_ok-n.was (c.flat_value.ensures clock) in
+    let known : value_of v (view.operand (out-Term t).first) ≡ Ok n = told _ n _ c.in_ok-n.was (c.flat_value.ensures shared clock) in
     let x = c.x-item.result in
     let single : (out-Term t).rest.items ≡ x ∷ [] =
     sym c.as_slice.ensures.value ∙ (one c.as_slice.result.now x c.in-len1.len_at_least c.in-len1.len_below ∙ ap (λ y. y ∷ []) (sym c.x-item.is)) in

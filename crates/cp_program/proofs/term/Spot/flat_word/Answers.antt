@@ -1,0 +1,17 @@
+use Rattle.std.proofs.Common.{◌≡◌, ap, Ok}
+use Rattle.cp_program_model.specs.Starts.{word}
+use Rattle.cp_program_model.specs.Terms as terms
+use Rattle.cp_machine_model.specs.Values.{bind, place_of, value_of}
+use Rattle.cp_program.specs.Reaches.{view_with}
+use Rattle.cp_program.specs.View as view
+use Rattle.cp_program.proofs.Found.{found_as, told}
+use Rattle.cp_program.proofs.term.Spot.flat_word.Goals as goal
+
+pub returns : goal.returns
+returns c shared clock =
+    let v = view_with c.args.memory.now shared clock in
+    let s = view.spot c.args.self.now in
+    let at = c.in_ok-at.at in
+    let placed : place_of v s ≡ Ok at = told _ at _ c.in_ok-at.was (c.place_of_indices.ensures shared clock) in
+    let there : value_of v (terms.Item s) ≡ Ok (word v.words at) = ap (λ r. bind r (λ a. Ok (word v.words a))) placed in
+    found_as c.own_word.result _ _ there (c.own_word.ensures shared)
