@@ -6,7 +6,8 @@
 //! `var` parameter, or the value of a call.
 //!
 //! These functions find what those of `evaluation` find, in a result that fits registers, or find
-//! nothing where a term or spot goes deeper or has a fault: then `evaluation` is asked.
+//! nothing where a term or spot goes deeper, has a fault or lies among the shared words: then
+//! `evaluation` is asked.
 
 ghost use Rattle.std.specs.Prelude.{◌≡◌, ℕ, ℤ, List, ◌+◌, ◌<◌, ◌^◌, ◌++◌, ◌∷◌, [], IfSome, Ok, map};
 ghost use Rattle.cp_program_model.specs.Functions as functions;
