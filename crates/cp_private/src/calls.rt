@@ -87,9 +87,28 @@ impl Private {
         }
     }
 
-    /// Calls a routine.
-    #[inline(always)]
+    /// Calls a routine. It isn't inlined, so that steps which call nothing aren't slowed.
+    #[inline(never)]
     pub(crate) fn call(
+        &mut self,
+        program: &Program,
+        shared: &mut [i32],
+        outside: &Outside,
+        call: &Call,
+        link: Back,
+    ) -> Result<Effect, Fault>
+        requires { IsAddressable shared.old }
+        ensures step { IsStep self.old shared.old outside.now self.new shared.new result
+            (λ w o. plain.call_step (view.program program.now) w o (view.call call.now) (back
+            link)) }
+        ensures kept { KeepsRest self.old shared.old self.new shared.new }
+    {
+        self.call_here(program, shared, outside, call, link)
+    }
+
+    /// Does the same as `call`. It is inlined: where there are no shared words, nothing asks for them.
+    #[inline(always)]
+    pub(crate) fn call_here(
         &mut self,
         program: &Program,
         shared: &mut [i32],

@@ -172,7 +172,7 @@ impl Private {
             ≡ private_of self.new input }
         ensures kept { KeepsOwn self.old self.new }
     {
-        if let Err(fault) = self.call(program, &mut [], outside, call, link) {
+        if let Err(fault) = self.call_here(program, &mut [], outside, call, link) {
             self.activity = Activity::Faulted(fault);
         }
         self.is_ready()

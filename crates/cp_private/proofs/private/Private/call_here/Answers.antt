@@ -8,8 +8,8 @@ use Rattle.cp_program.specs.View as view
 use Rattle.cp_private.specs.Calls.{back, called_of, passing_of}
 use Rattle.cp_private.specs.States.{join, outcome, outside_of}
 use Rattle.cp_private.proofs.Calling.{Attempt, call_of, end_of, passed, refused, unfound}
-use Rattle.cp_private.proofs.private.Private.call.Goals as goal
-use Rattle.cp_private.proofs.private.Private.call.Goals.{After-callee-callee}
+use Rattle.cp_private.proofs.private.Private.call_here.Goals as goal
+use Rattle.cp_private.proofs.private.Private.call_here.Goals.{After-callee-callee}
 
 module _ (c : After-callee-callee) where
   abbrev w : Outside
