@@ -10,7 +10,7 @@ use Rattle.cp_board.specs.declared.view.Shape.{Shape}
 use Rattle.cp_board.specs.declared.view.TheConstants.{FULL_ALLOWANCE}
 use Rattle.cp_board.specs.declared.view.View.{View}
 use Rattle.cp_board.specs.Draws.{IsWhole, times}
-use Rattle.cp_board.specs.Stripes.{stripe_of, ticket_of}
+use Rattle.cp_board.specs.Stripes.{stripe_of, ticket_of, word_of}
 use Rattle.cp_board.specs.Views.{IsDone}
 use Rattle.cp_board.specs.Rule.{total, weight, FitsWords, KeepsRule}
 use Rattle.cp_board.proofs.Totals.{total_alone}
@@ -41,9 +41,9 @@ module _ (p : Shape) (s : BoardState) (r : KeepsRule p s) (some_stripe : 0 < p.s
       let stripe : ℕ = stripe_of p x in
       let in_stripes : stripe < p.stripes = omega arith in
       let used_up = (r.each id v at).used_up stripe in_stripes (done stripe (subst (λ (q : Shape). stripe < q.stripes) (sym closing.1) in_stripes)) in
-      dite (dec_le (slice_index s.words stripe) (ticket_of p x))
+      dite (dec_le (slice_index s.words (word_of stripe)) (ticket_of p x))
       (λ is_left.
-      let le = number_of-le p stripe (slice_index s.words stripe) (ticket_of p x) is_left in
+      let le = number_of-le p stripe (slice_index s.words (word_of stripe)) (ticket_of p x) is_left in
       let is = number_of-parts p x stripe (ticket_of p x) refl refl in
       absurd (omega arith))
       (λ not_left. let once = r.gone x below (lt_of_not-le not_left) in omega arith)

@@ -7,7 +7,7 @@ use Rattle.atomic_table.specs.Table.{opening}
 use Rattle.cp_board.specs.declared.view.Shape.{Shape}
 use Rattle.cp_board.specs.declared.view.TheConstants.{MOST_STRIPES}
 use Rattle.cp_board.specs.declared.view.View.{View}
-use Rattle.cp_board.specs.Stripes.{stripe_of}
+use Rattle.cp_board.specs.Stripes.{stripe_of, word_of}
 use Rattle.cp_board.specs.Views.{first_view}
 use Rattle.cp_board.specs.Rule.{FitsWords, KeepsRule}
 
@@ -24,10 +24,10 @@ unmarked_at (suc m) (suc i) = unmarked_at m i
 
 -- the words of a new board
 abbrev new_words : Shape → List ℕ
-new_words p = take (p.stripes + 1) (replicate (MOST_STRIPES + 1) 0)
+new_words p = take (word_of (p.stripes + 1)) (replicate (word_of (MOST_STRIPES + 1)) 0)
 
 no_word : (p : Shape) (i : ℕ) → get_or {A = ℕ} (new_words p) i 0 ≡ 0
-no_word p i = zero_at (p.stripes + 1) (MOST_STRIPES + 1) i
+no_word p i = zero_at (word_of (p.stripes + 1)) (word_of (MOST_STRIPES + 1)) i
 
 first_fits : (p : Shape) → FitsWords p (new_words p) (first_view p)
 first_fits p = record {
@@ -40,16 +40,16 @@ first_fits p = record {
 pub opens : (p : Shape) → p.stripes ≤ MOST_STRIPES → KeepsRule p (opening {S = Unit {0}} (new_words p) [] (first_view p))
 opens p most = record {
   width =
-      let zeros : List ℕ = replicate (MOST_STRIPES + 1) 0 in
-      let taken : length (new_words p) ≡ min (p.stripes + 1) (length zeros) = length-take (p.stripes + 1) zeros in
-      let all : length zeros ≡ MOST_STRIPES + 1 = refl in
+      let zeros : List ℕ = replicate (word_of (MOST_STRIPES + 1)) 0 in
+      let taken : length (new_words p) ≡ min (word_of (p.stripes + 1)) (length zeros) = length-take (word_of (p.stripes + 1)) zeros in
+      let all : length zeros ≡ word_of (MOST_STRIPES + 1) = refl in
       omega arith;
-  stop = no_word p p.stripes;
+  stop = no_word p (word_of p.stripes);
   allowance = refl;
-  gone = λ x below gone. let none = no_word p (stripe_of p x) in absurd (omega arith);
+  gone = λ x below gone. let none = no_word p (word_of (stripe_of p x)) in absurd (omega arith);
   left = λ x below is_left. refl;
   beyond = λ x from. refl;
-  small = λ j below. let none = no_word p j in omega arith;
+  small = λ j below. let none = no_word p (word_of j) in omega arith;
   each = λ k z e. each_fits k z e;
 }
   where

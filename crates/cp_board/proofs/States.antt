@@ -9,7 +9,7 @@ use Rattle.atomic_table.proofs.Lists.{at_set}
 use Rattle.cp_board.specs.declared.view.Shape.{Shape}
 use Rattle.cp_board.specs.declared.view.View.{View}
 use Rattle.cp_board.specs.Draws.{IsSound, times}
-use Rattle.cp_board.specs.Stripes.{stripe_of, ticket_of}
+use Rattle.cp_board.specs.Stripes.{stripe_of, ticket_of, word_of}
 use Rattle.cp_board.specs.Rule.{total, KeepsRule}
 use Rattle.cp_board.proofs.Totals.{total_set, total_le}
 use Rattle.cp_board.proofs.DrawLists.{AreCounted, sound_from_counted, length-counted}
@@ -29,7 +29,7 @@ pub counted_of : (p : Shape) (s : BoardState) → KeepsRule p s → (id : ℕ) (
 counted_of p s r id v at = record {
   once = λ x. let le = total_le (λ (u : View). times x u.draws) s.views id v at in dite (dec_le p.numbers x)
       (λ from. let none = r.beyond x from in omega arith)
-      (λ not_from. dite (dec_le (slice_index s.words (stripe_of p x)) (ticket_of p x))
+      (λ not_from. dite (dec_le (slice_index s.words (word_of (stripe_of p x))) (ticket_of p x))
       (λ is_left. let none = r.left x (lt_of_not-le not_from) is_left in omega arith)
       (λ not_left. let one = r.gone x (lt_of_not-le not_from) (lt_of_not-le not_left) in omega arith));
   beyond = λ x from.

@@ -11,7 +11,7 @@ use Rattle.atomic_table.proofs.Lists.{set_again}
 use Rattle.cp_board.specs.declared.view.Shape.{Shape}
 use Rattle.cp_board.specs.declared.view.View.{View}
 use Rattle.cp_board.specs.Draws.{IsSound}
-use Rattle.cp_board.specs.Stripes.{number_of, stripe_of}
+use Rattle.cp_board.specs.Stripes.{number_of, stripe_of, word_of}
 use Rattle.cp_board.specs.Views.{with_seen_stop, with_called_stop}
 use Rattle.cp_board.specs.Rule.{total, weight, marked_allowance, FitsWords, KeepsRule}
 use Rattle.cp_board.specs.Steps.{SeatState, ReadsStop, CallsStop, LearnsDraws}
@@ -31,7 +31,7 @@ unchanged p s i id v at r =
 
 -- a seat sees that the stop was called
 sight_keeps : (p : Shape) (s : BoardState) → KeepsRule p s → (id : ℕ) (v : View) → get_elem? s.views id ≡ some v
-    → slice_index s.words p.stripes ≡ 1 → KeepsRuleWith p s s.words (set s.views id (with_seen_stop v))
+    → slice_index s.words (word_of p.stripes) ≡ 1 → KeepsRuleWith p s s.words (set s.views id (with_seen_stop v))
 unfolding times_drawn
 sight_keeps p s r id v at on =
     let w : View = with_seen_stop v in
@@ -54,33 +54,33 @@ sight_keeps p s r id v at on =
     }
 
 pub reads : (p : Shape) (slots id : ℕ) (me : SeatState)
-    → Allows (KeepsRule p) slots id me p.stripes (λ n. n) (ReadsStop (step slots p.stripes 0 0 none) me)
+    → Allows (KeepsRule p) slots id me (word_of p.stripes) (λ n. n) (ReadsStop (step slots (word_of p.stripes) 0 0 none) me)
 reads p slots id me s r homes at fits =
     let v : View = me.0 in
-    let n : ℕ = slice_index s.words p.stripes in
+    let n : ℕ = slice_index s.words (word_of p.stripes) in
     let stop = r.stop in
     dite (ℕ_discrete n 0)
     (λ off. (
       v,
       keeps,
       tt,
-      unchanged p s p.stripes id v at r,
+      unchanged p s (word_of p.stripes) id v at r,
       record { slots = refl; clear = λ _. (refl, not_seen off v.seen_stop refl); set = λ on. absurd (on off) },
     ))
     (λ ne. let on : n ≡ 1 = omega arith in (
       with_seen_stop v,
       keeps,
       tt,
-      loaded p s p.stripes (set s.views id (with_seen_stop v)) (sight_keeps p s r id v at on),
+      loaded p s (word_of p.stripes) (set s.views id (with_seen_stop v)) (sight_keeps p s r id v at on),
       record { slots = refl; clear = λ off. absurd (ne off); set = λ _. refl },
     ))
   where
-    not_seen : slice_index s.words p.stripes ≡ 0 → (b : Bool) → me.0.seen_stop ≡ b → me.0.seen_stop ≡ false
+    not_seen : slice_index s.words (word_of p.stripes) ≡ 0 → (b : Bool) → me.0.seen_stop ≡ b → me.0.seen_stop ≡ false
     not_seen off true e = let on = (r.each id me.0 at).told e in absurd (omega arith)
     not_seen off false e = e
 
 pub learns : (p : Shape) (slots id : ℕ) (me : SeatState) → me.0.shape ≡ p
-    → Allows (KeepsRule p) slots id me p.stripes (λ n. n) (LearnsDraws (step slots p.stripes 0 0 none) me)
+    → Allows (KeepsRule p) slots id me (word_of p.stripes) (λ n. n) (LearnsDraws (step slots (word_of p.stripes) 0 0 none) me)
 learns p slots id me of_board s r homes at fits =
     let v : View = me.0 in
     let mine = total_le (λ (u : View). u.allowance) s.views id v at in
@@ -88,7 +88,7 @@ learns p slots id me of_board s r homes at fits =
       v,
       keeps,
       tt,
-      unchanged p s p.stripes id v at r,
+      unchanged p s (word_of p.stripes) id v at r,
       record {
         same = refl;
         allowance = omega arith;
@@ -102,15 +102,15 @@ learns p slots id me of_board s r homes at fits =
 module _ (p : Shape) (s : BoardState) (r : KeepsRule p s) (some_stripe : 0 < p.stripes)
     (id : ℕ) (v : View) (at : get_elem? s.views id ≡ some v) (live : 0 < v.allowance) where
   abbrev stopped : List ℕ
-  stopped = set s.words p.stripes 1
+  stopped = set s.words (word_of p.stripes) 1
 
-  stop_set : slice_index stopped p.stripes ≡ 1
-  stop_set = let width = r.width in get_or-set_same s.words p.stripes 1 0 (omega arith)
+  stop_set : slice_index stopped (word_of p.stripes) ≡ 1
+  stop_set = let width = r.width in get_or-set_same s.words (word_of p.stripes) 1 0 (omega arith)
 
-  ticket_same : (j : ℕ) → j < p.stripes → slice_index stopped j ≡ slice_index s.words j
-  ticket_same j below = get_or-set_other s.words p.stripes j 1 0 (λ e. absurd (omega arith))
+  ticket_same : (j : ℕ) → j < p.stripes → slice_index stopped (word_of j) ≡ slice_index s.words (word_of j)
+  ticket_same j below = get_or-set_other s.words (word_of p.stripes) (word_of j) 1 0 (λ e. absurd (omega arith))
 
-  word_same : (x : ℕ) → slice_index stopped (stripe_of p x) ≡ slice_index s.words (stripe_of p x)
+  word_same : (x : ℕ) → slice_index stopped (word_of (stripe_of p x)) ≡ slice_index s.words (word_of (stripe_of p x))
   word_same x = ticket_same (stripe_of p x) (omega arith)
 
   fits_stopped : (z : View) → FitsWords p s.words z → FitsWords p stopped z
@@ -141,7 +141,7 @@ module _ (p : Shape) (s : BoardState) (r : KeepsRule p s) (some_stripe : 0 < p.s
   call_keeps : KeepsRuleWith p s stopped (set s.views id (with_called_stop v))
   unfolding times_drawn
   call_keeps = record {
-    width = length-set s.words p.stripes 1 ∙ r.width;
+    width = length-set s.words (word_of p.stripes) 1 ∙ r.width;
     stop = let some_one = some_call in stop_set ∙ (omega arith);
     allowance = same (λ z. z.allowance) refl ∙ r.allowance;
     gone = λ x below gone. let word = word_same x in same (times_drawn x) refl ∙ r.gone x below (omega arith);
@@ -158,16 +158,16 @@ set_bit n most = dite (ℕ_discrete n 0)
     (λ ne. let on : n ≡ 1 = omega arith in ap (λ (k : ℕ). bit_or k 1) on)
 
 pub calls : (p : Shape) (slots id : ℕ) (me : SeatState) → 0 < p.stripes → 0 < me.0.allowance
-    → Allows (KeepsRule p) slots id me p.stripes (λ n. bit_or n 1) (CallsStop (step slots p.stripes 1 0 none) me)
+    → Allows (KeepsRule p) slots id me (word_of p.stripes) (λ n. bit_or n 1) (CallsStop (step slots (word_of p.stripes) 1 0 none) me)
 calls p slots id me some_stripe live s r homes at fits =
     let v : View = me.0 in
-    let n : ℕ = slice_index s.words p.stripes in
+    let n : ℕ = slice_index s.words (word_of p.stripes) in
     let stop = r.stop in
     let one = set_bit n (omega arith) in (
       with_called_stop v,
       keeps,
       tt,
-      subst (λ (k : ℕ). KeepsRuleWith p s (set s.words p.stripes k) (set s.views id (with_called_stop v))) (sym one)
+      subst (λ (k : ℕ). KeepsRuleWith p s (set s.words (word_of p.stripes) k) (set s.views id (with_called_stop v))) (sym one)
           (call_keeps p s r some_stripe id v at live),
       record { slots = refl; view = refl },
     )

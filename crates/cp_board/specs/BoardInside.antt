@@ -1,16 +1,17 @@
 -- How the fields of a `Board` relate to its table.
 use Rattle.std.specs.Prelude.{◌≡◌, ◌+◌, ◌<◌, ◌≤◌}
 use Rattle.cp_board.specs.Models.{BoardModel}
+use Rattle.cp_board.specs.Stripes.{word_of}
 use Rattle.cp_board.specs.declared.board.Board.TheInside as board
 use Rattle.cp_board.specs.declared.view.TheConstants.{MOST_NUMBERS, MOST_STRIPES}
 
 abbrev pub board_model : board.Inside → BoardModel
 board_model b = record { table = b.table.shared.table_id; shape = b.shape }
 
--- the table has a word for each stripe and one for the stop, and its rule reads the board's shape
+-- the table has the words of all stripes and of the stop, and its rule reads the board's shape
 pub record IsValidBoard (b : board.Inside) : Type 0 where
   pub key : b.table.shared.key ≡ b.shape
-  pub words : b.table.shared.table_id.words ≡ b.shape.stripes + 1
+  pub words : b.table.shared.table_id.words ≡ word_of (b.shape.stripes + 1)
   pub slots : b.table.shared.table_id.slots ≡ 0
   pub numbers : b.shape.numbers ≤ MOST_NUMBERS
   pub some : 0 < b.shape.stripes

@@ -1,7 +1,6 @@
 -- The rule of a board, over its words and the views of all its seats. It holds between any two
 -- atomic steps.
--- The first words are the tickets: for each stripe, the next ticket to be drawn there. The last
--- word is the stop.
+-- The word of a stripe is the next ticket to be drawn there. The words between are never used.
 use Rattle.std.specs.Prelude.{◌≡◌, ℕ, ◌+◌, ◌<◌, ◌≤◌, min, Bool, true, false, if◌then◌else◌, List, [], ◌∷◌, length, slice_index}
 use mathlib.Core.Option.{some}
 use lib.ListN.{get_elem?}
@@ -10,7 +9,7 @@ use Rattle.cp_board.specs.declared.view.Shape.{Shape}
 use Rattle.cp_board.specs.declared.view.TheConstants.{FULL_ALLOWANCE}
 use Rattle.cp_board.specs.declared.view.View.{View}
 use Rattle.cp_board.specs.Draws.{times}
-use Rattle.cp_board.specs.Stripes.{number_of, stripe_of, ticket_of}
+use Rattle.cp_board.specs.Stripes.{number_of, stripe_of, ticket_of, word_of}
 use Rattle.cp_board.specs.Views.{is_used_up}
 
 -- the sum of f over the list
@@ -31,20 +30,20 @@ marked_allowance stripe v = if is_used_up v stripe then v.allowance else 0
 pub record FitsWords (shape : Shape) (words : List ℕ) (v : View) : Type 0 where
   pub of_board : 0 < v.allowance → v.shape ≡ shape
   pub idle : v.allowance ≡ 0 → (v.draws ≡ []) × (v.called_stop ≡ false)
-  pub told : v.seen_stop ≡ true → slice_index words shape.stripes ≡ 1
-  pub used_up : (j : ℕ) → j < shape.stripes → is_used_up v j ≡ true → shape.numbers ≤ number_of shape j (slice_index words j)
+  pub told : v.seen_stop ≡ true → slice_index words (word_of shape.stripes) ≡ 1
+  pub used_up : (j : ℕ) → j < shape.stripes → is_used_up v j ≡ true → shape.numbers ≤ number_of shape j (slice_index words (word_of j))
 
 -- What holds of all seats and words.
 pub record KeepsRule (shape : Shape) (s : State (Unit {0}) View) : Type 0 where
-  pub width : length s.words ≡ shape.stripes + 1
+  pub width : length s.words ≡ word_of (shape.stripes + 1)
   -- the stop word is 1 if a seat has called the stop, and 0 otherwise
-  pub stop : slice_index s.words shape.stripes ≡ min 1 (total (λ v. weight v.called_stop) s.views)
+  pub stop : slice_index s.words (word_of shape.stripes) ≡ min 1 (total (λ v. weight v.called_stop) s.views)
   pub allowance : total (λ v. v.allowance) s.views ≡ FULL_ALLOWANCE
   -- a number whose ticket is gone was drawn once, and no other number was drawn
-  pub gone : (x : ℕ) → x < shape.numbers → ticket_of shape x < slice_index s.words (stripe_of shape x) → total (λ v. times x v.draws) s.views ≡ 1
-  pub left : (x : ℕ) → x < shape.numbers → slice_index s.words (stripe_of shape x) ≤ ticket_of shape x → total (λ v. times x v.draws) s.views ≡ 0
+  pub gone : (x : ℕ) → x < shape.numbers → ticket_of shape x < slice_index s.words (word_of (stripe_of shape x)) → total (λ v. times x v.draws) s.views ≡ 1
+  pub left : (x : ℕ) → x < shape.numbers → slice_index s.words (word_of (stripe_of shape x)) ≤ ticket_of shape x → total (λ v. times x v.draws) s.views ≡ 0
   pub beyond : (x : ℕ) → shape.numbers ≤ x → total (λ v. times x v.draws) s.views ≡ 0
   -- a seat that draws past the end of a stripe marks it and draws no more there, so no word grows
   -- far past its end, and none wraps
-  pub small : (j : ℕ) → j < shape.stripes → slice_index s.words j ≤ shape.numbers + total (marked_allowance j) s.views
+  pub small : (j : ℕ) → j < shape.stripes → slice_index s.words (word_of j) ≤ shape.numbers + total (marked_allowance j) s.views
   pub each : (id : ℕ) (v : View) → get_elem? s.views id ≡ some v → FitsWords shape s.words v

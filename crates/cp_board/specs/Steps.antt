@@ -5,7 +5,7 @@ use Rattle.atomic_table.specs.Table.{Me, Step}
 use Rattle.cp_board.specs.declared.view.View.{View}
 use Rattle.cp_board.specs.declared.view.TheConstants.{FULL_ALLOWANCE}
 use Rattle.cp_board.specs.Draws.{IsSound}
-use Rattle.cp_board.specs.Stripes.{number_of}
+use Rattle.cp_board.specs.Stripes.{number_of, stripe_at}
 use Rattle.cp_board.specs.Views.{with_draw, with_used_up, with_seen_stop, with_called_stop}
 
 -- a seat's view with the slots that it holds, of which a board has none
@@ -17,8 +17,8 @@ SeatState = Me (Unit {0}) View
 pub record DrawsTicket (step : Step (Unit {0})) (old : SeatState) (ticket : ℕ) (new : SeatState) : Type 0 where
   pub small : ticket ≤ old.0.shape.numbers + FULL_ALLOWANCE
   pub slots : new.1 ≡ old.1
-  pub drawn : number_of old.0.shape step.word ticket < old.0.shape.numbers → new.0 ≡ with_draw old.0 (number_of old.0.shape step.word ticket)
-  pub used_up : old.0.shape.numbers ≤ number_of old.0.shape step.word ticket → new.0 ≡ with_used_up old.0 step.word
+  pub drawn : number_of old.0.shape (stripe_at step.word) ticket < old.0.shape.numbers → new.0 ≡ with_draw old.0 (number_of old.0.shape (stripe_at step.word) ticket)
+  pub used_up : old.0.shape.numbers ≤ number_of old.0.shape (stripe_at step.word) ticket → new.0 ≡ with_used_up old.0 (stripe_at step.word)
   pub sound : IsSound old.0.shape.numbers new.0.draws
   pub few : length new.0.draws ≤ old.0.shape.numbers
 

@@ -19,7 +19,7 @@ ghost use Rattle.cp_board.specs.Views.{IsDone, KeepsMarks, is_used_up, first_vie
 use crate::marks::either;
 use crate::seat::Seat;
 use crate::steps::{BoardRule, CallStop, DrawTicket, Halves, LearnDraws, ReadStop};
-use crate::view::{FULL_ALLOWANCE, MOST_NUMBERS, MOST_STRIPES, Shape, View};
+use crate::view::{FULL_ALLOWANCE, MOST_NUMBERS, MOST_STRIPES, Shape, View, WORDS_APART};
 use atomic_table::Table;
 use std::alloc::{AllocError, Global};
 use std::marker::Model;
@@ -28,7 +28,8 @@ use std::marker::Model;
 /// and its shape.
 #[derive(Drop)]
 pub struct Board {
-    // The ticket words, one for each stripe, followed by the stop word.
+    // The ticket words, one for each stripe, followed by the stop word. They lie on cache lines of
+    // their own.
     table: Table<(), View, Shape, BoardRule, Global>,
     shape: Shape,
 }
@@ -60,8 +61,9 @@ impl Board {
             numbers: n,
             stripes,
         };
-        let words = [0u64; MOST_STRIPES + 1];
-        let (table, pass) = Table::of_words(alloc, &words[..stripes + 1], &shape)?;
+        let words = [0u64; (MOST_STRIPES + 1) * WORDS_APART];
+        let count = (stripes + 1) * WORDS_APART;
+        let (table, pass) = Table::of_words(alloc, &words[..count], &shape)?;
         let board = Board { table, shape };
         let seat = Seat {
             pass,
@@ -95,7 +97,7 @@ impl Board {
         let ticket = self
             .table
             .shared
-            .fetch_add::<DrawTicket>(&mut seat.pass, stripe, 1);
+            .fetch_add::<DrawTicket>(&mut seat.pass, stripe * WORDS_APART, 1);
         let number = ticket as usize * stripes + stripe;
         if number < numbers {
             seat.count += 1;
@@ -145,7 +147,7 @@ impl Board {
         ensures table { seat.new.table ≡ seat.old.table }
         ensures view { seat.new.view ≡ with_called_stop seat.old.view }
     {
-        let stop_word = self.shape.stripes;
+        let stop_word = self.shape.stripes * WORDS_APART;
         self.table
             .shared
             .fetch_or::<CallStop>(&mut seat.pass, stop_word, 1);
@@ -161,7 +163,7 @@ impl Board {
         ensures told { IsTrue result ↔ (seat.new.view.seen_stop ≡ true) }
         ensures stays { seat.old.view.seen_stop ≡ true → IsTrue result }
     {
-        let stop_word = self.shape.stripes;
+        let stop_word = self.shape.stripes * WORDS_APART;
         let found = self
             .table
             .shared
@@ -237,7 +239,7 @@ impl Board {
         ensures first_done { IsDone first.view → IsDone result.view }
         ensures second_done { IsDone second.view → IsDone result.view }
     {
-        let stop_word = self.shape.stripes;
+        let stop_word = self.shape.stripes * WORDS_APART;
         let Seat {
             mut pass,
             stripe,

@@ -3,6 +3,7 @@ use mathlib.Core.Option.{none}
 use Rattle.atomic_table.specs.Table.{Allows, step}
 use Rattle.cp_board.specs.declared.view.Shape.{Shape}
 use Rattle.cp_board.specs.Rule.{KeepsRule}
+use Rattle.cp_board.specs.Stripes.{word_of}
 use Rattle.cp_board.specs.Steps.{LearnsDraws}
 use Rattle.cp_board.specs.Views.{IsDone, join_views}
 use Rattle.cp_board.proofs.MarkLists.{done_first, done_second}
@@ -30,7 +31,7 @@ load-requires c =
     let p : Shape = c.self.inside.table.shared.key in
     let slots : ℕ = c.self.inside.table.shared.table_id.slots in
     let words = c.self.invariant.words in
-    let stop_word : c.self.inside.shape.stripes ≡ p.stripes = ap (λ (q : Shape). q.stripes) (sym c.self.invariant.key) in
+    let stop_word : word_of c.self.inside.shape.stripes ≡ word_of p.stripes = ap (λ (q : Shape). word_of q.stripes) (sym c.self.invariant.key) in
     let shape = ap (λ b. b.shape) c.self.view_is in
     let of_board : c.first.inside.pass.me.0.shape ≡ p = ap (λ s. s.view.shape) c.first.view_is ∙ c.requires.first.shape ∙ sym shape ∙ sym c.self.invariant.key in (
       c.join_seat.ensures.0 ∙ (ap (λ s. s.table) c.first.view_is ∙ c.requires.first.table ∙ sym (ap (λ b. b.table) c.self.view_is)),
