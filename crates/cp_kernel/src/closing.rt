@@ -14,6 +14,7 @@ use crate::kernel::Kernel;
 use cp_machine_model::law;
 use cp_private::outside::Stage;
 use cp_private::private::Private;
+use cp_private::resident::Resident;
 use cp_program::program::Program;
 
 // Begins the process if it is fresh.
@@ -28,7 +29,7 @@ fn begin(program: &Program, kernel: &Kernel, private: &mut Private)
     }
 }
 
-fn begin_all(program: &Program, kernel: &Kernel, privates: &mut [Private])
+fn begin_all(program: &Program, kernel: &Kernel, privates: &mut [Resident])
     ensures begun { (inputs : ℕ → List ℕ) → parts_of inputs 1 privates.new ≡ map
         (plain.begin_one (view.program program.now) (kernel_of kernel.now))
         (parts_of inputs 1 privates.old) }
@@ -36,7 +37,7 @@ fn begin_all(program: &Program, kernel: &Kernel, privates: &mut [Private])
         ≡ map (λ (x : Private). x.number) privates.old }
 {
     for private in privates.iter_mut() {
-        begin(program, kernel, private);
+        begin(program, kernel, private.private_mut());
     }
 }
 
@@ -70,7 +71,7 @@ fn has_fresh(stages: &[Stage]) -> bool
 }
 
 // The end of a round, as plain data.
-fn close(program: &Program, kernel: &mut Kernel, privates: &mut [Private])
+fn close(program: &Program, kernel: &mut Kernel, privates: &mut [Resident])
     ensures kernel { let k = kernel_of kernel.old in kernel_of kernel.new
         ≡ record k { stages = map plain.next_stage k.stages } }
     ensures gates { kernel.new.gates ≡ kernel.old.gates }
@@ -90,7 +91,7 @@ fn close(program: &Program, kernel: &mut Kernel, privates: &mut [Private])
 
 /// Ends the round: each process that was started in it begins, with the parameters that wait for
 /// it. `privates` has the private states of all processes. It takes no memory.
-pub fn end_round(program: &Program, kernel: &mut Kernel, privates: &mut [Private])
+pub fn end_round(program: &Program, kernel: &mut Kernel, privates: &mut [Resident])
     ensures kernel { let k = kernel_of kernel.old in kernel_of kernel.new
         ≡ record k { stages = map plain.next_stage k.stages } }
     ensures gates { kernel.new.gates ≡ kernel.old.gates }

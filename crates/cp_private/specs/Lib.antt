@@ -7,3 +7,4 @@ pub mod Promises
 pub mod Resting
 pub mod Quick
 pub mod Plans
+pub mod Lending

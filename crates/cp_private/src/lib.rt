@@ -8,7 +8,8 @@
 //! `specs/Keeping.antt`. By the law of cp_machine_model, private steps and turns are those of the
 //! meaning (`specs/Promises.antt`).
 //!
-//! - `private`, `making`: the private state, and how it is made, copied and read.
+//! - `private`, `making`, `resident`: the private state, how it is made, copied and read, and its
+//!   place in memory.
 //! - `outside`, `alone`, `effect`: what else a step reads, and what it leaves to the kernel.
 //! - `words`, `changing`, `reading`, `frames`: words, temps and frames.
 //! - `plans`, `starting`: how words start.
@@ -36,6 +37,7 @@ mod plans;
 pub mod private;
 mod quick;
 mod reading;
+pub mod resident;
 mod resting;
 mod returns;
 mod standards;

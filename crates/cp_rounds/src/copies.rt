@@ -8,6 +8,7 @@ ghost use Rattle.cp_rounds.specs.Turned.{woken};
 
 use crate::parts::Parts;
 use cp_private::private::Private;
+use cp_private::resident::Resident;
 use std::alloc::{AllocError, Global};
 
 // Returns a copy of a private state. If `wakes`, a process that waits goes on in it.
@@ -29,14 +30,15 @@ fn woken_copy(alloc: Global, private: &Private, wakes: bool) -> Result<Private, 
 /// `AllocError` if memory runs out.
 pub fn woken_copies(
     alloc: Global,
-    privates: &[Private],
+    privates: &[Resident],
     wakes: bool,
-) -> Result<Vec<Private>, AllocError>
+) -> Result<Vec<Resident>, AllocError>
     ensures { IfOk result (λ copies. AreWoken wakes privates.now copies.items) }
 {
     let mut copies = Vec::with_capacity(alloc, privates.len())?;
     for private in privates {
-        copies.push(woken_copy(alloc, private, wakes)?)?;
+        let copy = woken_copy(alloc, private.private(), wakes)?;
+        copies.push(Resident::new(alloc, copy)?)?;
     }
     Ok(copies)
 }

@@ -1,15 +1,18 @@
 //! What the threads of a run share: trays for the turns of a round.
 
-ghost use Rattle.std.specs.Prelude.{◌≡◌, length};
+ghost use Rattle.std.specs.Prelude.{◌≡◌, ◌-◌, false, true, Some, length, slice_get};
+ghost use Rattle.cp_private.specs.Resting.{rests};
 ghost use Rattle.cp_rounds.specs.Numbers.{AreNumbered};
-ghost use Rattle.cp_rounds.specs.Tasks.{AllFree, AreLeft};
+ghost use Rattle.cp_rounds.specs.Tasks.{AllFree, AreLeft, HasRoomLeft};
 
 use crate::cursor::Cursor;
 use crate::moment::Moment;
-use crate::task::{Course, Start, Task};
+use crate::slot::Slot;
+use crate::task::{Course, Start};
 use cp_crew::Signal;
 use cp_plan::plan::Plan;
-use cp_private::private::Private;
+use cp_private::resident::Resident;
+use crossbeam_utils::CachePadded;
 use std::alloc::{AllocError, Global};
 use std::mem;
 use std::sync::{Mutex, OnceToken, Wait};
@@ -18,11 +21,12 @@ use std::sync::{Mutex, OnceToken, Wait};
 // woken, and whoever counts up a number that others look at waits for them.
 const HEARD_AT_ONCE: usize = 8;
 
-/// The tasks of a chunk in order of process, each in a slot.
-pub type Tasks<'a, C> = Vec<Option<Task<'a, C>>>;
+/// The tasks of a chunk in order of process.
+pub type Tasks<'a, C> = Vec<Slot<'a, C>>;
 
-/// Returns room for the tasks of a chunk of this many processes. One more slot stays empty, so that
-/// no cache line holds words of two chunks, whose turns may be made at the same time.
+/// Returns room for the tasks of a chunk of this many processes. Behind the last slot stays room for
+/// one more, so that no cache line holds words of two chunks, whose turns may be made at the same
+/// time.
 ///
 /// # Errors
 ///
@@ -31,55 +35,37 @@ pub fn room_for_tasks<'a, C: Course>(
     alloc: Global,
     processes: usize,
 ) -> Result<Tasks<'a, C>, AllocError> {
-    let slots = processes.saturating_add(1);
-    let mut tasks = Vec::with_capacity(alloc, slots)?;
-    for _slot in 0..slots {
-        tasks.push(None)?;
+    let mut tasks = Vec::with_capacity(alloc, processes.saturating_add(1))?;
+    for _slot in 0..processes {
+        tasks.push(Slot::empty(alloc)?)?;
     }
     Ok(tasks)
 }
 
-/// What lies at the place of a chunk.
-#[derive(Drop)]
-enum Tray<'a, C: Course> {
+/// What lies in a tray.
+#[derive(Clone, Copy, PartialEq, Eq)]
+pub(crate) enum Content {
     /// Room for the tasks of a later round.
-    Free(Tasks<'a, C>),
+    Room,
     /// Tasks whose turns are still to be made.
-    Laid(Tasks<'a, C>),
-    /// Nothing, while a thread makes the turns.
-    Out,
+    Laid,
     /// Tasks whose turns are made.
-    Made(Tasks<'a, C>),
+    Made,
 }
 
-// Puts tasks into a tray with room for them, and takes the room.
-fn swap_for_room<'a, C: Course>(tray: &mut Tray<'a, C>, tasks: &mut Tasks<'a, C>) {
-    match mem::replace(tray, Tray::Out) {
-        Tray::Free(room) => *tray = Tray::Laid(mem::replace(tasks, room)),
-        other => *tray = other,
-    }
-}
-
-// Takes tasks whose turns are made, and leaves room. Returns whether there are such tasks.
-fn swap_for_made<'a, C: Course>(tray: &mut Tray<'a, C>, room: &mut Tasks<'a, C>) -> bool {
-    match mem::replace(tray, Tray::Out) {
-        Tray::Made(made) => {
-            *tray = Tray::Free(mem::replace(room, made));
-            true
-        }
-        other => {
-            *tray = other;
-            false
-        }
-    }
+/// The place of a chunk.
+#[derive(Drop)]
+pub(crate) struct Tray<'a, C: Course> {
+    pub(crate) content: Content,
+    pub(crate) tasks: Tasks<'a, C>,
 }
 
 /// The tasks of a round, in order of process, chunk by chunk. There is a place for each process.
 #[derive(Drop)]
 pub struct Desk<'a, C: Course> {
-    trays: Vec<Mutex<Tray<'a, C>>>,
+    trays: Vec<CachePadded<Mutex<Tray<'a, C>>>>,
     // How many chunks of the round have been laid.
-    laid: Signal,
+    laid: CachePadded<Signal>,
 }
 
 impl<'a, C: Course> Desk<'a, C> {
@@ -91,19 +77,27 @@ impl<'a, C: Course> Desk<'a, C> {
     pub fn new(alloc: Global, chunks: usize, processes: usize) -> Result<Desk<'a, C>, AllocError> {
         let mut trays = Vec::with_capacity(alloc, chunks)?;
         for _chunk in 0..chunks {
-            let room = room_for_tasks(alloc, processes)?;
-            trays.push(Mutex::new(Tray::Free(room)))?;
+            let tray = Tray {
+                content: Content::Room,
+                tasks: room_for_tasks(alloc, processes)?,
+            };
+            trays.push(CachePadded::new(Mutex::new(tray)))?;
         }
         Ok(Desk {
             trays,
-            laid: Signal::new(),
+            laid: CachePadded::new(Signal::new()),
         })
     }
 
     // Lays the tasks of a chunk, and takes the room that was there for them.
     fn lay<R: Wait>(&self, rt: &R, chunk: usize, tasks: &mut Tasks<'a, C>) {
-        if let Some(tray) = self.trays.get(chunk) {
-            swap_for_room(&mut *tray.lock(rt), tasks);
+        let Some(tray) = self.trays.get(chunk) else {
+            return;
+        };
+        let mut tray = tray.lock(rt);
+        if tray.content == Content::Room {
+            mem::swap(&mut tray.tasks, tasks);
+            tray.content = Content::Laid;
         }
     }
 
@@ -117,19 +111,30 @@ impl<'a, C: Course> Desk<'a, C> {
         self.laid.raise(laid as u64);
     }
 
-    // Puts a task into its slot, and lays the tasks of its chunk if it is the last of them. Returns
-    // the place of the next task.
+    // Puts the turn of a process into its slot, and lays the tasks of its chunk if it is the last of
+    // them. Returns the place of the next task.
     #[inline(always)]
     fn put<R: Wait>(
         &self,
         rt: &R,
         plan: &Plan,
         place: Cursor,
-        task: Task<'a, C>,
+        start: &OnceToken<'a, Start>,
+        round: usize,
+        process: usize,
+        moment: Moment,
+        private: &mut Resident,
         tasks: &mut Tasks<'a, C>,
-    ) -> Cursor {
+    ) -> Cursor
+        requires cell { start.now.of ≡ C.cell round }
+        requires time { moment ≡ C.moment round }
+        requires number { private.old.number ≡ process }
+        requires at { slice_get start.now.value.value.items (process - 1) ≡ Some private.old }
+        requires room { HasRoomLeft C.most false private.old }
+        ensures left { rests moment.wakes private.new ≡ true → private.new ≡ private.old }
+    {
         if let Some(slot) = tasks.get_mut(place.slot) {
-            *slot = Some(task);
+            slot.lay(start, round, process, moment, private);
         }
         let next = place.next(plan);
         if next.chunk != place.chunk {
@@ -147,14 +152,13 @@ impl<'a, C: Course> Desk<'a, C> {
     pub fn put_all<R: Wait>(
         &self,
         rt: &R,
-        alloc: Global,
         plan: &Plan,
         start: &OnceToken<'a, Start>,
         round: usize,
         moment: Moment,
         of_all: bool,
         turns: usize,
-        privates: &mut Vec<Private>,
+        privates: &mut Vec<Resident>,
         tasks: &mut Tasks<'a, C>,
     )
         requires cell { start.now.of ≡ C.cell round }
@@ -170,12 +174,20 @@ impl<'a, C: Course> Desk<'a, C> {
         }
         let mut place = Cursor::first();
         for i in 0..privates.len() {
-            if !of_all && privates[i].rests(moment.wakes) {
+            if !of_all && privates[i].private().rests(moment.wakes) {
                 continue;
             }
-            let private = mem::replace(&mut privates[i], Private::absent(alloc));
-            let task = Task::new(start, round, i + 1, moment, private);
-            place = self.put(rt, plan, place, task, tasks);
+            place = self.put(
+                rt,
+                plan,
+                place,
+                start,
+                round,
+                i + 1,
+                moment,
+                &mut privates[i],
+                tasks,
+            );
         }
         self.lay_last(rt, place, tasks);
     }
@@ -197,25 +209,11 @@ impl<'a, C: Course> Desk<'a, C> {
         unreachable!()
     }
 
-    /// Takes the tasks of a chunk whose turns are to be made. Waits until they are laid.
-    pub fn take_laid<R: Wait>(&self, rt: &R, chunk: usize) -> Option<Tasks<'a, C>> {
+    /// Returns the tray of a chunk, once its tasks are laid.
+    pub(crate) fn laid_tray<R: Wait>(&self, rt: &R, chunk: usize) -> Option<&Mutex<Tray<'a, C>>> {
         let tray = self.trays.get(chunk)?;
         self.wait_for(rt, chunk);
-        let mut tray = tray.lock(rt);
-        match mem::replace(&mut *tray, Tray::Out) {
-            Tray::Laid(tasks) => Some(tasks),
-            other => {
-                *tray = other;
-                None
-            }
-        }
-    }
-
-    /// Puts the tasks of a chunk back, whose turns are made.
-    pub fn put_back<R: Wait>(&self, rt: &R, chunk: usize, tasks: Tasks<'a, C>) {
-        if let Some(tray) = self.trays.get(chunk) {
-            *tray.lock(rt) = Tray::Made(tasks);
-        }
+        Some(tray)
     }
 
     /// Takes the tasks of a chunk in exchange for room for as many, if their turns are made. Returns
@@ -227,6 +225,11 @@ impl<'a, C: Course> Desk<'a, C> {
         let Some(mut tray) = tray.try_lock() else {
             return false;
         };
-        swap_for_made(&mut *tray, tasks)
+        if tray.content != Content::Made {
+            return false;
+        }
+        mem::swap(&mut tray.tasks, tasks);
+        tray.content = Content::Room;
+        true
     }
 }

@@ -3,7 +3,7 @@
 ghost use Rattle.std.specs.Prelude.{⊤};
 ghost use Rattle.cp_rounds.specs.Tasks.{IsCourseOf};
 
-use crate::desk::Desk;
+use crate::desk::{Content, Desk};
 use crate::gate::TurnGate;
 use crate::setting::Setting;
 use crate::task::Course;
@@ -35,17 +35,21 @@ impl<'a, C: Course, G: TurnGate> Work for DeskTurns<'a, C, G> {
             return;
         };
         let chunk = index.saturating_mul(self.chunks).saturating_add(chunk);
-        let Some(mut tasks) = self.desk.take_laid(rt, chunk) else {
+        let Some(tray) = self.desk.laid_tray(rt, chunk) else {
             return;
         };
-        for slot in tasks.iter_mut() {
-            if let Some(task) = slot {
+        let mut tray = tray.lock(rt);
+        if tray.content != Content::Laid {
+            return;
+        }
+        for slot in tray.tasks.iter_mut() {
+            if let Some(task) = &mut slot.task {
                 if !task.is_made() {
                     self.gate.begin(task.process());
                     task.make(self.setting, self.plan.turn);
                 }
             }
         }
-        self.desk.put_back(rt, chunk, tasks);
+        tray.content = Content::Made;
     }
 }

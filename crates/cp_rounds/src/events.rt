@@ -20,6 +20,7 @@ use cp_kernel::turns::kernel_turn;
 use cp_orders::event::Event;
 use cp_plan::turn::Turn;
 use cp_private::private::Private;
+use cp_private::resident::Resident;
 use cp_private::turns::private_turn;
 use std::alloc::AllocError;
 
@@ -70,7 +71,7 @@ fn make_event(
     moment: Moment,
     turn: Turn,
     event: Event,
-    privates: &mut Vec<Private>,
+    privates: &mut Vec<Resident>,
     kernel: &mut Kernel,
 ) -> Result<(), AllocError>
     requires first { 1 ≤ process_of (event_of event) }
@@ -82,8 +83,15 @@ fn make_event(
         kernel.old kernel.new) }
 {
     match event {
-        Event::P(p) => make_step(setting, moment, &mut privates[p - 1], p),
-        Event::K(p) => make_turn(setting, moment, turn, &mut privates[p - 1], kernel, p),
+        Event::P(p) => make_step(setting, moment, privates[p - 1].private_mut(), p),
+        Event::K(p) => make_turn(
+            setting,
+            moment,
+            turn,
+            privates[p - 1].private_mut(),
+            kernel,
+            p,
+        ),
     }
 }
 
@@ -97,7 +105,7 @@ pub fn make_events(
     moment: Moment,
     turn: Turn,
     events: &[Event],
-    privates: &mut Vec<Private>,
+    privates: &mut Vec<Resident>,
     kernel: &mut Kernel,
 ) -> Result<(), AllocError>
     requires within { AreWithin (length privates.old.items) (events_of events.now) }

@@ -1,7 +1,7 @@
 //! What the calling thread holds in a round.
 
-ghost use Rattle.std.specs.Prelude.{◌≡◌, ◌-◌, true};
-ghost use Rattle.cp_rounds.specs.Tasks.{ComesOf, HasRoomLeft, IsShort};
+ghost use Rattle.std.specs.Prelude.{◌≡◌, ◌-◌};
+ghost use Rattle.cp_rounds.specs.Tasks.{IsTaken};
 
 use crate::cursor::Cursor;
 use crate::desk::{Tasks, room_for_tasks};
@@ -10,7 +10,7 @@ use crate::gate::TurnGate;
 use crate::run::Run;
 use crate::task::{Course, Start};
 use cp_crew::{Rack, Wave};
-use cp_private::private::Private;
+use cp_private::resident::Resident;
 use std::alloc::{AllocError, Global};
 use std::sync::{OnceToken, Wait};
 
@@ -117,7 +117,7 @@ impl<'a, C: Course> Hand<'a, C> {
         self.fetch(rt, run);
     }
 
-    /// Returns the private state of a process after its private turn in a round.
+    /// Takes the private state of a process after its private turn in a round into its place.
     pub(crate) fn take<R: Wait, G: TurnGate>(
         &mut self,
         rt: &R,
@@ -125,28 +125,23 @@ impl<'a, C: Course> Hand<'a, C> {
         start: &OnceToken<'a, Start>,
         round: usize,
         process: usize,
-    ) -> Private
+        private: &mut Resident,
+    )
         requires cell { start.now.of ≡ C.cell round }
-        ensures number { result.number ≡ process }
-        ensures comes { ComesOf (C.turned (C.moment round)) (C.input (process - 1))
-            start.now.value.value.items (process - 1) true result }
-        ensures room { HasRoomLeft C.most true result }
-        ensures short { IsShort C.most start.now.value.value.items (process - 1) true result }
+        ensures { IsTaken (C.turned (C.moment round)) (C.input (process - 1)) C.most
+            start.now.value.value.items process private.new }
     {
         if self.place.slot == 0 {
             self.next_chunk(rt, run);
         }
-        let slot = self.place.slot;
+        let index = self.place.slot;
         self.place = self.place.next(&run.turns.plan);
         for _ in rt.forever() {
-            let Some(found) = self.tasks.get_mut(slot) else {
+            let Some(slot) = self.tasks.get_mut(index) else {
                 continue;
             };
-            let Some(task) = found.take() else {
-                continue;
-            };
-            if let Some(private) = task.finish(start, round, process) {
-                return private;
+            if slot.take(start, round, process, private) {
+                return;
             }
         }
         unreachable!()

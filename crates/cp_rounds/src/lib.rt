@@ -13,8 +13,8 @@
 //! - `turns`, `closing`: a private turn, and the end of a round.
 //! - `run`, `round`: rounds by threads that are kept, which draw the chunks of each wave from its
 //!   board.
-//! - `desk`, `task`, `desk_turns`, `cursor`: private turns on their way between threads, and how the
-//!   threads make them.
+//! - `desk`, `slot`, `task`, `desk_turns`, `cursor`: private turns on their way between threads, and
+//!   how the threads make them.
 //! - `hand`: what the calling thread holds in a round, and how it takes private states back.
 //! - `replay`, `copies`, `events`: one round in any order of events, on the calling thread.
 #![tactic(auto)]
@@ -39,6 +39,7 @@ pub mod replay;
 mod round;
 mod run;
 mod setting;
+mod slot;
 mod starting;
 pub mod state;
 mod stillness;

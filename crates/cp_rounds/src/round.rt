@@ -28,6 +28,7 @@ use cp_kernel::kernel::Kernel;
 use cp_kernel::turns::kernel_turn;
 use cp_plan::turn::Turn;
 use cp_private::private::Private;
+use cp_private::resident::Resident;
 use std::alloc::AllocError;
 use std::snapshot::Snapshot;
 use std::sync::{OnceToken, Wait};
@@ -56,12 +57,15 @@ fn reserve_output(
 }
 
 // Reserves room for what all processes write in a round, and for all of them as askers of each
-// gate.
+// gate. Returns how many private turns the round makes at the desk: those of all processes, or else
+// of those that don't rest.
 fn reserve_room(
-    privates: &mut Vec<Private>,
+    privates: &mut Vec<Resident>,
     kernel: &mut Kernel,
     turn: Turn,
-) -> Result<(), AllocError>
+    of_all: bool,
+    wakes: bool,
+) -> Result<usize, AllocError>
     requires numbers { AreNumbered privates.old.items }
     requires stages { length kernel.old.stages.items ≡ length privates.old.items }
     ensures same { AreSame privates.old.items kernel.old privates.new.items kernel.new }
@@ -70,10 +74,15 @@ fn reserve_room(
         (λ _. IsReady (11 * turn.steps) 0 privates.new.items kernel.new) }
 {
     kernel.reserve_askers(privates.len())?;
+    let mut turns = 0usize;
     for i in 0..privates.len() {
-        reserve_output(&mut privates[i], kernel, i + 1, turn)?;
+        let private = privates[i].private_mut();
+        if of_all || !private.rests(wakes) {
+            turns = turns.wrapping_add(1);
+        }
+        reserve_output(private, kernel, i + 1, turn)?;
     }
-    Ok(())
+    Ok(turns)
 }
 
 // Takes the private state of a process from the desk, after its private turn. It is kept out of the
@@ -86,13 +95,13 @@ fn take_from_desk<'a, C: Course, R: Wait, G: TurnGate>(
     start: &OnceToken<'a, Start>,
     round: usize,
     process: usize,
-    private: &mut Private,
+    private: &mut Resident,
 )
     requires cell { start.now.of ≡ C.cell round }
     ensures { IsTaken (C.turned (C.moment round)) (C.input (process - 1)) C.most
         start.now.value.value.items process private.new }
 {
-    *private = hand.take(rt, run, start, round, process);
+    hand.take(rt, run, start, round, process, private);
 }
 
 // Brings back a private state after its private turn, which it has made where it is if it rests.
@@ -105,7 +114,7 @@ fn bring_back<'a, C: Course, R: Wait, G: TurnGate>(
     round: usize,
     moment: Moment,
     process: usize,
-    private: &mut Private,
+    private: &mut Resident,
 )
     requires some { 0 < process }
     requires cell { start.now.of ≡ C.cell round }
@@ -117,7 +126,7 @@ fn bring_back<'a, C: Course, R: Wait, G: TurnGate>(
     ensures taken { IsTaken (C.turned (C.moment round)) (C.input (process - 1)) C.most
         start.now.value.value.items process private.new }
 {
-    if !private.rests(moment.wakes) {
+    if !private.private().rests(moment.wakes) {
         take_from_desk(rt, run, hand, start, round, process, private);
     }
 }
@@ -132,7 +141,7 @@ fn finish_next<'a, C: Course, R: Wait, G: TurnGate>(
     round: usize,
     moment: Moment,
     index: usize,
-    privates: &mut Vec<Private>,
+    privates: &mut Vec<Resident>,
     kernel: &mut Kernel,
 )
     requires within { index < length privates.old.items }
@@ -164,7 +173,7 @@ fn finish_next<'a, C: Course, R: Wait, G: TurnGate>(
     kernel_turn(
         &run.turns.setting.program,
         kernel,
-        private,
+        private.private_mut(),
         input,
         moment.clock,
         run.turns.plan.turn,
@@ -180,7 +189,7 @@ fn finish_all<'a, C: Course, R: Wait, G: TurnGate>(
     start: &OnceToken<'a, Start>,
     round: usize,
     moment: Moment,
-    privates: &mut Vec<Private>,
+    privates: &mut Vec<Resident>,
     kernel: &mut Kernel,
 )
     requires count { length privates.old.items ≡ length start.now.value.value.items }
@@ -202,18 +211,6 @@ fn finish_all<'a, C: Course, R: Wait, G: TurnGate>(
         finish_next(rt, run, hand, start, round, moment, i, privates, kernel);
     }
     hand.end_wave(rt, run);
-}
-
-// Returns how many private turns a round makes at the desk: those of all processes, or else of those
-// that don't rest.
-fn turns_at_desk(privates: &[Private], of_all: bool, wakes: bool) -> usize {
-    if of_all {
-        return privates.len();
-    }
-    privates
-        .iter()
-        .filter(|private| !private.rests(wakes))
-        .count()
 }
 
 // How many steps make it worth waking a thread.
@@ -291,10 +288,15 @@ pub fn make_round<'a, C: Course, R: Wait, G: TurnGate>(
         gate,
         ..
     } = &run.turns;
-    reserve_room(&mut parts.privates, &mut parts.kernel, plan.turn)?;
     let moment = setting.moment(run.done + round as u64);
     let of_all = !gate.does_nothing();
-    let turns = turns_at_desk(&parts.privates, of_all, moment.wakes);
+    let turns = reserve_room(
+        &mut parts.privates,
+        &mut parts.kernel,
+        plan.turn,
+        of_all,
+        moment.wakes,
+    )?;
     let helpers = helpers(turns, of_all, plan.turn).min(run.rack.places());
     let waves = waves_of(rt, run, round, turns, helpers + 1)?;
     // Only this round writes its cell, but no contract says so.
@@ -304,7 +306,6 @@ pub fn make_round<'a, C: Course, R: Wait, G: TurnGate>(
     hand.begin(rt, run, waves);
     desk.put_all(
         rt,
-        run.alloc,
         plan,
         &start,
         round,

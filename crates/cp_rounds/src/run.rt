@@ -97,6 +97,11 @@ fn ending<'a, C: Course, R: Wait, G: TurnGate>(
     Wave::new(rt, run.alloc, cell_at(run.sheets, last), last, 0, workers)
 }
 
+// Returns how many processes a chunk has at most: no more than its wave.
+fn slots_of(plan: &Plan) -> usize {
+    plan.chunk.min(plan.wave) as usize
+}
+
 // Starts the threads of a run, and makes its rounds. The stop is called when it returns, so that all
 // threads end.
 fn make_rounds_at<'s, 'a, E, C: Course + Send + Sync, R: Threads + Wait + Sync, G: TurnGate>(
@@ -117,7 +122,7 @@ fn make_rounds_at<'s, 'a, E, C: Course + Send + Sync, R: Threads + Wait + Sync, 
     let Ok(ending) = ending(rt, run) else {
         return (parts, Err(0));
     };
-    let Ok(mut hand) = Hand::new(run.alloc, run.turns.plan.chunk as usize) else {
+    let Ok(mut hand) = Hand::new(run.alloc, slots_of(&run.turns.plan)) else {
         return (parts, Err(0));
     };
     let made = match start(rt, scope, &run.rack, &run.turns) {
@@ -224,7 +229,8 @@ fn make_rounds_by_threads<C: Course + Send + Sync, R: Threads + Wait + Sync, G: 
     let processes = parts.privates.len();
     let threads = plan.threads(processes);
     let chunks = plan.chunks(0, processes);
-    let Ok(desk) = Desk::<C>::new(alloc, chunks.saturating_mul(waves), plan.chunk as usize) else {
+    let trays = chunks.saturating_mul(waves);
+    let Ok(desk) = Desk::<C>::new(alloc, trays, slots_of(plan)) else {
         return (parts, Err(0));
     };
     let Ok(rack) = Rack::<C>::new(alloc, threads.saturating_sub(1)) else {

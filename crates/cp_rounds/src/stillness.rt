@@ -26,6 +26,7 @@ impl<'r, 't> Machine<'r, 't> {
         ensures { TellsStill self.now result }
     {
         for private in &self.parts.privates {
+            let private = private.private();
             let stage = self.parts.kernel.stage(private.number() as u32);
             if can_move(stage, private.activity()) {
                 return false;

@@ -14,13 +14,13 @@ use crate::setting::Setting;
 use crate::turns::turn_in_place;
 use cp_crew::Sheets;
 use cp_plan::turn::Turn;
-use cp_private::private::Private;
+use cp_private::resident::Resident;
 use std::marker::{Brand, PhantomData};
 use std::snapshot::Snapshot;
 use std::sync::OnceToken;
 
 /// The private states at the start of a round, for proofs only.
-pub type Start = Snapshot<Vec<Private>>;
+pub type Start = Snapshot<Vec<Resident>>;
 
 /// What is the same in all rounds of a run. Whoever begins the run chooses it.
 pub trait Course: Sheets {
@@ -59,7 +59,7 @@ pub struct Task<'a, C: Course> {
     process: usize,
     moment: Moment,
     pub(crate) made: bool,
-    private: Private,
+    private: Resident,
     start: OnceToken<'a, Start>,
     of: PhantomData<C>,
     ghost cell: { start.of ≡ C.cell round },
@@ -78,7 +78,7 @@ impl<'a, C: Course> Task<'a, C> {
         round: usize,
         process: usize,
         moment: Moment,
-        private: Private,
+        private: Resident,
     ) -> Task<'a, C>
         requires cell { start.now.of ≡ C.cell round }
         requires time { moment ≡ C.moment round }
@@ -117,7 +117,8 @@ impl<'a, C: Course> Task<'a, C> {
         requires first { self.old.made ≡ false }
         ensures made { self.new.made ≡ true }
     {
-        turn_in_place(setting, &mut self.private, self.process, self.moment, turn);
+        let private = self.private.private_mut();
+        turn_in_place(setting, private, self.process, self.moment, turn);
         self.made = true;
     }
 
@@ -128,7 +129,7 @@ impl<'a, C: Course> Task<'a, C> {
         start: &OnceToken<'a, Start>,
         round: usize,
         process: usize,
-    ) -> Option<Private>
+    ) -> Option<Resident>
         requires cell { start.now.of ≡ C.cell round }
         ensures number { IfSome result (λ x. x.number ≡ process) }
         ensures comes { IfSome result (ComesOf (C.turned (C.moment round)) (C.input (process - 1))

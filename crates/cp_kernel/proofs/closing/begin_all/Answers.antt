@@ -12,7 +12,8 @@ use Rattle.cp_kernel.proofs.closing.begin_all.Goals as goal
 
 pub loop-private-preserved : goal.loop-private-preserved
 loop-private-preserved c = record {
-  numbers = same_at (λ (x : Private). x.number) c.loop-private.privates c.loop-private.private-index c.private-item.result c.begin.new.private c.begin.ensures.number
+  numbers = same_at (λ (x : Private). x.number) c.loop-private.privates c.loop-private.private-index c.private-item.result c.begin.new.private
+      (c.begin.ensures.number ∙ ap (λ (x : Private). x.number) c.private_mut.ensures.value)
       ∙ c.loop-private.invariant.numbers;
   begun = λ inputs.
       let f = plain.begin_one (view.program c.args.program.now) (kernel_of c.args.kernel.now) in
@@ -29,7 +30,7 @@ loop-private-preserved c = record {
       sym (got_changed f i all) ∙ (ap (λ ys. slice_get ys i) (sym was) ∙ parts_got inputs 1 xs i found here) in
       let next : suc i ≡ i + 1 = omega arith in
       parts_set inputs 1 xs i c.begin.new.private
-      ∙ (ap (slice_set (parts_of inputs 1 xs) i) (c.begin.ensures.begun (inputs (1 + i)))
+      ∙ (ap (slice_set (parts_of inputs 1 xs) i) (c.begin.ensures.begun (inputs (1 + i)) ∙ ap (λ (z : Private). f (private_of z (inputs (1 + i)))) c.private_mut.ensures.value)
       ∙ (ap (λ ys. slice_set ys i (f o)) was
       ∙ (next_changed f i all o there ∙ ap (λ n. changed_below f n all) next)));
 }

@@ -1,4 +1,5 @@
 use Rattle.std.proofs.Common.{◌≡◌, ℕ, List, [], Some, length, slice_get, sym, ap, ◌∙◌, subst, arith}
+use Rattle.cp_private.specs.States.{private_of}
 use Rattle.cp_private.specs.declared.private.Private.{Private}
 use Rattle.cp_rounds.specs.Replayed.{EachWoken}
 use Rattle.cp_rounds.proofs.Lists.{got_or}
@@ -16,17 +17,19 @@ loop-private-preserved c =
     let wakes = c.args.wakes in
     let xs = c.args.privates.now in
     let ys = c.loop-private.copies.items in
-    let x = c.private-item.result in
-    let y = c.in_ok-woken_copy.field-0 in
+    let x = c.private.result.now in
+    let y = c.in_ok-new.field-0 in
     let was = c.loop-private.invariant in
     let count = was.count in
     let items = c.in_ok-push.ensures.items in
     let more = ap (λ (l : List Private). length l) items ∙ longer ys y in
     let here : slice_get xs (length ys) ≡ Some x =
-    ap (λ (i : ℕ). slice_get xs i) count ∙ (got_or xs c.loop-private.private-index x c.loop-private-test.true ∙ ap (λ (z : Private). Some z) (sym c.private-item.is)) in
+    ap (λ (i : ℕ). slice_get xs i) count ∙ (got_or xs c.loop-private.private-index c.private-item.result c.loop-private-test.true
+    ∙ ap (λ (z : Private). Some z) (sym (c.private.ensures ∙ c.private-item.is))) in
     record {
       count = omega (arith, more, count);
-      each = subst (λ (l : List Private). EachWoken wakes xs l) (sym items) (one_woken wakes xs ys x y here c.in_ok-woken_copy.ensures was.each);
+      each = subst (λ (l : List Private). EachWoken wakes xs l) (sym items) (one_woken wakes xs ys x y here
+          (λ input. ap (λ (z : Private). private_of z input) c.in_ok-new.ensures ∙ c.in_ok-copy.ensures input) was.each);
     }
 
 pub returns : goal.returns

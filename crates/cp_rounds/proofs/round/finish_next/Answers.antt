@@ -8,6 +8,7 @@ use Rattle.cp_program.specs.View as view
 use Rattle.cp_rounds.specs.MachineOf.{input_at}
 use Rattle.cp_rounds.specs.Numbers.{AreNumbered}
 use Rattle.cp_rounds.specs.Runs.{TurnsTaken}
+use Rattle.cp_rounds.specs.Tasks.{IsTaken}
 use Rattle.cp_rounds.specs.Turned.{take_turn}
 use Rattle.cp_rounds.specs.declared.moment.Moment.{Moment}
 use Rattle.cp_rounds.proofs.Lists.{got_at}
@@ -29,9 +30,11 @@ returns-clause-taken g c = λ rounds k time was.
     let xs = c.args.start.now.value.value.items in
     let k1 = c.args.kernel.now in
     let k2 = c.kernel_turn.new.kernel in
-    let y = c.bring_back.new.private in
+    let y = c.private_mut.result.now in
     let z = c.kernel_turn.new.private in
-    let taken = c.bring_back.ensures.taken in
+    let taken : IsTaken (g.C.Course.turned moment) (g.C.Course.input ((i + 1) - 1)) g.C.Course.most xs (i + 1) y =
+    subst (λ (w : Private). IsTaken (g.C.Course.turned moment) (g.C.Course.input ((i + 1) - 1)) g.C.Course.most xs (i + 1) w)
+    (sym c.private_mut.ensures.value) c.bring_back.ensures.taken in
     let within = c.requires.within in
     let count = c.requires.count in
     let back : (i + 1) - 1 ≡ i = omega arith in
@@ -59,7 +62,8 @@ returns-clause-numbers g c = λ h.
     let next : i + 1 ≡ suc i = omega arith in
     let before : i ≡ length (take i ys) = sym (length-take-le i ys (omega (arith, within))) in
     subst (λ (l : List Private). AreNumbered l) (sym (take_more_set ys i z within))
-    (numbered_more (take i ys) z (c.kernel_turn.ensures.number ∙ (c.bring_back.ensures.taken.number ∙ (next ∙ ap suc before))) h)
+    (numbered_more (take i ys) z (c.kernel_turn.ensures.number
+    ∙ (ap (λ (w : Private). w.number) c.private_mut.ensures.value ∙ (c.bring_back.ensures.taken.number ∙ (next ∙ ap suc before)))) h)
 
 pub returns-clause-left : goal.returns-clause-left
 returns-clause-left g c = λ j y from e is.
@@ -74,12 +78,12 @@ returns-clause-ready g c =
     let xs = c.args.start.now.value.value.items in
     let k1 = c.args.kernel.now in
     let k2 = c.kernel_turn.new.kernel in
-    let y = c.bring_back.new.private in
+    let y = c.private_mut.result.now in
     let most = g.C.Course.most in
     let within = c.requires.within in
     let count = c.requires.count in
     let ready = c.requires.ready in
-    let number = c.bring_back.ensures.taken.number in
+    let number = ap (λ (w : Private). w.number) c.private_mut.ensures.value ∙ c.bring_back.ensures.taken.number in
     let moves = c.kernel_turn.ensures.turn.moves in
     let left : length xs - i ≡ (length xs - (i + 1)) + 1 = omega (arith, within, count) in
     record {

@@ -11,11 +11,11 @@ pub returns-in_err-reserve_output-clause-same : goal.returns-in_err-reserve_outp
 returns-in_err-reserve_output-clause-same c =
     let i = c.loop-i.i in
     let xs = c.loop-i.privates.items in
-    let x = c.index_mut.result.now in
+    let x = c.private_mut-private.result.now in
     let y = c.reserve_output.new.private in
     let made = c.reserve_output.ensures in
     let below = c.loop-i-test.true in
-    let here : slice_get xs i ≡ Some x = got_or xs i x (omega (arith, below)) ∙ ap (λ (z : Private). Some z) (sym c.index_mut.ensures.value) in
+    let here : slice_get xs i ≡ Some x = got_or xs i c.index_mut.result.now (omega (arith, below)) ∙ ap (λ (z : Private). Some z) (sym (c.private_mut-private.ensures.value ∙ c.index_mut.ensures.value)) in
     same_more c.args.privates.now.items c.args.kernel.now xs c.loop-i.kernel i x y c.reserve_output.new.kernel here made.private made.kernel made.transcripts
     c.loop-i.invariant.same
 
@@ -23,7 +23,7 @@ pub loop-i-preserved : goal.loop-i-preserved
 loop-i-preserved c =
     let i = c.loop-i.i in
     let xs = c.loop-i.privates.items in
-    let x = c.index_mut.result.now in
+    let x = c.private_mut-private.result.now in
     let y = c.reserve_output.new.private in
     let k2 = c.reserve_output.new.kernel in
     let t = c.args.turn.steps in
@@ -32,7 +32,7 @@ loop-i-preserved c =
     let below = c.loop-i-test.true in
     let back : (i + 1) - 1 ≡ i = omega arith in
     let next : suc i ≡ i + 1 = omega arith in
-    let here : slice_get xs i ≡ Some x = got_or xs i x (omega (arith, below)) ∙ ap (λ (z : Private). Some z) (sym c.index_mut.ensures.value) in
+    let here : slice_get xs i ≡ Some x = got_or xs i c.index_mut.result.now (omega (arith, below)) ∙ ap (λ (z : Private). Some z) (sym (c.private_mut-private.ensures.value ∙ c.index_mut.ensures.value)) in
     record {
       same = same_more c.args.privates.now.items c.args.kernel.now xs c.loop-i.kernel i x y k2 here made.private made.kernel made.transcripts was.same;
       asking = subst (λ (n : ℕ). HasRoomForAskers k2 n) (sym (length-set xs i y)) (room_kept c.loop-i.kernel k2 (length xs) made.gates was.asking);

@@ -27,8 +27,9 @@ loop-i-preserved c =
           (λ (old : slice_get xs j ≡ Some y). was.first j y row old there input)
           (λ (new : (j ≡ length xs) × (x ≡ y)).
           ap (λ (z : Private). private_of z input) (sym new.1)
-          ∙ (c.in_ok-new.ensures.start input row (ap (λ (n : ℕ). slice_get program.processes n) (at ∙ sym new.0) ∙ there)
-          ∙ ap (λ (p : ℕ). first_part program (λ q. input) p row) (next ∙ ap suc (sym new.0))))
+          ∙ (ap (λ (z : Private). private_of z input) c.in_ok-new.ensures
+          ∙ (c.in_ok-private.ensures.start input row (ap (λ (n : ℕ). slice_get program.processes n) (at ∙ sym new.0) ∙ there)
+          ∙ ap (λ (p : ℕ). first_part program (λ q. input) p row) (next ∙ ap suc (sym new.0)))))
           (got_snoc xs x j y e));
       count = omega (arith, more, count);
     }

@@ -15,12 +15,12 @@ loop-private-init c = λ i below. absurd (omega (arith, below))
 pub loop-private-preserved : goal.loop-private-preserved
 loop-private-preserved c =
     let m = c.args.self.now in
-    let x = c.private-item.result in
+    let x = c.private-private.result.now in
     let i = c.loop-private.private-index in
     let all = c.deref-private-items.result.now in
     let here : slice_get m.parts.privates.items i ≡ Some x =
     subst (λ (xs : List Private). slice_get xs i ≡ Some x) c.deref-private-items.ensures.value
-    (got_or all i x c.loop-private-test.true ∙ ap (λ (z : Private). Some z) (sym c.private-item.is)) in
+    (got_or all i c.private-item.result c.loop-private-test.true ∙ ap (λ (z : Private). Some z) (sym (c.private-private.ensures ∙ c.private-item.is))) in
     let tested : moves (stage_of (kernel_of m.parts.kernel).stages x.number) (activity x.activity) ≡ c.can_move.result =
     sym (c.can_move.ensures ∙ (λ i. moves ((c.stage-stage.ensures ∙ ap (stage_of (kernel_of m.parts.kernel).stages) (c.number.ensures.number [])) i) (c.activity.ensures [] i))) in
     rests_more m i x here (tested ∙ c.if-can_move.false) c.loop-private.invariant
@@ -28,12 +28,12 @@ loop-private-preserved c =
 pub returns-then-can_move : goal.returns-then-can_move
 returns-then-can_move c =
     let m = c.args.self.now in
-    let x = c.private-item.result in
+    let x = c.private-private.result.now in
     let i = c.loop-private.private-index in
     let all = c.deref-private-items.result.now in
     let here : slice_get m.parts.privates.items i ≡ Some x =
     subst (λ (xs : List Private). slice_get xs i ≡ Some x) c.deref-private-items.ensures.value
-    (got_or all i x c.loop-private-test.true ∙ ap (λ (z : Private). Some z) (sym c.private-item.is)) in
+    (got_or all i c.private-item.result c.loop-private-test.true ∙ ap (λ (z : Private). Some z) (sym (c.private-private.ensures ∙ c.private-item.is))) in
     let tested : moves (stage_of (kernel_of m.parts.kernel).stages x.number) (activity x.activity) ≡ c.can_move.result =
     sym (c.can_move.ensures ∙ (λ i. moves ((c.stage-stage.ensures ∙ ap (stage_of (kernel_of m.parts.kernel).stages) (c.number.ensures.number [])) i) (c.activity.ensures [] i))) in
     tell_moving m i x here (tested ∙ c.if-can_move.true)

@@ -7,11 +7,12 @@ use Rattle.cp_rounds.proofs.machine.Machine.private.Goals as goal
 pub returns-in-Some : goal.returns-in-Some
 returns-in-Some c =
     let xs = c.args.self.now.parts.privates.items in
-    let x = c.in-Some.private.now in
+    let held = c.in-Some.private.now in
+    let x = c.private.result.now in
     let i = c.args.p - 1 in
     let below : i < length xs = search rules in
-    let is : x ≡ slice_index_or xs i x = search rules in
-    let here : slice_get xs i ≡ Some x = got_or xs i x below ∙ ap (λ (z : Private). Some z) (sym is) in
+    let is : held ≡ slice_index_or xs i held = search rules in
+    let here : slice_get xs i ≡ Some x = got_or xs i held below ∙ ap (λ (z : Private). Some z) (sym (c.private.ensures ∙ is)) in
     sym (part_at c.args.self.now.setting.inputs.items i xs x here)
 
 pub returns-in-None : goal.returns-in-None

@@ -1,0 +1,90 @@
+//! Slots for private turns, and the exchange of private states with them.
+
+ghost use Rattle.std.specs.Prelude.{◌≡◌, ◌-◌, false, true, Some, slice_get};
+ghost use Rattle.cp_private.specs.Resting.{rests};
+ghost use Rattle.cp_rounds.specs.Tasks.{HasRoomLeft, IsTaken};
+
+use crate::moment::Moment;
+use crate::task::{Course, Start, Task};
+use cp_private::private::Private;
+use cp_private::resident::Resident;
+use std::alloc::{AllocError, Global};
+use std::mem;
+use std::sync::OnceToken;
+
+/// A slot of the desk. It holds the task of a process, or else a spare private state, which takes
+/// the place of the process's own while that is here.
+#[derive(Drop)]
+pub struct Slot<'a, C: Course> {
+    spare: Option<Resident>,
+    pub(crate) task: Option<Task<'a, C>>,
+}
+
+impl<'a, C: Course> Slot<'a, C> {
+    /// Returns a slot without a task.
+    ///
+    /// # Errors
+    ///
+    /// `AllocError` if memory runs out.
+    pub fn empty(alloc: Global) -> Result<Slot<'a, C>, AllocError> {
+        let spare = Resident::new(alloc, Private::absent(alloc))?;
+        Ok(Slot {
+            spare: Some(spare),
+            task: None,
+        })
+    }
+
+    /// Lays the turn of a process, which is still to be made, and leaves the spare private state in
+    /// the place of its own, where it doesn't rest.
+    #[inline(always)]
+    pub fn lay(
+        &mut self,
+        start: &OnceToken<'a, Start>,
+        round: usize,
+        process: usize,
+        moment: Moment,
+        private: &mut Resident,
+    )
+        requires cell { start.now.of ≡ C.cell round }
+        requires time { moment ≡ C.moment round }
+        requires number { private.old.number ≡ process }
+        requires at { slice_get start.now.value.value.items (process - 1) ≡ Some private.old }
+        requires room { HasRoomLeft C.most false private.old }
+        ensures left { rests moment.wakes private.new ≡ true → private.new ≡ private.old }
+    {
+        let Some(spare) = self.spare.take() else {
+            return;
+        };
+        // No spare private state rests, but no contract says so.
+        if spare.private().rests(moment.wakes) {
+            return;
+        }
+        let private = mem::replace(private, spare);
+        self.task = Some(Task::new(start, round, process, moment, private));
+    }
+
+    /// Takes the private state of a process after its private turn into its place, which the spare
+    /// one leaves. Returns false if this isn't the turn of this process in this round, or if it isn't
+    /// made.
+    #[inline(always)]
+    pub fn take(
+        &mut self,
+        start: &OnceToken<'a, Start>,
+        round: usize,
+        process: usize,
+        private: &mut Resident,
+    ) -> bool
+        requires cell { start.now.of ≡ C.cell round }
+        ensures { result ≡ true → IsTaken (C.turned (C.moment round)) (C.input (process - 1))
+            C.most start.now.value.value.items process private.new }
+    {
+        let Some(task) = self.task.take() else {
+            return false;
+        };
+        let Some(found) = task.finish(start, round, process) else {
+            return false;
+        };
+        self.spare = Some(mem::replace(private, found));
+        true
+    }
+}
