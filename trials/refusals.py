@@ -14,10 +14,10 @@ from running import PROGRAM, ROOT, ROUNDS, expect, expect_at_least, expect_one_o
 MEMORY = (3, b'', b'fault M\n')
 # What is refused, and the fewest refusals of each: a little below what docs/PROOFS.md tells, since builds differ by a few allocations.
 KINDS = ('ALLOCATION', 'THREAD', 'READ', 'WRITE')
-LEAST_OF_RUN = {'ALLOCATION': 415, 'THREAD': 1, 'READ': 430, 'WRITE': 165}
-LEAST_OF_REPLAY = {'ALLOCATION': 450, 'THREAD': 0, 'READ': 610, 'WRITE': 165}
-LEAST_OF_OUTCOME = {'ALLOCATION': 415, 'THREAD': 1, 'READ': 300, 'WRITE': 170}
-LEAST_OF_NAMED = {'ALLOCATION': 370, 'THREAD': 1, 'READ': 350, 'WRITE': 80}
+LEAST_OF_RUN = {'ALLOCATION': 430, 'THREAD': 1, 'READ': 430, 'WRITE': 165}
+LEAST_OF_REPLAY = {'ALLOCATION': 495, 'THREAD': 0, 'READ': 610, 'WRITE': 165}
+LEAST_OF_OUTCOME = {'ALLOCATION': 460, 'THREAD': 1, 'READ': 300, 'WRITE': 170}
+LEAST_OF_NAMED = {'ALLOCATION': 380, 'THREAD': 1, 'READ': 350, 'WRITE': 80}
 LEAST_OF_EXPLANATION = {'ALLOCATION': 150, 'THREAD': 0, 'READ': 190, 'WRITE': 385}
 LEAST_OF_TRACE = {'READ': 300, 'WRITE': 255}
 
