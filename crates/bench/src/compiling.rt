@@ -5,13 +5,12 @@ use cp_compile::compile;
 use cp_model::tree::Tree;
 use cp_program::program::Program;
 use cp_scan::scan;
-use cp_scope::CompileError;
 use cp_syntax::parse;
-use std::alloc::Global;
+use std::alloc::{AllocError, Global};
 use std::io;
 
 // Makes the tables of a tree, and its program.
-fn program_of(alloc: Global, tree: &Tree) -> Result<Program, CompileError> {
+fn program_of(alloc: Global, tree: &Tree) -> Result<Program, AllocError> {
     let tables = tables_of(alloc, tree)?;
     compile(alloc, tree, &tables)
 }

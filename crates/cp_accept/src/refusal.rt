@@ -10,7 +10,6 @@ use cp_model::rules::{Rule, Violation};
 use cp_orders::reading::OrderError;
 use cp_rules::text::RuleError;
 use cp_scan::{Cause, ScanError};
-use cp_scope::CompileError;
 use std::alloc::{AllocError, AllocFailed};
 use thiserror::Error;
 
@@ -155,14 +154,5 @@ impl From<RuleError> for Refusal {
             RuleError::Broken(violation) => Refusal::from(violation),
             RuleError::Memory => Refusal::Memory,
         }
-    }
-}
-
-// What can't be compiled of an accepted text is told as want of memory, as `cp_check::check` does.
-impl From<CompileError> for Refusal {
-    ghost from_gives = { λ _ r. r ≡ refusal.Memory };
-
-    fn from(_error: CompileError) -> Refusal {
-        Refusal::Memory
     }
 }

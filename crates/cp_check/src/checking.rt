@@ -28,22 +28,19 @@ pub struct CompiledText<'t> {
 ///
 /// # Errors
 ///
-/// `AllocError` if memory runs out. That no accepted text is refused for its numbers or names isn't
-/// proved.
+/// `AllocError` if there is no room for them.
 pub fn tables_of<'t>(alloc: Global, tree: &'t Tree) -> Result<Tables<'t>, AllocError>
     ensures { IfOk result (λ tables. TablesStand (globals (erase.abstract (view.tree tree.now)))
         tables tree.now) }
 {
-    Ok(Tables::of_tree(alloc, tree)?)
+    Tables::of_tree(alloc, tree)
 }
 
 /// Compiles a text that was accepted.
 ///
 /// # Errors
 ///
-/// `AllocError` if memory runs out, or if the plans by which the words of routines and components
-/// start would take too much of it. That the compiler refuses no accepted text for its numbers or
-/// names isn't proved.
+/// `AllocError` if there is no room for its tables or its program.
 pub fn compile_accepted<'t>(alloc: Global, tree: &'t Tree) -> Result<CompiledText<'t>, AllocError>
     requires accepted { Accepted (view.tree tree.now) }
     ensures { IfOk result (IsCompiled tree.now) }
@@ -58,8 +55,7 @@ pub fn compile_accepted<'t>(alloc: Global, tree: &'t Tree) -> Result<CompiledTex
 ///
 /// # Errors
 ///
-/// `Broken` if the text breaks a rule, and `Memory` if memory runs out or [`compile_accepted`]
-/// fails.
+/// `Broken` if the text breaks a rule, and `Memory` if there is no room for what is made of it.
 pub fn check<'t>(alloc: Global, tree: &'t Tree) -> Result<CompiledText<'t>, RuleError>
     ensures { Checks tree.now result }
 {

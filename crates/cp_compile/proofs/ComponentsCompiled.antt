@@ -1,5 +1,5 @@
 -- Components are made one after another.
-use Rattle.std.proofs.Common.{◌≡◌, ◌∷◌, ◌++◌, ◌+◌, ◌∙◌, suc, Bool, true, false, ℕ, List, [], Some, Bor, ap, append_assoc, arith, if◌then◌else◌, length, map, refl, slice_get, subst, sym}
+use Rattle.std.proofs.Common.{◌≡◌, ◌∷◌, ◌++◌, ◌+◌, ◌∙◌, suc, Bool, true, false, ℕ, List, [], None, Some, Bor, ap, append_assoc, arith, if◌then◌else◌, length, map, refl, slice_get, subst, sym}
 use Rattle.std.proofs.lemmas.Option.{same_Some}
 use Rattle.std.proofs.lemmas.List.{append-nil}
 use Rattle.cp_model.specs.Abstract as a
@@ -24,6 +24,7 @@ use Rattle.cp_scope.specs.declared.systems.SystemTable.{SystemTable}
 use Rattle.cp_scope.specs.declared.types.Types.{Types}
 use Rattle.cp_scope.specs.Numbering.{system_of}
 use Rattle.cp_scope.specs.Standing.{Stands, row_at, system_at}
+use Rattle.cp_scope.proofs.SystemsMade.{has_table, lacks_no_table}
 use Rattle.cp_scope.specs.declared.variables.Declared.{Declared}
 use Rattle.cp_scope.specs.Components.{own_members}
 use Rattle.cp_scope.specs.Layouts.{rights_of}
@@ -127,7 +128,7 @@ component_put of plans g firsts groups vs v i k text table n o body text_is tabl
     let count : length text.now.routines.items ≡ length there.0.routines =
     sym (mapped_length tree.routine rs) ∙ sym (mapped_length erase.routine (map tree.routine rs)) ∙ ap (λ (s : a.System). length s.routines) erased in
     let plan = i.planned k text table text_is table_is ∙ ap (plan_of_component g) erased in
-    let own = is plans g of.tables.now.types there.0 ps ws rs (i.systems k text table text_is table_is) written plan in
+    let own = is plans g of.tables.now.types there.0 ps ws rs (has_table g of.tables.now.types of.tables.now.systems.items k text table i.systems text_is table_is) written plan in
     let x : code.Owner = record { system = there.0; body = or_zero (lookup (declared_type v.0 groups) firsts) + length there.0.routines } in (
       x,
       λ rest. ap (λ t. owner_before firsts groups (v.0, record v.1 { type = t }) rest) there.2,
@@ -138,6 +139,26 @@ component_put of plans g firsts groups vs v i k text table n o body text_is tabl
         plan = own.plan;
       },
     )
+
+-- A component of a sort has a system type, which has a table.
+pub owner_has_table : (of : InitialCompiler) (plans : List StartPlan) (g : GlobalScope) (firsts : List (Name × ℕ)) (groups : List Group) (vs : List (Name × Variable))
+    → IsInitial of plans g firsts groups vs → (n k : ℕ) (t : ResolvedType) → Stands of.tables.now.types n t
+    → system_of (row_at of.tables.now.types n) ≡ Some k → slice_get of.tables.now.systems.items k ≡ None → ⊥
+owner_has_table of plans g firsts groups vs i n k t stands number none =
+    let there = component_there of.tables.now.types n k t stands number in
+    lacks_no_table g of.tables.now.types of.tables.now.systems.items k there.3 i.systems there.4 none
+
+pub owner_has_type : (types : Types) (n k : ℕ) (t : ResolvedType) → Stands types n t → system_of (row_at types n) ≡ Some k → system_at types k ≡ None → ⊥
+owner_has_type types n k t stands number none = (let there = component_there types n k t stands number in let some = there.4 in cc)
+
+pub owner_has_number : (types : Types) (n : ℕ) (s : Sort) (t : ResolvedType) → Stands types n t → is_component_of s t ≡ true
+    → system_of (row_at types n) ≡ None → ⊥
+owner_has_number types n s (Simple b low high start) h own none = (cc)
+owner_has_number types n s (ArrayOf low high t) h own none = (cc)
+owner_has_number types n s (RecordOf ms) h own none = (cc)
+owner_has_number types n s Queue h own none = (cc)
+owner_has_number types n s NoType h own none = (cc)
+owner_has_number types n s (ComponentOf y ms) h own none = (let some = ap system_of h.3 in cc)
 
 -- ---- One variable
 

@@ -101,4 +101,4 @@ initial_owner tables known t c plans body routines o stands is made body_is rout
 pub planner_is : (tables : Tables) (planner : Planner) (g : GlobalScope) (t : text.Tree) → planner.tables.now ≡ tables
     → ((h : GlobalScope) → ScopeStands tables.names tables.types h → AreLaid h tables.types tables.layouts.rows.items → Knows planner h)
     → TablesStand g tables t → IsPlanner tables planner g
-planner_is tables planner g t over knows stands = record { over = over; knows = knows g stands.scope stands.laid }
+planner_is tables planner g t over knows stands = record { over = over; knows = knows g stands.scope stands.laid.laid }

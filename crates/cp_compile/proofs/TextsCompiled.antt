@@ -19,12 +19,16 @@ use Rattle.cp_program_model.specs.Programs.{StartPlan}
 use Rattle.cp_program_model.specs.Scopes.{or_zero}
 use Rattle.cp_emit.specs.declared.emitter.Emitter.{Emitter}
 use Rattle.cp_scope.specs.declared.types.Types.{Types}
+use Rattle.cp_scope.specs.Scopes.{IsWritten}
+use Rattle.cp_translate.specs.Initialisation.{IsTable}
 use Rattle.cp_scope.specs.Numbering.{system_of}
 use Rattle.cp_scope.specs.Standing.{TypeMeans, row_at, system_at}
 use Rattle.cp_scope.specs.Tables.{InFront}
 use Rattle.cp_scope.proofs.Written.{view_array, view_record}
 use Rattle.cp_compile.specs.Compiles.{IsCompiled}
-use Rattle.cp_compile.specs.CompiledTexts.{AreNamed, IsDefined, TypesAre, defined_name}
+use Rattle.cp_compile.specs.CompiledSystems.{IsSystem}
+use Rattle.cp_compile.specs.CompiledTexts.{AreNamed, IsDefined, IsText, TypesAre, defined_name}
+use Rattle.cp_compile.specs.declared.system.SystemCompiler.{SystemCompiler}
 
 -- ---- System types
 
@@ -42,6 +46,34 @@ system_there types o t s ms k means is number = go o (subst (TypeMeans types o) 
     go (Some of) h n =
         let same : h.0 ≡ k = same_Some h.0 k (sym (ap system_of h.3) ∙ n) in
         (h.2, subst (λ i. system_at types i ≡ Some h.2) same h.4, h.5)
+
+-- A system type has a number.
+pub system_numbered : (types : Types) (o : Option ℕ) (t : Option ResolvedType) (s : a.System) (ms : Members) → TypeMeans types o t
+    → t ≡ Some (ComponentOf s ms) → number_in types o ≡ None → ⊥
+system_numbered types o t s ms means is none = go o (subst (TypeMeans types o) is means) none
+  where
+    go : (p : Option ℕ) → TypeMeans types p (Some (ComponentOf s ms)) → number_in types p ≡ None → ⊥
+    go None h n = h
+    go (Some of) h n = (let some = ap system_of h.3 in cc)
+
+-- A system type of a text is compiled with its table.
+pub system_known : (of : SystemCompiler) (g : GlobalScope) (s : a.System) (firsts : List (Name × ℕ)) → IsText (record { tables = of.tables; planner = of.planner }) g
+    → IsTable g of.tables.now.types of.system.now s → ((x : Name) → lookup x of.firsts.now ≡ lookup x firsts) → IsSystem of g s firsts
+system_known of g s firsts i table same = record {
+  parameters = table.text.parameters.items;
+  variables = table.text.variables.items;
+  routines = table.text.routines.items;
+  written =
+      subst (λ (y : a.System). IsWritten y table.text.parameters.items table.text.variables.items table.text.routines.items) table.is
+      (record { parameters = refl; variables = refl; routines = refl });
+  names = i.names;
+  laid = i.laid;
+  systems = i.systems;
+  system = table.stands;
+  planned = i.planned;
+  knows = i.knows;
+  firsts_are = same;
+}
 
 -- ---- First units
 

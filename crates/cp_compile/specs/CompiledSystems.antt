@@ -9,7 +9,7 @@ use Rattle.cp_model.specs.declared.tree.Routine as tree
 use Rattle.cp_program_model.specs.Compile.{Compiled}
 use Rattle.cp_emit.specs.declared.emitter.Emitter.{Emitter}
 use Rattle.cp_emit.specs.Planning.{Knows, known_of}
-use Rattle.cp_scope.specs.Layouts.{AreLaid}
+use Rattle.cp_scope.specs.Layouts.{EachIsLaid}
 use Rattle.cp_scope.specs.Scopes.{IsWritten}
 use Rattle.cp_scope.specs.Standing.{ScopeStands}
 use Rattle.cp_scope.specs.Systems.{SystemStands}
@@ -24,7 +24,7 @@ pub record IsSystem (of : SystemCompiler) (g : GlobalScope) (s : System) (firsts
   pub routines : List tree.Routine
   pub written : IsWritten s parameters variables routines
   pub names : ScopeStands of.tables.now.names of.tables.now.types g
-  pub laid : AreLaid g of.tables.now.types of.tables.now.layouts.rows.items
+  pub laid : EachIsLaid g of.tables.now.types of.tables.now.layouts.rows.items
   pub systems : AreSystems g of.tables.now.types of.tables.now.systems.items
   pub system : SystemStands g of.tables.now.types of.system.now parameters variables routines
   pub planned : of.planner.now.tables.now ≡ of.tables.now

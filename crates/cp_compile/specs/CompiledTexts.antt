@@ -11,20 +11,18 @@ use Rattle.cp_program_model.specs.Compile.{CompiledTypes, with_definition, with_
 use Rattle.cp_program_model.specs.Programs.{StartPlan}
 use Rattle.cp_emit.specs.declared.emitter.Emitter.{Emitter}
 use Rattle.cp_emit.specs.Planning.{Knows, known_of}
-use Rattle.cp_scope.specs.Layouts.{AreLaid}
+use Rattle.cp_scope.specs.Layouts.{EachIsLaid}
 use Rattle.cp_scope.specs.Numbering.{system_of}
 use Rattle.cp_scope.specs.Standing.{ScopeStands, row_at}
-use Rattle.cp_scope.specs.Systems.{SystemStands}
 use Rattle.cp_scope.specs.Texts.{AreSystems}
 use Rattle.cp_scope.specs.declared.tables.Tables.{Tables}
-use Rattle.cp_compile.specs.declared.definitions.SystemText.{SystemText}
 use Rattle.cp_compile.specs.declared.definitions.TextCompiler.{TextCompiler}
 use Rattle.cp_compile.specs.Compiles.{IsCompiled}
 
 -- The tables stand for the text with the outermost scope `g`.
 pub record IsText (of : TextCompiler) (g : GlobalScope) : Type 0 where
   pub names : ScopeStands of.tables.now.names of.tables.now.types g
-  pub laid : AreLaid g of.tables.now.types of.tables.now.layouts.rows.items
+  pub laid : EachIsLaid g of.tables.now.types of.tables.now.layouts.rows.items
   pub systems : AreSystems g of.tables.now.types of.tables.now.systems.items
   pub planned : of.planner.now.tables.now ≡ of.tables.now
   pub knows : Knows of.planner.now g
@@ -42,12 +40,6 @@ number_of t (Some of) = system_of (row_at t.types of)
 
 abbrev pub system_number : Tables → Name → Option ℕ
 system_number t x = number_of t (lookup x t.names.types)
-
--- The text and the table of a system type.
-pub record IsSystemText (of : TextCompiler) (g : GlobalScope) (found : SystemText) (s : System) : Type 0 where
-  pub text : erase.system (tree.system found.text.now) ≡ s
-  pub table : SystemStands g of.tables.now.types found.table.now found.text.now.parameters.items
-      found.text.now.variables.items found.text.now.routines.items
 
 -- ---- Definitions
 

@@ -1,6 +1,6 @@
 //! Compiles a text to a program.
 
-ghost use Rattle.std.specs.Prelude.{◌≡◌, IfOk, List, length};
+ghost use Rattle.std.specs.Prelude.{◌≡◌, [], IfOk, List, length};
 ghost use Rattle.cp_model.specs.Declarations.{globals};
 ghost use Rattle.cp_model.specs.Rules.{Accepted};
 ghost use Rattle.cp_model.specs.Types.{GlobalScope};
@@ -12,6 +12,7 @@ ghost use Rattle.cp_emit.specs.Planning.{known_of};
 ghost use Rattle.cp_scope.specs.Texts.{TablesStand};
 ghost use Rattle.cp_program.specs.View as view;
 ghost use Rattle.cp_program.specs.View.{origins_of};
+ghost use Rattle.cp_compile.specs.Compiles.{EndsAt};
 ghost use Rattle.cp_compile.specs.CompiledPrograms.{ArePlansOf, ComponentsLie, IsCode, IsPlanner, text_of};
 
 use crate::components::{InitialCompiler, Owner};
@@ -23,8 +24,8 @@ use cp_emit::plan::Planner;
 use cp_model::tree::{Sort, Tree};
 use cp_names::NameTable;
 use cp_program::program::{Monitor, Process, Program};
-use cp_scope::{CompileError, Tables, small_number};
-use std::alloc::Global;
+use cp_scope::{Tables, small_number, small_sum};
+use std::alloc::{AllocError, Global};
 
 /// The code of a text: its operations and units, the first unit of each type by name, and the first
 /// unit of the initial process.
@@ -58,11 +59,15 @@ fn compile_code<'t>(
     tree: &'t Tree,
     tables: &Tables<'t>,
     planner: &Planner<'_, 't>,
-) -> Result<Code<'t>, CompileError>
-    ensures { IfOk result (λ code. Accepted (syntax.tree tree.now)
+) -> Result<Code<'t>, AllocError>
+    ensures code { IfOk result (λ code. Accepted (syntax.tree tree.now)
         → TablesStand (globals (text_of tree.now)) tables.now tree.now
         → IsPlanner tables.now planner.now (globals (text_of tree.now))
         → IsCode (known_of planner.now) code (text_of tree.now)) }
+    ensures origin { IfOk result (λ code.
+        TablesStand (globals (text_of tree.now)) tables.now tree.now
+        → IsPlanner tables.now planner.now (globals (text_of tree.now))
+        → EndsAt tree.now.body.at [] code.emitter.origins.items) }
 {
     let mut firsts = NameTable::new(alloc);
     let mut emitter = Emitter::new(alloc);
@@ -90,7 +95,7 @@ fn compile_code<'t>(
 }
 
 // Makes the plans of the components of all system types and of the initial process.
-fn make_plans<'t>(tables: &Tables<'t>, planner: &mut Planner<'_, 't>) -> Result<Plans, CompileError>
+fn make_plans<'t>(tables: &Tables<'t>, planner: &mut Planner<'_, 't>) -> Result<Plans, AllocError>
     ensures plans { IfOk result (λ plans. (g : GlobalScope) (t : text.Tree)
         → TablesStand g tables.now t → IsPlanner tables.now planner.old g
         → ArePlansOf (known_of planner.new) g tables.now t plans) }
@@ -109,7 +114,7 @@ fn lay_components<'t>(
     tables: &Tables<'t>,
     code: &Code<'t>,
     plans: Plans,
-) -> Result<Components, CompileError>
+) -> Result<Components, AllocError>
     ensures { IfOk result (λ components. (known : List StartPlan)
         → TablesStand (globals (text_of tree.now)) tables.now tree.now
         → IsCode known code.now (text_of tree.now)
@@ -124,10 +129,7 @@ fn lay_components<'t>(
     let mut monitors = Vec::new(alloc);
     compiler.add_owners(Sort::Monitor, &mut monitors)?;
     let routines = small_number(tree.routines.len())?;
-    let body = code
-        .first
-        .checked_add(routines)
-        .ok_or(CompileError::Unaccepted)?;
+    let body = small_sum(code.first, routines)?;
     let mut processes = Vec::new(alloc);
     processes.push(Owner::of(&tables.initial, body, plans.initial)?)?;
     compiler.add_owners(Sort::Process, &mut processes)?;
@@ -146,13 +148,12 @@ fn lay_components<'t>(
 ///
 /// # Errors
 ///
-/// `Memory` if memory runs out, and `Unaccepted` if the tree has a number or a name that no accepted
-/// text has.
+/// `AllocError` if memory runs out, or a number of 32 bits isn't enough for the program.
 pub fn compile<'t>(
     alloc: Global,
     tree: &'t Tree,
     tables: &Tables<'t>,
-) -> Result<Program, CompileError>
+) -> Result<Program, AllocError>
     ensures program { IfOk result (λ program. Accepted (syntax.tree tree.now)
         → TablesStand (globals (text_of tree.now)) tables.now tree.now
         → view.program program ≡ code.compile (text_of tree.now)) }

@@ -1,6 +1,6 @@
 //! Monitors and processes, and where their words lie.
 
-ghost use Rattle.std.specs.Prelude.{◌≡◌, ◌++◌, ◌∷◌, [], List, Some, ℕ, IfOk, OnOk};
+ghost use Rattle.std.specs.Prelude.{◌≡◌, ◌++◌, ◌∷◌, [], List, Some, ℕ, IfOk, OnOk, slice_get};
 ghost use Rattle.cp_model.specs.Abstract.{Group, Name};
 ghost use Rattle.cp_model.specs.Declarations.{Variable};
 ghost use Rattle.cp_model.specs.Erase as erase;
@@ -8,13 +8,14 @@ ghost use Rattle.cp_model.specs.Types.{GlobalScope};
 ghost use Rattle.cp_program_model.specs.Compile as code;
 ghost use Rattle.cp_program_model.specs.Compile.{of_sort, owners_of};
 ghost use Rattle.cp_scope.specs.Numbering.{system_of};
-ghost use Rattle.cp_scope.specs.Standing.{Stands, row_at};
+ghost use Rattle.cp_scope.specs.Standing.{Stands, row_at, system_at};
 ghost use Rattle.cp_program_model.specs.Programs.{StartPlan};
 ghost use Rattle.cp_compile.specs.CompiledComponents.{AreOwners, IsInitial, IsOwner, PutsOwner};
 
-use cp_model::tree::Sort;
+use cp_model::tree::{Sort, System};
 use cp_names::NameTable;
-use cp_scope::{CompileError, Declared, SystemTable, Tables, small_number};
+use cp_scope::{Declared, SystemTable, Tables, small_number, small_sum};
+use std::alloc::AllocError;
 
 /// A monitor or a process: the unit of its body, the number of its words, the number of shared
 /// words in which its parameters wait, and the number of its plan.
@@ -37,44 +38,43 @@ pub struct InitialCompiler<'s, 't> {
 
 impl Owner {
     /// Makes a component of a system type, given the unit of its body and the number of its plan.
-    pub fn of(table: &SystemTable, body: u32, plan: u32) -> Result<Owner, CompileError>
+    pub fn of(table: &SystemTable, body: u32, plan: u32) -> Result<Owner, AllocError>
         ensures { IfOk result (IsOwner table.now body plan) }
     {
         let waiting = small_number(table.parameters.len())?;
         Ok(Owner {
             body,
-            words: table.members.words.ok_or(CompileError::Unaccepted)?,
-            waiting: waiting.checked_add(1).ok_or(CompileError::Unaccepted)?,
+            words: table.members.words.ok_or(AllocError)?,
+            waiting: small_sum(waiting, 1)?,
             plan,
         })
     }
 }
 
 impl<'s, 't> InitialCompiler<'s, 't> {
-    // The component that a variable is, where `number` is that of its system type.
-    fn component(&self, d: &Declared<'t>, number: usize) -> Result<Owner, CompileError>
+    // The component that a variable is, whose system type has this number, text and table.
+    fn component(
+        &self,
+        d: &Declared<'t>,
+        number: usize,
+        text: &'t System,
+        table: &SystemTable,
+    ) -> Result<Owner, AllocError>
         ensures { IfOk result (λ o. (plans : List StartPlan) (g : GlobalScope)
             (firsts : List (Name × ℕ)) (groups : List Group) (vs : List (Name × Variable))
             (v : Variable) → IsInitial self.now plans g firsts groups vs
             → Stands self.now.tables.now.types d.now.of v.type
             → system_of (row_at self.now.tables.now.types d.now.of) ≡ Some number
+            → system_at self.now.tables.now.types number ≡ Some text.entry
+            → slice_get self.now.tables.now.systems.items number ≡ Some table.now
             → PutsOwner plans g firsts groups (d.now.name.now, v) o) }
     {
-        let text = self
-            .tables
-            .types
-            .system(number)
-            .ok_or(CompileError::Unaccepted)?;
-        let table = self.tables.system(number).ok_or(CompileError::Unaccepted)?;
         let of = self.tables.initial.variable_type(d.name);
         let first = self.firsts.find(of).unwrap_or(0);
         let routines = small_number(text.routines.len())?;
-        let body = first.checked_add(routines).ok_or(CompileError::Unaccepted)?;
+        let body = small_sum(first, routines)?;
         let behind = small_number(number)?;
-        let plan = self
-            .plans
-            .checked_add(behind)
-            .ok_or(CompileError::Unaccepted)?;
+        let plan = small_sum(self.plans, behind)?;
         Owner::of(table, body, plan)
     }
 
@@ -84,7 +84,7 @@ impl<'s, 't> InitialCompiler<'s, 't> {
         sort: Sort,
         d: &Declared<'t>,
         owners: &mut Vec<Owner>,
-    ) -> Result<(), CompileError>
+    ) -> Result<(), AllocError>
         ensures { OnOk result ((plans : List StartPlan) (g : GlobalScope)
             (firsts : List (Name × ℕ)) (groups : List Group) (vs : List (Name × Variable))
             (v : Variable) (before : List code.Owner) → IsInitial self.now plans g firsts groups vs
@@ -97,13 +97,21 @@ impl<'s, 't> InitialCompiler<'s, 't> {
         if !types.is_component_of(sort, d.of) {
             return Ok(());
         }
-        let number = types.system_of(d.of).ok_or(CompileError::Unaccepted)?;
-        owners.push(self.component(d, number)?)?;
+        let Some(number) = types.system_of(d.of) else {
+            return Ok(());
+        };
+        let Some(text) = types.system(number) else {
+            return Ok(());
+        };
+        let Some(table) = self.tables.system(number) else {
+            return Ok(());
+        };
+        owners.push(self.component(d, number, text, table)?)?;
         Ok(())
     }
 
     /// Adds the components of a sort that the initial process declares.
-    pub fn add_owners(&self, sort: Sort, owners: &mut Vec<Owner>) -> Result<(), CompileError>
+    pub fn add_owners(&self, sort: Sort, owners: &mut Vec<Owner>) -> Result<(), AllocError>
         ensures { OnOk result ((plans : List StartPlan) (g : GlobalScope)
             (firsts : List (Name × ℕ)) (groups : List Group) (vs : List (Name × Variable))
             (before : List code.Owner) → IsInitial self.now plans g firsts groups vs

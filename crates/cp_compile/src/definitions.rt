@@ -1,7 +1,7 @@
 //! Compiles the system types of a text in text order, and records the first unit of each named
 //! type.
 
-ghost use Rattle.std.specs.Prelude.{◌≡◌, IfOk, OnOk, Some, length, map};
+ghost use Rattle.std.specs.Prelude.{◌≡◌, IfOk, IsSomeAnd, OnOk, Some, length, map};
 ghost use Rattle.cp_model.specs.Abstract as a;
 ghost use Rattle.cp_model.specs.Erase as erase;
 ghost use Rattle.cp_model.specs.Types.{ComponentOf, GlobalScope, Members};
@@ -9,28 +9,23 @@ ghost use Rattle.cp_model.specs.Names.{lookup};
 ghost use Rattle.cp_model.specs.View as tree;
 ghost use Rattle.cp_program_model.specs.Compile.{CompiledTypes, first_of_type, with_system};
 ghost use Rattle.cp_emit.specs.Planning.{known_of};
-ghost use Rattle.cp_compile.specs.CompiledTexts.{CompilesAll, CompilesOne, DefinesType, IsSystemText, IsText, TypesAre, system_number};
-ghost use Rattle.cp_compile.specs.Compiles.{IsCompiled};
+ghost use Rattle.cp_compile.specs.CompiledTexts.{CompilesAll, CompilesOne, DefinesType, IsText, TypesAre, system_number};
+ghost use Rattle.cp_translate.specs.Initialisation.{IsTable};
+ghost use Rattle.cp_compile.specs.Compiles.{EndsAt, IsCompiled};
 
 use crate::system::SystemCompiler;
 use cp_emit::Emitter;
 use cp_emit::plan::Planner;
 use cp_model::tree::{Defined, Section, System, TypeDefinition, TypeExpression};
 use cp_names::NameTable;
-use cp_scope::{CompileError, SystemTable, Tables, add_name};
+use cp_scope::{SystemTable, Tables};
+use std::alloc::AllocError;
 
 /// What the definitions of a text are compiled with.
 #[derive(Clone, Copy)]
 pub struct TextCompiler<'s, 't> {
     pub tables: &'s Tables<'t>,
     pub planner: &'s Planner<'s, 't>,
-}
-
-// The text of a system type, and its table.
-#[derive(Clone, Copy)]
-struct SystemText<'s, 't> {
-    text: &'t System,
-    table: &'s SystemTable<'t>,
 }
 
 // The first unit of a written type. For a name, it is that of the type that the name means.
@@ -62,45 +57,46 @@ impl<'s, 't> TextCompiler<'s, 't> {
         self.tables.types.system_of(of)
     }
 
-    // The system type that a name is defined as.
-    fn system_text(&self, name: &[u8]) -> Result<SystemText<'s, 't>, CompileError>
-        ensures { IfOk result (λ found. (g : GlobalScope) (s : a.System) (ms : Members)
-            → IsText self.now g → lookup name.now g.types ≡ Some (ComponentOf s ms)
-            → IsSystemText self.now g found s) }
+    // The table of the system type that a name is defined as.
+    fn table(&self, name: &[u8]) -> Option<&'s SystemTable<'t>>
+        ensures { (g : GlobalScope) (s : a.System) (ms : Members) → IsText self.now g
+            → lookup name.now g.types ≡ Some (ComponentOf s ms)
+            → IsSomeAnd result (λ table. IsTable g self.now.tables.now.types table.now s) }
     {
-        let number = self.number(name).ok_or(CompileError::Unaccepted)?;
-        let text = self
-            .tables
-            .types
-            .system(number)
-            .ok_or(CompileError::Unaccepted)?;
-        let table = self.tables.system(number).ok_or(CompileError::Unaccepted)?;
-        Ok(SystemText { text, table })
+        self.tables.system(self.number(name)?)
     }
 
     // Compiles the system type that a name is defined as, and returns its first unit.
     fn system(
         &self,
         name: &[u8],
+        text: &System,
         firsts: &NameTable<'t, u32>,
         emitter: &mut Emitter,
-    ) -> Result<u32, CompileError>
-        ensures { IfOk result (λ first. (g : GlobalScope) (m : CompiledTypes) (s : a.System)
-            (ms : Members) → IsText self.now g → lookup name.now g.types ≡ Some (ComponentOf s ms)
+    ) -> Result<u32, AllocError>
+        ensures code { IfOk result (λ first. (g : GlobalScope) (m : CompiledTypes) (s : a.System)
+            (ms : Members) → IsText self.now g → erase.system (tree.system text.now) ≡ s
+            → lookup name.now g.types ≡ Some (ComponentOf s ms)
             → TypesAre (known_of self.now.planner.now) emitter.old firsts.now m
             → IsCompiled (known_of self.now.planner.now) emitter.new
             (with_system g m.firsts s m.compiled) × (first ≡ length m.compiled.units)) }
+        ensures origin { OnOk result ((g : GlobalScope) (s : a.System) (ms : Members)
+            → IsText self.now g → erase.system (tree.system text.now) ≡ s
+            → lookup name.now g.types ≡ Some (ComponentOf s ms)
+            → EndsAt text.now.body.at emitter.old.origins.items emitter.new.origins.items) }
     {
-        let found = self.system_text(name)?;
         let first = emitter.units()?;
+        let Some(table) = self.table(name) else {
+            // There is a table for each system type.
+            return Ok(first);
+        };
         let compiler = SystemCompiler {
             tables: self.tables,
             planner: self.planner,
             firsts,
-            system: found.table,
+            system: table,
             first,
         };
-        let text = found.text;
         let body = &text.body;
         compiler.compile(
             text.sort,
@@ -118,14 +114,14 @@ impl<'s, 't> TextCompiler<'s, 't> {
         d: &TypeDefinition,
         firsts: &NameTable<'t, u32>,
         emitter: &mut Emitter,
-    ) -> Result<u32, CompileError>
+    ) -> Result<u32, AllocError>
         ensures { IfOk result (DefinesType self.now emitter.old emitter.new firsts.now
             (erase.type_definition (tree.type_definition d.now))) }
     {
         match &d.defined {
             Defined::Written(t) => Ok(first_of_type_expression(t, firsts)),
             Defined::Enumeration(_) => Ok(0),
-            Defined::System(_) => self.system(d.name.name.as_bytes(), firsts, emitter),
+            Defined::System(text) => self.system(d.name.name.as_bytes(), text, firsts, emitter),
         }
     }
 
@@ -135,13 +131,12 @@ impl<'s, 't> TextCompiler<'s, 't> {
         d: &'t TypeDefinition,
         firsts: &mut NameTable<'t, u32>,
         emitter: &mut Emitter,
-    ) -> Result<(), CompileError>
+    ) -> Result<(), AllocError>
         ensures { OnOk result (CompilesOne self.now emitter.old emitter.new firsts.old firsts.new
             (erase.type_definition (tree.type_definition d.now))) }
     {
         let first = self.first_of(d, firsts, emitter)?;
-        add_name(firsts, d.name.name.as_bytes(), first)?;
-        Ok(())
+        firsts.set(d.name.name.as_bytes(), first)
     }
 
     // Compiles the type definitions of a section.
@@ -150,7 +145,7 @@ impl<'s, 't> TextCompiler<'s, 't> {
         list: &'t [TypeDefinition],
         firsts: &mut NameTable<'t, u32>,
         emitter: &mut Emitter,
-    ) -> Result<(), CompileError>
+    ) -> Result<(), AllocError>
         ensures { OnOk result (CompilesAll self.now emitter.old emitter.new firsts.old firsts.new
             (map erase.type_definition (map tree.type_definition list.now))) }
     {
@@ -165,7 +160,7 @@ impl<'s, 't> TextCompiler<'s, 't> {
         section: &'t Section,
         firsts: &mut NameTable<'t, u32>,
         emitter: &mut Emitter,
-    ) -> Result<(), CompileError>
+    ) -> Result<(), AllocError>
         ensures { OnOk result (CompilesAll self.now emitter.old emitter.new firsts.old firsts.new
             (erase.section (tree.section_of section.now))) }
     {
@@ -181,7 +176,7 @@ impl<'s, 't> TextCompiler<'s, 't> {
         sections: &'t [Section],
         firsts: &mut NameTable<'t, u32>,
         emitter: &mut Emitter,
-    ) -> Result<(), CompileError>
+    ) -> Result<(), AllocError>
         ensures { OnOk result (CompilesAll self.now emitter.old emitter.new firsts.old firsts.new
             (erase.sections (map tree.section_of sections.now))) }
     {

@@ -9,8 +9,8 @@ ghost use Rattle.cp_compile.specs.LaidComponents.{MonitorsLie, ProcessesLie};
 
 use crate::components::Owner;
 use cp_program::program::{Monitor, Process};
-use cp_scope::CompileError;
-use std::alloc::Global;
+use cp_scope::small_sum;
+use std::alloc::{AllocError, Global};
 
 /// Monitors that lie one after another, and the number of words that they take.
 #[derive(Drop)]
@@ -27,7 +27,7 @@ pub struct ProcessLayout {
 }
 
 /// Lays out monitors, from the first shared word on.
-pub fn lay_monitors(alloc: Global, owners: &[Owner]) -> Result<MonitorLayout, CompileError>
+pub fn lay_monitors(alloc: Global, owners: &[Owner]) -> Result<MonitorLayout, AllocError>
     ensures { IfOk result (λ m. (plans : List StartPlan) (g : GlobalScope) (xs : List code.Owner)
         → AreOwners plans g owners.now xs → MonitorsLie plans g m xs) }
 {
@@ -40,7 +40,7 @@ pub fn lay_monitors(alloc: Global, owners: &[Owner]) -> Result<MonitorLayout, Co
             words: owner.words,
             plan: owner.plan,
         })?;
-        at = at.checked_add(owner.words).ok_or(CompileError::Unaccepted)?;
+        at = small_sum(at, owner.words)?;
     }
     Ok(MonitorLayout {
         monitors,
@@ -53,7 +53,7 @@ pub fn lay_processes(
     alloc: Global,
     owners: &[Owner],
     start: u32,
-) -> Result<ProcessLayout, CompileError>
+) -> Result<ProcessLayout, AllocError>
     ensures { IfOk result (λ p. (plans : List StartPlan) (g : GlobalScope) (xs : List code.Owner)
         → AreOwners plans g owners.now xs → ProcessesLie plans g start p xs) }
 {
@@ -67,9 +67,7 @@ pub fn lay_processes(
             waiting: owner.waiting,
             plan: owner.plan,
         })?;
-        at = at
-            .checked_add(owner.waiting)
-            .ok_or(CompileError::Unaccepted)?;
+        at = small_sum(at, owner.waiting)?;
     }
     Ok(ProcessLayout { processes, end: at })
 }

@@ -10,7 +10,8 @@ ghost use Rattle.cp_program_model.specs.StandsFor.{end_of};
 ghost use Rattle.cp_scope.specs.Routines.{RoutineStands};
 ghost use Rattle.cp_scope.specs.Systems.{routines_of};
 ghost use Rattle.cp_program.specs.View as view;
-ghost use Rattle.cp_compile.specs.Compiles.{body_of};
+ghost use Rattle.cp_compile.specs.Compiles.{AddsUnit, EndsAt, body_of};
+ghost use Rattle.cp_emit.specs.Emission.{Continues};
 ghost use Rattle.cp_compile.specs.CompiledSystems.{IsSystem, Makes};
 
 use crate::unit::compile_unit;
@@ -19,7 +20,8 @@ use cp_emit::plan::Planner;
 use cp_model::tree::{Routine, Sort, Statement};
 use cp_names::NameTable;
 use cp_program::operation::Operation;
-use cp_scope::{CompileError, RoutineTable, Scope, SystemTable, Tables};
+use cp_scope::{RoutineTable, Scope, SystemTable, Tables};
+use std::alloc::AllocError;
 
 /// What the units of a system type are compiled with: the tables of the text, the planner, the
 /// first unit of each type that was defined before, by name, the table of the system type, and its
@@ -50,12 +52,16 @@ impl<'s, 't> SystemCompiler<'s, 't> {
         table: &RoutineTable<'t>,
         text: &Routine,
         emitter: &mut Emitter,
-    ) -> Result<(), CompileError>
-        ensures { OnOk result ((g : GlobalScope) (s : System) (firsts : List (Name × ℕ))
+    ) -> Result<(), AllocError>
+        ensures code { OnOk result ((g : GlobalScope) (s : System) (firsts : List (Name × ℕ))
             (c : Compiled) → IsSystem self.now g s firsts
             → RoutineStands g self.now.tables.now.types table.now
             (erase.routine (tree.routine text.now)) → Makes self.now emitter.old emitter.new c
             (with_routine g s firsts self.now.first (erase.routine (tree.routine text.now)) c)) }
+        ensures origin { OnOk result ((g : GlobalScope) (s : System) (firsts : List (Name × ℕ))
+            → IsSystem self.now g s firsts → RoutineStands g self.now.tables.now.types table.now
+            (erase.routine (tree.routine text.now))
+            → AddsUnit text.now.name.at emitter.old.origins.items emitter.new.origins.items) }
     {
         let is_function = text.result_type.is_some();
         let scope = Scope::new(
@@ -83,11 +89,14 @@ impl<'s, 't> SystemCompiler<'s, 't> {
     }
 
     // Compiles routines.
-    fn routines(&self, texts: &[Routine], emitter: &mut Emitter) -> Result<(), CompileError>
-        ensures { OnOk result ((g : GlobalScope) (s : System) (firsts : List (Name × ℕ))
+    fn routines(&self, texts: &[Routine], emitter: &mut Emitter) -> Result<(), AllocError>
+        ensures code { OnOk result ((g : GlobalScope) (s : System) (firsts : List (Name × ℕ))
             (c : Compiled) → IsSystem self.now g s firsts → s.routines ≡ routines_of texts.now
             → Makes self.now emitter.old emitter.new c
             (with_routines g s firsts self.now.first (routines_of texts.now) c)) }
+        ensures origins { OnOk result ((g : GlobalScope) (s : System) (firsts : List (Name × ℕ))
+            → IsSystem self.now g s firsts → s.routines ≡ routines_of texts.now
+            → Continues emitter.old.origins.items emitter.new.origins.items) }
     {
         for i in 0..texts.len() {
             let Some(table) = self.system.routine_at(i) else {
@@ -106,11 +115,14 @@ impl<'s, 't> SystemCompiler<'s, 't> {
         body: &[Statement],
         origin: usize,
         emitter: &mut Emitter,
-    ) -> Result<(), CompileError>
-        ensures { OnOk result ((g : GlobalScope) (s : System) (firsts : List (Name × ℕ))
+    ) -> Result<(), AllocError>
+        ensures code { OnOk result ((g : GlobalScope) (s : System) (firsts : List (Name × ℕ))
             (c : Compiled) → IsSystem self.now g s firsts → s.sort ≡ erase.sort_of sort
             → s.body ≡ body_of body.now → Makes self.now emitter.old emitter.new c
             (with_body g s firsts self.now.first c)) }
+        ensures origin { OnOk result ((g : GlobalScope) (s : System) (firsts : List (Name × ℕ))
+            → IsSystem self.now g s firsts
+            → AddsUnit origin emitter.old.origins.items emitter.new.origins.items) }
     {
         let scope = Scope::new(self.tables, self.system, None, self.firsts, self.first);
         let alloc = self.planner.alloc();
@@ -134,12 +146,15 @@ impl<'s, 't> SystemCompiler<'s, 't> {
         body: &[Statement],
         origin: usize,
         emitter: &mut Emitter,
-    ) -> Result<(), CompileError>
-        ensures { OnOk result ((g : GlobalScope) (s : System) (firsts : List (Name × ℕ))
+    ) -> Result<(), AllocError>
+        ensures code { OnOk result ((g : GlobalScope) (s : System) (firsts : List (Name × ℕ))
             (c : Compiled) → IsSystem self.now g s firsts → self.now.first ≡ length c.units
             → s.sort ≡ erase.sort_of sort → s.routines ≡ routines_of routines.now
             → s.body ≡ body_of body.now
             → Makes self.now emitter.old emitter.new c (with_system g firsts s c)) }
+        ensures origin { OnOk result ((g : GlobalScope) (s : System) (firsts : List (Name × ℕ))
+            → IsSystem self.now g s firsts → s.routines ≡ routines_of routines.now
+            → EndsAt origin emitter.old.origins.items emitter.new.origins.items) }
     {
         self.routines(routines, emitter)?;
         self.body(sort, body, origin, emitter)

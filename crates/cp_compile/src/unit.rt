@@ -6,15 +6,15 @@ ghost use Rattle.cp_program_model.specs.Programs.{StartPlan};
 ghost use Rattle.cp_program_model.specs.Scopes as code;
 ghost use Rattle.cp_scope.specs.Scopes.{IsScope};
 ghost use Rattle.cp_program.specs.View as view;
-ghost use Rattle.cp_compile.specs.Compiles.{IsCompiled, body_of};
+ghost use Rattle.cp_compile.specs.Compiles.{AddsUnit, IsCompiled, body_of};
 
 use cp_emit::Emitter;
 use cp_model::tree::Statement;
 use cp_program::operation::Operation;
 use cp_program::program::StartPiece;
-use cp_scope::{CompileError, Scope};
+use cp_scope::Scope;
 use cp_translate::Translator;
-use std::alloc::Global;
+use std::alloc::{AllocError, Global};
 
 /// Compiles the statements `body` to a unit, which stands at the place `origin` of the text. It ends
 /// with the operation `last`, and its activations start by the plan `starts`.
@@ -26,11 +26,13 @@ pub fn compile_unit(
     body: &[Statement],
     origin: usize,
     emitter: &mut Emitter,
-) -> Result<(), CompileError>
-    ensures { OnOk result ((known : List StartPlan) (s : code.Scope) (c : Compiled)
+) -> Result<(), AllocError>
+    ensures code { OnOk result ((known : List StartPlan) (s : code.Scope) (c : Compiled)
         → IsScope scope.now s → IsCompiled known emitter.old c → IsCompiled known emitter.new
         (with_unit s (view.plan_of known starts.items) (view.operation last) (body_of body.now)
         c)) }
+    ensures origin { OnOk result ((s : code.Scope) → IsScope scope.now s
+        → AddsUnit origin emitter.old.origins.items emitter.new.origins.items) }
 {
     emitter.begin(scope.words()?);
     let at = emitter.push(last, origin)?;

@@ -3,6 +3,7 @@ pub mod Changing
 pub mod CallsEmitted
 pub mod Placing
 pub mod Loops
+pub mod Continuing
 pub mod Drafting
 pub mod PlansKept
 pub mod PartsPlanned

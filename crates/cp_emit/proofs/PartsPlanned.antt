@@ -1,6 +1,7 @@
 -- Parts are placed, arranged and planned one by one.
 use Rattle.std.proofs.Common.{◌≡◌, ◌≤◌, ◌<◌, ◌∙◌, ◌+◌, ◌++◌, ◌∷◌, ℕ, zero, suc, List, [], Bool, true, false, refl, ap, sym, subst, append-nil, get_or, if◌then◌else◌, length, map, drop, take, arith}
 use Rattle.std.specs.Prelude.{nat_le, nat_lt, slice_set, ◌&&◌}
+use Rattle.std.proofs.lemmas.Option.{slice_get_past}
 use Rattle.std.specs.List.{swap}
 use Rattle.cp_model.specs.Abstract.{Name}
 use Rattle.cp_model.specs.Types.{GlobalScope, Members, MoreMembers, NoMembers, ResolvedType}
@@ -9,8 +10,9 @@ use Rattle.cp_program_model.specs.Plans as text
 use Rattle.cp_program_model.specs.Plans.{arranged, count_pieces, heaviest_last, is_flat, is_short, pieces_before, plan, plan_before, plan_in_order, placed, weight}
 use Rattle.cp_program_model.specs.Programs as code
 use Rattle.cp_program.specs.declared.program.StartPiece.{StartPiece}
-use Rattle.cp_program.specs.View.{plan_at, plan_of}
-use Rattle.cp_program.proofs.PlansKnown.{pieces_counted}
+use Rattle.cp_program.specs.declared.program.StartPlan.{StartPlan}
+use Rattle.cp_program.specs.View.{plan_at, plan_of, plan_or_none, plans_in}
+use Rattle.cp_program.proofs.PlansKnown.{pieces_counted, plans_length}
 use Rattle.cp_scope.specs.declared.types.Field.{Field}
 use Rattle.cp_scope.specs.declared.types.Types.{Types}
 use Rattle.cp_scope.specs.Standing.{AreMembers, Stands}
@@ -145,3 +147,7 @@ module _ (zeros : Bool) (g : GlobalScope) (types : Types) (known : List code.Sta
           → map (placed_in known) parts ≡ placed zeros g ms at
       go NoMembers stand all = sym (append-nil (map (placed_in known) parts)) ∙ all
       go (MoreMembers x t others) stand all = absurd stand
+
+-- No plan has the number of the next one.
+pub no_plan_past : (ps : List StartPlan) (n : ℕ) → n ≡ length ps → plan_at (plans_in ps) n ≡ code.Done
+no_plan_past ps n is = ap plan_or_none (slice_get_past (plans_in ps) n (omega (arith, is, plans_length [] ps)))

@@ -25,9 +25,14 @@ units_of known e = map (view.code_unit known) e.units.items
 abbrev pub place_of : Emitter → ℕ
 place_of e = length (operations_of e)
 
--- The operations become `operations`, and everything else of the emitter stays the same.
+-- Origins may have been added. Those that were there stay.
+abbrev pub Continues : List ℕ → List ℕ → Type 0
+Continues old new = (more : List ℕ) × (new ≡ old ++ more)
+
+-- The operations become `operations`, and the units stay as they are.
 pub record Goes (old new : Emitter) (operations : List op.Operation) : Type 0 where
   pub operations_are : operations_of new ≡ operations
+  pub origins_continue : Continues old.origins.items new.origins.items
   pub units_are : new.units ≡ old.units
   pub first_is : new.first ≡ old.first
   pub words_are : new.words ≡ old.words

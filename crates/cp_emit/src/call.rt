@@ -8,8 +8,8 @@ ghost use Rattle.cp_program.specs.View as view;
 use crate::emitter::CodedCall;
 use cp_program::operation::Call;
 use cp_program::term::Term;
-use cp_scope::CompileError;
-use std::alloc::Global;
+use cp_scope::small_sum;
+use std::alloc::{AllocError, Global};
 
 /// A term for the value of a call, and the first temp after it.
 #[derive(Drop)]
@@ -26,7 +26,7 @@ pub fn make_call(
     call: Call,
     into: u32,
     at: usize,
-) -> Result<MadeTerm, CompileError>
+) -> Result<MadeTerm, AllocError>
     ensures calls { OnOk result
         (map coded_call calls.new.items ≡ map coded_call calls.old.items ++
         record { call = view.call call; into = into } ∷ []) }
@@ -35,7 +35,7 @@ pub fn make_call(
     ensures term { IfOk result (λ made. view.term made.term ≡ plain.Made into) }
     ensures temps { IfOk result (λ made. made.temps ≡ suc into) }
 {
-    let temps = into.checked_add(1).ok_or(CompileError::Unaccepted)?;
+    let temps = small_sum(into, 1)?;
     calls.push(CodedCall { call, into, at })?;
     Ok(MadeTerm {
         term: Term::temp(alloc, into),

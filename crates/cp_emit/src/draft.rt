@@ -7,8 +7,8 @@ ghost use Rattle.cp_emit.specs.Drafts.{Joins, plan_of};
 ghost use Rattle.cp_program.specs.View as view;
 
 use cp_program::program::StartPiece;
-use cp_scope::CompileError;
-use std::alloc::Global;
+use cp_scope::small_sum;
+use std::alloc::{AllocError, Global};
 
 /// A plan in progress: the pieces that are planned so far, the last one first.
 #[derive(Drop)]
@@ -18,12 +18,7 @@ pub struct Draft {
 
 // The fill that combines a fill and `next`, if `next` is a fill with the same value that begins
 // where the first one ends.
-fn join(
-    at: u32,
-    count: u32,
-    value: i32,
-    next: StartPiece,
-) -> Result<Option<StartPiece>, CompileError>
+fn join(at: u32, count: u32, value: i32, next: StartPiece) -> Result<Option<StartPiece>, AllocError>
     ensures { IfOk result (λ both. Joins at count value next both) }
 {
     match next {
@@ -32,18 +27,11 @@ fn join(
             count: more,
             value: same,
         } if at.checked_add(count) == Some(after) && same == value => {
-            let count = count.checked_add(more).ok_or(CompileError::Unaccepted)?;
+            let count = small_sum(count, more)?;
             Ok(Some(StartPiece::Fill { at, count, value }))
         }
         _ => Ok(None),
     }
-}
-
-// The word that lies `behind` words after `at`.
-fn farther(at: u32, behind: u32) -> Result<u32, CompileError>
-    ensures { IfOk result (λ word. word ≡ at + behind) }
-{
-    at.checked_add(behind).ok_or(CompileError::Unaccepted)
 }
 
 impl Draft {
@@ -57,7 +45,7 @@ impl Draft {
     }
 
     /// Plans `count` words that all start with `value`, before those planned so far.
-    pub fn fill(&mut self, at: u32, count: u32, value: i32) -> Result<(), CompileError>
+    pub fn fill(&mut self, at: u32, count: u32, value: i32) -> Result<(), AllocError>
         ensures { OnOk result ((known : List code.StartPlan)
             → plan_of known self.new ≡ fill_before at count value (plan_of known self.old)) }
     {
@@ -78,7 +66,7 @@ impl Draft {
 
     /// Plans, before everything planned so far, that the block of `size` words at `at` is repeated,
     /// for `count` blocks in all.
-    pub fn repeat(&mut self, at: u32, size: u32, count: u32) -> Result<(), CompileError>
+    pub fn repeat(&mut self, at: u32, size: u32, count: u32) -> Result<(), AllocError>
         ensures { OnOk result ((known : List code.StartPlan)
             → plan_of known self.new ≡ code.Repeat at size count (plan_of known self.old)) }
     {
@@ -87,7 +75,7 @@ impl Draft {
     }
 
     /// Plans, before everything planned so far, that the part at `at` starts by a plan.
-    pub fn part(&mut self, at: u32, plan: u32) -> Result<(), CompileError>
+    pub fn part(&mut self, at: u32, plan: u32) -> Result<(), AllocError>
         ensures { OnOk result ((known : List code.StartPlan) → plan_of known self.new
             ≡ code.Part at (view.plan_at known plan) (plan_of known self.old)) }
     {
@@ -96,9 +84,10 @@ impl Draft {
     }
 
     // Plans a piece of a plan that begins at the word `at`, before everything planned so far. The
-    // plan of a part must have a number below `below`.
-    fn piece(&mut self, at: u32, below: u32, piece: StartPiece) -> Result<(), CompileError>
-        ensures { OnOk result ((known : List code.StartPlan) → plan_of known self.new
+    // plan of a part has a number below `below`, or else there is none, as for the number `none`.
+    fn piece(&mut self, at: u32, below: u32, none: u32, piece: StartPiece) -> Result<(), AllocError>
+        ensures { OnOk result ((known : List code.StartPlan)
+            → view.plan_at known none ≡ code.Done → plan_of known self.new
             ≡ pieces_before at (view.piece_before (take below known) piece code.Done)
             (plan_of known self.old)) }
     {
@@ -107,30 +96,39 @@ impl Draft {
                 at: behind,
                 count,
                 value,
-            } => self.fill(farther(at, behind)?, count, value),
+            } => self.fill(small_sum(at, behind)?, count, value),
             StartPiece::Repeat {
                 at: behind,
                 size,
                 count,
-            } => self.repeat(farther(at, behind)?, size, count),
+            } => self.repeat(small_sum(at, behind)?, size, count),
             StartPiece::Part { at: behind, plan } => {
-                if below <= plan {
-                    return Err(CompileError::Unaccepted);
+                let at = small_sum(at, behind)?;
+                if plan < below {
+                    self.part(at, plan)
+                } else {
+                    self.part(at, none)
                 }
-                self.part(farther(at, behind)?, plan)
             }
         }
     }
 
     /// Plans the pieces of a plan that begins at the word `at`, before everything planned so far.
-    /// The plans of its parts have numbers below `below`.
-    pub fn pieces(&mut self, at: u32, below: u32, pieces: &[StartPiece]) -> Result<(), CompileError>
-        ensures { OnOk result ((known : List code.StartPlan) → plan_of known self.new
+    /// The plans of its parts have numbers below `below`, and `none` is a number that no plan has.
+    pub fn pieces(
+        &mut self,
+        at: u32,
+        below: u32,
+        none: u32,
+        pieces: &[StartPiece],
+    ) -> Result<(), AllocError>
+        ensures { OnOk result ((known : List code.StartPlan)
+            → view.plan_at known none ≡ code.Done → plan_of known self.new
             ≡ pieces_before at (view.plan_of (take below known) pieces.now)
             (plan_of known self.old)) }
     {
         for i in (0..pieces.len()).rev() {
-            self.piece(at, below, pieces[i])?;
+            self.piece(at, below, none, pieces[i])?;
         }
         Ok(())
     }

@@ -8,7 +8,8 @@ ghost use Rattle.cp_program.specs.View as view;
 use crate::emitter::{CodedCall, Emitter};
 use crate::need::Need;
 use cp_program::operation::Operation;
-use cp_scope::CompileError;
+use cp_scope::small_number;
+use std::alloc::AllocError;
 
 // Completes the operation that closes a loop, by making it lead to `body`, where the loop's body
 // begins.
@@ -54,20 +55,15 @@ fn complete_repeat_at(operations: &mut Vec<Operation>, place: u32, body: u32)
 }
 
 impl Emitter {
-    /// The place of the next operation, if it fits in 32 bits.
-    pub fn place(&self) -> Result<u32, CompileError>
+    /// The place of the next operation.
+    pub fn place(&self) -> Result<u32, AllocError>
         ensures { IfOk result (λ place. place ≡ place_of self.now) }
     {
-        let place = self.operations.len();
-        if place <= 4_294_967_295 {
-            Ok(place as u32)
-        } else {
-            Err(CompileError::Unaccepted)
-        }
+        small_number(self.operations.len())
     }
 
     /// Emits an operation that comes from the place `at` of the text, and returns its own place.
-    pub fn push(&mut self, operation: Operation, at: usize) -> Result<u32, CompileError>
+    pub fn push(&mut self, operation: Operation, at: usize) -> Result<u32, AllocError>
         ensures place { IfOk result (λ place. place ≡ place_of self.old) }
         ensures emits { OnOk result (Emits self.old self.new (view.operation operation ∷ [])) }
         ensures origin { OnOk result
@@ -103,7 +99,7 @@ impl Emitter {
 
     // Emits calls that lead to the place `next`, the last call first, and returns the place where
     // they are entered.
-    fn emit_calls(&mut self, calls: Vec<CodedCall>, next: u32) -> Result<u32, CompileError>
+    fn emit_calls(&mut self, calls: Vec<CodedCall>, next: u32) -> Result<u32, AllocError>
         ensures entry { IfOk result
             (λ entry. entry ≡ (calls_from self.old calls.items next).entry) }
         ensures emits { OnOk result
@@ -131,7 +127,7 @@ impl Emitter {
         calls: Vec<CodedCall>,
         operation: Operation,
         at: usize,
-    ) -> Result<u32, CompileError>
+    ) -> Result<u32, AllocError>
         ensures entry { IfOk result
             (λ entry. entry ≡ (operation_from self.old calls.items operation).entry) }
         ensures emits { OnOk result

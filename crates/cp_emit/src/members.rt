@@ -4,15 +4,15 @@ ghost use Rattle.std.specs.Prelude.{◌≡◌, ◌∷◌, ◌++◌, [], IfOk, On
 ghost use Rattle.cp_emit.specs.Members.{is_own, member_of, own_of};
 ghost use Rattle.cp_scope.specs.Standing.{entry};
 
-use cp_scope::{CompileError, Declared, Field, Types};
-use std::alloc::Global;
+use cp_scope::{Declared, Field, Types};
+use std::alloc::{AllocError, Global};
 
 // Adds a parameter, unless it is a right to a component.
 fn keep<'t>(
     types: &Types<'t>,
     kept: &mut Vec<Declared<'t>>,
     d: Declared<'t>,
-) -> Result<(), CompileError>
+) -> Result<(), AllocError>
     ensures { OnOk result (kept.new.items ≡ (if is_own types.now d.entry
         then kept.old.items ++ d.entry ∷ [] else kept.old.items)) }
 {
@@ -27,7 +27,7 @@ pub fn own_parameters<'t>(
     alloc: Global,
     types: &Types<'t>,
     list: &[Declared<'t>],
-) -> Result<Vec<Declared<'t>>, CompileError>
+) -> Result<Vec<Declared<'t>>, AllocError>
     ensures { IfOk result (λ own. own.items ≡ own_of types.now list.now) }
 {
     let mut kept = Vec::new(alloc);
@@ -41,7 +41,7 @@ pub fn own_parameters<'t>(
 pub fn add_members<'t>(
     members: &mut Vec<Field<'t>>,
     list: &[Declared<'t>],
-) -> Result<(), CompileError>
+) -> Result<(), AllocError>
     ensures { OnOk result (map entry members.new.items ≡ map entry members.old.items
         ++ map member_of list.now) }
 {

@@ -7,7 +7,8 @@ ghost use Rattle.cp_program.specs.View as view;
 
 use cp_program::operation::{Argument, Call, Operation};
 use cp_program::program::CodeUnit;
-use cp_scope::{CompileError, small_number};
+use cp_scope::{small_number, small_sum};
+use std::alloc::AllocError;
 
 /// The numbers of words, temps and frames that are needed.
 #[derive(Clone, Copy, Debug, PartialEq, Eq)]
@@ -15,13 +16,6 @@ pub struct Need {
     pub words: u32,
     pub temps: u32,
     pub frames: u32,
-}
-
-// The sum of two numbers, if it fits in 32 bits.
-fn sum(a: u32, b: u32) -> Result<u32, CompileError>
-    ensures { IfOk result (λ n. n ≡ a + b) }
-{
-    a.checked_add(b).ok_or(CompileError::Unaccepted)
 }
 
 impl Need {
@@ -69,11 +63,11 @@ impl Need {
     }
 
     // Raises the need to room for the arguments of an `init`, after `words` words.
-    fn with_room(self, words: u32, arguments: &[Argument]) -> Result<Need, CompileError>
+    fn with_room(self, words: u32, arguments: &[Argument]) -> Result<Need, AllocError>
         ensures { IfOk result
             (λ n. plain_need n ≡ needs.with_room words (length arguments.now) (plain_need self)) }
     {
-        let room = sum(words, sum(small_number(arguments.len())?, 1)?)?;
+        let room = small_sum(words, small_sum(small_number(arguments.len())?, 1)?)?;
         Ok(Need {
             words: self.words.max(room),
             ..self
@@ -81,7 +75,7 @@ impl Need {
     }
 
     // What a call needs. The callee's unit was emitted before.
-    fn of_call(units: &[CodeUnit], call: &Call) -> Result<Need, CompileError>
+    fn of_call(units: &[CodeUnit], call: &Call) -> Result<Need, AllocError>
         ensures { IfOk result
             (λ n. plain_need n ≡ needs.need_of_call (map (view.code_unit []) units.now)
             (view.call call.now)) }
@@ -90,14 +84,14 @@ impl Need {
             return Ok(Need::none());
         };
         Ok(Need {
-            words: sum(call.words, unit.words)?,
-            temps: sum(call.temps, unit.temps)?,
-            frames: sum(1, unit.frames)?,
+            words: small_sum(call.words, unit.words)?,
+            temps: small_sum(call.temps, unit.temps)?,
+            frames: small_sum(1, unit.frames)?,
         })
     }
 
     // What the `init` of a class or a monitor needs.
-    fn of_init(units: &[CodeUnit], call: &Call) -> Result<Need, CompileError>
+    fn of_init(units: &[CodeUnit], call: &Call) -> Result<Need, AllocError>
         ensures { IfOk result
             (λ n. plain_need n ≡ needs.with_room call.now.words (length call.now.arguments.items)
             (needs.need_of_call (map (view.code_unit []) units.now) (view.call call.now))) }
@@ -106,7 +100,7 @@ impl Need {
     }
 
     /// What an operation needs, if `units` are the units emitted before.
-    pub fn of(units: &[CodeUnit], operation: &Operation) -> Result<Need, CompileError>
+    pub fn of(units: &[CodeUnit], operation: &Operation) -> Result<Need, AllocError>
         ensures { IfOk result
             (λ n. plain_need n ≡ needs.need_of (map (view.code_unit []) units.now)
             (view.operation operation.now)) }
@@ -115,7 +109,7 @@ impl Need {
             Operation::Procedure { call, .. } => Need::of_call(units, call),
             Operation::Function { call, into, .. } => {
                 let own = Need::of_call(units, call)?;
-                Ok(own.with_temps(sum(*into, 1)?))
+                Ok(own.with_temps(small_sum(*into, 1)?))
             }
             Operation::InitClass { call, .. } => Need::of_init(units, call),
             Operation::InitMonitor { call, .. } => Need::of_init(units, call),
@@ -125,7 +119,7 @@ impl Need {
                 ..
             } => Need::none().with_room(*words, arguments),
             Operation::For { counting, .. } => {
-                Ok(Need::none().with_temps(sum(counting.temp, 2)?))
+                Ok(Need::none().with_temps(small_sum(counting.temp, 2)?))
             }
             _ => Ok(Need::none()),
         }

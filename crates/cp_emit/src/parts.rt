@@ -11,7 +11,8 @@ ghost use Rattle.cp_scope.specs.Standing.{AreMembers, entry};
 use crate::draft::Draft;
 use crate::pieces::{is_light, is_short};
 use crate::plan::{Placed, Planner};
-use cp_scope::{CompileError, Field};
+use cp_scope::{Field, small_number, small_sum};
+use std::alloc::AllocError;
 
 impl<'a, 't> Planner<'a, 't> {
     // The words of a part, unless its plan is short and has no parts.
@@ -38,21 +39,22 @@ impl<'a, 't> Planner<'a, 't> {
     }
 
     /// Plans a part before everything planned so far.
-    pub(crate) fn put(&self, part: Placed, draft: &mut Draft) -> Result<(), CompileError>
+    pub(crate) fn put(&self, part: Placed, draft: &mut Draft) -> Result<(), AllocError>
         ensures { OnOk result (plan_of (known_of self.now) draft.new
             ≡ text_plans.plan_before part.at (plan_at (known_of self.now) part.plan)
             (plan_of (known_of self.now) draft.old)) }
     {
         let pieces = self.starts(part.plan);
         if is_short(pieces) {
-            draft.pieces(part.at, part.plan, pieces)
+            let none = small_number(self.plans.len())?;
+            draft.pieces(part.at, part.plan, none, pieces)
         } else {
             draft.part(part.at, part.plan)
         }
     }
 
     // Plans parts in this order.
-    fn plan_in_order(&self, parts: &[Placed]) -> Result<Draft, CompileError>
+    fn plan_in_order(&self, parts: &[Placed]) -> Result<Draft, AllocError>
         ensures { IfOk result (λ draft. plan_of (known_of self.now) draft
             ≡ text_plans.plan_in_order (map (placed_in (known_of self.now)) parts.now)) }
     {
@@ -64,12 +66,7 @@ impl<'a, 't> Planner<'a, 't> {
     }
 
     // The members as parts, of which the first begins at the word `at`.
-    fn place(
-        &self,
-        zeros: bool,
-        members: &[Field<'t>],
-        at: u32,
-    ) -> Result<Vec<Placed>, CompileError>
+    fn place(&self, zeros: bool, members: &[Field<'t>], at: u32) -> Result<Vec<Placed>, AllocError>
         ensures { IfOk result (λ parts. (g : GlobalScope) (ms : Members) → Knows self.now g
             → AreMembers (types_of self.now) (map entry members.now) ms
             → map (placed_in (known_of self.now)) parts.items ≡ text_plans.placed zeros g ms at) }
@@ -84,7 +81,7 @@ impl<'a, 't> Planner<'a, 't> {
                 size,
                 plan,
             })?;
-            next = next.checked_add(size).ok_or(CompileError::Unaccepted)?;
+            next = small_sum(next, size)?;
         }
         Ok(parts)
     }
@@ -95,7 +92,7 @@ impl<'a, 't> Planner<'a, 't> {
         zeros: bool,
         members: &[Field<'t>],
         at: u32,
-    ) -> Result<Draft, CompileError>
+    ) -> Result<Draft, AllocError>
         ensures { IfOk result (λ draft. (g : GlobalScope) (ms : Members) → Knows self.now g
             → AreMembers (types_of self.now) (map entry members.now) ms
             → plan_of (known_of self.now) draft

@@ -4,7 +4,7 @@
 //! before. They refer to the plans of their parts. Each plan equals that of `cp_program_model`'s
 //! `specs/Plans.antt`.
 
-ghost use Rattle.std.specs.Prelude.{◌≡◌, suc, IfOk, OnOk, if◌then◌else◌, length, option_map, slice_get, take};
+ghost use Rattle.std.specs.Prelude.{◌≡◌, suc, Some, IfOk, IfSome, OnOk, if◌then◌else◌, length, option_map, slice_get, take};
 ghost use Rattle.cp_program_model.specs.Layout.{local_words};
 ghost use Rattle.cp_program_model.specs.Plans as text_plans;
 ghost use Rattle.cp_emit.specs.Drafts.{plan_of};
@@ -20,8 +20,8 @@ ghost use Rattle.cp_typing.specs.Words.{words};
 use crate::draft::Draft;
 use cp_model::tree::Parameters;
 use cp_program::program::{StartPiece, StartPlan};
-use cp_scope::{CompileError, Tables, small_number};
-use std::alloc::Global;
+use cp_scope::{Tables, small_number, small_sum};
+use std::alloc::{AllocError, Global};
 
 /// The numbers of the plans of a type: for words that may be anything before, and for words that are
 /// 0 before.
@@ -74,37 +74,37 @@ impl<'a, 't> Planner<'a, 't> {
     }
 
     /// The size in words of a variable of the type `of`.
-    pub(crate) fn words(&self, of: usize) -> Result<u32, CompileError>
+    pub(crate) fn words(&self, of: usize) -> Result<u32, AllocError>
         ensures { IfOk result (λ n. (g : GlobalScope) (t : ResolvedType) → Knows self.now g
             → Stands (types_of self.now) of t → n ≡ words g t) }
     {
         match self.tables.layouts.words(of) {
             Some(words) => Ok(words),
-            None => Err(CompileError::Unaccepted),
+            None => Err(AllocError),
         }
     }
 
     /// The size in words of a parameter or variable in an activation.
-    pub(crate) fn local_words(&self, by_reference: bool, of: usize) -> Result<u32, CompileError>
+    pub(crate) fn local_words(&self, by_reference: bool, of: usize) -> Result<u32, AllocError>
         ensures { IfOk result (λ n. (g : GlobalScope) (v : Variable) → Knows self.now g
             → by_reference ≡ v.by_reference → Stands (types_of self.now) of v.type
             → n ≡ local_words g v) }
     {
         match self.tables.layouts.local_words(by_reference, of) {
             Some(words) => Ok(words),
-            None => Err(CompileError::Unaccepted),
+            None => Err(AllocError),
         }
     }
 
     /// The number of words before the members of a component with these parameters.
-    pub(crate) fn head_words(&self, parameters: &[Parameters]) -> Result<u32, CompileError>
+    pub(crate) fn head_words(&self, parameters: &[Parameters]) -> Result<u32, AllocError>
         ensures { IfOk result (λ n. (g : GlobalScope) → Knows self.now g
             → n ≡ suc (rights_of g parameters.now)) }
     {
         let tables = self.tables;
         let rights = tables.types.rights(&tables.names, parameters);
-        let rights = rights.ok_or(CompileError::Unaccepted)?;
-        rights.checked_add(1).ok_or(CompileError::Unaccepted)
+        let rights = rights.ok_or(AllocError)?;
+        small_sum(rights, 1)
     }
 
     // The plan with this number, if there is one.
@@ -125,26 +125,27 @@ impl<'a, 't> Planner<'a, 't> {
         }
     }
 
-    // The numbers of the plans of a type, if there is such a type, and if it has plans.
-    fn numbers(&self, of: usize) -> Option<Option<TypePlans>>
-        ensures { result ≡ slice_get self.now.types.items of }
+    // The numbers of the plans of a type, unless its words are too many. Its parts come before it,
+    // so they have theirs.
+    fn numbers(&self, of: usize) -> Option<TypePlans>
+        ensures { IfSome result
+            (λ plans. slice_get self.now.types.items of ≡ Some (Some plans)) }
     {
-        self.types.get(of).copied()
+        *self.types.get(of)?
     }
 
-    /// The number of the plan of a type.
-    pub(crate) fn plan_number(&self, zeros: bool, of: usize) -> Result<u32, CompileError>
+    /// The number of the plan of a type, unless its words are too many.
+    pub(crate) fn plan_number(&self, zeros: bool, of: usize) -> Result<u32, AllocError>
         ensures { IfOk result (λ n. (g : GlobalScope) (t : ResolvedType) → Knows self.now g
             → Stands (types_of self.now) of t
             → plan_at (known_of self.now) n ≡ text_plans.plan zeros g t) }
     {
-        let numbers = self.numbers(of).ok_or(CompileError::Unaccepted)?;
-        let plans = numbers.ok_or(CompileError::Unaccepted)?;
+        let plans = self.numbers(of).ok_or(AllocError)?;
         Ok(plans.number(zeros))
     }
 
     /// Adds a plan, and returns its number.
-    pub(crate) fn add_plan(&mut self, draft: Draft) -> Result<u32, CompileError>
+    pub(crate) fn add_plan(&mut self, draft: Draft) -> Result<u32, AllocError>
         ensures extends { Extends self.old self.new }
         ensures types { self.new.types ≡ self.old.types }
         ensures added { OnOk result (length self.new.plans.items

@@ -19,7 +19,8 @@ use crate::draft::Draft;
 use crate::members::{add_members, own_parameters};
 use crate::plan::Planner;
 use cp_program::program::StartPiece;
-use cp_scope::{CompileError, Declared, SystemTable, small_number};
+use cp_scope::{Declared, SystemTable, small_number, small_sum};
+use std::alloc::AllocError;
 
 /// The word of a result that isn't set yet.
 const UNSET: i32 = i32::MIN;
@@ -32,7 +33,7 @@ fn result_words(is_function: bool) -> u32
 }
 
 // Plans, before the variables of a function, that its result isn't set.
-fn mark_result(is_function: bool, draft: &mut Draft) -> Result<(), CompileError>
+fn mark_result(is_function: bool, draft: &mut Draft) -> Result<(), AllocError>
     ensures { OnOk result ((known : List code.StartPlan) → plan_of known draft.new ≡
         (if is_function then fill_before 0 1 unset (plan_of known draft.old)
         else plan_of known draft.old)) }
@@ -46,7 +47,7 @@ fn mark_result(is_function: bool, draft: &mut Draft) -> Result<(), CompileError>
 impl<'a, 't> Planner<'a, 't> {
     // The word at which the variables of an activation begin, after its parameters, which begin at
     // the word `at`.
-    fn first_variable(&self, parameters: &[Declared<'t>], at: u32) -> Result<u32, CompileError>
+    fn first_variable(&self, parameters: &[Declared<'t>], at: u32) -> Result<u32, AllocError>
         ensures { IfOk result (λ first. (g : GlobalScope) (vs : List (Name × Variable))
             → Knows self.now g
             → AreDeclared (types_of self.now) (map declared_entry parameters.now) vs
@@ -55,7 +56,7 @@ impl<'a, 't> Planner<'a, 't> {
         let mut next = at;
         for d in parameters {
             let words = self.local_words(d.by_reference, d.of)?;
-            next = next.checked_add(words).ok_or(CompileError::Unaccepted)?;
+            next = small_sum(next, words)?;
         }
         Ok(next)
     }
@@ -67,7 +68,7 @@ impl<'a, 't> Planner<'a, 't> {
         is_function: bool,
         parameters: &[Declared<'t>],
         variables: &[Declared<'t>],
-    ) -> Result<Vec<StartPiece>, CompileError>
+    ) -> Result<Vec<StartPiece>, AllocError>
         ensures { IfOk result (λ starts. (g : GlobalScope) (r : Routine) → Knows self.now g
             → AreDeclared (types_of self.now) (map declared_entry parameters.now)
             (declarations g r.parameters)
@@ -90,7 +91,7 @@ impl<'a, 't> Planner<'a, 't> {
         &self,
         parameters: &[Declared<'t>],
         variables: &[Declared<'t>],
-    ) -> Result<Draft, CompileError>
+    ) -> Result<Draft, AllocError>
         ensures { IfOk result (λ draft. (g : GlobalScope) (s : System) → Knows self.now g
             → AreDeclared (types_of self.now) (map declared_entry parameters.now)
             (declarations g s.parameters)
@@ -112,7 +113,7 @@ impl<'a, 't> Planner<'a, 't> {
         &mut self,
         parameters: &[Declared<'t>],
         variables: &[Declared<'t>],
-    ) -> Result<u32, CompileError>
+    ) -> Result<u32, AllocError>
         ensures extends { Extends self.old self.new }
         ensures types { self.new.types ≡ self.old.types }
         ensures added { OnOk result (length self.new.plans.items
@@ -141,7 +142,7 @@ impl<'a, 't> Planner<'a, 't> {
 
     /// Adds the plans of the components of all system types, and returns the number of the first
     /// one. They have the order of the system types.
-    pub fn add_components(&mut self) -> Result<u32, CompileError>
+    pub fn add_components(&mut self) -> Result<u32, AllocError>
         ensures extends { Extends self.old self.new }
         ensures knows { (g : GlobalScope) → Knows self.old g → Knows self.new g }
         ensures plans { IfOk result (λ first. (g : GlobalScope) → Knows self.old g
@@ -159,12 +160,8 @@ impl<'a, 't> Planner<'a, 't> {
 }
 
 // The number of words before the members: the mark, and one for each parameter that is a right.
-fn head_words(parameters: usize, own: usize) -> Result<u32, CompileError>
+fn head_words(parameters: usize, own: usize) -> Result<u32, AllocError>
     ensures { IfOk result (λ head. head ≡ suc (parameters - own)) }
 {
-    let rights = parameters.saturating_sub(own);
-    if rights > 0xffff_fffe {
-        return Err(CompileError::Unaccepted);
-    }
-    Ok(rights as u32 + 1)
+    small_sum(small_number(parameters.saturating_sub(own))?, 1)
 }

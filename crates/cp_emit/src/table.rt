@@ -1,10 +1,9 @@
 //! Where a `case` leads. If the labels lie close to one another, the table has a place for each
 //! number, and otherwise it has the labels.
 
-ghost use Rattle.std.specs.Prelude.{◌≡◌, ℕ, ◌*◌, None, Some, IfErr, IfOk, [], if◌then◌else◌, int_le, length, map, replicate, slice_set};
+ghost use Rattle.std.specs.Prelude.{◌≡◌, ℕ, ◌*◌, None, Some, IfOk, [], if◌then◌else◌, int_le, length, map, replicate, slice_set};
 ghost use Rattle.cp_program_model.specs.CodedStatements as coded;
 ghost use Rattle.cp_program_model.specs.Layout.{distance};
-ghost use Rattle.cp_scope.specs.declared.error.CompileError.TheVariants as error;
 ghost use Rattle.cp_emit.specs.Arms.{bounds_of};
 ghost use Rattle.cp_program.specs.Labels.{arm};
 ghost use Rattle.cp_program.specs.View as view;
@@ -12,8 +11,8 @@ ghost use Rattle.cp_program.specs.View as view;
 use cp_program::arm::Arm;
 use cp_program::arms::Arms;
 use cp_program::operation::Table;
-use cp_scope::{CompileError, count_between};
-use std::alloc::Global;
+use cp_scope::count_between;
+use std::alloc::{AllocError, Global};
 
 // The lowest of `n` and the labels.
 fn lowest(n: i32, arms: &[Arm]) -> i32
@@ -68,9 +67,8 @@ fn put(places: &mut Vec<Option<u32>>, low: i32, arm: Arm)
 }
 
 // Places for `count` numbers, all without a place.
-fn no_places(alloc: Global, count: usize) -> Result<Vec<Option<u32>>, CompileError>
-    ensures places { IfOk result (λ places. places.items ≡ replicate count None) }
-    ensures memory { IfErr result (λ e. e ≡ error.Memory) }
+fn no_places(alloc: Global, count: usize) -> Result<Vec<Option<u32>>, AllocError>
+    ensures { IfOk result (λ places. places.items ≡ replicate count None) }
 {
     Ok(vec![in alloc; None; count]?)
 }
@@ -81,10 +79,9 @@ fn places(
     arms: &[Arm],
     low: i32,
     count: usize,
-) -> Result<Vec<Option<u32>>, CompileError>
-    ensures places { IfOk result
+) -> Result<Vec<Option<u32>>, AllocError>
+    ensures { IfOk result
         (λ places. places.items ≡ coded.places_from (map arm arms.now) low count) }
-    ensures memory { IfErr result (λ e. e ≡ error.Memory) }
 {
     let mut places = no_places(alloc, count)?;
     for i in (0..arms.len()).rev() {
@@ -95,9 +92,8 @@ fn places(
 
 /// The table of a `case` with these arms. If it has a place for each number, it has at most four
 /// places for each arm.
-pub fn table_of(alloc: Global, arms: Vec<Arm>) -> Result<Table, CompileError>
-    ensures table { IfOk result (λ table. view.table table ≡ coded.table_of (map arm arms.items)) }
-    ensures memory { IfErr result (λ e. e ≡ error.Memory) }
+pub fn table_of(alloc: Global, arms: Vec<Arm>) -> Result<Table, AllocError>
+    ensures { IfOk result (λ table. view.table table ≡ coded.table_of (map arm arms.items)) }
 {
     let Some((low, high)) = bounds(&arms) else {
         return Ok(Table::Sparse(Arms::new(alloc, arms)?));

@@ -1,6 +1,6 @@
 //! The plans of types. Both plans of each type are made once, in the order of the numbers of types.
 
-ghost use Rattle.std.specs.Prelude.{◌≡◌, ◌<◌, ◌*◌, true, false, List, suc, IfOk, OnOk, length, map, nat_le};
+ghost use Rattle.std.specs.Prelude.{◌≡◌, ◌<◌, ◌*◌, true, false, List, suc, IfOk, IfSome, OnOk, length, map, nat_le};
 ghost use Rattle.cp_program_model.specs.Plans as text_plans;
 ghost use Rattle.cp_program_model.specs.Programs as code;
 ghost use Rattle.cp_emit.specs.Drafts.{plan_of};
@@ -17,11 +17,11 @@ use crate::draft::Draft;
 use crate::pieces::value_of_fill;
 use crate::plan::{Placed, Planner, TypePlans};
 use cp_model::tree::{Sort, System};
-use cp_scope::{CompileError, Field, Tables, TypeRow, count_between, small_number};
-use std::alloc::Global;
+use cp_scope::{Field, Tables, TypeRow, count_between, small_number};
+use std::alloc::{AllocError, Global};
 
 // The number of integers from `low` to `high`, both included.
-fn count_of(low: i32, high: i32) -> Result<u32, CompileError>
+fn count_of(low: i32, high: i32) -> Result<u32, AllocError>
     ensures { IfOk result (λ count. count ≡ integers.count_between low high) }
 {
     small_number(count_between(low, high))
@@ -47,7 +47,7 @@ fn is_once(count: u32) -> bool
 }
 
 // Plans that a block of `size` words is repeated, for `count` blocks in all.
-fn repeat(size: u32, count: u32, draft: &mut Draft) -> Result<(), CompileError>
+fn repeat(size: u32, count: u32, draft: &mut Draft) -> Result<(), AllocError>
     ensures { OnOk result ((known : List code.StartPlan) → plan_of known draft.old ≡ code.Done
         → plan_of known draft.new ≡ text_plans.repeats size count) }
 {
@@ -60,7 +60,7 @@ fn repeat(size: u32, count: u32, draft: &mut Draft) -> Result<(), CompileError>
 
 impl<'a, 't> Planner<'a, 't> {
     // Plans one word.
-    fn plan_word(&self, zeros: bool, value: i32) -> Result<Draft, CompileError>
+    fn plan_word(&self, zeros: bool, value: i32) -> Result<Draft, AllocError>
         ensures { IfOk result (λ draft. (known : List code.StartPlan)
             → plan_of known draft ≡ text_plans.plan_of_word zeros value) }
     {
@@ -73,18 +73,18 @@ impl<'a, 't> Planner<'a, 't> {
     }
 
     // Plans `count` elements of `size` words that all start with `value`.
-    fn plan_fill(&self, size: u32, count: u32, value: i32) -> Result<Draft, CompileError>
+    fn plan_fill(&self, size: u32, count: u32, value: i32) -> Result<Draft, AllocError>
         ensures { IfOk result (λ draft. (known : List code.StartPlan)
             → plan_of known draft ≡ code.Fill 0 (count * size) value code.Done) }
     {
         let mut draft = Draft::new(self.alloc);
-        let all = count.checked_mul(size).ok_or(CompileError::Unaccepted)?;
+        let all = count.checked_mul(size).ok_or(AllocError)?;
         draft.fill(0, all, value)?;
         Ok(draft)
     }
 
     // Plans `count` elements of `size` words that each start by the plan with this number.
-    fn plan_elements(&self, plan: u32, size: u32, count: u32) -> Result<Draft, CompileError>
+    fn plan_elements(&self, plan: u32, size: u32, count: u32) -> Result<Draft, AllocError>
         ensures { IfOk result (λ draft. let p = plan_at (known_of self.now) plan in
             plan_of (known_of self.now) draft
             ≡ text_plans.plan_of_elements size count (text_plans.value_of_fill size p) p) }
@@ -108,7 +108,7 @@ impl<'a, 't> Planner<'a, 't> {
         zeros: bool,
         system: &System,
         members: &[Field<'t>],
-    ) -> Result<Draft, CompileError>
+    ) -> Result<Draft, AllocError>
         ensures { IfOk result (λ draft. (g : GlobalScope) (ms : Members) → Knows self.now g
             → AreMembers (types_of self.now) (map entry members.now) ms
             → plan_of (known_of self.now) draft
@@ -130,7 +130,7 @@ impl<'a, 't> Planner<'a, 't> {
         low: i32,
         high: i32,
         element: usize,
-    ) -> Result<Draft, CompileError>
+    ) -> Result<Draft, AllocError>
         ensures { IfOk result (λ draft. (g : GlobalScope) (t : ResolvedType) → Knows self.now g
             → Stands (types_of self.now) element t → plan_of (known_of self.now) draft
             ≡ text_plans.plan zeros g (ArrayOf low high t)) }
@@ -140,7 +140,7 @@ impl<'a, 't> Planner<'a, 't> {
     }
 
     // Plans a variable of the type `of`. Nothing is planned for a number that no type has.
-    fn plan_type(&self, zeros: bool, of: usize) -> Result<Draft, CompileError>
+    fn plan_type(&self, zeros: bool, of: usize) -> Result<Draft, AllocError>
         ensures { IfOk result (λ draft. (g : GlobalScope) (t : ResolvedType) → Knows self.now g
             → Stands (types_of self.now) of t
             → plan_of (known_of self.now) draft ≡ text_plans.plan zeros g t) }
@@ -163,7 +163,7 @@ impl<'a, 't> Planner<'a, 't> {
     }
 
     // Adds the plan of a type, and returns its number.
-    fn add_type_plan(&mut self, zeros: bool, of: usize) -> Result<u32, CompileError>
+    fn add_type_plan(&mut self, zeros: bool, of: usize) -> Result<u32, AllocError>
         ensures extends { Extends self.old self.new }
         ensures types { self.new.types ≡ self.old.types }
         ensures number { IfOk result (λ n. n < length self.new.plans.items) }
@@ -175,38 +175,38 @@ impl<'a, 't> Planner<'a, 't> {
         self.add_plan(draft)
     }
 
-    // Adds both plans of a type, and returns their numbers.
-    fn add_type_plans(&mut self, of: usize) -> Result<TypePlans, CompileError>
+    // Adds both plans of a type, and returns their numbers, unless its words are too many: no text
+    // has a variable of such a type.
+    fn add_type_plans(&mut self, of: usize) -> Result<Option<TypePlans>, AllocError>
         ensures extends { Extends self.old self.new }
         ensures types { self.new.types ≡ self.old.types }
-        ensures plans { IfOk result (λ p. (g : GlobalScope) (t : ResolvedType) → Knows self.old g
-            → Stands (types_of self.old) of t → ArePlanned (known_of self.new) g p t) }
+        ensures plans { IfOk result (λ o. IfSome o (λ p. (g : GlobalScope) (t : ResolvedType)
+            → Knows self.old g → Stands (types_of self.old) of t
+            → ArePlanned (known_of self.new) g p t)) }
     {
+        if self.tables.layouts.words(of).is_none() {
+            return Ok(None);
+        }
         let plain = self.add_type_plan(false, of)?;
         let zeroed = self.add_type_plan(true, of)?;
-        Ok(TypePlans { plain, zeroed })
+        Ok(Some(TypePlans { plain, zeroed }))
     }
 
-    // Adds the next type, without plans if its words can't be planned: no text has a variable of
-    // such a type.
-    fn add_type(&mut self) -> Result<(), CompileError>
+    // Adds the next type.
+    fn add_type(&mut self) -> Result<(), AllocError>
         ensures tables { self.new.tables ≡ self.old.tables }
         ensures added { OnOk result (length self.new.types.items
             ≡ suc (length self.old.types.items)) }
         ensures knows { OnOk result ((g : GlobalScope) → Knows self.old g → Knows self.new g) }
     {
         let of = self.types.len();
-        let plans = match self.add_type_plans(of) {
-            Ok(plans) => Some(plans),
-            Err(CompileError::Unaccepted) => None,
-            Err(error) => return Err(error),
-        };
+        let plans = self.add_type_plans(of)?;
         self.types.push(plans)?;
         Ok(())
     }
 
     /// Creates a planner over the tables of a text, with the plans of its types.
-    pub fn new(alloc: Global, tables: &'a Tables<'t>) -> Result<Planner<'a, 't>, CompileError>
+    pub fn new(alloc: Global, tables: &'a Tables<'t>) -> Result<Planner<'a, 't>, AllocError>
         ensures tables { IfOk result (λ planner. planner.tables ≡ tables.entry) }
         ensures knows { IfOk result (λ planner. (g : GlobalScope)
             → ScopeStands tables.now.names tables.now.types g

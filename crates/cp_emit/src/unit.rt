@@ -1,8 +1,7 @@
 //! Units: an emitter begins a unit, emits its operations, and ends it.
 
-ghost use Rattle.std.specs.Prelude.{◌≡◌, List, [], ◌∷◌, ◌++◌, IfErr, IfOk, OnOk, length, map};
+ghost use Rattle.std.specs.Prelude.{◌≡◌, List, [], ◌∷◌, ◌++◌, IfOk, OnOk, length, map};
 ghost use Rattle.cp_program_model.specs.Programs.{StartPlan};
-ghost use Rattle.cp_scope.specs.declared.error.CompileError.TheVariants as error;
 ghost use Rattle.cp_emit.specs.Emission.{operations_of, place_of, unit_ended, units_of};
 ghost use Rattle.cp_program.specs.View as view;
 
@@ -10,8 +9,8 @@ use crate::emitter::Emitter;
 use crate::need::Need;
 use cp_program::operation::Operation;
 use cp_program::program::{CodeUnit, StartPiece};
-use cp_scope::CompileError;
-use std::alloc::Global;
+use cp_scope::small_number;
+use std::alloc::{AllocError, Global};
 
 impl Emitter {
     /// Creates an emitter without operations and units.
@@ -45,8 +44,7 @@ impl Emitter {
 
     /// Ends the unit in progress. It is entered at the operation `entry`, and `starts` is the plan
     /// of its activations, whose parts have plans of their own.
-    pub fn end(&mut self, entry: u32, starts: Vec<StartPiece>) -> Result<(), CompileError>
-        ensures memory { IfErr result (λ e. e ≡ error.Memory) }
+    pub fn end(&mut self, entry: u32, starts: Vec<StartPiece>) -> Result<(), AllocError>
         ensures operations { OnOk result (operations_of self.new ≡ operations_of self.old) }
         ensures origins { OnOk result (self.new.origins ≡ self.old.origins) }
         ensures unit { OnOk result ((known : List StartPlan) → units_of known self.new
@@ -67,16 +65,11 @@ impl Emitter {
     }
 
     /// The number of units so far.
-    pub fn units(&self) -> Result<u32, CompileError>
+    pub fn units(&self) -> Result<u32, AllocError>
         ensures { IfOk result (λ n. (known : List StartPlan)
             → n ≡ length (units_of known self.now)) }
     {
-        let count = self.units.len();
-        if count <= 4_294_967_295 {
-            Ok(count as u32)
-        } else {
-            Err(CompileError::Unaccepted)
-        }
+        small_number(self.units.len())
     }
 
     /// Returns the operations, their origins and the units.

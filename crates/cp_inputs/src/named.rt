@@ -14,7 +14,7 @@ use cp_model::tree::{Sort, Tree};
 use cp_report::listing::components;
 use cp_report::roster::INITIAL;
 use cp_rules::text::judge;
-use cp_scope::{CompileError, Field, small_number};
+use cp_scope::{Field, small_number};
 use std::alloc::{AllocError, AllocFailed, Global};
 use std::io::Read;
 use thiserror::Error;
@@ -49,15 +49,6 @@ impl<'a> From<Refusal> for InputError<'a> {
 
     fn from(refusal: Refusal) -> InputError<'a> {
         InputError::Refused(refusal)
-    }
-}
-
-// What can't be compiled of an accepted text is told as want of memory, as `Refusal` does.
-impl<'a> From<CompileError> for InputError<'a> {
-    ghost from_gives = { λ _ e. e ≡ error.Refused refusal.Memory };
-
-    fn from(_error: CompileError) -> InputError<'a> {
-        InputError::Refused(Refusal::Memory)
     }
 }
 

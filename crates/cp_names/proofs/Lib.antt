@@ -1,3 +1,4 @@
 pub mod Numbers
 pub mod Distinct
 pub mod Index
+pub mod Replaced

@@ -1,5 +1,5 @@
 -- Tables of names: what contracts see of a table, and how a name is found.
-use Rattle.std.specs.Prelude.{◌≡◌, ◌<◌, ℕ, suc, false, List, [], ◌∷◌, Option, Some, None, if◌then◌else◌, option_map, slice_get}
+use Rattle.std.specs.Prelude.{◌≡◌, ◌<◌, ℕ, zero, suc, false, List, [], ◌∷◌, Option, Some, None, if◌then◌else◌, option_map, slice_get}
 use Rattle.std.specs.Borrow.{Bor}
 use Rattle.std.specs.BTreeMap.{BTreeMap, get_by}
 use Rattle.std.specs.Cmp.Lexicographic.{slice_cmp}
@@ -25,6 +25,12 @@ number_of x (e ∷ es) = if bytes_eq x e.0 then Some 0 else option_map suc (numb
 abbrev pub value_at : {A : Type 0} → List (Text × A) → Option ℕ → Option A
 value_at es None = None
 value_at es (Some i) = option_map (λ e. e.1) (slice_get es i)
+
+-- The entry with a number stands for `v`.
+abbrev pub with_value : {A : Type 0} → ℕ → A → List (Text × A) → List (Text × A)
+with_value n v [] = []
+with_value zero v (e ∷ es) = (e.0, v) ∷ es
+with_value (suc n) v (e ∷ es) = e ∷ with_value n v es
 
 -- The map has the number of each name.
 abbrev pub IsIndex : {A : Type 0} → BTreeMap (Bor Text) ℕ → List (Text × A) → Type 0

@@ -1,9 +1,9 @@
 //! A table of names.
 
-ghost use Rattle.std.specs.Prelude.{◌≡◌, ◌++◌, ◌-◌, ◌∷◌, [], List, None, OnOk, length, map, option_map, slice_get, take};
+ghost use Rattle.std.specs.Prelude.{◌≡◌, ◌<◌, ◌++◌, ◌-◌, ◌∷◌, [], List, None, OnOk, length, map, option_map, slice_get, take};
 ghost use Rattle.cp_model.specs.Names.{lookup};
 ghost use Rattle.cp_model.specs.RulesEnvironment.{Text};
-ghost use Rattle.cp_names.specs.Tables.{AreDistinct, IsIndex, entry_view, value_at};
+ghost use Rattle.cp_names.specs.Tables.{AreDistinct, IsIndex, entry_view, number_of, value_at, with_value};
 
 use std::alloc::{AllocError, Global};
 use std::collections::BTreeMap;
@@ -53,11 +53,18 @@ impl<'t, A: Copy> NameTable<'t, A> {
         Some(*value)
     }
 
+    // The number of a name, if it is in the table.
+    fn number(&self, name: &[u8]) -> Option<usize>
+        ensures { result ≡ number_of name.now self.now }
+    {
+        self.numbers.get(name).copied()
+    }
+
     /// What a name stands for, if it is in the table.
     pub fn find(&self, name: &[u8]) -> Option<A>
         ensures { result ≡ lookup name.now self.now }
     {
-        self.value_at(self.numbers.get(name).copied())
+        self.value_at(self.number(name))
     }
 
     /// The name with a number, and what it stands for.
@@ -79,6 +86,29 @@ impl<'t, A: Copy> NameTable<'t, A> {
             Err(_) => {
                 self.entries.pop();
                 Err(AllocError)
+            }
+        }
+    }
+
+    // Changes what the name with a number stands for.
+    fn replace(&mut self, number: usize, value: A)
+        requires { number < length self.old }
+        ensures { self.new ≡ with_value number value self.old }
+    {
+        let (name, _) = self.entries[number];
+        self.entries[number] = (name, value);
+    }
+
+    /// Lets a name stand for `value` from now on. Fails only if memory runs out.
+    pub fn set(&mut self, name: &'t [u8], value: A) -> Result<(), AllocError>
+        ensures { OnOk result
+            ((x : Text) → lookup x self.new ≡ lookup x ((name.now, value) ∷ self.old)) }
+    {
+        match self.number(name) {
+            None => self.add(name, value),
+            Some(number) => {
+                self.replace(number, value);
+                Ok(())
             }
         }
     }

@@ -35,8 +35,10 @@ use Rattle.cp_scope.specs.declared.routines.RoutineTable.{RoutineTable}
 use Rattle.cp_scope.specs.declared.systems.IndexedRoutine.{IndexedRoutine}
 use Rattle.cp_scope.specs.declared.types.Types.{Types}
 use Rattle.cp_scope.specs.Routines.{RoutineStands}
-use Rattle.cp_scope.specs.Scopes.{CalleeIs, IsScope, Selects}
+use Rattle.cp_scope.specs.Designators.{Selects}
+use Rattle.cp_scope.specs.Scopes.{CalleeIs, IsScope}
 use Rattle.cp_scope.specs.Systems.{AreRoutines, ComponentIs, RoutineFound, RoutineIs, component_among, routine_number}
+use Rattle.cp_scope.proofs.SystemsMade.{has_table, lacks_no_table}
 use Rattle.cp_scope.specs.Variables.{parameters_of, variables_of}
 
 -- ---- Designators that call nothing
@@ -84,13 +86,6 @@ deep_twice x (s.Indexed s.NoIndices) z first second = absurd first
 deep_twice x (s.Indexed (s.MoreIndices at e is)) z first second =
     deep_select (erase.with_indices (a.At (a.Plain x) (erase.expression e)) is) z (deep_indexed (a.At (a.Plain x) (erase.expression e)) is tt)
 
-index_selects : (is : List Index) → 1 ≤ length is → Selects (s.Indexed (view.indices_of (map view.index is)))
-index_selects [] some = absurd (omega (arith, some))
-index_selects (i ∷ is) some = tt
-
-pub indexed_selects : (v : Vec Index Global) → 1 ≤ length v.items → Selects (view.selector (tree.Indexed v))
-indexed_selects v some = subst Selects (sym (view_indexed v)) (index_selects v.items some)
-
 index_calls_nothing : (env : Environment) (x : Name) (is : s.Indices) → Selects (s.Indexed is)
     → callee env (erase.with_indices (a.Plain x) is) ≡ None
 index_calls_nothing env x s.NoIndices selects = absurd selects
@@ -104,26 +99,11 @@ indexed_calls_nothing env x v selects =
     subst (λ y. callee env (erase.select (a.Plain x) y) ≡ None) (sym (view_indexed v))
     (index_calls_nothing env x is (subst Selects (view_indexed v) selects))
 
-two_call_nothing : (env : Environment) (x : Name) (y z : s.Selector) (ss : s.Selectors) → Selects y → Selects z
+pub two_call_nothing : (env : Environment) (x : Name) (y z : s.Selector) (ss : s.Selectors) → Selects y → Selects z
     → callee env (erase.with_selectors (a.Plain x) (s.MoreSelectors y (s.MoreSelectors z ss))) ≡ None
 two_call_nothing env x y z ss first second =
     deep_calls_nothing env (erase.with_selectors (erase.select (erase.select (a.Plain x) y) z) ss)
     (deep_selected (erase.select (erase.select (a.Plain x) y) z) ss (deep_twice x y z first second))
-
-pub two_selectors_call_nothing : (env : Environment) (d : Designator) (ss : List Selector) (y z : Selector) → ss ≡ d.selectors.items → 2 ≤ length ss
-    → y ≡ slice_index_or ss 0 y → z ≡ slice_index_or ss 1 z → Selects (view.selector y) → Selects (view.selector z)
-    → callee env (erase.designator (view.designator d)) ≡ None
-two_selectors_call_nothing env d ss y z all long y_is z_is first second =
-    ap (λ t. callee env (erase.designator t)) (view_designator d) ∙ go d.selectors.items (subst (λ ts. 2 ≤ length ts) all long)
-    (subst (λ ts. y ≡ slice_index_or ts 0 y) all y_is) (subst (λ ts. z ≡ slice_index_or ts 1 z) all z_is)
-  where
-    go : (ts : List Selector) → 2 ≤ length ts → y ≡ slice_index_or ts 0 y → z ≡ slice_index_or ts 1 z
-        → callee env (erase.with_selectors (a.Plain d.root.name) (view.selectors_of (map view.selector ts))) ≡ None
-    go [] long y_is z_is = absurd (omega (arith, long))
-    go (u ∷ []) long y_is z_is = absurd (omega (arith, long))
-    go (u ∷ w ∷ ts) long y_is z_is =
-        two_call_nothing env d.root.name (view.selector u) (view.selector w) (view.selectors_of (map view.selector ts))
-        (subst (λ v. Selects (view.selector v)) y_is first) (subst (λ v. Selects (view.selector v)) z_is second)
 
 -- ---- Locals
 
@@ -303,6 +283,18 @@ no_component_called scope s x y none = go (component_named (environment s) x) no
     go None h = refl
     go (Some c) h = absurd h
 
+-- The component that a name means has a table.
+pub component_tabled : (scope : Scope) (s : code.Scope) → IsScope scope s → (x : Name) (f : Component)
+    → ComponentIs scope.tables.now.types (declarations s.globals s.system.parameters) (declarations s.globals s.system.variables) (Some f)
+    (component_named (environment s) x)
+    → slice_get scope.tables.now.systems.items f.system ≡ None → ⊥
+component_tabled scope s i x f named none = go (component_named (environment s) x) named
+  where
+    go : (o : Option components.Component)
+        → ComponentIs scope.tables.now.types (declarations s.globals s.system.parameters) (declarations s.globals s.system.variables) (Some f) o → ⊥
+    go None h = h
+    go (Some c) h = lacks_no_table s.globals scope.tables.now.types scope.tables.now.systems.items f.system h.text i.systems h.there none
+
 pub component_called : (scope : Scope) (s : code.Scope) → IsScope scope s → (x y : Name) (f : Component) (table : SystemTable) (r : Option IndexedRoutine)
     → ComponentIs scope.tables.now.types (declarations s.globals s.system.parameters) (declarations s.globals s.system.variables) (Some f)
     (component_named (environment s) x)
@@ -326,7 +318,7 @@ component_called scope s i x y f table r named here finds = go (component_named 
     go (Some c) h =
         let types = scope.tables.now.types in
         let text = h.text.now in
-        let stands = i.systems f.system h.text table h.there here in
+        let stands = has_table s.globals types scope.tables.now.systems.items f.system h.text table i.systems h.there here in
         let found = finds s.globals types text.parameters.items text.variables.items text.routines.items stands in
         one c h r (routine_named y c.system)
         (subst (λ (z : System). RoutineIs s.globals types z.routines r (find (λ q. bytes_eq y q.name) z.routines)) h.system found)

@@ -7,11 +7,16 @@ use Rattle.cp_model.specs.Declarations.{Variable}
 use Rattle.cp_model.specs.Names.{lookup}
 use Rattle.cp_model.specs.Types.{ResolvedType}
 use Rattle.cp_scope.specs.declared.numbering.Numbered.{Numbered}
+use Rattle.cp_scope.specs.declared.variables.Declared.{Declared}
 use Rattle.cp_scope.specs.declared.types.Types.{Types}
 use Rattle.cp_scope.specs.Numbering.{NumberedIs}
 use Rattle.cp_scope.specs.Standing.{Stands}
 use Rattle.cp_scope.specs.Tables.{Behind, or_last}
 use Rattle.cp_scope.specs.Variables.{AreDeclared, Entry}
+
+-- A placeholder for an index past the end of a list of declared names.
+abbrev pub nothing : Declared
+nothing = record { name = record { ref_ptr = (0, 0); now = [] }; by_reference = false; of = 0 }
 
 -- A name that isn't in the table yet is among the remaining ones, after the components counted so
 -- far.
@@ -102,3 +107,47 @@ one_numbered types vs d left monitors processes m p names more n of_is monitors_
               monitors_are = counted_on Monitor z v rest _ monitors m other (ms v.1.type stand.2) h.monitors_are;
               processes_are = counted_on Process z v rest _ processes p other (ps v.1.type stand.2) h.processes_are;
             }
+
+-- ---- Processes before a name
+
+-- The remaining variables are counted after those counted so far.
+pub record PartlyCounted (types : Types) (vs : List (Name × Variable)) (left : List Entry) (x : Name) (count : ℕ) : Type 0 where
+  pub others : List (Name × Variable)
+  pub stand : AreDeclared types left others
+  pub counted : count_before Process x vs ≡ count + count_before Process x others
+
+pub one_counted : (types : Types) (vs : List (Name × Variable)) (d : Entry) (left : List Entry) (x : Name) (count one : ℕ) → bytes_eq x d.0 ≡ false
+    → ((t : ResolvedType) → Stands types d.1.1 t → one ≡ (if is_component_of Process t then 1 else 0)) → PartlyCounted types vs (d ∷ left) x count
+    → PartlyCounted types vs left x (count + one)
+one_counted types vs d left x count one other ones partly = go partly.others partly.stand partly.counted
+  where
+    go : (others : List (Name × Variable)) → AreDeclared types (d ∷ left) others → count_before Process x vs ≡ count + count_before Process x others
+        → PartlyCounted types vs left x (count + one)
+    go [] stand h = absurd stand
+    go (v ∷ rest) stand h = record {
+      others = rest;
+      stand = stand.3;
+      counted = counted_on Process x v rest _ count one (ap (bytes_eq x) (sym stand.0) ∙ other) (ones v.1.type stand.2) h;
+    }
+
+-- The count ends at the name, or with the last variable.
+pub counted_here : (types : Types) (vs : List (Name × Variable)) (d : Entry) (left : List Entry) (x : Name) (count : ℕ) → bytes_eq x d.0 ≡ true
+    → PartlyCounted types vs (d ∷ left) x count → count ≡ count_before Process x vs
+counted_here types vs d left x count here partly = go partly.others partly.stand partly.counted
+  where
+    go : (others : List (Name × Variable)) → AreDeclared types (d ∷ left) others → count_before Process x vs ≡ count + count_before Process x others
+        → count ≡ count_before Process x vs
+    go [] stand h = absurd stand
+    go (v ∷ rest) stand h =
+        let found : bytes_eq x v.0 ≡ true = ap (bytes_eq x) (sym stand.0) ∙ here in
+        let none : count_before Process x (v ∷ rest) ≡ 0 = rw found refl in
+        omega (arith, h, none)
+
+pub counted_all : (types : Types) (vs : List (Name × Variable)) (left : List Entry) (x : Name) (count : ℕ) → left ≡ [] → PartlyCounted types vs left x count
+    → count ≡ count_before Process x vs
+counted_all types vs left x count none partly = go partly.others (subst (λ ds. AreDeclared types ds partly.others) none partly.stand) partly.counted
+  where
+    go : (others : List (Name × Variable)) → AreDeclared types [] others → count_before Process x vs ≡ count + count_before Process x others
+        → count ≡ count_before Process x vs
+    go [] stand h = omega (arith, h)
+    go (v ∷ rest) stand h = absurd stand

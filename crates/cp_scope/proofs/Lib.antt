@@ -17,3 +17,4 @@ pub mod Meanings
 pub mod Parts
 pub mod TypeNames
 pub mod ValueTypes
+pub mod Designating

@@ -1,58 +1,93 @@
 -- What stands for something still stands for it after types are added.
-use Rattle.std.proofs.Common.{◌≡◌, ◌<◌, ◌++◌, ◌∷◌, ◌∙◌, ⊎_elim, ℕ, zero, suc, ℤ, List, [], Option, None, Some, ap, arith, length, map, refl, slice_get}
-use Rattle.std.proofs.lemmas.Option.{slice_get_cases, slice_get_within}
+use Rattle.std.proofs.Common.{◌≡◌, ◌<◌, ◌++◌, ◌∷◌, ◌∙◌, Global, Vec, ℕ, zero, suc, ℤ, List, [], Option, None, Some, ap, length, map, refl, slice_get, sym}
+use Rattle.std.proofs.lemmas.Option.{slice_get_within}
 use Rattle.cp_model.specs.Abstract.{BaseType, Name}
 use Rattle.cp_model.specs.Types.{ArrayOf, ComponentOf, GlobalScope, Members, MoreMembers, NoMembers, NoType, Queue, RecordOf, ResolvedType, Simple, array_type}
 use Rattle.cp_model.specs.declared.tree.TypeExpression.{TypeExpression}
 use Rattle.cp_scope.specs.declared.types.Simple as plain
+use Rattle.cp_scope.specs.declared.types.Field.{Field}
 use Rattle.cp_scope.specs.declared.types.TypeRow.{TypeRow}
 use Rattle.cp_scope.specs.declared.types.TypeRow.TheVariants as row
 use Rattle.cp_scope.specs.declared.types.Types.{Types}
 use Rattle.cp_scope.specs.declared.names.Names.{Names}
-use Rattle.cp_scope.specs.Standing.{Adds, AreMembers, Grows, Makes, MakesArray, MakesIndexed, ScopeStands, Stands, TypeMeans, array_row, array_type_over, row_at, simple_of, type_from}
+use Rattle.cp_scope.specs.Standing.{Adds, AreMembers, Grows, Keeps, Makes, MakesArray, MakesIndexed, ScopeStands, Stands, TypeMeans, array_row, array_type_over, row_at, simple_of, system_at, type_from}
 
 pub grows_not : (types : Types) → Grows types types
-grows_not types = record { rows = λ n r h. h; systems = λ k s h. h }
+grows_not types = record { rows = λ n r h. h; systems = refl }
 
 pub grows_more : (a b c : Types) → Grows a b → Grows b c → Grows a c
 grows_more a b c one two = record {
   rows = λ n r h. two.rows n r (one.rows n r h);
+  systems = two.systems ∙ one.systems;
+}
+
+-- System types keep their numbers.
+pub same_system : (old new : Types) → Grows old new → (k : ℕ) → system_at new k ≡ system_at old k
+same_system old new grows k = ap (λ ys. slice_get ys k) grows.systems
+
+pub kept : (old new : Types) → Grows old new → Keeps old new
+kept old new grows = record { rows = grows.rows; systems = λ k s h. same_system old new grows k ∙ h }
+
+pub kept_more : (a b c : Types) → Keeps a b → Keeps b c → Keeps a c
+kept_more a b c one two = record {
+  rows = λ n r h. two.rows n r (one.rows n r h);
   systems = λ k s h. two.systems k s (one.systems k s h);
 }
 
-module _ (old new : Types) (grows : Grows old new) where
+module _ (old new : Types) (keeps : Keeps old new) where
   mutual
-    pub still_stands : (n : ℕ) (t : ResolvedType) → Stands old n t → Stands new n t
-    still_stands n (Simple b low high start) s = (s.0, grows.rows n (row.Simple s.0) s.1, s.2)
-    still_stands n (ArrayOf low high t) s = (s.0, grows.rows n (row.Array low high s.0) s.1, still_stands s.0 t s.2)
-    still_stands n (RecordOf ms) s = (s.0, grows.rows n (row.Record s.0) s.1, still_members (map _ s.0.items) ms s.2)
-    still_stands n Queue s = grows.rows n row.Queue s
-    still_stands n (ComponentOf y ms) s =
-        (s.0, s.1, s.2, grows.rows n (row.Component s.0 s.1) s.3, grows.systems s.0 s.2 s.4, s.5, still_members (map _ s.1.items) ms s.6)
-    still_stands n NoType s = grows.rows n row.Unknown s
+    pub kept_stands : (n : ℕ) (t : ResolvedType) → Stands old n t → Stands new n t
+    kept_stands n (Simple b low high start) s = (s.0, keeps.rows n (row.Simple s.0) s.1, s.2)
+    kept_stands n (ArrayOf low high t) s = (s.0, keeps.rows n (row.Array low high s.0) s.1, kept_stands s.0 t s.2)
+    kept_stands n (RecordOf ms) s = (s.0, keeps.rows n (row.Record s.0) s.1, kept_members (map _ s.0.items) ms s.2)
+    kept_stands n Queue s = keeps.rows n row.Queue s
+    kept_stands n (ComponentOf y ms) s =
+        (s.0, s.1, s.2, keeps.rows n (row.Component s.0 s.1) s.3, keeps.systems s.0 s.2 s.4, s.5, kept_members (map _ s.1.items) ms s.6)
+    kept_stands n NoType s = keeps.rows n row.Unknown s
 
-    pub still_members : (fs : List (Name × ℕ)) (ms : Members) → AreMembers old fs ms → AreMembers new fs ms
-    still_members [] NoMembers s = tt
-    still_members (f ∷ fs) (MoreMembers x t ms) s = (s.0, still_stands f.1 t s.1, still_members fs ms s.2)
-    still_members [] (MoreMembers x t ms) s = absurd s
-    still_members (f ∷ fs) NoMembers s = absurd s
+    pub kept_members : (fs : List (Name × ℕ)) (ms : Members) → AreMembers old fs ms → AreMembers new fs ms
+    kept_members [] NoMembers s = tt
+    kept_members (f ∷ fs) (MoreMembers x t ms) s = (s.0, kept_stands f.1 t s.1, kept_members fs ms s.2)
+    kept_members [] (MoreMembers x t ms) s = absurd s
+    kept_members (f ∷ fs) NoMembers s = absurd s
 
-  still_means : (n : Option ℕ) (t : Option ResolvedType) → TypeMeans old n t → TypeMeans new n t
-  still_means None None s = tt
-  still_means (Some n) (Some t) s = still_stands n t s
-  still_means None (Some t) s = absurd s
-  still_means (Some n) None s = absurd s
+  kept_means : (n : Option ℕ) (t : Option ResolvedType) → TypeMeans old n t → TypeMeans new n t
+  kept_means None None s = tt
+  kept_means (Some n) (Some t) s = kept_stands n t s
+  kept_means None (Some t) s = absurd s
+  kept_means (Some n) None s = absurd s
+
+  pub kept_scope : (names : Names) (g : GlobalScope) → ScopeStands names old g → ScopeStands names new g
+  kept_scope names g s = record { constants = s.constants; types = λ x. kept_means _ _ (s.types x) }
+
+module _ (old new : Types) (grows : Grows old new) where
+  pub still_stands : (n : ℕ) (t : ResolvedType) → Stands old n t → Stands new n t
+  still_stands = kept_stands old new (kept old new grows)
+
+  pub still_members : (fs : List (Name × ℕ)) (ms : Members) → AreMembers old fs ms → AreMembers new fs ms
+  still_members = kept_members old new (kept old new grows)
 
   pub still_scope : (names : Names) (g : GlobalScope) → ScopeStands names old g → ScopeStands names new g
-  still_scope names g s = record { constants = s.constants; types = λ x. still_means _ _ (s.types x) }
+  still_scope = kept_scope old new (kept old new grows)
 
--- A number of a system type stays one.
-pub still_within : (old new : Types) → Grows old new → (k : ℕ) → k < length old.systems.items → k < length new.systems.items
-still_within old new grows k within =
-    ⊎_elim
-    (λ found. slice_get_within new.systems.items k found.0 (grows.systems k found.0 found.2))
-    (λ past. absurd (omega (arith, within, past.0)))
-    (slice_get_cases old.systems.items k).1
+-- The number of a type is that of a row.
+pub has_row : (types : Types) (n : ℕ) (t : ResolvedType) → Stands types n t → n < length types.rows.items
+has_row types n (Simple b low high start) s = slice_get_within types.rows.items n _ s.1
+has_row types n (ArrayOf low high t) s = slice_get_within types.rows.items n _ s.1
+has_row types n (RecordOf ms) s = slice_get_within types.rows.items n _ s.1
+has_row types n Queue s = slice_get_within types.rows.items n _ s
+has_row types n (ComponentOf y ms) s = slice_get_within types.rows.items n _ s.3
+has_row types n NoType s = slice_get_within types.rows.items n _ s
+
+-- A type of components has a system type.
+pub has_system : (types : Types) (n : ℕ) (t : ResolvedType) (k : ℕ) (members : Vec Field Global) → row_at types n ≡ Some (row.Component k members)
+    → Stands types n t → system_at types k ≡ None → ⊥
+has_system types n (Simple b low high start) k members at s none = (let both = sym at ∙ s.1 in cc)
+has_system types n (ArrayOf low high t) k members at s none = (let both = sym at ∙ s.1 in cc)
+has_system types n (RecordOf ms) k members at s none = (let both = sym at ∙ s.1 in cc)
+has_system types n Queue k members at s none = (let both = sym at ∙ s in cc)
+has_system types n (ComponentOf y ms) k members at s none = (let both = sym at ∙ s.3 in let there = s.4 in cc)
+has_system types n NoType k members at s none = (let both = sym at ∙ s in cc)
 
 -- ---- One item more
 

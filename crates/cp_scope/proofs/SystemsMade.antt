@@ -1,5 +1,5 @@
 -- Tables are made for one routine after another, and what holds of them stays true.
-use Rattle.std.proofs.Common.{◌≡◌, ◌++◌, ◌∷◌, ◌∙◌, ⊎_elim, Bor, ℕ, List, [], Option, None, Some, ap, append_assoc, length, slice_get, subst, sym}
+use Rattle.std.proofs.Common.{◌≡◌, ◌≤◌, ◌++◌, ◌∷◌, ◌∙◌, ⊎_elim, arith, Bor, ℕ, List, [], Option, None, Some, ap, append_assoc, length, slice_get, subst, sym}
 use Rattle.std.proofs.lemmas.List.{append-nil}
 use Rattle.cp_model.specs.Declarations.{Variable}
 use Rattle.cp_model.specs.Types.{GlobalScope}
@@ -17,12 +17,11 @@ use Rattle.cp_scope.specs.declared.numbering.Numbered.{Numbered}
 use Rattle.cp_scope.specs.Numbering.{NumberedIs}
 use Rattle.cp_scope.specs.Standing.{Grows, ScopeStands}
 use Rattle.cp_scope.specs.Systems.{AreRoutines, MakesRoutines, routines_of}
-use Rattle.std.proofs.lemmas.Option.{same_Some}
+use Rattle.std.proofs.lemmas.Option.{same_Some, slice_get_cases, slice_get_within}
 use Rattle.cp_model.specs.declared.tree.System.{System}
 use Rattle.cp_scope.specs.declared.systems.SystemTable.{SystemTable}
-use Rattle.cp_scope.specs.Systems.{SystemStands}
 use Rattle.cp_scope.specs.Standing.{system_at}
-use Rattle.cp_scope.specs.Texts.{AreSystems}
+use Rattle.cp_scope.specs.Texts.{AreSystems, TableIs}
 use Rattle.cp_scope.proofs.Laying.{last_or_before}
 use Rattle.cp_scope.proofs.Standing.{grows_more, grows_not, still_scope, still_stands}
 
@@ -68,30 +67,54 @@ right_still old new grows (Some r) None h = absurd h
 
 -- ---- System types
 
-pub no_systems : (g : GlobalScope) (types : Types) (tables : List SystemTable) → tables ≡ [] → AreSystems g types tables
-no_systems g types tables none k y table at there =
+-- The table of each number is that of the system type of that number.
+abbrev pub AreTables : GlobalScope → Types → List SystemTable → Type 0
+AreTables g types tables = (k : ℕ) (y : Bor System) (table : SystemTable) → system_at types k ≡ Some y → slice_get tables k ≡ Some table → TableIs g types table y.now
+
+pub no_tables : (g : GlobalScope) (types : Types) (tables : List SystemTable) → tables ≡ [] → AreTables g types tables
+no_tables g types tables none k y table at there =
     absurd (nothing k (subst (λ (ts : List SystemTable). slice_get ts k ≡ Some table) none there))
   where
     nothing : (i : ℕ) → slice_get {X = SystemTable} [] i ≡ Some table → ⊥
     nothing i h = absurd (cc)
 
 -- One table more.
-pub one_system : (g : GlobalScope) (types : Types) (tables : List SystemTable) (table : SystemTable) (y : Bor System) → system_at types (length tables) ≡ Some y
-    → SystemStands g types table y.now.parameters.items y.now.variables.items y.now.routines.items → AreSystems g types tables
-    → AreSystems g types (tables ++ table ∷ [])
-one_system g types tables table y at stands all k z other here there =
+pub one_table : (g : GlobalScope) (types : Types) (tables : List SystemTable) (table : SystemTable) (y : Bor System) → system_at types (length tables) ≡ Some y
+    → TableIs g types table y.now → AreTables g types tables
+    → AreTables g types (tables ++ table ∷ [])
+one_table g types tables table y at stands all k z other here there =
     ⊎_elim
     (λ before. all k z other here before)
     (λ last.
     let same : y ≡ z = same_Some y z (sym at ∙ ap (system_at types) (sym last.0) ∙ here) in
-    subst (λ (w : Bor System). SystemStands g types other w.now.parameters.items w.now.variables.items w.now.routines.items) same
-    (subst (λ (t : SystemTable). SystemStands g types t y.now.parameters.items y.now.variables.items y.now.routines.items) last.1 stands))
+    subst (λ (w : Bor System). TableIs g types other w.now) same
+    (subst (λ (t : SystemTable). TableIs g types t y.now) last.1 stands))
     (last_or_before tables table k other there)
 
 -- The tables of the first system types.
 pub record SystemsSoFar (names : Names) (old new : Types) (before after : List Layout) (tables : List SystemTable) : Type 0 where
   pub builds : Builds names old new before after
-  pub stands : (g : GlobalScope) (later : Types) → ScopeStands names old g → AreLaid g old before → Grows new later → AreSystems g later tables
+  pub stands : (g : GlobalScope) (later : Types) → ScopeStands names old g → AreLaid g old before → Grows new later → AreTables g later tables
+
+pub all_tables : (g : GlobalScope) (types : Types) (tables : List SystemTable) → length types.systems.items ≤ length tables → AreTables g types tables
+    → AreSystems g types tables
+all_tables g types tables enough are k y at =
+    ⊎_elim
+    (λ found. (found.0, found.2, are k y found.0 at found.2))
+    (λ past. absurd (omega (arith, enough, past.0, slice_get_within types.systems.items k y at)))
+    (slice_get_cases tables k).1
+
+-- The table that a look-up finds is that of the system type with this number.
+pub has_table : (g : GlobalScope) (types : Types) (tables : List SystemTable) (k : ℕ) (y : Bor System) (table : SystemTable) → AreSystems g types tables
+    → system_at types k ≡ Some y → slice_get tables k ≡ Some table → TableIs g types table y.now
+has_table g types tables k y table all at there =
+    let found = all k y at in
+    subst (λ (t : SystemTable). TableIs g types t y.now) (same_Some found.0 table (sym found.1 ∙ there)) found.2
+
+-- The look-up fails for no system type.
+pub lacks_no_table : (g : GlobalScope) (types : Types) (tables : List SystemTable) (k : ℕ) (y : Bor System) → AreSystems g types tables
+    → system_at types k ≡ Some y → slice_get tables k ≡ None → ⊥
+lacks_no_table g types tables k y all at none = (let found = all k y at in let both : Some found.0 ≡ None = sym found.1 ∙ none in cc)
 
 pub numbered_still : (old new : Types) (vs : List (Name × Variable)) (x : Name) → Grows old new → (n : Option Numbered) (v : Option Variable)
     → NumberedIs old vs x n v → NumberedIs new vs x n v

@@ -22,8 +22,9 @@ use Rattle.cp_program_model.specs.Scopes.{environment}
 use Rattle.cp_scope.specs.declared.scope.Callee.{Callee}
 use Rattle.cp_scope.specs.declared.scope.Scope.{Scope}
 use Rattle.cp_scope.specs.declared.types.Simple as plain
-use Rattle.cp_scope.specs.Expressions.{SimpleIs, ValueIs, is_part}
-use Rattle.cp_scope.specs.Scopes.{CalleeIs, IsCallee, Selects}
+use Rattle.cp_scope.specs.Designators.{Selects, is_part}
+use Rattle.cp_scope.specs.Expressions.{SimpleIs, ValueIs}
+use Rattle.cp_scope.specs.Scopes.{CalleeIs, IsCallee}
 
 -- ---- Chains
 
@@ -47,27 +48,15 @@ part_indexed : (d : a.Designator) (is : s.Indices) → is_part d ≡ true → is
 part_indexed d s.NoIndices h = h
 part_indexed d (s.MoreIndices at e is) h = part_indexed (a.At d (erase.expression e)) is refl
 
-part_selected : (d : a.Designator) (ss : s.Selectors) → is_part d ≡ true → is_part (erase.with_selectors d ss) ≡ true
+pub part_selected : (d : a.Designator) (ss : s.Selectors) → is_part d ≡ true → is_part (erase.with_selectors d ss) ≡ true
 part_selected d s.NoSelectors h = h
 part_selected d (s.MoreSelectors (s.Field at x) ss) h = part_selected (a.Part d x.name) ss refl
 part_selected d (s.MoreSelectors (s.Indexed is) ss) h = part_selected (erase.with_indices d is) ss (part_indexed d is h)
 
-selects_part : (x : Name) (y : s.Selector) → Selects y → is_part (erase.select (a.Plain x) y) ≡ true
+pub selects_part : (x : Name) (y : s.Selector) → Selects y → is_part (erase.select (a.Plain x) y) ≡ true
 selects_part x (s.Field at y) selects = refl
 selects_part x (s.Indexed s.NoIndices) selects = absurd selects
 selects_part x (s.Indexed (s.MoreIndices at e is)) selects = part_indexed (a.At (a.Plain x) (erase.expression e)) is refl
-
-pub first_selects : (d : Designator) (ss : List Selector) (y : Selector) → ss ≡ d.selectors.items → 1 ≤ length ss → y ≡ slice_index_or ss 0 y
-    → Selects (view.selector y) → true ≡ is_part (erase.designator (view.designator d))
-first_selects d ss y all long is selects =
-    sym (ap (λ t. is_part (erase.designator t)) (view_designator d) ∙ go d.selectors.items (subst (λ ts. 1 ≤ length ts) all long) (subst (λ ts. y ≡ slice_index_or ts 0 y) all is))
-  where
-    go : (ts : List Selector) → 1 ≤ length ts → y ≡ slice_index_or ts 0 y
-        → is_part (erase.with_selectors (a.Plain d.root.name) (view.selectors_of (map view.selector ts))) ≡ true
-    go [] long is = absurd (omega (arith, long))
-    go (u ∷ ts) long is =
-        part_selected (erase.select (a.Plain d.root.name) (view.selector u)) (view.selectors_of (map view.selector ts))
-        (selects_part d.root.name (view.selector u) (subst (λ v. Selects (view.selector v)) is selects))
 
 pub part_typed : (env : Environment) (d : a.Designator) → is_part d ≡ true → own_value_type env d ≡ place_type env d
 part_typed env (a.Plain x) is = absurd (cc)

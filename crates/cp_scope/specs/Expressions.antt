@@ -1,6 +1,5 @@
 -- The types of the values of expressions.
 use Rattle.std.specs.Prelude.{◌≡◌, Bool, true, false, Option, None, Some}
-use Rattle.cp_model.specs.Abstract as a
 use Rattle.cp_model.specs.Erase as erase
 use Rattle.cp_model.specs.Syntax as syntax
 use Rattle.cp_model.specs.Types.{ResolvedType, Simple}
@@ -22,8 +21,3 @@ SimpleIs None t = is_simple t ≡ false
 -- `of` describes the type of the value of the expression `e`.
 abbrev pub ValueIs : code.Scope → Option plain.Simple → syntax.Expression → Type 0
 ValueIs s of e = SimpleIs of (expression_type (environment s) (erase.expression e))
-
--- Whether a designator is more than a bare name.
-abbrev pub is_part : a.Designator → Bool
-is_part (a.Plain x) = false
-is_part d = true

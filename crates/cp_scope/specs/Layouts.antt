@@ -1,5 +1,5 @@
 -- When layouts are right about the sizes of types and where their members lie.
-use Rattle.std.specs.Prelude.{◌≡◌, ℕ, List, [], ◌∷◌, Option, None, Some, filter, if◌then◌else◌, length, map, slice_get, ◌+◌}
+use Rattle.std.specs.Prelude.{◌≡◌, ℕ, List, [], ◌∷◌, Option, None, Some, filter, if◌then◌else◌, length, map, slice_get, ◌+◌, ◌≤◌}
 use Rattle.cp_model.specs.Abstract.{Name}
 use Rattle.cp_model.specs.Declarations.{declarations, is_component}
 use Rattle.cp_model.specs.Erase as erase
@@ -38,6 +38,11 @@ pub record LayoutIs (g : GlobalScope) (types : Types) (l : Layout) (t : Resolved
 abbrev pub AreLaid : GlobalScope → Types → List Layout → Type 0
 AreLaid g types layouts =
     (later : Types) → Grows types later → (n : ℕ) (l : Layout) (t : ResolvedType) → slice_get layouts n ≡ Some l → Stands later n t → LayoutIs g later l t
+
+-- In addition, each type has a layout.
+pub record EachIsLaid (g : GlobalScope) (types : Types) (layouts : List Layout) : Type 0 where
+  pub laid : AreLaid g types layouts
+  pub complete : length types.rows.items ≤ length layouts
 
 -- The layout of the members `ms`, the first of which lies `at` words from the first word.
 pub record MembersLie (g : GlobalScope) (types : Types) (at : ℕ) (ms : Members) (l : Layout) : Type 0 where

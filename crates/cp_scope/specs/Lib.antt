@@ -9,6 +9,7 @@ pub mod Components
 pub mod Systems
 pub mod Texts
 pub mod Numbering
+pub mod Designators
 pub mod Scopes
 pub mod Places
 pub mod TypeNames

@@ -8,8 +8,10 @@ use Rattle.cp_model.specs.View as view
 use Rattle.cp_model.specs.Types.{ComponentOf, GlobalScope, ResolvedType}
 use Rattle.cp_model.specs.declared.tree.Identifier.{Identifier}
 use Rattle.cp_model.specs.declared.tree.System.{System}
+use Rattle.cp_scope.specs.declared.names.Names.{Names}
 use Rattle.cp_scope.specs.declared.outer.Outer.{Outer}
-use Rattle.cp_scope.specs.Standing.{ScopeStands, Stands}
+use Rattle.cp_scope.specs.declared.types.Types.{Types}
+use Rattle.cp_scope.specs.Standing.{Keeps, ScopeStands, Stands}
 
 abbrev pub OuterStands : Outer → GlobalScope → Type 0
 OuterStands outer g = ScopeStands outer.names outer.types g
@@ -34,6 +36,11 @@ NamesType old new x n =
 
 abbrev pub component_of : System → GlobalScope → ResolvedType
 component_of y g = let s = erase.system (view.system y) in ComponentOf s (reported_members g s)
+
+-- The type of the components of `y` is made, with the number `n`.
+pub record MakesComponents (names : Names) (old new : Types) (y : System) (n : ℕ) : Type 0 where
+  pub keeps : Keeps old new
+  pub stands : (g : GlobalScope) → ScopeStands names old g → Stands new n (component_of y g)
 
 abbrev pub defining : Definition → GlobalScope → GlobalScope
 defining d g = define g d

@@ -10,7 +10,6 @@ use Rattle.cp_model.specs.Names.{lookup}
 use Rattle.cp_model.specs.Environments.{local_variables, result_variable}
 use Rattle.cp_model.specs.Erase as erase
 use Rattle.cp_model.specs.View as view
-use Rattle.cp_model.specs.Syntax as syntax
 use Rattle.cp_model.specs.Types.{GlobalScope}
 use Rattle.cp_model.specs.declared.tree.Fields.{Fields}
 use Rattle.cp_model.specs.declared.tree.Parameters.{Parameters}
@@ -26,7 +25,7 @@ use Rattle.cp_scope.specs.declared.scope.Meaning.{Meaning}
 use Rattle.cp_scope.specs.declared.scope.Meaning.TheVariants as meaning
 use Rattle.cp_scope.specs.declared.scope.Scope.{Scope}
 use Rattle.cp_scope.specs.declared.types.Types.{Types}
-use Rattle.cp_scope.specs.Layouts.{AreLaid}
+use Rattle.cp_scope.specs.Layouts.{EachIsLaid}
 use Rattle.cp_scope.specs.Routines.{RoutineStands}
 use Rattle.cp_scope.specs.Standing.{ScopeStands, Stands, value_of}
 use Rattle.cp_scope.specs.Systems.{ComponentIs, IsComponent, IsIndexed, SystemStands, routines_of}
@@ -56,7 +55,7 @@ pub record IsScope (scope : Scope) (s : code.Scope) : Type 0 where
   pub routines : List tree.Routine
   pub written : IsWritten s.system parameters variables routines
   pub names : ScopeStands scope.tables.now.names scope.tables.now.types s.globals
-  pub laid : AreLaid s.globals scope.tables.now.types scope.tables.now.layouts.rows.items
+  pub laid : EachIsLaid s.globals scope.tables.now.types scope.tables.now.layouts.rows.items
   pub systems : AreSystems s.globals scope.tables.now.types scope.tables.now.systems.items
   pub system : SystemStands s.globals scope.tables.now.types scope.system.now parameters variables routines
   pub routine : IsRoutine s.globals scope.tables.now.types scope.routine s.routine
@@ -65,11 +64,6 @@ pub record IsScope (scope : Scope) (s : code.Scope) : Type 0 where
   pub words : s.words ≡ words_of s.globals s.routine
 
 -- ---- Calls
-
--- A selector selects a part if it is a field or has at least one index.
-abbrev pub Selects : syntax.Selector → Type 0
-Selects (syntax.Indexed syntax.NoIndices) = ⊥
-Selects _ = Unit {0}
 
 -- The called routine, its number in its system type, and its component if that is another one.
 pub record IsCallee (scope : Scope) (s : code.Scope) (found : Callee) (c : calls.Callee) : Type 0 where

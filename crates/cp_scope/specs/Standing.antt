@@ -64,9 +64,14 @@ abbrev mutual
   AreMembers types _ _ = ⊥
 
 -- Every number that had a row or a system type still has the same one.
-pub record Grows (old new : Types) : Type 0 where
+pub record Keeps (old new : Types) : Type 0 where
   pub rows : (n : ℕ) (r : TypeRow) → row_at old n ≡ Some r → row_at new n ≡ Some r
   pub systems : (k : ℕ) (s : Bor System) → system_at old k ≡ Some s → system_at new k ≡ Some s
+
+-- Types may have been added, and no system types.
+pub record Grows (old new : Types) : Type 0 where
+  pub rows : (n : ℕ) (r : TypeRow) → row_at old n ≡ Some r → row_at new n ≡ Some r
+  pub systems : new.systems.items ≡ old.systems.items
 
 -- A type is added and gets the number `n`.
 pub record Adds (old new : Types) (r : TypeRow) (n : ℕ) : Type 0 where
@@ -74,7 +79,7 @@ pub record Adds (old new : Types) (r : TypeRow) (n : ℕ) : Type 0 where
   pub added : row_at new n ≡ Some r
 
 pub record AddsSystem (old new : Types) (y : System) (k : ℕ) : Type 0 where
-  pub grows : Grows old new
+  pub keeps : Keeps old new
   pub system : Bor System
   pub added : system_at new k ≡ Some system
   pub is : system.now ≡ y

@@ -1,5 +1,5 @@
 -- When the tables of a whole text are right.
-use Rattle.std.specs.Prelude.{◌≡◌, ◌≤◌, ℕ, length, List, [], Some, slice_get}
+use Rattle.std.specs.Prelude.{◌≡◌, ℕ, List, [], Some, slice_get}
 use Rattle.std.specs.Borrow.{Bor}
 use Rattle.cp_model.specs.Types.{GlobalScope}
 use Rattle.cp_model.specs.declared.tree.System.{System}
@@ -9,26 +9,28 @@ use Rattle.cp_scope.specs.declared.names.Names.{Names}
 use Rattle.cp_scope.specs.declared.systems.SystemTable.{SystemTable}
 use Rattle.cp_scope.specs.declared.tables.Tables.{Tables}
 use Rattle.cp_scope.specs.declared.types.Types.{Types}
-use Rattle.cp_scope.specs.Layouts.{AreLaid}
+use Rattle.cp_scope.specs.Layouts.{AreLaid, EachIsLaid}
 use Rattle.cp_scope.specs.Routines.{Builds}
 use Rattle.cp_scope.specs.Standing.{Grows, ScopeStands, system_at}
 use Rattle.cp_scope.specs.Systems.{SystemStands}
 
--- The table of each number is that of the system type of that number.
+-- The table is that of the system type `y`.
+abbrev pub TableIs : GlobalScope → Types → SystemTable → System → Type 0
+TableIs g types table y = SystemStands g types table y.parameters.items y.variables.items y.routines.items
+
+-- Each system type has a table, which has its number.
 abbrev pub AreSystems : GlobalScope → Types → List SystemTable → Type 0
 AreSystems g types tables =
-    (k : ℕ) (y : Bor System) (table : SystemTable) → system_at types k ≡ Some y → slice_get tables k ≡ Some table
-    → SystemStands g types table y.now.parameters.items y.now.variables.items y.now.routines.items
+    (k : ℕ) (y : Bor System) → system_at types k ≡ Some y → (table : SystemTable) × (slice_get tables k ≡ Some table) × TableIs g types table y.now
 
 pub record MakesSystems (names : Names) (old new : Types) (before after : List Layout) (tables : List SystemTable) : Type 0 where
   pub builds : Builds names old new before after
-  pub complete : length old.systems.items ≤ length tables
   pub stands : (g : GlobalScope) (later : Types) → ScopeStands names old g → AreLaid g old before → Grows new later → AreSystems g later tables
 
 -- The tables are those of a text with the outermost scope `g`. The initial process has no
 -- parameters.
 pub record TablesStand (g : GlobalScope) (tables : Tables) (text : tree.Tree) : Type 0 where
   pub scope : ScopeStands tables.names tables.types g
-  pub laid : AreLaid g tables.types tables.layouts.rows.items
+  pub laid : EachIsLaid g tables.types tables.layouts.rows.items
   pub systems : AreSystems g tables.types tables.systems.items
   pub initial : SystemStands g tables.types tables.initial [] text.variables.items text.routines.items

@@ -4,14 +4,13 @@ ghost use Rattle.std.specs.Prelude.{IfOk, OnOk, map};
 ghost use Rattle.cp_scope.specs.Components.{MakesComponent, Picks, PicksComponents, RightsLie};
 ghost use Rattle.cp_scope.specs.Variables.{declared_entry};
 
-use crate::error::CompileError;
 use crate::layout::{Layout, Layouts, sum};
 use crate::names::{Names, add_first};
 use crate::types::Types;
 use crate::variables::Declared;
 use cp_model::tree::{Fields, Parameters};
 use cp_names::NameTable;
-use std::alloc::Global;
+use std::alloc::{AllocError, Global};
 
 /// A right to a component: its offset in words from the first word of the component that has it,
 /// and the number of its type.
@@ -23,7 +22,7 @@ pub struct Right {
 
 impl<'t> Types<'t> {
     // Adds the parameter `d` if it is a right to a component.
-    fn pick(&self, components: &mut Vec<Declared<'t>>, d: Declared<'t>) -> Result<(), CompileError>
+    fn pick(&self, components: &mut Vec<Declared<'t>>, d: Declared<'t>) -> Result<(), AllocError>
         ensures { OnOk result (Picks self.now (declared_entry d.entry)
             (map declared_entry components.old.items) (map declared_entry components.new.items)) }
     {
@@ -34,7 +33,7 @@ impl<'t> Types<'t> {
     }
 
     /// The declared names in `list` whose types are types of components.
-    pub fn components(&self, list: &[Declared<'t>]) -> Result<Vec<Declared<'t>>, CompileError>
+    pub fn components(&self, list: &[Declared<'t>]) -> Result<Vec<Declared<'t>>, AllocError>
         ensures { IfOk result (λ components. PicksComponents self.now (map declared_entry list.now)
             (map declared_entry components.items)) }
     {
@@ -47,10 +46,7 @@ impl<'t> Types<'t> {
 
     /// The rights to these components. They lie one after another, after the mark in the first
     /// word.
-    pub fn rights_to(
-        &self,
-        components: &[Declared<'t>],
-    ) -> Result<NameTable<'t, Right>, CompileError>
+    pub fn rights_to(&self, components: &[Declared<'t>]) -> Result<NameTable<'t, Right>, AllocError>
         ensures { IfOk result (λ rights. RightsLie self.now
             (map declared_entry components.now) rights) }
     {
@@ -79,7 +75,7 @@ impl<'t> Layouts<'t> {
         types: &mut Types<'t>,
         parameters: &'t [Parameters],
         variables: &'t [Fields],
-    ) -> Result<Layout<'t>, CompileError>
+    ) -> Result<Layout<'t>, AllocError>
         ensures { IfOk result (λ l. MakesComponent names.now types.old types.new self.old.rows.items
             self.new.rows.items parameters.now variables.now l) }
     {

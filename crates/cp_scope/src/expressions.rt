@@ -13,15 +13,16 @@ ghost use Rattle.cp_model.specs.View as view;
 ghost use Rattle.cp_typing.specs.StaticTypes as static;
 ghost use Rattle.cp_program_model.specs.Scopes as code;
 ghost use Rattle.cp_program_model.specs.Scopes.{environment};
-ghost use Rattle.cp_scope.specs.Expressions.{SimpleIs, ValueIs, is_part};
+ghost use Rattle.cp_scope.specs.Expressions.{SimpleIs, ValueIs};
 ghost use Rattle.cp_scope.specs.Places.{TypeIs};
 ghost use Rattle.cp_scope.specs.Scopes.{IsCallee, IsScope};
 ghost use Rattle.cp_scope.specs.Standing.{base_of, simple_of};
 
-use crate::error::CompileError;
-use crate::scope::{Callee, Meaning, Scope, refuse_no_index};
+use crate::designators::is_part;
+use crate::scope::{Callee, Meaning, Scope};
 use crate::types::{Base, Simple, TypeRow, Types};
 use cp_model::tree::{Designator, Expression, Operation, Operator, Sign};
+use std::alloc::AllocError;
 
 /// The first ordinal of a base type.
 pub fn first_ordinal(base: Base) -> i32
@@ -33,22 +34,20 @@ pub fn first_ordinal(base: Base) -> i32
     }
 }
 
-/// The last ordinal of a base type. An enumeration with too many values is refused.
-pub fn last_ordinal(base: Base) -> Result<i32, CompileError>
+/// The last ordinal of a base type. That of an enumeration may not fit 32 bits.
+pub fn last_ordinal(base: Base) -> Result<i32, AllocError>
     ensures { IfOk result (λ n. n ≡ types.last_ordinal (base_of base.entry)) }
 {
     match base {
         Base::Integer => Ok(32767),
         Base::Char => Ok(127),
         Base::Boolean => Ok(1),
-        Base::Enumeration { last, .. } => {
-            i32::try_from(last).map_err(|_| CompileError::Unaccepted)
-        }
+        Base::Enumeration { last, .. } => { i32::try_from(last).map_err(|_| AllocError) }
     }
 }
 
 // The simple type that includes all values of a base type, and whose start value is 0.
-fn full_range<'t>(base: Base<'t>) -> Result<Option<Simple<'t>>, CompileError>
+fn full_range<'t>(base: Base<'t>) -> Result<Option<Simple<'t>>, AllocError>
     ensures { IfOk result (λ s. SimpleIs s (types.full_range (base_of base.entry))) }
 {
     Ok(Some(Simple {
@@ -69,7 +68,7 @@ pub fn base_type<'t>(of: Option<Simple<'t>>) -> Base<'t>
     }
 }
 
-fn operator_type<'t>(operator: Operator) -> Result<Option<Simple<'t>>, CompileError>
+fn operator_type<'t>(operator: Operator) -> Result<Option<Simple<'t>>, AllocError>
     ensures { IfOk result
         (λ s. SimpleIs s (static.operator_type (erase.operator_of operator))) }
 {
@@ -87,7 +86,7 @@ fn operator_type<'t>(operator: Operator) -> Result<Option<Simple<'t>>, CompileEr
 fn chain_type<'t>(
     first: Option<Simple<'t>>,
     rest: &[Operation],
-) -> Result<Option<Simple<'t>>, CompileError>
+) -> Result<Option<Simple<'t>>, AllocError>
     ensures { IfOk result (λ of. (s : code.Scope) (e : syntax.Expression) → ValueIs s first.entry e
         → ValueIs s of (syntax.chain_of e (map view.operation rest.now))) }
 {
@@ -103,7 +102,7 @@ fn chain_type<'t>(
 fn standard_type<'t>(
     name: &[u8],
     argument: Option<Simple<'t>>,
-) -> Result<Option<Simple<'t>>, CompileError>
+) -> Result<Option<Simple<'t>>, AllocError>
     ensures { IfOk result (λ s. (t : ResolvedType) → SimpleIs argument.entry t
         → SimpleIs s (static.standard_type name.now t)) }
 {
@@ -125,19 +124,6 @@ fn standard_type<'t>(
     full_range(Base::Char)
 }
 
-// Whether a designator is more than a bare name.
-fn is_part(d: &Designator) -> Result<bool, CompileError>
-    ensures { IfOk result (λ b. b ≡ is_part (erase.designator (view.designator d.now))) }
-{
-    match d.selectors.as_slice() {
-        [] => Ok(false),
-        [first, ..] => {
-            refuse_no_index(first)?;
-            Ok(true)
-        }
-    }
-}
-
 impl<'t> Types<'t> {
     /// The simple type of the given number, or `None` if the type isn't simple.
     pub fn simple(&self, number: Option<usize>) -> Option<Simple<'t>>
@@ -152,7 +138,7 @@ impl<'t> Types<'t> {
 
 impl<'s, 't> Scope<'s, 't> {
     // The type of the value of a bare name.
-    fn name_type(&self, name: &[u8]) -> Result<Option<Simple<'t>>, CompileError>
+    fn name_type(&self, name: &[u8]) -> Result<Option<Simple<'t>>, AllocError>
         ensures { IfOk result (λ of. (s : code.Scope) → IsScope self.now s
             → SimpleIs of (static.named_value_type (environment s) name.now)) }
     {
@@ -167,19 +153,19 @@ impl<'s, 't> Scope<'s, 't> {
     }
 
     // The type of the value of a designator that calls nothing.
-    fn own_type(&self, d: &Designator) -> Result<Option<Simple<'t>>, CompileError>
+    fn own_type(&self, d: &Designator) -> Result<Option<Simple<'t>>, AllocError>
         ensures { IfOk result (λ of. (s : code.Scope) → IsScope self.now s → SimpleIs of
             (static.own_value_type (environment s) (erase.designator (view.designator d.now)))) }
     {
-        if is_part(d)? {
-            Ok(self.tables.types.simple(self.place_type(d)?))
+        if is_part(d) {
+            Ok(self.tables.types.simple(self.place_type(d)))
         } else {
             self.name_type(d.root.name.as_bytes())
         }
     }
 
     // The type of the result of a function.
-    fn answer_type(&self, callee: &Callee) -> Result<Option<Simple<'t>>, CompileError>
+    fn answer_type(&self, callee: &Callee) -> Result<Option<Simple<'t>>, AllocError>
         ensures { IfOk result (λ of. (s : code.Scope) (c : calls.Callee) → IsScope self.now s
             → IsCallee self.now s callee.now c
             → SimpleIs of (static.answer_type s.globals c.routine.result)) }
@@ -191,12 +177,12 @@ impl<'s, 't> Scope<'s, 't> {
     }
 
     // The type of a designator that is used as a value.
-    fn use_type(&self, d: &Designator) -> Result<Option<Simple<'t>>, CompileError>
+    fn use_type(&self, d: &Designator) -> Result<Option<Simple<'t>>, AllocError>
         ensures { IfOk result (λ of. (s : code.Scope) → IsScope self.now s → SimpleIs of
             (static.expression_type (environment s)
             (a.Use (erase.designator (view.designator d.now))))) }
     {
-        match self.callee(d)? {
+        match self.callee(d) {
             Some(callee) => self.answer_type(&callee),
             None => self.own_type(d),
         }
@@ -207,15 +193,15 @@ impl<'s, 't> Scope<'s, 't> {
         &self,
         d: &Designator,
         argument: Option<Simple<'t>>,
-    ) -> Result<Option<Simple<'t>>, CompileError>
+    ) -> Result<Option<Simple<'t>>, AllocError>
         ensures { IfOk result (λ of. (s : code.Scope) (e : syntax.Expression)
             (es : syntax.Expressions) → IsScope self.now s → ValueIs s argument.entry e
             → ValueIs s of (syntax.Call (view.designator d.now) (syntax.MoreExpressions e es))) }
     {
-        match self.callee(d)? {
+        match self.callee(d) {
             Some(callee) => self.answer_type(&callee),
             None => {
-                if is_part(d)? {
+                if is_part(d) {
                     standard_type(&[], argument)
                 } else {
                     standard_type(d.root.name.as_bytes(), argument)
@@ -228,9 +214,8 @@ impl<'s, 't> Scope<'s, 't> {
     ///
     /// # Errors
     ///
-    /// `Unaccepted` if an index list is empty or an enumeration has too many values. No accepted
-    /// text has either.
-    pub fn expression_type(&self, e: &Expression) -> Result<Option<Simple<'t>>, CompileError>
+    /// If the last value of an enumeration has no ordinal of 32 bits.
+    pub fn expression_type(&self, e: &Expression) -> Result<Option<Simple<'t>>, AllocError>
         ensures { IfOk result (λ of. (s : code.Scope) → IsScope self.now s
             → ValueIs s of (view.expression e.now)) }
     {

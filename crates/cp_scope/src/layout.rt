@@ -6,16 +6,15 @@ ghost use Rattle.cp_model.specs.Types.{GlobalScope, ResolvedType};
 ghost use Rattle.cp_typing.specs.Words.{words};
 ghost use Rattle.cp_program_model.specs.Layout as code;
 ghost use Rattle.cp_model.specs.Locations.{ByName};
-ghost use Rattle.cp_scope.specs.Layouts.{AreLaid, Counts, LaysComponent, LaysOut, LaysRow, PartIs, rights_among, rights_of};
+ghost use Rattle.cp_scope.specs.Layouts.{AreLaid, Counts, EachIsLaid, LaysComponent, LaysOut, LaysRow, PartIs, rights_among, rights_of};
 ghost use Rattle.cp_scope.specs.Standing.{ScopeStands, Stands, entry, name_type};
 
 use crate::counts::count_between;
-use crate::error::CompileError;
 use crate::names::{Names, add_first};
 use crate::types::{Field, TypeRow, Types};
 use cp_model::tree::{Parameters, Sort, System};
 use cp_names::NameTable;
-use std::alloc::Global;
+use std::alloc::{AllocError, Global};
 
 /// A part of a variable: its offset in words from the first word of the variable, and its type. The
 /// offset is `None` if it is too large.
@@ -127,16 +126,13 @@ impl<'t> Layouts<'t> {
     }
 
     /// Where a member of a record or class lies in a variable of the type, or `None` if the type
-    /// has no member of that name. A type without a layout is refused.
-    pub fn part(&self, number: usize, name: &[u8]) -> Result<Option<Part>, CompileError>
-        ensures { IfOk result (λ p. (g : GlobalScope) (types : Types) (t : ResolvedType)
-            → AreLaid g types self.now.rows.items → Stands types number t → PartIs types p
-            (code.part g t (ByName name.now ∷ []))) }
+    /// has no member of that name.
+    pub fn part(&self, number: usize, name: &[u8]) -> Option<Part>
+        ensures { (g : GlobalScope) (types : Types) (t : ResolvedType)
+            → EachIsLaid g types self.now.rows.items → Stands types number t
+            → PartIs types result (code.part g t (ByName name.now ∷ [])) }
     {
-        match self.layout(number) {
-            Some(layout) => Ok(layout.parts.find(name)),
-            None => Err(CompileError::Unaccepted),
-        }
+        self.layout(number)?.parts.find(name)
     }
 
     fn bare(&self, words: Option<u32>) -> Layout<'t>
@@ -155,7 +151,7 @@ impl<'t> Layouts<'t> {
         &self,
         members: &[Field<'t>],
         head: Option<u32>,
-    ) -> Result<Layout<'t>, CompileError>
+    ) -> Result<Layout<'t>, AllocError>
         ensures { IfOk result (λ l. LaysOut self.now.rows.items (map entry members.now) head l) }
     {
         let mut layout = self.bare(head);
@@ -178,7 +174,7 @@ impl<'t> Layouts<'t> {
         types: &Types<'t>,
         system: &System,
         members: &[Field<'t>],
-    ) -> Result<Layout<'t>, CompileError>
+    ) -> Result<Layout<'t>, AllocError>
         ensures { IfOk result (λ l. LaysComponent names.now types.now self.now.rows.items system.now
             (map entry members.now) l) }
     {
@@ -197,7 +193,7 @@ impl<'t> Layouts<'t> {
         names: &Names<'t>,
         types: &Types<'t>,
         row: &TypeRow<'t>,
-    ) -> Result<Layout<'t>, CompileError>
+    ) -> Result<Layout<'t>, AllocError>
         ensures { IfOk result (λ l. LaysRow names.now types.now self.now.rows.items row.now l) }
     {
         match row {
@@ -210,14 +206,15 @@ impl<'t> Layouts<'t> {
             TypeRow::Queue => Ok(self.bare(Some(1))),
             TypeRow::Component { system, members } => match types.system(*system) {
                 Some(system) => self.component(names, types, system, members),
-                None => Err(CompileError::Unaccepted),
+                // Each component type has its system type.
+                None => Ok(self.bare(None)),
             },
             TypeRow::Unknown => Ok(self.bare(Some(0))),
         }
     }
 
     /// Adds the layouts of all types that have none yet.
-    pub fn extend(&mut self, names: &Names<'t>, types: &Types<'t>) -> Result<(), CompileError>
+    pub fn extend(&mut self, names: &Names<'t>, types: &Types<'t>) -> Result<(), AllocError>
         ensures laid { OnOk result ((g : GlobalScope) → ScopeStands names.now types.now g
             → AreLaid g types.now self.old.rows.items → AreLaid g types.now self.new.rows.items) }
         ensures complete { OnOk result (length types.now.rows.items ≤ length self.new.rows.items) }

@@ -16,13 +16,13 @@
 //!
 //! Names are borrowed from the tree and found by comparison, in logarithmic time. Look-ups alone
 //! define what names and numbers stand for (`specs/Standing.antt`, and `specs/Texts.antt` for a
-//! whole text). Sizes and offsets that don't fit their fields are `None`, and refused only when
+//! whole text). Sizes and offsets that don't fit their fields are `None`, and an error only when
 //! they are used, because a text may declare a type that is far larger than any variable.
 #![tactic(auto)]
 
 mod components;
 mod counts;
-mod error;
+mod designators;
 mod expressions;
 mod layout;
 mod locals;
@@ -41,17 +41,17 @@ mod units;
 mod variables;
 
 pub use components::Right;
-pub use counts::{count_between, small_number};
-pub use error::CompileError;
+pub use counts::{count_between, small_number, small_sum};
+pub use designators::is_part;
 pub use expressions::{base_type, first_ordinal, last_ordinal};
 pub use layout::{Layout, Layouts, Part};
 pub use locals::{Local, Locals};
-pub use names::{Names, Value, add_name};
+pub use names::{Names, Value};
 pub use numbering::Numbered;
 pub use outer::Outer;
 pub use places::Elements;
 pub use routines::RoutineTable;
-pub use scope::{Callee, Meaning, Scope, refuse_no_index};
+pub use scope::{Callee, Meaning, Scope};
 pub use systems::{Component, IndexedRoutine, SystemTable};
 pub use tables::Tables;
 pub use types::{Base, Field, Simple, TypeRow, Types};

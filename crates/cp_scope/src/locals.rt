@@ -10,12 +10,11 @@ ghost use Rattle.cp_scope.specs.Standing.{Stands};
 ghost use Rattle.cp_scope.specs.declared.types.Types.{Types};
 ghost use Rattle.cp_scope.specs.Variables.{declared_entry};
 
-use crate::error::CompileError;
 use crate::layout::{Layouts, sum};
 use crate::names::add_first;
 use crate::variables::Declared;
 use cp_names::NameTable;
-use std::alloc::Global;
+use std::alloc::{AllocError, Global};
 
 /// A parameter or variable of a routine: its offset in words from the first word of the activation,
 /// whether it is a `var` parameter, and the number of its type. The offset is `None` if it is too
@@ -51,11 +50,7 @@ impl<'t> Layouts<'t> {
 
     /// Lays out these parameters and variables one after another. The first one lies `head` words
     /// from the first word of the activation.
-    pub fn locals(
-        &self,
-        list: &[Declared<'t>],
-        head: Option<u32>,
-    ) -> Result<Locals<'t>, CompileError>
+    pub fn locals(&self, list: &[Declared<'t>], head: Option<u32>) -> Result<Locals<'t>, AllocError>
         ensures { IfOk result (λ l. LaysLocals self.now.rows.items
             (map declared_entry list.now) head l) }
     {

@@ -1,12 +1,11 @@
 //! The names of constants and types in the outermost scope.
 
 ghost use Rattle.std.specs.Prelude.{◌≡◌, [], OnOk};
-ghost use Rattle.cp_scope.specs.Tables.{Behind, InFront};
+ghost use Rattle.cp_scope.specs.Tables.{Behind};
 
-use crate::error::CompileError;
 use crate::types::Base;
 use cp_names::NameTable;
-use std::alloc::Global;
+use std::alloc::{AllocError, Global};
 
 /// The value of a constant: its base type and its ordinal.
 #[derive(Clone, Copy)]
@@ -35,27 +34,12 @@ impl<'t> Names<'t> {
     }
 }
 
-/// Adds a name. Fails if the table has the name already.
-pub fn add_name<'t, A: Copy>(
-    table: &mut NameTable<'t, A>,
-    name: &'t [u8],
-    value: A,
-) -> Result<(), CompileError>
-    ensures { OnOk result (InFront name.now value table.old table.new) }
-{
-    if table.find(name).is_some() {
-        return Err(CompileError::Unaccepted);
-    }
-    table.add(name, value)?;
-    Ok(())
-}
-
 /// Adds a name after the others, unless the table has it already.
 pub fn add_first<'t, A: Copy>(
     table: &mut NameTable<'t, A>,
     name: &'t [u8],
     value: A,
-) -> Result<(), CompileError>
+) -> Result<(), AllocError>
     ensures { OnOk result (Behind name.now value table.old table.new) }
 {
     if table.find(name).is_none() {

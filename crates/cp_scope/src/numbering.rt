@@ -1,20 +1,21 @@
 //! The names of parameters and variables, with the numbers of the components among them.
 
-ghost use Rattle.std.specs.Prelude.{◌≡◌, ◌≤◌, IfOk, if◌then◌else◌, map};
-ghost use Rattle.cp_model.specs.Components.{is_component_of, same_sort};
+ghost use Rattle.std.specs.Prelude.{◌≡◌, ◌≤◌, IfOk, List, if◌then◌else◌, map};
+ghost use Rattle.cp_model.specs.Abstract.{Name, Process};
+ghost use Rattle.cp_model.specs.Components.{count_before, is_component_of, same_sort};
+ghost use Rattle.cp_model.specs.Declarations.{Variable};
 ghost use Rattle.cp_model.specs.Erase as erase;
 ghost use Rattle.cp_model.specs.Types.{ResolvedType};
 ghost use Rattle.cp_scope.specs.Numbering.{AreNumbered, system_of};
 ghost use Rattle.cp_scope.specs.Standing.{Stands, row_at};
-ghost use Rattle.cp_scope.specs.Variables.{declared_entry};
+ghost use Rattle.cp_scope.specs.Variables.{AreDeclared, declared_entry};
 
-use crate::error::CompileError;
 use crate::names::add_first;
 use crate::types::{TypeRow, Types};
 use crate::variables::Declared;
 use cp_model::tree::Sort;
 use cp_names::NameTable;
-use std::alloc::Global;
+use std::alloc::{AllocError, Global};
 
 /// A named parameter or variable: the number of its type, and how many monitors and processes are
 /// declared before it.
@@ -75,11 +76,28 @@ impl<'t> Types<'t> {
         }
     }
 
+    /// The number of processes before this name in a list of variables, or of all if the list lacks
+    /// the name.
+    pub fn processes_before(&self, list: &[Declared<'t>], name: &[u8]) -> usize
+        ensures { (vs : List (Name × Variable))
+            → AreDeclared self.now (map declared_entry list.now) vs
+            → result ≡ count_before Process name.now vs }
+    {
+        let mut count = 0;
+        for d in list {
+            if name == d.name {
+                return count;
+            }
+            count += self.component_count(Sort::Process, d.of);
+        }
+        count
+    }
+
     /// The names of these parameters or variables, with the numbers of the components among them.
     pub fn numbered_names(
         &self,
         list: &[Declared<'t>],
-    ) -> Result<NameTable<'t, Numbered>, CompileError>
+    ) -> Result<NameTable<'t, Numbered>, AllocError>
         ensures { IfOk result (λ names. AreNumbered self.now (map declared_entry list.now) names) }
     {
         let mut names = NameTable::new(self.alloc);

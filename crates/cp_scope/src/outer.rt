@@ -7,18 +7,17 @@ ghost use Rattle.cp_model.specs.Types as t;
 ghost use Rattle.cp_model.specs.Types.{ResolvedType, standard_scope};
 ghost use Rattle.cp_model.specs.Erase as erase;
 ghost use Rattle.cp_model.specs.View as view;
-ghost use Rattle.cp_scope.specs.Outer.{Defines, NamesType, OuterStands, component_of, defining, defining_all, with_type, with_value, with_values};
-ghost use Rattle.cp_scope.specs.Standing.{Makes, MakesFields, Stands, base_of, entry, simple_of, value_of, with_parameter, with_parameters, type_from};
+ghost use Rattle.cp_scope.specs.Outer.{Defines, MakesComponents, NamesType, OuterStands, component_of, defining, defining_all, with_type, with_value, with_values};
+ghost use Rattle.cp_scope.specs.Standing.{MakesFields, Stands, base_of, entry, simple_of, value_of, with_parameter, with_parameters, type_from};
 
-use crate::error::CompileError;
-use crate::names::{Names, Value, add_name};
+use crate::names::{Names, Value};
 use crate::resolving::add_fields;
 use crate::types::{Base, Field, Simple, TypeRow, Types};
 use cp_model::tree::{
     ConstantDefinition, Defined, Identifier, Parameters, Section, System, Tree, TypeDefinition,
     TypeExpression,
 };
-use std::alloc::Global;
+use std::alloc::{AllocError, Global};
 
 /// The names and types of the outermost scope.
 #[derive(Drop)]
@@ -27,12 +26,12 @@ pub struct Outer<'t> {
     pub types: Types<'t>,
 }
 
-// Converts a number to an ordinal. No accepted text has one that doesn't fit.
-fn ordinal(n: usize) -> Result<i32, CompileError>
+// Converts a number to an ordinal.
+fn ordinal(n: usize) -> Result<i32, AllocError>
     ensures { IfOk result (λ i. i ≡ pos n) }
 {
     if n > 0x7fff_ffff {
-        return Err(CompileError::Unaccepted);
+        return Err(AllocError);
     }
     Ok(n as i32)
 }
@@ -56,7 +55,7 @@ fn simple<'t>(base: Base<'t>, low: i32, high: i32) -> Simple<'t>
 }
 
 // The value of an enumeration that has this number.
-fn enumeration_value<'t>(base: Base<'t>, number: usize) -> Result<Value<'t>, CompileError>
+fn enumeration_value<'t>(base: Base<'t>, number: usize) -> Result<Value<'t>, AllocError>
     ensures { IfOk result (λ v. value_of v ≡ (base_of base.entry, pos number)) }
 {
     let ordinal = ordinal(number)?;
@@ -64,7 +63,7 @@ fn enumeration_value<'t>(base: Base<'t>, number: usize) -> Result<Value<'t>, Com
 }
 
 // The type of an enumeration whose last value has the number `last`.
-fn enumeration<'t>(base: Base<'t>, last: usize) -> Result<Simple<'t>, CompileError>
+fn enumeration<'t>(base: Base<'t>, last: usize) -> Result<Simple<'t>, AllocError>
     ensures { IfOk result (λ s. simple_of s ≡ t.Simple (base_of base.entry) (pos 0) (pos last)
         (pos 0)) }
 {
@@ -86,7 +85,7 @@ impl<'t> Types<'t> {
         names: &Names<'t>,
         group: &'t Parameters,
         members: &mut Vec<Field<'t>>,
-    ) -> Result<(), CompileError>
+    ) -> Result<(), AllocError>
         ensures { OnOk result (MakesFields names.now self.old self.new (map entry members.old.items)
             (map entry members.new.items) (with_parameter group.now)) }
     {
@@ -103,7 +102,7 @@ impl<'t> Types<'t> {
         names: &Names<'t>,
         groups: &'t [Parameters],
         members: &mut Vec<Field<'t>>,
-    ) -> Result<(), CompileError>
+    ) -> Result<(), AllocError>
         ensures { OnOk result (MakesFields names.now self.old self.new (map entry members.old.items)
             (map entry members.new.items) (with_parameters groups.now)) }
     {
@@ -114,8 +113,8 @@ impl<'t> Types<'t> {
     }
 
     // Adds the type of the components of a system type, and returns its number.
-    fn component(&mut self, names: &Names<'t>, system: &'t System) -> Result<usize, CompileError>
-        ensures { IfOk result (λ n. Makes names.now self.old self.new (component_of system.now) n) }
+    fn component(&mut self, names: &Names<'t>, system: &'t System) -> Result<usize, AllocError>
+        ensures { IfOk result (λ n. MakesComponents names.now self.old self.new system.now n) }
     {
         let mut members = Vec::new(self.alloc);
         self.add_parameters(names, &system.parameters, &mut members)?;
@@ -130,22 +129,22 @@ impl<'t> Types<'t> {
 
 impl<'t> Outer<'t> {
     // Adds a constant.
-    fn add_constant(&mut self, name: &'t [u8], value: Value<'t>) -> Result<(), CompileError>
+    fn add_constant(&mut self, name: &'t [u8], value: Value<'t>) -> Result<(), AllocError>
         ensures { OnOk result (Defines self.old self.new
             (with_value name.now (value_of value.entry))) }
     {
-        add_name(&mut self.names.constants, name, value)
+        self.names.constants.set(name, value)
     }
 
     // Adds the name of a type.
-    fn add_type(&mut self, name: &'t [u8], of: usize) -> Result<(), CompileError>
+    fn add_type(&mut self, name: &'t [u8], of: usize) -> Result<(), AllocError>
         ensures { OnOk result (NamesType self.old self.new name.now of) }
     {
-        add_name(&mut self.names.types, name, of)
+        self.names.types.set(name, of)
     }
 
     // Adds a simple type and its name.
-    fn add_base(&mut self, name: &'t [u8], base: Simple<'t>) -> Result<(), CompileError>
+    fn add_base(&mut self, name: &'t [u8], base: Simple<'t>) -> Result<(), AllocError>
         ensures { OnOk result (Defines self.old self.new
             (with_type name.now (λ g. simple_of base.entry))) }
     {
@@ -154,7 +153,7 @@ impl<'t> Outer<'t> {
     }
 
     /// The scope of the standard names.
-    pub fn standard(alloc: Global) -> Result<Outer<'t>, CompileError>
+    pub fn standard(alloc: Global) -> Result<Outer<'t>, AllocError>
         ensures { IfOk result (λ outer. OuterStands outer standard_scope) }
     {
         let mut outer = Outer {
@@ -171,7 +170,7 @@ impl<'t> Outer<'t> {
         Ok(outer)
     }
 
-    fn define_constant(&mut self, d: &'t ConstantDefinition) -> Result<(), CompileError>
+    fn define_constant(&mut self, d: &'t ConstantDefinition) -> Result<(), AllocError>
         ensures { OnOk result (Defines self.old self.new
             (defining (erase.constant_definition d.now))) }
     {
@@ -181,7 +180,7 @@ impl<'t> Outer<'t> {
         }
     }
 
-    fn define_type(&mut self, x: &'t Identifier, t: &'t TypeExpression) -> Result<(), CompileError>
+    fn define_type(&mut self, x: &'t Identifier, t: &'t TypeExpression) -> Result<(), AllocError>
         ensures { OnOk result (Defines self.old self.new (with_type x.now.name (type_from t.now))) }
     {
         let of = self.types.resolve(&self.names, t)?;
@@ -189,7 +188,7 @@ impl<'t> Outer<'t> {
     }
 
     // Adds the values of an enumeration, the last one first.
-    fn add_values(&mut self, base: Base<'t>, values: &'t [Identifier]) -> Result<(), CompileError>
+    fn add_values(&mut self, base: Base<'t>, values: &'t [Identifier]) -> Result<(), AllocError>
         ensures { OnOk result (Defines self.old self.new
             (with_values (base_of base.entry) 0 values.now)) }
     {
@@ -206,7 +205,7 @@ impl<'t> Outer<'t> {
         &mut self,
         x: &'t Identifier,
         values: &'t [Identifier],
-    ) -> Result<(), CompileError>
+    ) -> Result<(), AllocError>
         ensures { OnOk result (Defines self.old self.new
             (defining (a.EnumDef x.now.name (map erase.name values.now)))) }
     {
@@ -217,7 +216,7 @@ impl<'t> Outer<'t> {
         self.add_values(base, values)
     }
 
-    fn define_system(&mut self, x: &'t Identifier, system: &'t System) -> Result<(), CompileError>
+    fn define_system(&mut self, x: &'t Identifier, system: &'t System) -> Result<(), AllocError>
         ensures { OnOk result (Defines self.old self.new
             (with_type x.now.name (component_of system.now))) }
     {
@@ -225,7 +224,7 @@ impl<'t> Outer<'t> {
         self.add_type(x.name.as_bytes(), of)
     }
 
-    fn define_as(&mut self, d: &'t TypeDefinition) -> Result<(), CompileError>
+    fn define_as(&mut self, d: &'t TypeDefinition) -> Result<(), AllocError>
         ensures { OnOk result (Defines self.old self.new
             (defining (erase.type_definition (view.type_definition d.now)))) }
     {
@@ -236,7 +235,7 @@ impl<'t> Outer<'t> {
         }
     }
 
-    fn define_constants(&mut self, list: &'t [ConstantDefinition]) -> Result<(), CompileError>
+    fn define_constants(&mut self, list: &'t [ConstantDefinition]) -> Result<(), AllocError>
         ensures { OnOk result (Defines self.old self.new
             (defining_all (map erase.constant_definition list.now))) }
     {
@@ -246,7 +245,7 @@ impl<'t> Outer<'t> {
         Ok(())
     }
 
-    fn define_types(&mut self, list: &'t [TypeDefinition]) -> Result<(), CompileError>
+    fn define_types(&mut self, list: &'t [TypeDefinition]) -> Result<(), AllocError>
         ensures { OnOk result (Defines self.old self.new
             (defining_all (map erase.type_definition (map view.type_definition list.now)))) }
     {
@@ -256,7 +255,7 @@ impl<'t> Outer<'t> {
         Ok(())
     }
 
-    fn define_section(&mut self, section: &'t Section) -> Result<(), CompileError>
+    fn define_section(&mut self, section: &'t Section) -> Result<(), AllocError>
         ensures { OnOk result (Defines self.old self.new
             (defining_all (erase.section (view.section_of section.now)))) }
     {
@@ -266,7 +265,7 @@ impl<'t> Outer<'t> {
         }
     }
 
-    fn define_sections(&mut self, sections: &'t [Section]) -> Result<(), CompileError>
+    fn define_sections(&mut self, sections: &'t [Section]) -> Result<(), AllocError>
         ensures { OnOk result (Defines self.old self.new
             (defining_all (erase.sections (map view.section_of sections.now)))) }
     {
@@ -277,7 +276,7 @@ impl<'t> Outer<'t> {
     }
 
     /// The outermost scope of a text.
-    pub fn of_tree(alloc: Global, tree: &'t Tree) -> Result<Outer<'t>, CompileError>
+    pub fn of_tree(alloc: Global, tree: &'t Tree) -> Result<Outer<'t>, AllocError>
         ensures { IfOk result (λ outer. OuterStands outer
             (globals (erase.abstract (view.tree tree.now)))) }
     {

@@ -1,6 +1,6 @@
 //! The types of the parts of variables.
 
-ghost use Rattle.std.specs.Prelude.{◌≡◌, IfOk, map, option_map};
+ghost use Rattle.std.specs.Prelude.{◌≡◌, map, option_map};
 ghost use Rattle.cp_model.specs.Erase as erase;
 ghost use Rattle.cp_model.specs.Places as places;
 ghost use Rattle.cp_model.specs.Types.{ResolvedType};
@@ -12,7 +12,6 @@ ghost use Rattle.cp_scope.specs.Places.{PlaceIs, TypeIs, elements_of, is_record}
 ghost use Rattle.cp_scope.specs.Scopes.{IsScope};
 ghost use Rattle.cp_scope.specs.Standing.{Stands, row_at};
 
-use crate::error::CompileError;
 use crate::layout::Part;
 use crate::scope::{Meaning, Scope};
 use crate::types::{TypeRow, Types};
@@ -65,21 +64,16 @@ fn part_type(part: Option<Part>) -> Option<usize>
 
 impl<'s, 't> Scope<'s, 't> {
     /// The type of a field of a value of the type `of`.
-    pub fn field_type(&self, of: Option<usize>, name: &[u8]) -> Result<Option<usize>, CompileError>
-        ensures { IfOk result (λ n. (s : code.Scope) (t : ResolvedType) → IsScope self.now s
-            → TypeIs self.now.tables.now.types of t → TypeIs self.now.tables.now.types n
-            (places.field_type name.now t)) }
+    pub fn field_type(&self, of: Option<usize>, name: &[u8]) -> Option<usize>
+        ensures { (s : code.Scope) (t : ResolvedType) → IsScope self.now s
+            → TypeIs self.now.tables.now.types of t → TypeIs self.now.tables.now.types result
+            (places.field_type name.now t) }
     {
-        match of {
-            None => Ok(None),
-            Some(of) => {
-                if self.tables.types.is_record(of) {
-                    Ok(part_type(self.tables.layouts.part(of, name)?))
-                } else {
-                    Ok(None)
-                }
-            }
+        let of = of?;
+        if !self.tables.types.is_record(of) {
+            return None;
         }
+        part_type(self.tables.layouts.part(of, name))
     }
 
     /// The type of the place that a name means.
@@ -105,30 +99,26 @@ impl<'s, 't> Scope<'s, 't> {
     }
 
     // The type of the part that a selector selects.
-    fn selected_type(
-        &self,
-        of: Option<usize>,
-        selector: &Selector,
-    ) -> Result<Option<usize>, CompileError>
-        ensures { IfOk result (λ n. (s : code.Scope) (d : a.Designator) → IsScope self.now s
-            → PlaceIs self.now s of d → PlaceIs self.now s n
-            (erase.select d (view.selector selector.now))) }
+    fn selected_type(&self, of: Option<usize>, selector: &Selector) -> Option<usize>
+        ensures { (s : code.Scope) (d : a.Designator) → IsScope self.now s
+            → PlaceIs self.now s of d → PlaceIs self.now s result
+            (erase.select d (view.selector selector.now)) }
     {
         match selector {
             Selector::Field { name, .. } => self.field_type(of, name.name.as_bytes()),
-            Selector::Indexed(indices) => Ok(self.indexed_type(of, indices)),
+            Selector::Indexed(indices) => self.indexed_type(of, indices),
         }
     }
 
     /// The type of the place of a designator, or `None` if it has no type.
-    pub fn place_type(&self, d: &Designator) -> Result<Option<usize>, CompileError>
-        ensures { IfOk result (λ n. (s : code.Scope) → IsScope self.now s → PlaceIs self.now s n
-            (erase.designator (view.designator d.now))) }
+    pub fn place_type(&self, d: &Designator) -> Option<usize>
+        ensures { (s : code.Scope) → IsScope self.now s → PlaceIs self.now s result
+            (erase.designator (view.designator d.now)) }
     {
         let mut of = self.named_place_type(d.root.name.as_bytes());
         for selector in &d.selectors {
-            of = self.selected_type(of, selector)?;
+            of = self.selected_type(of, selector);
         }
-        Ok(of)
+        of
     }
 }

@@ -6,7 +6,6 @@ ghost use Rattle.cp_model.specs.Types.{GlobalScope, constant_value};
 ghost use Rattle.cp_model.specs.Erase as erase;
 ghost use Rattle.cp_scope.specs.Standing.{Adds, ConstantsStand, Makes, MakesArray, MakesFields, MakesIndexed, array_row, entries_of, entry, name_type, range_type, record_type, row_at, subrange_row, value_of, with_group, with_groups, type_from};
 
-use crate::error::CompileError;
 use crate::names::{Names, Value};
 use crate::types::{Base, Field, Simple, TypeRow, Types};
 use cp_model::tree::{Constant, Fields, Identifier, TypeExpression};
@@ -78,7 +77,7 @@ impl<'t> Types<'t> {
         names: &Names<'t>,
         low: &Constant,
         high: &Constant,
-    ) -> Result<usize, CompileError>
+    ) -> Result<usize, AllocError>
         ensures { IfOk result
             (λ n. Makes names.now self.old self.new (range_type low.now high.now) n) }
     {
@@ -87,7 +86,7 @@ impl<'t> Types<'t> {
 
     /// The number of the type that a name means. A name that means no type gets a new row,
     /// `Unknown`.
-    pub fn named_type(&mut self, names: &Names<'t>, x: &Identifier) -> Result<usize, CompileError>
+    pub fn named_type(&mut self, names: &Names<'t>, x: &Identifier) -> Result<usize, AllocError>
         ensures { IfOk result (λ n. Makes names.now self.old self.new (name_type x.now.name) n) }
     {
         match names.types.find(x.name.as_bytes()) {
@@ -110,7 +109,7 @@ impl<'t> Types<'t> {
         }
     }
 
-    fn array(&mut self, index: usize, element: usize) -> Result<usize, CompileError>
+    fn array(&mut self, index: usize, element: usize) -> Result<usize, AllocError>
         ensures { IfOk result (λ n. MakesArray self.old self.new index element n) }
     {
         let row = self.array_row(index, element);
@@ -119,11 +118,7 @@ impl<'t> Types<'t> {
 
     /// The number of a written type, whose rows are added as needed.
     #[cycle(types)]
-    pub fn resolve(
-        &mut self,
-        names: &Names<'t>,
-        t: &'t TypeExpression,
-    ) -> Result<usize, CompileError>
+    pub fn resolve(&mut self, names: &Names<'t>, t: &'t TypeExpression) -> Result<usize, AllocError>
         ensures { IfOk result (λ n. Makes names.now self.old self.new (type_from t.now) n) }
     {
         match t {
@@ -148,7 +143,7 @@ impl<'t> Types<'t> {
         names: &Names<'t>,
         indices: &'t [TypeExpression],
         element: usize,
-    ) -> Result<usize, CompileError>
+    ) -> Result<usize, AllocError>
         ensures { IfOk result
             (λ n. MakesIndexed names.now self.old self.new indices.now element n) }
     {
@@ -163,7 +158,7 @@ impl<'t> Types<'t> {
     }
 
     #[cycle(types)]
-    fn record(&mut self, names: &Names<'t>, groups: &'t [Fields]) -> Result<usize, CompileError>
+    fn record(&mut self, names: &Names<'t>, groups: &'t [Fields]) -> Result<usize, AllocError>
         ensures { IfOk result (λ n. Makes names.now self.old self.new (record_type groups.now) n) }
     {
         let mut fields = Vec::new(self.alloc);
@@ -178,7 +173,7 @@ impl<'t> Types<'t> {
         names: &Names<'t>,
         groups: &'t [Fields],
         fields: &mut Vec<Field<'t>>,
-    ) -> Result<(), CompileError>
+    ) -> Result<(), AllocError>
         ensures { OnOk result (MakesFields names.now self.old self.new (map entry fields.old.items)
             (map entry fields.new.items) (with_groups groups.now)) }
     {
@@ -195,7 +190,7 @@ impl<'t> Types<'t> {
         names: &Names<'t>,
         group: &'t Fields,
         fields: &mut Vec<Field<'t>>,
-    ) -> Result<(), CompileError>
+    ) -> Result<(), AllocError>
         ensures { OnOk result (MakesFields names.now self.old self.new (map entry fields.old.items)
             (map entry fields.new.items) (with_group group.now)) }
     {

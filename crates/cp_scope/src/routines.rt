@@ -8,14 +8,13 @@ ghost use Rattle.cp_scope.specs.Layouts.{Counts};
 ghost use Rattle.cp_scope.specs.Routines.{MakesResult, MakesRoutine};
 ghost use Rattle.cp_scope.specs.Variables.{declared_entry};
 
-use crate::error::CompileError;
 use crate::layout::Layouts;
 use crate::locals::Locals;
 use crate::names::Names;
 use crate::types::Types;
 use crate::variables::Declared;
 use cp_model::tree::{Identifier, Routine};
-use std::alloc::Global;
+use std::alloc::{AllocError, Global};
 
 /// A routine: its name, its parameters and variables in text order, where they lie in an activation
 /// (`locals` also has the size of the activation), and the number of the type of its result if it
@@ -44,7 +43,7 @@ fn both<'t>(
     alloc: Global,
     parameters: &[Declared<'t>],
     variables: &[Declared<'t>],
-) -> Result<Vec<Declared<'t>>, CompileError>
+) -> Result<Vec<Declared<'t>>, AllocError>
     ensures { IfOk result (λ all. map declared_entry all.items ≡
         map declared_entry parameters.now ++ map declared_entry variables.now) }
 {
@@ -59,7 +58,7 @@ impl<'t> Types<'t> {
         &mut self,
         names: &Names<'t>,
         of: &'t Option<Identifier>,
-    ) -> Result<Option<usize>, CompileError>
+    ) -> Result<Option<usize>, AllocError>
         ensures { IfOk result (λ r. MakesResult names.now self.old self.new of.now r) }
     {
         match of {
@@ -76,7 +75,7 @@ impl<'t> Layouts<'t> {
         names: &Names<'t>,
         types: &mut Types<'t>,
         text: &'t Routine,
-    ) -> Result<RoutineTable<'t>, CompileError>
+    ) -> Result<RoutineTable<'t>, AllocError>
         ensures { IfOk result (λ r. MakesRoutine names.now types.old types.new self.old.rows.items
             self.new.rows.items text.now r) }
     {

@@ -1,6 +1,6 @@
 //! What the code of a unit is compiled with, and what names mean in it.
 
-ghost use Rattle.std.specs.Prelude.{◌≡◌, IfOk, OnOk, option_map};
+ghost use Rattle.std.specs.Prelude.{◌≡◌, option_map};
 ghost use Rattle.cp_model.specs.Calls as calls;
 ghost use Rattle.cp_model.specs.Environments.{constant_or_unknown, meaning, permanent_variables};
 ghost use Rattle.cp_model.specs.Erase as erase;
@@ -10,12 +10,13 @@ ghost use Rattle.cp_program_model.specs.Scopes as code;
 ghost use Rattle.cp_program_model.specs.Layout as layout;
 ghost use Rattle.cp_model.specs.Abstract as a;
 ghost use Rattle.cp_scope.specs.Components.{RightIs};
+ghost use Rattle.cp_scope.specs.Designators.{Selects};
 ghost use Rattle.cp_scope.specs.Layouts.{PartIs};
 ghost use Rattle.cp_scope.specs.Locals.{LocalIs};
-ghost use Rattle.cp_scope.specs.Scopes.{CalleeIs, IsScope, MeaningIs, Selects, VariableIs, locals_of, results_of};
+ghost use Rattle.cp_scope.specs.Scopes.{CalleeIs, IsScope, MeaningIs, VariableIs, locals_of, results_of};
 
 use crate::components::Right;
-use crate::error::CompileError;
+use crate::designators::first_part;
 use crate::layout::Part;
 use crate::locals::Local;
 use crate::names::Value;
@@ -59,19 +60,6 @@ fn type_of(found: Option<Numbered>) -> Option<usize>
     ensures { result ≡ option_map (λ n. n.of) found }
 {
     Some(found?.of)
-}
-
-/// Fails if a selector has an empty index list, which no text has.
-pub fn refuse_no_index(selector: &Selector) -> Result<(), CompileError>
-    ensures { OnOk result (Selects (view.selector selector.now)) }
-{
-    match selector {
-        Selector::Field { .. } => Ok(()),
-        Selector::Indexed(indices) => match indices.as_slice() {
-            [] => Err(CompileError::Unaccepted),
-            [_, ..] => Ok(()),
-        },
-    }
 }
 
 impl<'s, 't> Scope<'s, 't> {
@@ -220,65 +208,51 @@ impl<'s, 't> Scope<'s, 't> {
     }
 
     // The routine that `component.name` calls.
-    fn component_callee<'n>(
-        &self,
-        component: &'n [u8],
-        name: &[u8],
-    ) -> Result<Option<Callee<'s, 't, 'n>>, CompileError>
-        ensures { IfOk result (λ c. (s : code.Scope) → IsScope self.now s → CalleeIs self.now s c
-            (calls.callee (code.environment s) (a.Part (a.Plain component.now) name.now))) }
+    fn component_callee<'n>(&self, component: &'n [u8], name: &[u8]) -> Option<Callee<'s, 't, 'n>>
+        ensures { (s : code.Scope) → IsScope self.now s → CalleeIs self.now s result
+            (calls.callee (code.environment s) (a.Part (a.Plain component.now) name.now)) }
     {
         match self.system.component(&self.tables.types, component) {
-            None => Ok(None),
+            None => None,
             Some(of) => match self.tables.system(of.system) {
-                None => Err(CompileError::Unaccepted),
+                None => None,
                 Some(system) => match system.routine(name) {
-                    None => Ok(None),
-                    Some(routine) => Ok(Some(Callee {
+                    None => None,
+                    Some(routine) => Some(Callee {
                         routine,
                         of: Some(of),
-                    })),
+                    }),
                 },
             },
         }
     }
 
     // The routine that a name with one selector calls.
-    fn selected_callee<'n>(
-        &self,
-        name: &'n [u8],
-        selector: &Selector,
-    ) -> Result<Option<Callee<'s, 't, 'n>>, CompileError>
-        ensures { IfOk result (λ c. (s : code.Scope) → IsScope self.now s → CalleeIs self.now s c
-            (calls.callee (code.environment s)
-            (erase.select (a.Plain name.now) (view.selector selector.now)))) }
+    fn selected_callee<'n>(&self, name: &'n [u8], selector: &Selector) -> Option<Callee<'s, 't, 'n>>
+        ensures { (s : code.Scope) → IsScope self.now s → Selects (view.selector selector.now)
+            → CalleeIs self.now s result (calls.callee (code.environment s)
+            (erase.select (a.Plain name.now) (view.selector selector.now))) }
     {
         match selector {
             Selector::Field { name: routine, .. } => {
                 self.component_callee(name, routine.name.as_bytes())
             }
-            Selector::Indexed(_) => {
-                refuse_no_index(selector)?;
-                Ok(None)
-            }
+            Selector::Indexed(_) => None,
         }
     }
 
-    /// The routine that a designator calls, or `None` if it calls none. An empty index list is
-    /// refused.
-    pub fn callee<'n>(&self, d: &'n Designator) -> Result<Option<Callee<'s, 't, 'n>>, CompileError>
-        ensures { IfOk result (λ c. (s : code.Scope) → IsScope self.now s → CalleeIs self.now s c
-            (calls.callee (code.environment s) (erase.designator (view.designator d.now)))) }
+    /// The routine that a designator calls, or `None` if it calls none.
+    pub fn callee<'n>(&self, d: &'n Designator) -> Option<Callee<'s, 't, 'n>>
+        ensures { (s : code.Scope) → IsScope self.now s → CalleeIs self.now s result
+            (calls.callee (code.environment s) (erase.designator (view.designator d.now))) }
     {
         let name = d.root.name.as_bytes();
-        match d.selectors.as_slice() {
-            [] => Ok(self.own_callee(name)),
-            [only] => self.selected_callee(name, only),
-            [first, second, ..] => {
-                refuse_no_index(first)?;
-                refuse_no_index(second)?;
-                Ok(None)
-            }
+        match first_part(&d.selectors) {
+            None => self.own_callee(name),
+            Some((first, rest)) => match first_part(rest) {
+                None => self.selected_callee(name, first),
+                Some(_) => None,
+            },
         }
     }
 }

@@ -8,7 +8,6 @@ ghost use Rattle.cp_scope.specs.TypeNames.{name_or};
 ghost use Rattle.cp_scope.specs.Systems.{ComponentFound, MakesRoutines, MakesSystem, RoutineFound, component_of_name, routine_number, routines_of};
 
 use crate::components::Right;
-use crate::error::CompileError;
 use crate::layout::{Layout, Layouts};
 use crate::names::{Names, add_first};
 use crate::numbering::Numbered;
@@ -18,7 +17,7 @@ use crate::types::Types;
 use crate::variables::Declared;
 use cp_model::tree::{Fields, Parameters, Routine};
 use cp_names::NameTable;
-use std::alloc::Global;
+use std::alloc::{AllocError, Global};
 
 /// A system type: its parameters, variables and routines in text order, and where the members and
 /// rights of its components lie. `members` also has the size of a component. Parameters, variables,
@@ -44,7 +43,7 @@ impl<'t> Layouts<'t> {
         names: &Names<'t>,
         types: &mut Types<'t>,
         texts: &'t [Routine],
-    ) -> Result<Vec<RoutineTable<'t>>, CompileError>
+    ) -> Result<Vec<RoutineTable<'t>>, AllocError>
         ensures { IfOk result (λ rs. MakesRoutines names.now types.old types.new self.old.rows.items
             self.new.rows.items texts.now rs.items) }
     {
@@ -57,7 +56,7 @@ impl<'t> Layouts<'t> {
     }
 
     // The numbers of routines by their names.
-    fn routine_names(&self, texts: &'t [Routine]) -> Result<NameTable<'t, usize>, CompileError>
+    fn routine_names(&self, texts: &'t [Routine]) -> Result<NameTable<'t, usize>, AllocError>
         ensures { IfOk result (λ names. (x : Name) → lookup x names ≡ routine_number x 0
             (routines_of texts.now)) }
     {
@@ -76,7 +75,7 @@ impl<'t> Layouts<'t> {
         parameters: &'t [Parameters],
         variables: &'t [Fields],
         routines: &'t [Routine],
-    ) -> Result<SystemTable<'t>, CompileError>
+    ) -> Result<SystemTable<'t>, AllocError>
         ensures { IfOk result (λ s. MakesSystem names.now types.old types.new self.old.rows.items
             self.new.rows.items parameters.now variables.now routines.now s) }
     {

@@ -6,14 +6,13 @@ ghost use Rattle.cp_model.specs.Erase as erase;
 ghost use Rattle.cp_model.specs.View as view;
 ghost use Rattle.cp_scope.specs.Texts.{MakesSystems, TablesStand};
 
-use crate::error::CompileError;
 use crate::layout::Layouts;
 use crate::names::Names;
 use crate::outer::Outer;
 use crate::systems::SystemTable;
 use crate::types::Types;
 use cp_model::tree::Tree;
-use std::alloc::Global;
+use std::alloc::{AllocError, Global};
 
 /// What the compiler asks of a text: the names and types of its outermost scope, the layouts of its
 /// types, its system types by their numbers in text order, and the initial process.
@@ -32,7 +31,7 @@ impl<'t> Layouts<'t> {
         &mut self,
         names: &Names<'t>,
         types: &mut Types<'t>,
-    ) -> Result<Vec<SystemTable<'t>>, CompileError>
+    ) -> Result<Vec<SystemTable<'t>>, AllocError>
         ensures { IfOk result (λ ss. MakesSystems names.now types.old types.new self.old.rows.items
             self.new.rows.items ss.items) }
     {
@@ -54,9 +53,8 @@ impl<'t> Tables<'t> {
         self.systems.get(number)
     }
 
-    /// Makes the tables of any text. Fails if memory runs out, a name is declared twice in the
-    /// outermost scope, or an enumeration has more values than there are ordinals.
-    pub fn of_tree(alloc: Global, tree: &'t Tree) -> Result<Tables<'t>, CompileError>
+    /// Makes the tables of any text. Fails only if there is no room for them.
+    pub fn of_tree(alloc: Global, tree: &'t Tree) -> Result<Tables<'t>, AllocError>
         ensures { IfOk result (λ tables. TablesStand
             (globals (erase.abstract (view.tree tree.now))) tables tree.now) }
     {
@@ -66,6 +64,8 @@ impl<'t> Tables<'t> {
         let mut layouts = Layouts::new(alloc);
         let systems = layouts.systems(&names, &mut types)?;
         let initial = layouts.system(&names, &mut types, &[], &tree.variables, &tree.routines)?;
+        // Whatever has no layout yet gets one.
+        layouts.extend(&names, &types)?;
         Ok(Tables {
             names,
             types,

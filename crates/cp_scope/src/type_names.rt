@@ -6,11 +6,10 @@ ghost use Rattle.cp_model.specs.View as view;
 ghost use Rattle.cp_program_model.specs.Scopes.{type_name};
 ghost use Rattle.cp_scope.specs.TypeNames.{AreTypeNames, NamesMore, typed_among};
 
-use crate::error::CompileError;
 use crate::names::add_first;
 use cp_model::tree::{Fields, Identifier, Parameters, TypeExpression};
 use cp_names::NameTable;
-use std::alloc::Global;
+use std::alloc::{AllocError, Global};
 
 // The name of a written type, empty if the type isn't a bare name. An array without index types is
 // its element type.
@@ -37,7 +36,7 @@ fn add_names<'t>(
     table: &mut NameTable<'t, &'t [u8]>,
     names: &'t [Identifier],
     of: &'t [u8],
-) -> Result<(), CompileError>
+) -> Result<(), AllocError>
     ensures { OnOk result
         (NamesMore table.old table.new (typed_among (map erase.name names.now) of.now)) }
 {
@@ -51,7 +50,7 @@ fn add_names<'t>(
 pub fn parameter_types<'t>(
     alloc: Global,
     groups: &'t [Parameters],
-) -> Result<NameTable<'t, &'t [u8]>, CompileError>
+) -> Result<NameTable<'t, &'t [u8]>, AllocError>
     ensures { IfOk result (λ names.
         AreTypeNames names (map erase.parameter_group (map view.parameters groups.now))) }
 {
@@ -67,7 +66,7 @@ pub fn parameter_types<'t>(
 pub fn variable_types<'t>(
     alloc: Global,
     groups: &'t [Fields],
-) -> Result<NameTable<'t, &'t [u8]>, CompileError>
+) -> Result<NameTable<'t, &'t [u8]>, AllocError>
     ensures { IfOk result (λ names.
         AreTypeNames names (map erase.variable_group (map view.variables groups.now))) }
 {

@@ -3,9 +3,8 @@
 ghost use Rattle.std.specs.Prelude.{◌≡◌, [], IfOk, option_map};
 ghost use Rattle.cp_scope.specs.Standing.{Adds, AddsSystem, row_at, system_at};
 
-use crate::error::CompileError;
 use cp_model::tree::System;
-use std::alloc::Global;
+use std::alloc::{AllocError, Global};
 
 /// A base type. An enumeration has a name and the number of its last value.
 #[derive(Clone, Copy)]
@@ -89,7 +88,7 @@ impl<'t> Types<'t> {
     }
 
     /// Adds a type and returns its number.
-    pub fn add(&mut self, row: TypeRow<'t>) -> Result<usize, CompileError>
+    pub fn add(&mut self, row: TypeRow<'t>) -> Result<usize, AllocError>
         ensures { IfOk result (λ n. Adds self.old self.new row.entry n) }
     {
         let number = self.rows.len();
@@ -98,7 +97,7 @@ impl<'t> Types<'t> {
     }
 
     /// Adds a system type and returns its number.
-    pub fn add_system(&mut self, system: &'t System) -> Result<usize, CompileError>
+    pub fn add_system(&mut self, system: &'t System) -> Result<usize, AllocError>
         ensures { IfOk result (λ k. AddsSystem self.old self.new system.now k) }
     {
         let number = self.systems.len();

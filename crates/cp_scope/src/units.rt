@@ -4,32 +4,33 @@
 
 ghost use Rattle.std.specs.Prelude.{◌≡◌, ◌+◌, IfOk, length};
 ghost use Rattle.cp_model.specs.Calls as calls;
+ghost use Rattle.cp_model.specs.Abstract.{Process};
 ghost use Rattle.cp_model.specs.Components as components;
+ghost use Rattle.cp_model.specs.Components.{count_before};
+ghost use Rattle.cp_model.specs.Declarations.{declarations};
 ghost use Rattle.cp_program_model.specs.Scopes as code;
 ghost use Rattle.cp_scope.specs.Scopes.{IsCallee, IsScope, Names};
 
-use crate::counts::small_number;
-use crate::error::CompileError;
+use crate::counts::{small_number, small_sum};
 use crate::scope::{Callee, Scope};
 use crate::systems::Component;
+use std::alloc::AllocError;
 
 // The unit that comes `count` units after `first`.
-fn unit_after(first: u32, count: usize) -> Result<u32, CompileError>
+fn unit_after(first: u32, count: usize) -> Result<u32, AllocError>
     ensures { IfOk result (λ n. n ≡ first + count) }
 {
-    first
-        .checked_add(small_number(count)?)
-        .ok_or(CompileError::Unaccepted)
+    small_sum(first, small_number(count)?)
 }
 
 impl<'s, 't> Scope<'s, 't> {
     /// The size of an activation in words. A body has none, so its size is 0.
-    pub fn words(&self) -> Result<u32, CompileError>
+    pub fn words(&self) -> Result<u32, AllocError>
         ensures { IfOk result (λ n. (s : code.Scope) → IsScope self.now s → n ≡ s.words) }
     {
         match self.routine {
             None => Ok(0),
-            Some(routine) => routine.locals.words.ok_or(CompileError::Unaccepted),
+            Some(routine) => routine.locals.words.ok_or(AllocError),
         }
     }
 
@@ -58,8 +59,22 @@ impl<'s, 't> Scope<'s, 't> {
         }
     }
 
+    /// The number of processes before the name of a component, among the variables.
+    pub fn processes_before(&self, c: &Component) -> usize
+        ensures { (s : code.Scope) (n : components.Component) → IsScope self.now s
+            → Names self.now s c.now n → result
+            ≡ count_before Process n.name (declarations s.globals s.system.variables) }
+    {
+        if !c.is_parameter {
+            return c.processes;
+        }
+        self.tables
+            .types
+            .processes_before(&self.system.variables, c.name)
+    }
+
     /// The unit of a component's body.
-    pub fn body_of(&self, c: &Component) -> Result<u32, CompileError>
+    pub fn body_of(&self, c: &Component) -> Result<u32, AllocError>
         ensures { IfOk result (λ unit. (s : code.Scope) (n : components.Component)
             → IsScope self.now s → Names self.now s c.now n → unit ≡ code.body_of s n) }
     {
@@ -67,7 +82,7 @@ impl<'s, 't> Scope<'s, 't> {
     }
 
     /// The unit of a called routine.
-    pub fn unit_of(&self, callee: &Callee) -> Result<u32, CompileError>
+    pub fn unit_of(&self, callee: &Callee) -> Result<u32, AllocError>
         ensures { IfOk result (λ unit. (s : code.Scope) (c : calls.Callee)
             → IsScope self.now s → IsCallee self.now s callee.now c → unit ≡ code.unit_of s c) }
     {

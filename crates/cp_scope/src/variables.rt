@@ -3,7 +3,6 @@
 ghost use Rattle.std.specs.Prelude.{◌≡◌, ◌++◌, OnOk, is_some, map};
 ghost use Rattle.cp_scope.specs.Variables.{Declares, declared_entries, declared_entry, with_declared_group, with_declared_groups, with_declared_parameter, with_declared_parameters};
 
-use crate::error::CompileError;
 use crate::names::Names;
 use crate::types::Types;
 use cp_model::tree::{Fields, Identifier, Parameters};
@@ -44,7 +43,7 @@ impl<'t> Types<'t> {
         names: &Names<'t>,
         group: &'t Parameters,
         list: &mut Vec<Declared<'t>>,
-    ) -> Result<(), CompileError>
+    ) -> Result<(), AllocError>
         ensures { OnOk result (Declares names.now self.old self.new
             (map declared_entry list.old.items) (map declared_entry list.new.items)
             (with_declared_parameter group.now)) }
@@ -60,7 +59,7 @@ impl<'t> Types<'t> {
         names: &Names<'t>,
         groups: &'t [Parameters],
         list: &mut Vec<Declared<'t>>,
-    ) -> Result<(), CompileError>
+    ) -> Result<(), AllocError>
         ensures { OnOk result (Declares names.now self.old self.new
             (map declared_entry list.old.items) (map declared_entry list.new.items)
             (with_declared_parameters groups.now)) }
@@ -76,7 +75,7 @@ impl<'t> Types<'t> {
         names: &Names<'t>,
         group: &'t Fields,
         list: &mut Vec<Declared<'t>>,
-    ) -> Result<(), CompileError>
+    ) -> Result<(), AllocError>
         ensures { OnOk result (Declares names.now self.old self.new
             (map declared_entry list.old.items) (map declared_entry list.new.items)
             (with_declared_group group.now)) }
@@ -92,7 +91,7 @@ impl<'t> Types<'t> {
         names: &Names<'t>,
         groups: &'t [Fields],
         list: &mut Vec<Declared<'t>>,
-    ) -> Result<(), CompileError>
+    ) -> Result<(), AllocError>
         ensures { OnOk result (Declares names.now self.old self.new
             (map declared_entry list.old.items) (map declared_entry list.new.items)
             (with_declared_groups groups.now)) }

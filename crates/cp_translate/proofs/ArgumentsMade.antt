@@ -1,16 +1,17 @@
 -- Arguments one by one, and calls with them.
-use Rattle.std.proofs.Common.{◌≡◌, ◌∷◌, ◌++◌, ◌∙◌, ◌<◌, ◌≤◌, Bor, ℕ, zero, suc, List, [], Option, Some, false, ap, append_assoc, drop, length, map, refl, slice_get, subst, sym}
+use Rattle.std.proofs.Common.{◌≡◌, ◌∷◌, ◌++◌, ◌∙◌, ◌<◌, ◌≤◌, Bor, ℕ, zero, suc, List, [], Option, Some, false, ap, append_assoc, arith, drop, length, map, refl, slice_get, subst, sym}
 use Rattle.std.proofs.lemmas.List.{append-nil, map-append}
 use Rattle.std.specs.List.{HoldsAt}
 use Rattle.std.specs.Option.{MatchOption}
 use Rattle.std.proofs.lemmas.Option.{same_Some, slice_get-get_or}
-use Rattle.cp_model.specs.Abstract.{Name}
+use Rattle.cp_model.specs.Abstract.{Expressions, MoreExpressions, Name, NoExpression, System}
 use Rattle.cp_model.specs.Declarations.{Variable}
 use Rattle.cp_model.specs.Types.{ArrayOf, ComponentOf, GlobalScope, NoType, Queue, RecordOf, ResolvedType, Simple}
 use Rattle.cp_typing.specs.Words.{words}
 use Rattle.cp_program_model.specs.CodedTerms as coded
 use Rattle.cp_program_model.specs.CodedTerms.{by_value, with_argument}
 use Rattle.cp_program_model.specs.Programs as code
+use Rattle.cp_program_model.specs.Scopes.{Scope}
 use Rattle.cp_program_model.specs.Terms as plain
 use Rattle.cp_emit.specs.Emission.{coded_call}
 use Rattle.cp_emit.specs.declared.call.MadeTerm.{MadeTerm}
@@ -91,6 +92,24 @@ declared_at types (e ∷ ds) (v ∷ vs) zero d are there =
 declared_at types (e ∷ ds) (v ∷ vs) (suc k) d are there =
     let more = declared_at types ds vs k d are.3 there in
     record { declared = more.declared; split = more.split; name = more.name; reference = more.reference; type = more.type }
+
+-- Past the parameters there are no variables.
+pub parameters_past : (types : Types) (ds : List Declared) (vs : List (Name × Variable)) (k : ℕ) → AreDeclared types (map declared_entry ds) vs
+    → length ds ≤ k → drop k vs ≡ []
+parameters_past types [] [] zero are past = refl
+parameters_past types [] [] (suc k) are past = refl
+parameters_past types [] (v ∷ vs) k are past = absurd are
+parameters_past types (d ∷ ds) [] k are past = absurd are
+parameters_past types (d ∷ ds) (v ∷ vs) zero are past = absurd (omega (arith, past))
+parameters_past types (d ∷ ds) (v ∷ vs) (suc k) are past = parameters_past types ds vs k are.3 (omega (arith, past))
+
+pub no_parameters : (s : Scope) (es : Expressions) (at low : ℕ) → coded.coded_arguments s es [] at low ≡ coded.no_arguments low
+no_parameters s NoExpression at low = refl
+no_parameters s (MoreExpressions e es) at low = refl
+
+pub no_init_parameters : (s : Scope) (y : System) (es : Expressions) (low : ℕ) → coded.init_arguments s y es [] low ≡ coded.no_arguments low
+no_init_parameters s y NoExpression low = refl
+no_init_parameters s y (MoreExpressions e es) low = refl
 
 -- A call whose value goes to the next temp.
 pub call_made : (before : List coded.CodedCall) (middle after : List CodedCall) (xs : MadeArguments) (ys : coded.CodedArguments) (made : MadeTerm)

@@ -1,32 +1,35 @@
 -- The arguments of an `init`.
-use Rattle.std.proofs.Common.{◌≡◌, ℕ, Bool, false, true, [], Some, map, refl, slice_get, subst}
+use Rattle.std.proofs.Common.{◌≡◌, Bor, ℕ, Bool, false, true, List, [], IsSomeAnd, Option, None, Some, map, option_map, refl, slice_get, subst, sym}
 use Rattle.cp_model.specs.Abstract as a
 use Rattle.cp_model.specs.Abstract.{Name, System}
-use Rattle.cp_model.specs.Components as components
 use Rattle.cp_model.specs.Declarations.{Variable, declarations, is_component}
+use Rattle.cp_model.specs.Erase as erase
+use Rattle.cp_model.specs.View as view
+use Rattle.cp_model.specs.declared.tree.System as tree
 use Rattle.cp_model.specs.Types.{ArrayOf, ComponentOf, GlobalScope, NoType, Queue, RecordOf, ResolvedType, Simple}
 use Rattle.cp_program_model.specs.CodedTerms.{coded_term, init_argument}
 use Rattle.cp_program_model.specs.Layout.{member, right}
 use Rattle.cp_program_model.specs.Scopes.{Scope, environment, part_start, right_start}
-use Rattle.cp_program_model.specs.Scopes as code
 use Rattle.cp_program_model.specs.Terms as plain
-use Rattle.cp_scope.specs.declared.scope.Scope as table
-use Rattle.cp_scope.specs.declared.systems.Component.{Component}
 use Rattle.cp_scope.specs.declared.systems.SystemTable.{SystemTable}
 use Rattle.cp_scope.specs.declared.types.Simple as simple
 use Rattle.cp_scope.specs.declared.types.Types.{Types}
 use Rattle.cp_scope.specs.Expressions.{is_simple}
-use Rattle.cp_scope.specs.Scopes.{IsScope, Names}
-use Rattle.cp_scope.specs.Standing.{simple_of}
+use Rattle.cp_scope.specs.Standing.{simple_of, system_at}
+use Rattle.cp_scope.specs.Texts.{AreSystems}
+use Rattle.cp_scope.proofs.SystemsMade.{has_table, lacks_no_table}
 use Rattle.cp_scope.specs.Variables.{AreDeclared, declared_entry}
 use Rattle.cp_translate.specs.Initialisation.{IsTable, right_argument}
 
 -- ---- Tables
 
-pub table_stands : (scope : table.Scope) (s : code.Scope) → IsScope scope s → (f : Component) (n : components.Component) (t : SystemTable) → Names scope s f n
-    → slice_get scope.tables.now.systems.items f.system ≡ Some t → IsTable s.globals scope.tables.now.types t n.system
-table_stands scope s i f n t named here =
-    record { text = named.text.now; stands = i.systems f.system named.text t named.there here; is = named.system }
+-- The table that is found for a system type is right, and there is one.
+pub table_found : (g : GlobalScope) (types : Types) (tables : List SystemTable) (k : ℕ) (text : Bor tree.System) (y : System) (r : Option (Bor SystemTable))
+    → AreSystems g types tables → system_at types k ≡ Some text → erase.system (view.system text.now) ≡ y
+    → option_map (λ (t : Bor SystemTable). t.now) r ≡ slice_get tables k → IsSomeAnd r (λ t. IsTable g types t.now y)
+table_found g types tables k text y None all at is found = absurd (lacks_no_table g types tables k text all at (sym found))
+table_found g types tables k text y (Some t) all at is found =
+    record { text = text.now; stands = has_table g types tables k text t.now all at (sym found); is = is }
 
 pub parameters_stand : (g : GlobalScope) (types : Types) (t : SystemTable) (y : System) → IsTable g types t y
     → AreDeclared types (map declared_entry t.parameters.items) (declarations g y.parameters)

@@ -2,6 +2,7 @@ pub mod Answered
 pub mod Beginning
 pub mod PartsMade
 pub mod TermsMade
+pub mod Consisting
 pub mod ArgumentsMade
 pub mod CallsMade
 pub mod Emitting

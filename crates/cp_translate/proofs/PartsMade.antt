@@ -1,16 +1,15 @@
 -- Fields and elements.
-use Rattle.std.proofs.Common.{◌≡◌, ◌∷◌, ◌++◌, ◌∙◌, ℕ, List, [], Option, None, Some, ap, append_assoc, map, subst, sym, ℤ}
+use Rattle.std.proofs.Common.{◌≡◌, ◌∷◌, ◌++◌, ◌∙◌, ℕ, List, [], Option, None, Some, ap, append_assoc, map, refl, subst, sym, ℤ}
 use Rattle.std.proofs.lemmas.Option.{same_Some}
 use Rattle.cp_model.specs.Abstract as a
 use Rattle.cp_model.specs.Abstract.{Name}
 use Rattle.cp_model.specs.Locations.{ByName}
 use Rattle.cp_model.specs.Places.{field_type}
 use Rattle.cp_model.specs.Types.{ArrayOf, ComponentOf, GlobalScope, NoType, Queue, RecordOf, ResolvedType, Simple}
-use Rattle.cp_typing.specs.StaticTypes.{place_type}
+use Rattle.cp_typing.specs.StaticTypes.{element_type, place_type}
 use Rattle.cp_typing.specs.Words.{words}
 use Rattle.cp_program_model.specs.CodedTerms as coded
 use Rattle.cp_program_model.specs.CodedTerms.{coded_spot, coded_term, element_part}
-use Rattle.cp_program_model.specs.Layout as layout
 use Rattle.cp_program_model.specs.Layout.{part}
 use Rattle.cp_program_model.specs.Scopes as code
 use Rattle.cp_program_model.specs.Scopes.{environment, part_start}
@@ -19,33 +18,25 @@ use Rattle.cp_program_model.specs.TermsFor.{move_spot}
 use Rattle.cp_emit.specs.Emission.{coded_call}
 use Rattle.cp_emit.specs.declared.call.MadeTerm.{MadeTerm}
 use Rattle.cp_emit.specs.declared.emitter.CodedCall.{CodedCall}
-use Rattle.cp_scope.specs.declared.layout.Part.{Part}
 use Rattle.cp_scope.specs.declared.places.Elements.{Elements}
 use Rattle.cp_scope.specs.declared.scope.Scope.{Scope}
 use Rattle.cp_scope.specs.declared.types.Types.{Types}
-use Rattle.cp_scope.specs.Layouts.{PartIs}
 use Rattle.cp_scope.specs.Places.{TypeIs, elements_of}
 use Rattle.cp_scope.specs.Standing.{Stands, row_at}
 use Rattle.cp_program.specs.View as view
 use Rattle.cp_translate.specs.declared.made.MadeSpot.{MadeSpot}
-use Rattle.cp_translate.specs.Translated.{IsPlace, IsSpot, IsTerm}
+use Rattle.cp_translate.specs.Translated.{IsPlace, IsSpot, IsTerm, elements_at}
 
 -- ---- Fields
 
-pub part_begins : (types : Types) (p : Part) (n : ℕ) (q : Option layout.Part) → p.at ≡ Some n → PartIs types (Some p) q → n ≡ part_start q
-part_begins types p n None at h = absurd h
-part_begins types p n (Some q) at h = rw at at h.0
-
 pub field_made : (scope : Scope) (s : code.Scope) (low : ℕ) (before : List coded.CodedCall) (calls : List CodedCall) (d : a.Designator) (x : Name)
-    (of made : MadeSpot) (p : Part) (n : ℕ) → p.at ≡ Some n → view.spot made.spot ≡ move_spot n (view.spot of.spot) → made.temps ≡ of.temps
-    → PartIs scope.tables.now.types (Some p) (part s.globals (place_type (environment s) d) (ByName x ∷ []))
+    (of made : MadeSpot) (n : ℕ) → n ≡ part_start (part s.globals (place_type (environment s) d) (ByName x ∷ []))
+    → view.spot made.spot ≡ move_spot n (view.spot of.spot) → made.temps ≡ of.temps
     → TypeIs scope.tables.now.types made.of (field_type x (place_type (environment s) d))
     → IsPlace scope s low before calls d of → IsPlace scope s low before calls (a.Part d x) made
-field_made scope s low before calls d x of made p n at spot temps lies typed place = record {
+field_made scope s low before calls d x of made n begins spot temps typed place = record {
   spot = record {
-    spot =
-        spot
-        ∙ ((λ i. move_spot (part_begins scope.tables.now.types p n (part s.globals (place_type (environment s) d) (ByName x ∷ [])) at lies i) (place.spot.spot i)));
+    spot = spot ∙ (λ i. move_spot (begins i) (place.spot.spot i));
     calls = place.spot.calls;
     temps = temps ∙ place.spot.temps;
   };
@@ -86,3 +77,23 @@ element_made g before middle after of made index c f t element low high size is 
       calls = there.calls ∙ (ap (λ cs. cs ++ (f c.temps).calls) array.calls ∙ append_assoc before c.calls (f c.temps).calls);
       temps = temps ∙ there.temps;
     })
+
+-- The elements of a value with this type number are those of its type.
+pub elements_there : (types : Types) (o : Option ℕ) (e : Elements) (t : ResolvedType) → TypeIs types o t → elements_at types o ≡ Some e → IsArray types e t
+elements_there types None e t typed is = absurd (cc)
+elements_there types (Some n) e t typed is = array_of types n e t typed is
+
+-- A value that has no elements is no array.
+no_array : (types : Types) (n : ℕ) (t : ResolvedType) → Stands types n t → elements_of (row_at types n) ≡ None
+    → (g : GlobalScope) (c : coded.CodedSpot) (i : coded.CodedTerm) → (element_part g t c i ≡ c) × (element_type t ≡ NoType)
+no_array types n (Simple b low high start) h none g c i = (refl, refl)
+no_array types n (ArrayOf low high t) h none g c i = absurd (let some = ap elements_of h.1 in cc)
+no_array types n (RecordOf ms) h none g c i = (refl, refl)
+no_array types n Queue h none g c i = (refl, refl)
+no_array types n (ComponentOf s ms) h none g c i = (refl, refl)
+no_array types n NoType h none g c i = (refl, refl)
+
+pub no_elements : (types : Types) (o : Option ℕ) (t : ResolvedType) → TypeIs types o t → elements_at types o ≡ None
+    → (g : GlobalScope) (c : coded.CodedSpot) (i : coded.CodedTerm) → (element_part g t c i ≡ c) × (element_type t ≡ NoType)
+no_elements types None t typed none g c i = rw typed (refl, refl)
+no_elements types (Some n) t typed none g c i = no_array types n t typed none g c i

@@ -9,6 +9,7 @@ use Rattle.cp_program_model.specs.Scopes.{Scope}
 use Rattle.cp_emit.specs.Emission.{Emits, Goes, changed_at, operations_of, place_of}
 use Rattle.cp_emit.specs.declared.emitter.Emitter.{Emitter}
 use Rattle.cp_emit.proofs.Changing.{changed_between}
+use Rattle.cp_emit.proofs.Continuing.{continues_itself, continues_more}
 use Rattle.cp_emit.proofs.Loops.{loop_closed, place_of_body}
 use Rattle.cp_translate.specs.Statements.{Enters}
 
@@ -16,12 +17,19 @@ pub place_after : (old new : Emitter) (os : List op.Operation) → Emits old new
 place_after old new os emits = ap length emits.operations_are ∙ length-append (operations_of old) os
 
 pub emits_nothing : (old : Emitter) → Emits old old []
-emits_nothing old = record { operations_are = sym (append-nil (operations_of old)); units_are = refl; first_is = refl; words_are = refl }
+emits_nothing old = record {
+  operations_are = sym (append-nil (operations_of old));
+  origins_continue = continues_itself old.origins.items;
+  units_are = refl;
+  first_is = refl;
+  words_are = refl;
+}
 
 pub emits_both : (old middle new : Emitter) (os ps : List op.Operation) → Emits old middle os → Emits middle new ps → Emits old new (os ++ ps)
 emits_both old middle new os ps first second = record {
   operations_are =
       second.operations_are ∙ (ap (λ qs. qs ++ ps) first.operations_are ∙ append_assoc (operations_of old) os ps);
+  origins_continue = continues_more old.origins.items middle.origins.items new.origins.items first.origins_continue second.origins_continue;
   units_are = second.units_are ∙ first.units_are;
   first_is = second.first_is ∙ first.first_is;
   words_are = second.words_are ∙ first.words_are;
@@ -98,6 +106,7 @@ loop_made f old first second new cs o place entry start body here head inner clo
             ∙ ((λ i. changed_at (here i) f (operations_of second))
             ∙ (ap (changed_at at f) (inside.emits.operations_are ∙ ap (λ os. os ++ b.operations) head.emits.operations_are)
             ∙ loop_closed f (operations_of old) cs o b.operations));
+        origins_continue = continues_more old.origins.items second.origins.items new.origins.items all.origins_continue closed.origins_continue;
         units_are = closed.units_are ∙ all.units_are;
         first_is = closed.first_is ∙ all.first_is;
         words_are = closed.words_are ∙ all.words_are;
@@ -126,6 +135,7 @@ body_made f old first second new o place start body here head inner closed =
             closed.operations_are
             ∙ ((λ i. changed_at (here i) f (operations_of second))
             ∙ (ap (changed_at at f) all.operations_are ∙ changed_between f (operations_of old) o b.operations));
+        origins_continue = continues_more old.origins.items second.origins.items new.origins.items all.origins_continue closed.origins_continue;
         units_are = closed.units_are ∙ all.units_are;
         first_is = closed.first_is ∙ all.first_is;
         words_are = closed.words_are ∙ all.words_are;

@@ -1,5 +1,5 @@
 -- What an assignment stores.
-use Rattle.std.proofs.Common.{◌≡◌, ◌++◌, ℕ, false, refl, subst}
+use Rattle.std.proofs.Common.{◌≡◌, ◌++◌, ℕ, false, refl, subst, true}
 use Rattle.cp_model.specs.Abstract as a
 use Rattle.cp_model.specs.Types.{ArrayOf, ComponentOf, GlobalScope, NoType, Queue, RecordOf, ResolvedType, Simple}
 use Rattle.cp_typing.specs.Words.{words}
@@ -8,9 +8,9 @@ use Rattle.cp_program_model.specs.CodedTerms.{CodedSpot, CodedTerm}
 use Rattle.cp_program_model.specs.Programs as op
 use Rattle.cp_program_model.specs.Scopes as code
 use Rattle.cp_emit.specs.declared.emitter.Emitter.{Emitter}
+use Rattle.cp_scope.specs.Designators.{is_part}
 use Rattle.cp_scope.specs.Expressions.{is_simple}
 use Rattle.cp_translate.specs.Statements.{Enters}
-use Rattle.cp_translate.proofs.TermsMade.{IsPart}
 
 -- A variable whose type isn't simple is copied.
 pub copies : (g : GlobalScope) (t : ResolvedType) (d : CodedSpot) (e : CodedTerm) (s : CodedSpot) (at next : ℕ) → is_simple t ≡ false
@@ -23,8 +23,8 @@ copies g (ComponentOf y ms) d e s at next other = refl
 copies g NoType d e s at next other = refl
 
 -- A part is never the result of a function.
-pub part_no_result : (s : code.Scope) (d : a.Designator) → IsPart d → is_result s d ≡ false
-part_no_result s (a.Plain x) part = absurd part
+pub part_no_result : (s : code.Scope) (d : a.Designator) → is_part d ≡ true → is_result s d ≡ false
+part_no_result s (a.Plain x) part = absurd (cc)
 part_no_result s (a.Part d x) part = refl
 part_no_result s (a.At d e) part = refl
 

@@ -1,5 +1,5 @@
 -- When the code makes terms, spots and arguments as the compiler's definition does.
-use Rattle.std.specs.Prelude.{◌≡◌, ℕ, List, ◌++◌, map}
+use Rattle.std.specs.Prelude.{◌≡◌, ℕ, List, ◌++◌, Option, None, Some, map}
 use Rattle.cp_model.specs.Abstract as a
 use Rattle.cp_model.specs.Abstract.{Name}
 use Rattle.cp_model.specs.Erase as erase
@@ -10,8 +10,11 @@ use Rattle.cp_program_model.specs.CodedTerms.{coded_arguments, coded_spot, coded
 use Rattle.cp_program_model.specs.Scopes as code
 use Rattle.cp_program.specs.View as view
 use Rattle.cp_scope.specs.declared.scope.Scope.{Scope}
-use Rattle.cp_scope.specs.Places.{PlaceIs}
+use Rattle.cp_scope.specs.declared.places.Elements.{Elements}
+use Rattle.cp_scope.specs.declared.types.Types.{Types}
+use Rattle.cp_scope.specs.Places.{PlaceIs, elements_of}
 use Rattle.cp_scope.specs.Scopes.{IsScope}
+use Rattle.cp_scope.specs.Standing.{row_at}
 use Rattle.cp_emit.specs.Emission.{coded_call}
 use Rattle.cp_emit.specs.declared.call.MadeTerm.{MadeTerm}
 use Rattle.cp_emit.specs.declared.emitter.CodedCall.{CodedCall}
@@ -50,6 +53,11 @@ pub record IsPlace (scope : Scope) (s : code.Scope) (low : ℕ) (before : List c
     (d : a.Designator) (made : MadeSpot) : Type 0 where
   pub spot : IsSpot before after made (coded_spot s d low)
   pub typed : PlaceIs scope s made.of d
+
+-- The elements of a value of the type with this number, if it is an array.
+abbrev pub elements_at : Types → Option ℕ → Option Elements
+elements_at types None = None
+elements_at types (Some n) = elements_of (row_at types n)
 
 -- ---- What functions make
 

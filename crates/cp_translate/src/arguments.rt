@@ -18,7 +18,8 @@ use crate::made::{MadeArgument, MadeSpot};
 use crate::translator::Translator;
 use cp_emit::call::MadeTerm;
 use cp_program::operation::Argument;
-use cp_scope::{CompileError, Declared, Simple};
+use cp_scope::{Declared, Simple, small_sum};
+use std::alloc::AllocError;
 
 /// Passes a reference to a variable.
 pub fn reference(at: u32, made: MadeSpot) -> MadeArgument
@@ -56,7 +57,7 @@ impl<'s, 't> Translator<'s, 't> {
         at: u32,
         of: usize,
         made: MadeSpot,
-    ) -> Result<MadeArgument, CompileError>
+    ) -> Result<MadeArgument, AllocError>
         ensures { IfOk result (λ r. (before : List coded.CodedCall) (after : List CodedCall)
             (s : code.Scope) (type : ResolvedType) (t : coded.CodedTerm) (c : coded.CodedSpot)
             → IsScope self.now.scope s → Stands self.now.scope.tables.now.types of type
@@ -74,7 +75,7 @@ impl<'s, 't> Translator<'s, 't> {
     }
 
     // The size in words of a parameter in an activation.
-    fn local_words(&self, parameter: &Declared) -> Result<u32, CompileError>
+    fn local_words(&self, parameter: &Declared) -> Result<u32, AllocError>
         ensures { IfOk result (λ n. (s : code.Scope) (v : Variable) → IsScope self.now.scope s
             → parameter.now.by_reference ≡ v.by_reference
             → Stands self.now.scope.tables.now.types parameter.now.of v.type
@@ -83,18 +84,18 @@ impl<'s, 't> Translator<'s, 't> {
         let layouts = &self.scope.tables().layouts;
         match layouts.local_words(parameter.by_reference, parameter.of) {
             Some(words) => Ok(words),
-            None => Err(CompileError::Unaccepted),
+            None => Err(AllocError),
         }
     }
 
     /// The word at which the next parameter lies.
-    pub fn next_parameter(&self, at: u32, parameter: &Declared) -> Result<u32, CompileError>
+    pub fn next_parameter(&self, at: u32, parameter: &Declared) -> Result<u32, AllocError>
         ensures { IfOk result (λ n. (s : code.Scope) (v : Variable) → IsScope self.now.scope s
             → parameter.now.by_reference ≡ v.by_reference
             → Stands self.now.scope.tables.now.types parameter.now.of v.type
             → n ≡ at + local_words s.globals v) }
     {
         let words = self.local_words(parameter)?;
-        at.checked_add(words).ok_or(CompileError::Unaccepted)
+        small_sum(at, words)
     }
 }

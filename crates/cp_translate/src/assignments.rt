@@ -24,7 +24,8 @@ use crate::types::bounds_of;
 use cp_emit::{CodedCall, Emitter};
 use cp_model::tree::{Designator, Expression};
 use cp_program::operation::Operation;
-use cp_scope::{CompileError, Simple, refuse_no_index};
+use cp_scope::{Simple, is_part};
+use std::alloc::AllocError;
 
 impl<'s, 't> Translator<'s, 't> {
     // Whether a name is that of the running function, and not that of one of its parameters or
@@ -43,17 +44,14 @@ impl<'s, 't> Translator<'s, 't> {
     }
 
     // Whether a designator means the result of the running function.
-    fn is_result(&self, d: &Designator) -> Result<bool, CompileError>
-        ensures { IfOk result (λ b. (s : code.Scope) → IsScope self.now.scope s
-            → b ≡ coded.is_result s (erase.designator (tree.designator d.now))) }
+    fn is_result(&self, d: &Designator) -> bool
+        ensures { (s : code.Scope) → IsScope self.now.scope s
+            → result ≡ coded.is_result s (erase.designator (tree.designator d.now)) }
     {
-        match d.selectors.as_slice() {
-            [] => Ok(self.names_result(d.root.name.as_bytes())),
-            [first, ..] => {
-                refuse_no_index(first)?;
-                Ok(false)
-            }
+        if is_part(d) {
+            return false;
         }
+        self.names_result(d.root.name.as_bytes())
     }
 
     // Emits an assignment to the result of the running function.
@@ -64,14 +62,14 @@ impl<'s, 't> Translator<'s, 't> {
         low: u32,
         next: u32,
         emitter: &mut Emitter,
-    ) -> Result<u32, CompileError>
+    ) -> Result<u32, AllocError>
         ensures { IfOk result (λ entry. (s : code.Scope) → IsScope self.now.scope s
             → Enters emitter.old emitter.new entry (coded.set_result
             (place_type (environment s) (erase.designator (tree.designator d.now)))
             (coded_term s (erase.expression (tree.expression e.now)) low)
             (place_of emitter.old) next)) }
     {
-        let of = self.scope.place_type(d)?;
+        let of = self.scope.place_type(d);
         let within = bounds_of(self.scope.tables().types.simple(of));
         let mut calls = Vec::new(self.alloc);
         let made = self.term(e, low, &mut calls)?;
@@ -94,7 +92,7 @@ impl<'s, 't> Translator<'s, 't> {
         next: u32,
         origin: usize,
         emitter: &mut Emitter,
-    ) -> Result<u32, CompileError>
+    ) -> Result<u32, AllocError>
         ensures { IfOk result (λ entry. (s : code.Scope) (c : CodedSpot) (f : CodedSpot)
             → IsScope self.now.scope s → IsSpot [] calls.items to c
             → Enters emitter.old emitter.new entry (coded.store s.globals (simple_of simple.entry) c
@@ -116,7 +114,7 @@ impl<'s, 't> Translator<'s, 't> {
         next: u32,
         origin: usize,
         emitter: &mut Emitter,
-    ) -> Result<u32, CompileError>
+    ) -> Result<u32, AllocError>
         ensures { IfOk result (λ entry. (s : code.Scope) (c : CodedSpot) (t : ResolvedType)
             (f : CodedTerm) → IsScope self.now.scope s
             → TypeIs self.now.scope.tables.now.types to.of t → is_simple t ≡ false
@@ -145,7 +143,7 @@ impl<'s, 't> Translator<'s, 't> {
         low: u32,
         next: u32,
         emitter: &mut Emitter,
-    ) -> Result<u32, CompileError>
+    ) -> Result<u32, AllocError>
         ensures { IfOk result (λ entry. (s : code.Scope) → IsScope self.now.scope s
             → let to = coded_spot s (erase.designator (tree.designator d.now)) low in
             Enters emitter.old emitter.new entry (coded.store s.globals
@@ -170,12 +168,12 @@ impl<'s, 't> Translator<'s, 't> {
         low: u32,
         next: u32,
         emitter: &mut Emitter,
-    ) -> Result<u32, CompileError>
+    ) -> Result<u32, AllocError>
         ensures { IfOk result (StatementOf self.now.scope emitter.old emitter.new
             (a.Assign (erase.designator (tree.designator d.now))
             (erase.expression (tree.expression e.now))) low next) }
     {
-        if self.is_result(d)? {
+        if self.is_result(d) {
             self.set_result(d, e, low, next, emitter)
         } else {
             self.store(d, e, low, next, emitter)

@@ -26,7 +26,8 @@ use cp_emit::CodedCall;
 use cp_emit::call::{MadeTerm, make_call};
 use cp_model::tree::Sort;
 use cp_program::operation::{Argument, Call, Target};
-use cp_scope::{Callee, CompileError, Component, RoutineTable, small_number};
+use cp_scope::{Callee, Component, RoutineTable, small_number, small_sum};
+use std::alloc::AllocError;
 
 /// The number of words before the parameters of a routine. A function has one, for its result.
 pub fn words_before(routine: &RoutineTable) -> u32
@@ -38,7 +39,7 @@ pub fn words_before(routine: &RoutineTable) -> u32
 
 impl<'s, 't> Translator<'s, 't> {
     // The word of the component at which a class begins.
-    fn class_at(&self, name: &[u8]) -> Result<u32, CompileError>
+    fn class_at(&self, name: &[u8]) -> Result<u32, AllocError>
         ensures { IfOk result (λ at. (s : code.Scope) → IsScope self.now.scope s
             → at ≡ part_start (layout.member s.globals s.system name.now)) }
     {
@@ -46,7 +47,7 @@ impl<'s, 't> Translator<'s, 't> {
     }
 
     // The word of the component that holds a right.
-    fn right_at(&self, name: &[u8]) -> Result<u32, CompileError>
+    fn right_at(&self, name: &[u8]) -> Result<u32, AllocError>
         ensures { IfOk result (λ at. (s : code.Scope) → IsScope self.now.scope s
             → at ≡ right_start (layout.right s.globals s.system name.now)) }
     {
@@ -54,7 +55,7 @@ impl<'s, 't> Translator<'s, 't> {
     }
 
     /// The target of a call of a routine of another component.
-    pub fn component_target(&self, of: Component) -> Result<Target, CompileError>
+    pub fn component_target(&self, of: Component) -> Result<Target, AllocError>
         ensures { IfOk result (λ t. (s : code.Scope) (n : components.Component)
             → IsScope self.now.scope s → IsComponent self.now.scope.tables.now.types
             (declarations s.globals s.system.parameters)
@@ -65,8 +66,7 @@ impl<'s, 't> Translator<'s, 't> {
             (Sort::Class, false) => Ok(Target::Class(self.class_at(of.name)?)),
             (Sort::Class, true) => Ok(Target::ClassRight(self.right_at(of.name)?)),
             (Sort::Monitor, false) => {
-                let number = small_number(of.monitors)?.checked_add(1);
-                Ok(Target::Monitor(number.ok_or(CompileError::Unaccepted)?))
+                Ok(Target::Monitor(small_sum(small_number(of.monitors)?, 1)?))
             }
             (Sort::Monitor, true) => Ok(Target::MonitorRight(self.right_at(of.name)?)),
             (Sort::Process, _) => Ok(Target::Own),
@@ -74,7 +74,7 @@ impl<'s, 't> Translator<'s, 't> {
     }
 
     /// The target of a call: the running component, or the component that the designator names.
-    pub fn target(&self, of: Option<Component>) -> Result<Target, CompileError>
+    pub fn target(&self, of: Option<Component>) -> Result<Target, AllocError>
         ensures { IfOk result (λ t. (s : code.Scope) (n : Option components.Component)
             → IsScope self.now.scope s → ComponentIs self.now.scope.tables.now.types
             (declarations s.globals s.system.parameters)
@@ -93,7 +93,7 @@ impl<'s, 't> Translator<'s, 't> {
         callee: &Callee,
         arguments: Vec<Argument>,
         low: u32,
-    ) -> Result<Call, CompileError>
+    ) -> Result<Call, AllocError>
         ensures { IfOk result (λ r. (s : code.Scope) (c : model.Callee) → IsScope self.now.scope s
             → IsCallee self.now.scope s callee.now c
             → view.call r ≡ coded.call_of s (code.unit_of s c) (target_of (environment s) c.of)
@@ -117,7 +117,7 @@ impl<'s, 't> Translator<'s, 't> {
         low: u32,
         origin: usize,
         calls: &mut Vec<CodedCall>,
-    ) -> Result<MadeTerm, CompileError>
+    ) -> Result<MadeTerm, AllocError>
         ensures { IfOk result (λ made. (s : code.Scope) (c : model.Callee)
             (before : List coded.CodedCall) (ys : coded.CodedArguments) → IsScope self.now.scope s
             → IsCallee self.now.scope s callee.now c

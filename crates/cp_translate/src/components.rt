@@ -1,12 +1,13 @@
 //! The components that names mean, and where their parameters lie.
 
-ghost use Rattle.std.specs.Prelude.{◌≡◌, IfOk};
+ghost use Rattle.std.specs.Prelude.{◌≡◌, IfOk, IsSomeAnd};
 ghost use Rattle.cp_model.specs.Abstract as a;
 ghost use Rattle.cp_model.specs.Arguments.{designator_of};
 ghost use Rattle.cp_model.specs.Components as components;
 ghost use Rattle.cp_model.specs.Components.{component_named};
 ghost use Rattle.cp_model.specs.Declarations.{declarations};
 ghost use Rattle.cp_model.specs.Erase as erase;
+ghost use Rattle.cp_model.specs.Expressions.{name_of};
 ghost use Rattle.cp_model.specs.Types.{GlobalScope};
 ghost use Rattle.cp_model.specs.View as tree;
 ghost use Rattle.cp_program_model.specs.CodedTerms.{target_named};
@@ -22,12 +23,13 @@ ghost use Rattle.cp_translate.specs.Initialisation.{IsTable};
 use crate::standard::lone_name;
 use crate::starts::{part_start, right_start};
 use crate::translator::Translator;
-use cp_model::tree::{Designator, Expression, Sort};
+use cp_model::tree::{Expression, Sort};
 use cp_program::operation::Target;
-use cp_scope::{CompileError, Component, SystemTable};
+use cp_scope::{Component, SystemTable};
+use std::alloc::AllocError;
 
 /// The word at which a member lies in a component of a system type.
-pub fn member_at(table: &SystemTable, name: &[u8]) -> Result<u32, CompileError>
+pub fn member_at(table: &SystemTable, name: &[u8]) -> Result<u32, AllocError>
     ensures { IfOk result (λ at. (g : GlobalScope) (types : Types) (y : a.System)
         → IsTable g types table.now y → at ≡ part_start (layout.member g y name.now)) }
 {
@@ -35,23 +37,32 @@ pub fn member_at(table: &SystemTable, name: &[u8]) -> Result<u32, CompileError>
 }
 
 /// The word that holds a right in a component of a system type.
-pub fn right_at(table: &SystemTable, name: &[u8]) -> Result<u32, CompileError>
+pub fn right_at(table: &SystemTable, name: &[u8]) -> Result<u32, AllocError>
     ensures { IfOk result (λ at. (g : GlobalScope) (types : Types) (y : a.System)
         → IsTable g types table.now y → at ≡ right_start (layout.right g y name.now)) }
 {
     right_start(table.rights.find(name))
 }
 
-/// The designator that an expression consists of, perhaps in parentheses. Any other expression is
-/// refused.
-pub fn lone_designator(e: &Expression) -> Result<&Designator, CompileError>
-    ensures { IfOk result (λ d. erase.designator (tree.designator d.now)
-        ≡ designator_of (erase.expression (tree.expression e.now))) }
+// The name that an argument consists of, perhaps in parentheses, empty for any other argument.
+fn argument_name(e: &Expression) -> &[u8]
+    ensures { result.now ≡ name_of (designator_of (erase.expression (tree.expression e.now))) }
 {
     match e {
-        Expression::Designated(d) => Ok(d),
-        Expression::Parenthesized { inner, .. } => lone_designator(inner),
-        _ => Err(CompileError::Unaccepted),
+        Expression::Designated(d) => lone_name(d),
+        Expression::Call(d, es) => match es.as_slice() {
+            [] => lone_name(d),
+            [_, ..] => &[],
+        },
+        Expression::Parenthesized { inner, .. } => argument_name(inner),
+        Expression::Chain { first, rest } => match rest.as_slice() {
+            [] => argument_name(first),
+            [_, ..] => &[],
+        },
+        Expression::Number { .. } => &[],
+        Expression::Character { .. } => &[],
+        Expression::Not { .. } => &[],
+        Expression::Signed { .. } => &[],
     }
 }
 
@@ -79,25 +90,22 @@ impl<'s, 't> Translator<'s, 't> {
         }
     }
 
-    /// The table of a component's system type.
-    pub fn system_table(&self, component: &Component) -> Result<&'s SystemTable<'t>, CompileError>
-        ensures { IfOk result (λ table. (s : code.Scope) (n : components.Component)
+    /// The table of a component's system type, which there is for every component.
+    pub fn system_table(&self, component: &Component) -> Option<&'s SystemTable<'t>>
+        ensures { (s : code.Scope) (n : components.Component)
             → IsScope self.now.scope s → Names self.now.scope s component.now n
-            → IsTable s.globals self.now.scope.tables.now.types table.now n.system) }
+            → IsSomeAnd result (λ table.
+            IsTable s.globals self.now.scope.tables.now.types table.now n.system) }
     {
-        match self.scope.tables().system(component.system) {
-            Some(table) => Ok(table),
-            None => Err(CompileError::Unaccepted),
-        }
+        self.scope.tables().system(component.system)
     }
 
     /// The component that an argument names, for passing a right to it.
-    pub fn named_target(&self, e: &Expression) -> Result<Target, CompileError>
+    pub fn named_target(&self, e: &Expression) -> Result<Target, AllocError>
         ensures { IfOk result (λ t. (s : code.Scope) → IsScope self.now.scope s
             → view.target t ≡ target_named (environment s)
             (erase.expression (tree.expression e.now))) }
     {
-        let name = lone_name(lone_designator(e)?)?;
-        self.target(self.component(name))
+        self.target(self.component(argument_name(e)))
     }
 }

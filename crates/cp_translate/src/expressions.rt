@@ -12,7 +12,7 @@ ghost use Rattle.cp_model.specs.Declarations.{Variable};
 ghost use Rattle.cp_model.specs.Erase as erase;
 ghost use Rattle.cp_model.specs.Expressions.{name_of};
 ghost use Rattle.cp_model.specs.View as tree;
-ghost use Rattle.cp_program_model.specs.CodedTerms.{argument_of, coded_arguments, coded_spot, coded_term, coded_variable, function_call, name_or_item, parameters_of};
+ghost use Rattle.cp_program_model.specs.CodedTerms.{argument_of, coded_arguments, coded_spot, coded_standard, coded_term, coded_variable, function_call, name_or_item, parameters_of};
 ghost use Rattle.cp_program_model.specs.Scopes as code;
 ghost use Rattle.cp_program_model.specs.Scopes.{environment};
 ghost use Rattle.cp_program_model.specs.Sites.{first_parameter};
@@ -31,7 +31,8 @@ use crate::translator::Translator;
 use cp_emit::CodedCall;
 use cp_emit::call::MadeTerm;
 use cp_model::tree::{Designator, Expression, Index, Operation, Selector};
-use cp_scope::{Callee, CompileError, Declared, refuse_no_index};
+use cp_scope::{Callee, Declared, is_part};
+use std::alloc::AllocError;
 
 impl<'s, 't> Translator<'s, 't> {
     /// Makes the term of an expression, and adds the calls to make before it to `calls`. Their
@@ -42,7 +43,7 @@ impl<'s, 't> Translator<'s, 't> {
         e: &Expression,
         low: u32,
         calls: &mut Vec<CodedCall>,
-    ) -> Result<MadeTerm, CompileError>
+    ) -> Result<MadeTerm, AllocError>
         ensures { IfOk result (TermOf self.now.scope calls.old.items calls.new.items
             (erase.expression (tree.expression e.now)) low) }
     {
@@ -50,9 +51,12 @@ impl<'s, 't> Translator<'s, 't> {
             Expression::Number { value, .. } => Ok(self.number(i32::from(*value), low)),
             Expression::Character { ordinal, .. } => Ok(self.number(i32::from(*ordinal), low)),
             Expression::Designated(d) => self.use_term(d, low, calls),
-            Expression::Call(d, es) => match self.scope.callee(d)? {
-                Some(callee) => self.user_call(&callee, es, low, d.root.at, calls),
-                None => self.standard_call(lone_name(d)?, es, low, calls),
+            Expression::Call(d, es) => match es.as_slice() {
+                [] => self.use_term(d, low, calls),
+                [first, ..] => match self.scope.callee(d) {
+                    Some(callee) => self.user_call(&callee, es, low, d.root.at, calls),
+                    None => self.standard_call(lone_name(d), first, low, calls),
+                },
             },
             Expression::Parenthesized { inner, .. } => self.term(inner, low, calls),
             Expression::Not { operand, .. } => {
@@ -77,7 +81,7 @@ impl<'s, 't> Translator<'s, 't> {
         first: MadeTerm,
         rest: &[Operation],
         calls: &mut Vec<CodedCall>,
-    ) -> Result<MadeTerm, CompileError>
+    ) -> Result<MadeTerm, AllocError>
         ensures { IfOk result (ChainOf self.now.scope calls.old.items calls.new.items first
             (map tree.operation rest.now)) }
     {
@@ -97,11 +101,11 @@ impl<'s, 't> Translator<'s, 't> {
         d: &Designator,
         low: u32,
         calls: &mut Vec<CodedCall>,
-    ) -> Result<MadeTerm, CompileError>
+    ) -> Result<MadeTerm, AllocError>
         ensures { IfOk result (TermOf self.now.scope calls.old.items calls.new.items
             (a.Use (erase.designator (tree.designator d.now))) low) }
     {
-        match self.scope.callee(d)? {
+        match self.scope.callee(d) {
             Some(callee) => {
                 let none = no_arguments(self.alloc, low);
                 self.function_call(&callee, none, low, d.root.at, calls)
@@ -117,17 +121,16 @@ impl<'s, 't> Translator<'s, 't> {
         d: &Designator,
         low: u32,
         calls: &mut Vec<CodedCall>,
-    ) -> Result<MadeTerm, CompileError>
+    ) -> Result<MadeTerm, AllocError>
         ensures { IfOk result (λ made. (s : code.Scope) → IsScope self.now.scope s
             → IsTerm (map coded_call calls.old.items) calls.new.items made
             (name_or_item s (erase.designator (tree.designator d.now))
             (coded_spot s (erase.designator (tree.designator d.now)) low) low)) }
     {
-        let Some(first) = d.selectors.first() else {
+        if !is_part(d) {
             let term = self.named_term(d.root.name.as_bytes())?;
             return Ok(MadeTerm { term, temps: low });
-        };
-        refuse_no_index(first)?;
+        }
         let made = self.spot(d, low, calls)?;
         self.item(made)
     }
@@ -139,7 +142,7 @@ impl<'s, 't> Translator<'s, 't> {
         d: &Designator,
         low: u32,
         calls: &mut Vec<CodedCall>,
-    ) -> Result<MadeSpot, CompileError>
+    ) -> Result<MadeSpot, AllocError>
         ensures { IfOk result (SpotOf self.now.scope calls.old.items calls.new.items
             (erase.designator (tree.designator d.now)) low) }
     {
@@ -157,7 +160,7 @@ impl<'s, 't> Translator<'s, 't> {
         of: MadeSpot,
         selector: &Selector,
         calls: &mut Vec<CodedCall>,
-    ) -> Result<MadeSpot, CompileError>
+    ) -> Result<MadeSpot, AllocError>
         ensures { IfOk result (PartOf self.now.scope calls.old.items calls.new.items of
             (λ d. erase.select d (tree.selector selector.now))) }
     {
@@ -173,34 +176,64 @@ impl<'s, 't> Translator<'s, 't> {
         of: MadeSpot,
         indices: &[Index],
         calls: &mut Vec<CodedCall>,
-    ) -> Result<MadeSpot, CompileError>
+    ) -> Result<MadeSpot, AllocError>
         ensures { IfOk result (PartOf self.now.scope calls.old.items calls.new.items of
             (λ d. erase.with_indices d (tree.indices_of (map tree.index indices.now)))) }
     {
         let mut made = of;
         for i in indices {
-            let index = self.term(&i.value, made.temps, calls)?;
-            made = self.element(made, index)?;
+            made = self.select_element(made, &i.value, calls)?;
         }
         Ok(made)
     }
 
-    /// Makes the spot of an argument that is a variable. An expression that is no designator is
-    /// refused.
+    // Makes the spot of the element at an index.
+    #[cycle(terms)]
+    fn select_element(
+        &self,
+        of: MadeSpot,
+        index: &Expression,
+        calls: &mut Vec<CodedCall>,
+    ) -> Result<MadeSpot, AllocError>
+        ensures { IfOk result (PartOf self.now.scope calls.old.items calls.new.items of
+            (λ d. a.At d (erase.expression (tree.expression index.now)))) }
+    {
+        match self.elements(of.of) {
+            None => Ok(self.no_element(of)),
+            Some(elements) => {
+                let index = self.term(index, of.temps, calls)?;
+                self.element(of, elements, index)
+            }
+        }
+    }
+
+    /// Makes the spot of an argument that is a variable. That of any other expression is the first
+    /// word of the activation.
     #[cycle(terms)]
     pub fn argument_spot(
         &self,
         e: &Expression,
         low: u32,
         calls: &mut Vec<CodedCall>,
-    ) -> Result<MadeSpot, CompileError>
+    ) -> Result<MadeSpot, AllocError>
         ensures { IfOk result (VariableOf self.now.scope calls.old.items calls.new.items
             (erase.expression (tree.expression e.now)) low) }
     {
         match e {
             Expression::Designated(d) => self.spot(d, low, calls),
+            Expression::Call(d, es) => match es.as_slice() {
+                [] => self.spot(d, low, calls),
+                [_, ..] => Ok(self.first_word(low)),
+            },
             Expression::Parenthesized { inner, .. } => self.argument_spot(inner, low, calls),
-            _ => Err(CompileError::Unaccepted),
+            Expression::Chain { first, rest } => match rest.as_slice() {
+                [] => self.argument_spot(first, low, calls),
+                [_, ..] => Ok(self.first_word(low)),
+            },
+            Expression::Number { .. } => Ok(self.first_word(low)),
+            Expression::Character { .. } => Ok(self.first_word(low)),
+            Expression::Not { .. } => Ok(self.first_word(low)),
+            Expression::Signed { .. } => Ok(self.first_word(low)),
         }
     }
 
@@ -213,7 +246,7 @@ impl<'s, 't> Translator<'s, 't> {
         low: u32,
         origin: usize,
         calls: &mut Vec<CodedCall>,
-    ) -> Result<MadeTerm, CompileError>
+    ) -> Result<MadeTerm, AllocError>
         ensures { IfOk result (λ made. (s : code.Scope) (c : model.Callee)
             → IsScope self.now.scope s → IsCallee self.now.scope s callee.now c
             → IsTerm (map coded_call calls.old.items) calls.new.items made (function_call s c
@@ -231,19 +264,16 @@ impl<'s, 't> Translator<'s, 't> {
     fn standard_call(
         &self,
         name: &[u8],
-        es: &[Expression],
+        e: &Expression,
         low: u32,
         calls: &mut Vec<CodedCall>,
-    ) -> Result<MadeTerm, CompileError>
-        ensures { IfOk result (λ made. (s : code.Scope) (d : a.Designator)
-            → IsScope self.now.scope s → callee (environment s) d ≡ None → name.now ≡ name_of d
-            → IsTerm (map coded_call calls.old.items) calls.new.items made (coded_term s
-            (erase.call_or_name d
-            (erase.expressions (tree.expressions_of (map tree.expression es.now)))) low)) }
+    ) -> Result<MadeTerm, AllocError>
+        ensures { IfOk result (λ made. (s : code.Scope) (es : a.Expressions)
+            → IsScope self.now.scope s
+            → IsTerm (map coded_call calls.old.items) calls.new.items made
+            (coded_standard s name.now
+            (a.MoreExpressions (erase.expression (tree.expression e.now)) es) low)) }
     {
-        let [e, ..] = es else {
-            return Err(CompileError::Unaccepted);
-        };
         if is_empty_test(name) {
             let made = self.argument_spot(e, low, calls)?;
             return self.empty(made);
@@ -262,7 +292,7 @@ impl<'s, 't> Translator<'s, 't> {
         at: u32,
         low: u32,
         calls: &mut Vec<CodedCall>,
-    ) -> Result<MadeArguments, CompileError>
+    ) -> Result<MadeArguments, AllocError>
         ensures { IfOk result (λ made. (s : code.Scope) (ps : List (Name × Variable))
             → IsScope self.now.scope s → AreDeclared self.now.scope.tables.now.types
             (map declared_entry parameters.now) ps
@@ -273,9 +303,9 @@ impl<'s, 't> Translator<'s, 't> {
         let mut made = no_arguments(self.alloc, low);
         let mut at = at;
         for e in es {
-            let parameter = parameters
-                .get(made.arguments.len())
-                .ok_or(CompileError::Unaccepted)?;
+            let Some(parameter) = parameters.get(made.arguments.len()) else {
+                return Ok(made);
+            };
             let next = self.argument(parameter, at, e, made.temps, calls)?;
             at = self.next_parameter(at, parameter)?;
             made.arguments.push(next.argument)?;
@@ -293,7 +323,7 @@ impl<'s, 't> Translator<'s, 't> {
         e: &Expression,
         low: u32,
         calls: &mut Vec<CodedCall>,
-    ) -> Result<MadeArgument, CompileError>
+    ) -> Result<MadeArgument, AllocError>
         ensures { IfOk result (λ made. (s : code.Scope) (v : Variable) → IsScope self.now.scope s
             → parameter.now.by_reference ≡ v.by_reference
             → Stands self.now.scope.tables.now.types parameter.now.of v.type

@@ -29,7 +29,8 @@ use crate::translator::Translator;
 use cp_emit::{CodedCall, Emitter};
 use cp_model::tree::{Expression, InitItem, Sort};
 use cp_program::operation::{Argument, Call, Operation, Target};
-use cp_scope::{CompileError, Component, Declared, SystemTable, small_number};
+use cp_scope::{Component, Declared, SystemTable, small_number, small_sum};
+use std::alloc::AllocError;
 
 // What is passed to a parameter that is neither a simple value nor a right.
 fn no_value(low: u32) -> MadeArgument
@@ -47,7 +48,7 @@ fn no_value(low: u32) -> MadeArgument
 
 impl<'s, 't> Translator<'s, 't> {
     // Passes a right to a component.
-    fn right(&self, at: u32, e: &Expression, low: u32) -> Result<MadeArgument, CompileError>
+    fn right(&self, at: u32, e: &Expression, low: u32) -> Result<MadeArgument, AllocError>
         ensures { IfOk result (λ made. (calls : List CodedCall) (s : code.Scope)
             → IsScope self.now.scope s → IsArgument (map coded_call calls) calls made
             (right_argument s at low (erase.expression (tree.expression e.now)))) }
@@ -67,7 +68,7 @@ impl<'s, 't> Translator<'s, 't> {
         e: &Expression,
         low: u32,
         calls: &mut Vec<CodedCall>,
-    ) -> Result<MadeArgument, CompileError>
+    ) -> Result<MadeArgument, AllocError>
         ensures { IfOk result (λ made. (s : code.Scope) (y : a.System) (p : Name × Variable)
             → IsScope self.now.scope s
             → IsTable s.globals self.now.scope.tables.now.types table.now y
@@ -99,7 +100,7 @@ impl<'s, 't> Translator<'s, 't> {
         es: &[Expression],
         low: u32,
         calls: &mut Vec<CodedCall>,
-    ) -> Result<MadeArguments, CompileError>
+    ) -> Result<MadeArguments, AllocError>
         ensures { IfOk result (λ made. (s : code.Scope) (y : a.System) → IsScope self.now.scope s
             → IsTable s.globals self.now.scope.tables.now.types table.now y
             → AreArguments (map coded_call calls.old.items) calls.new.items made
@@ -109,10 +110,9 @@ impl<'s, 't> Translator<'s, 't> {
     {
         let mut made = no_arguments(self.alloc, low);
         for e in es {
-            let parameter = table
-                .parameters
-                .get(made.arguments.len())
-                .ok_or(CompileError::Unaccepted)?;
+            let Some(parameter) = table.parameters.get(made.arguments.len()) else {
+                return Ok(made);
+            };
             let next = self.init_argument(table, parameter, e, made.temps, calls)?;
             made.arguments.push(next.argument)?;
             made.temps = next.temps;
@@ -126,7 +126,7 @@ impl<'s, 't> Translator<'s, 't> {
         component: Component,
         arguments: Vec<Argument>,
         low: u32,
-    ) -> Result<Call, CompileError>
+    ) -> Result<Call, AllocError>
         ensures { IfOk result (λ r. (s : code.Scope) (n : components.Component)
             → IsScope self.now.scope s → Names self.now.scope s component.entry n
             → view.call r ≡ call_of s (code.body_of s n) (target_of (environment s) (Some n))
@@ -141,24 +141,21 @@ impl<'s, 't> Translator<'s, 't> {
         })
     }
 
-    // Makes the operation that starts a process. A right to a process is refused.
+    // Makes the operation that starts a process.
     fn init_process(
         &self,
         component: Component,
         arguments: Vec<Argument>,
         next: u32,
-    ) -> Result<Operation, CompileError>
+    ) -> Result<Operation, AllocError>
         ensures { IfOk result (λ o. (s : code.Scope) (n : components.Component)
             → IsScope self.now.scope s → Names self.now.scope s component.entry n
             → view.operation o ≡ op.InitProcess (components.process_number (environment s) n)
             (map view.argument arguments.items) s.words next) }
     {
-        if component.is_parameter {
-            return Err(CompileError::Unaccepted);
-        }
-        let number = small_number(component.processes)?.checked_add(2);
+        let before = self.scope.processes_before(&component);
         Ok(Operation::InitProcess {
-            process: number.ok_or(CompileError::Unaccepted)?,
+            process: small_sum(small_number(before)?, 2)?,
             arguments,
             words: self.scope.words()?,
             next,
@@ -172,7 +169,7 @@ impl<'s, 't> Translator<'s, 't> {
         arguments: Vec<Argument>,
         low: u32,
         next: u32,
-    ) -> Result<Operation, CompileError>
+    ) -> Result<Operation, AllocError>
         ensures { IfOk result (λ o. (s : code.Scope) (n : components.Component)
             (xs : CodedArguments) → IsScope self.now.scope s
             → Names self.now.scope s component.entry n
@@ -201,14 +198,16 @@ impl<'s, 't> Translator<'s, 't> {
         next: u32,
         origin: usize,
         emitter: &mut Emitter,
-    ) -> Result<u32, CompileError>
+    ) -> Result<u32, AllocError>
         ensures { IfOk result (λ entry. (s : code.Scope) (n : components.Component)
             → IsScope self.now.scope s → Names self.now.scope s component.entry n
             → Enters emitter.old emitter.new entry (coded.init_by s
             (erase.expressions (tree.expressions_of (map tree.expression es.now))) low
             (place_of emitter.old) next (Some n))) }
     {
-        let table = self.system_table(&component)?;
+        let Some(table) = self.system_table(&component) else {
+            return Ok(next);
+        };
         let mut calls = Vec::new(self.alloc);
         let xs = self.init_arguments(table, es, low, &mut calls)?;
         let operation = self.init_operation(component, xs.arguments, low, next)?;
@@ -222,7 +221,7 @@ impl<'s, 't> Translator<'s, 't> {
         low: u32,
         next: u32,
         emitter: &mut Emitter,
-    ) -> Result<u32, CompileError>
+    ) -> Result<u32, AllocError>
         ensures { IfOk result (StatementOf self.now.scope emitter.old emitter.new
             (a.Init item.now.component.name
             (erase.expressions (tree.init_item item.now).arguments)) low next) }
@@ -243,7 +242,7 @@ impl<'s, 't> Translator<'s, 't> {
         low: u32,
         next: u32,
         emitter: &mut Emitter,
-    ) -> Result<u32, CompileError>
+    ) -> Result<u32, AllocError>
         ensures { IfOk result (StatementOf self.now.scope emitter.old emitter.new
             (erase.items (map tree.init_item items.now)) low next) }
     {

@@ -15,8 +15,8 @@
 //!
 //! Recursion follows nesting alone, and lists are handled by loops. Each part of a tree is visited
 //! once, except that `succ`, `pred`, `display` and `accept` also look for the type of their
-//! argument. What no accepted text has is refused: a number beyond 32 bits, an index list without
-//! an index, a part of something without parts, or a name that means nothing.
+//! argument. What no accepted text has, as a part of something without parts or a name that means
+//! nothing, stands for what the definitions say. The only error is want of room.
 #![tactic(auto)]
 
 mod arguments;

@@ -1,23 +1,28 @@
 //! What names are translated to: places where variables begin, constants and the clock.
 
-ghost use Rattle.std.specs.Prelude.{◌≡◌, ℕ, Option, IfOk, option_map};
+ghost use Rattle.std.specs.Prelude.{◌≡◌, ℕ, List, Option, IfOk, map, option_map};
 ghost use Rattle.cp_model.specs.Declarations.{Variable};
 ghost use Rattle.cp_model.specs.Names.{lookup};
-ghost use Rattle.cp_program_model.specs.CodedTerms.{ordinal_or_zero, root_or_first, term_of_name};
+ghost use Rattle.cp_program_model.specs.CodedTerms.{lone_spot, ordinal_or_zero, root_or_first, term_of_name};
 ghost use Rattle.cp_program_model.specs.Layout as layout;
 ghost use Rattle.cp_program_model.specs.Scopes as code;
 ghost use Rattle.cp_program_model.specs.Scopes.{root_named, root_of_local, root_or_member};
 ghost use Rattle.cp_program_model.specs.Terms as plain;
+ghost use Rattle.cp_emit.specs.Emission.{coded_call};
+ghost use Rattle.cp_emit.specs.declared.emitter.CodedCall.{CodedCall};
 ghost use Rattle.cp_scope.specs.Layouts.{PartIs};
 ghost use Rattle.cp_scope.specs.Locals.{LocalIs};
 ghost use Rattle.cp_scope.specs.Scopes.{IsScope};
 ghost use Rattle.cp_scope.specs.declared.types.Types.{Types};
 ghost use Rattle.cp_program.specs.View as view;
+ghost use Rattle.cp_translate.specs.Translated.{IsSpot};
 ghost use Rattle.cp_typing.specs.StaticTypes.{is_clock};
 
+use crate::made::MadeSpot;
 use crate::translator::Translator;
-use cp_program::term::{Root, Term};
-use cp_scope::{CompileError, Local, Part};
+use cp_program::term::{Root, Spot, Term};
+use cp_scope::{Local, Part};
+use std::alloc::AllocError;
 
 // Whether a name is that of the clock.
 fn is_clock(name: &[u8]) -> bool
@@ -27,11 +32,11 @@ fn is_clock(name: &[u8]) -> bool
 }
 
 // The place where a parameter or variable of a routine begins.
-fn root_of_local(local: Local) -> Result<Root, CompileError>
+fn root_of_local(local: Local) -> Result<Root, AllocError>
     ensures { IfOk result (λ r. (types : Types) (q : ℕ × Variable)
         → LocalIs types (Some local) (Some q) → view.root r ≡ root_of_local q) }
 {
-    let at = local.at.ok_or(CompileError::Unaccepted)?;
+    let at = local.at.ok_or(AllocError)?;
     if local.by_reference {
         Ok(Root::Through {
             parameter: at,
@@ -43,17 +48,17 @@ fn root_of_local(local: Local) -> Result<Root, CompileError>
 }
 
 // The place where a member of a component begins.
-fn root_of_member(part: Part) -> Result<Root, CompileError>
+fn root_of_member(part: Part) -> Result<Root, AllocError>
     ensures { IfOk result (λ r. (types : Types) (q : layout.Part)
         → PartIs types (Some part) (Some q) → view.root r ≡ plain.Member q.0) }
 {
-    let at = part.at.ok_or(CompileError::Unaccepted)?;
+    let at = part.at.ok_or(AllocError)?;
     Ok(Root::Member(at))
 }
 
 // The place where a variable begins: one of the routine if there is one, and otherwise one of the
 // component.
-fn root_of(local: Option<Local>, part: Option<Part>) -> Result<Option<Root>, CompileError>
+fn root_of(local: Option<Local>, part: Option<Part>) -> Result<Option<Root>, AllocError>
     ensures { IfOk result (λ r. (types : Types) (l : Option (ℕ × Variable))
         (m : Option layout.Part) → LocalIs types local l → PartIs types part m
         → option_map view.root r ≡ root_or_member l m) }
@@ -66,8 +71,20 @@ fn root_of(local: Option<Local>, part: Option<Part>) -> Result<Option<Root>, Com
 }
 
 impl<'s, 't> Translator<'s, 't> {
+    /// The first word of the activation.
+    pub fn first_word(&self, low: u32) -> MadeSpot
+        ensures { (calls : List CodedCall) → IsSpot (map coded_call calls) calls result
+            (lone_spot (plain.Rooted (plain.Local 0)) low) }
+    {
+        MadeSpot {
+            spot: Spot::variable(self.alloc, Root::Local(0)),
+            temps: low,
+            of: None,
+        }
+    }
+
     /// The place where the variable with this name begins, or `None` if there is no such variable.
-    pub fn root(&self, name: &[u8]) -> Result<Option<Root>, CompileError>
+    pub fn root(&self, name: &[u8]) -> Result<Option<Root>, AllocError>
         ensures { IfOk result (λ r. (s : code.Scope) → IsScope self.now.scope s
             → option_map view.root r ≡ root_named s name.now) }
     {
@@ -76,7 +93,7 @@ impl<'s, 't> Translator<'s, 't> {
 
     /// The place where the variable with this name begins. Any other name has the first word of the
     /// activation.
-    pub fn variable_root(&self, name: &[u8]) -> Result<Root, CompileError>
+    pub fn variable_root(&self, name: &[u8]) -> Result<Root, AllocError>
         ensures { IfOk result (λ r. (s : code.Scope) → IsScope self.now.scope s
             → view.root r ≡ root_or_first (root_named s name.now)) }
     {
@@ -95,7 +112,7 @@ impl<'s, 't> Translator<'s, 't> {
     }
 
     /// The value of a bare name: the clock, a variable or a constant.
-    pub fn named_term(&self, name: &[u8]) -> Result<Term, CompileError>
+    pub fn named_term(&self, name: &[u8]) -> Result<Term, AllocError>
         ensures { IfOk result (λ t. (s : code.Scope) → IsScope self.now.scope s
             → view.term t ≡ term_of_name s name.now) }
     {

@@ -22,7 +22,7 @@ use cp_judge::places::first_token;
 use cp_model::tree::{Constant, Direction, Expression};
 use cp_program::arm::Arm;
 use cp_program::operation::{Counting, Operation};
-use cp_scope::CompileError;
+use std::alloc::AllocError;
 
 // Whether a `for` counts down.
 fn is_down(direction: Direction) -> bool
@@ -40,7 +40,7 @@ impl<'s, 't> Translator<'s, 't> {
         yes: u32,
         no: u32,
         emitter: &mut Emitter,
-    ) -> Result<u32, CompileError>
+    ) -> Result<u32, AllocError>
         ensures { IfOk result (λ entry. (s : code.Scope) → IsScope self.now.scope s
             → let c = coded_term s (erase.expression (tree.expression e.now)) low in
             Enters emitter.old emitter.new entry
@@ -63,7 +63,7 @@ impl<'s, 't> Translator<'s, 't> {
         arms: Vec<Arm>,
         low: u32,
         emitter: &mut Emitter,
-    ) -> Result<u32, CompileError>
+    ) -> Result<u32, AllocError>
         ensures { IfOk result (λ entry. (s : code.Scope) → IsScope self.now.scope s
             → let c = coded_term s (erase.expression (tree.expression e.now)) low in
             Enters emitter.old emitter.new entry (with_calls c.calls
@@ -80,12 +80,7 @@ impl<'s, 't> Translator<'s, 't> {
     }
 
     // Adds an arm for a label that leads to `place`, if the label has a value.
-    fn add_label(
-        &self,
-        label: &Constant,
-        place: u32,
-        arms: &mut Vec<Arm>,
-    ) -> Result<(), CompileError>
+    fn add_label(&self, label: &Constant, place: u32, arms: &mut Vec<Arm>) -> Result<(), AllocError>
         ensures { OnOk result ((s : code.Scope) → IsScope self.now.scope s
             → map arm (reverse arms.new.items) ≡ arms_at s.globals place
             (erase.constant label.now ∷ []) (map arm (reverse arms.old.items))) }
@@ -105,7 +100,7 @@ impl<'s, 't> Translator<'s, 't> {
         labels: &[Constant],
         place: u32,
         arms: &mut Vec<Arm>,
-    ) -> Result<(), CompileError>
+    ) -> Result<(), AllocError>
         ensures { OnOk result ((s : code.Scope) → IsScope self.now.scope s
             → map arm (reverse arms.new.items) ≡ arms_at s.globals place
             (map erase.constant labels.now) (map arm (reverse arms.old.items))) }
@@ -123,7 +118,7 @@ impl<'s, 't> Translator<'s, 't> {
         direction: Direction,
         low: u32,
         next: u32,
-    ) -> Result<Counting, CompileError>
+    ) -> Result<Counting, AllocError>
         ensures { IfOk result (λ k. (s : code.Scope) → IsScope self.now.scope s
             → view.counting k ≡ coded.counting s name.now (erase.is_down direction) low 0 next) }
     {
@@ -148,7 +143,7 @@ impl<'s, 't> Translator<'s, 't> {
         last: &Expression,
         origin: usize,
         emitter: &mut Emitter,
-    ) -> Result<u32, CompileError>
+    ) -> Result<u32, AllocError>
         ensures { IfOk result (λ entry. (s : code.Scope) → IsScope self.now.scope s
             → let a = coded_term s (erase.expression (tree.expression from.now)) counting.temp in
             let b = coded_term s (erase.expression (tree.expression last.now)) a.temps in

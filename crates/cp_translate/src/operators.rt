@@ -15,7 +15,7 @@ use crate::translator::Translator;
 use cp_emit::call::MadeTerm;
 use cp_model::tree::{Operator, Sign};
 use cp_program::term::Term;
-use cp_scope::CompileError;
+use std::alloc::AllocError;
 
 impl<'s, 't> Translator<'s, 't> {
     /// A number, which needs no calls.
@@ -30,7 +30,7 @@ impl<'s, 't> Translator<'s, 't> {
     }
 
     /// The negation of a Boolean term.
-    pub fn not(&self, made: MadeTerm) -> Result<MadeTerm, CompileError>
+    pub fn not(&self, made: MadeTerm) -> Result<MadeTerm, AllocError>
         ensures { IfOk result (λ n. (before : List coded.CodedCall) (after : List CodedCall)
             (t : coded.CodedTerm) → IsTerm before after made t
             → IsTerm before after n (record t { term = plain.Not t.term })) }
@@ -42,7 +42,7 @@ impl<'s, 't> Translator<'s, 't> {
     }
 
     /// A term with a sign before it.
-    pub fn with_sign(&self, sign: Sign, made: MadeTerm) -> Result<MadeTerm, CompileError>
+    pub fn with_sign(&self, sign: Sign, made: MadeTerm) -> Result<MadeTerm, AllocError>
         ensures { IfOk result (λ n. (before : List coded.CodedCall) (after : List CodedCall)
             (s : code.Scope) (e : a.Expression) (low : ℕ)
             → IsTerm before after made (coded_term s e low)
@@ -63,7 +63,7 @@ impl<'s, 't> Translator<'s, 't> {
         left: MadeTerm,
         operator: Operator,
         right: MadeTerm,
-    ) -> Result<MadeTerm, CompileError>
+    ) -> Result<MadeTerm, AllocError>
         ensures { IfOk result (λ n. (before : List coded.CodedCall) (middle after : List CodedCall)
             (x y : coded.CodedTerm) → IsTerm before middle left x
             → IsTerm (map coded_call middle) after right y

@@ -27,7 +27,8 @@ use cp_emit::{CodedCall, Emitter};
 use cp_model::tree::{Designator, Expression};
 use cp_program::operation::Operation;
 use cp_program::term::Spot;
-use cp_scope::{Base, Callee, CompileError};
+use cp_scope::{Base, Callee};
+use std::alloc::AllocError;
 
 // Whether values of a base type are displayed as bytes.
 fn is_char(base: Base) -> bool
@@ -45,7 +46,7 @@ impl<'s, 't> Translator<'s, 't> {
         next: u32,
         origin: usize,
         emitter: &mut Emitter,
-    ) -> Result<u32, CompileError>
+    ) -> Result<u32, AllocError>
         ensures { IfOk result (λ entry. (s : code.Scope) → IsScope self.now.scope s
             → let x = erase.expression (tree.expression e.now) in let c = coded_term s x low in
             Enters emitter.old emitter.new entry (with_calls c.calls (op.Display c.term
@@ -63,7 +64,7 @@ impl<'s, 't> Translator<'s, 't> {
     }
 
     // Makes the spot of the variable that is passed to a standard procedure, and the calls before it.
-    fn passed_spot(&self, e: &Expression, low: u32) -> Result<(Spot, Vec<CodedCall>), CompileError>
+    fn passed_spot(&self, e: &Expression, low: u32) -> Result<(Spot, Vec<CodedCall>), AllocError>
         ensures { IfOk result (λ p. (s : code.Scope) → IsScope self.now.scope s
             → let c = coded_variable s (erase.expression (tree.expression e.now)) low in
             (map coded_call p.1.items ≡ c.calls) × (view.spot p.0 ≡ c.spot)) }
@@ -81,7 +82,7 @@ impl<'s, 't> Translator<'s, 't> {
         next: u32,
         origin: usize,
         emitter: &mut Emitter,
-    ) -> Result<u32, CompileError>
+    ) -> Result<u32, AllocError>
         ensures { IfOk result (λ entry. (s : code.Scope) → IsScope self.now.scope s
             → let x = erase.expression (tree.expression e.now) in let c = coded_variable s x low in
             let t = expression_type (environment s) x in Enters emitter.old emitter.new entry
@@ -107,7 +108,7 @@ impl<'s, 't> Translator<'s, 't> {
         next: u32,
         origin: usize,
         emitter: &mut Emitter,
-    ) -> Result<u32, CompileError>
+    ) -> Result<u32, AllocError>
         ensures { IfOk result (λ entry. (s : code.Scope) → IsScope self.now.scope s
             → let c = coded_variable s (erase.expression (tree.expression e.now)) low in
             Enters emitter.old emitter.new entry
@@ -135,7 +136,7 @@ impl<'s, 't> Translator<'s, 't> {
         low: u32,
         origin: usize,
         emitter: &mut Emitter,
-    ) -> Result<u32, CompileError>
+    ) -> Result<u32, AllocError>
         ensures { IfOk result (λ entry. (s : code.Scope) → IsScope self.now.scope s
             → let c = coded_variable s (erase.expression (tree.expression e.now)) low in
             Enters emitter.old emitter.new entry (with_calls c.calls
@@ -156,7 +157,7 @@ impl<'s, 't> Translator<'s, 't> {
         next: u32,
         origin: usize,
         emitter: &mut Emitter,
-    ) -> Result<u32, CompileError>
+    ) -> Result<u32, AllocError>
         ensures { IfOk result (λ entry. (s : code.Scope) → IsScope self.now.scope s
             → let x = erase.expression (tree.expression e.now) in
             Enters emitter.old emitter.new entry (coded.standard_procedure s name.now
@@ -183,7 +184,7 @@ impl<'s, 't> Translator<'s, 't> {
         next: u32,
         origin: usize,
         emitter: &mut Emitter,
-    ) -> Result<u32, CompileError>
+    ) -> Result<u32, AllocError>
         ensures { IfOk result (λ entry. (s : code.Scope) → IsScope self.now.scope s
             → Enters emitter.old emitter.new entry (coded.standard_statement s name.now
             (erase.expressions (tree.expressions_of (map tree.expression es.now))) low
@@ -204,7 +205,7 @@ impl<'s, 't> Translator<'s, 't> {
         next: u32,
         origin: usize,
         emitter: &mut Emitter,
-    ) -> Result<u32, CompileError>
+    ) -> Result<u32, AllocError>
         ensures { IfOk result (λ entry. (s : code.Scope) (d : a.Designator) (c : model.Callee)
             → IsScope self.now.scope s → IsCallee self.now.scope s called.now c
             → Enters emitter.old emitter.new entry (coded.perform_by s d
@@ -227,14 +228,14 @@ impl<'s, 't> Translator<'s, 't> {
         low: u32,
         next: u32,
         emitter: &mut Emitter,
-    ) -> Result<u32, CompileError>
+    ) -> Result<u32, AllocError>
         ensures { IfOk result (StatementOf self.now.scope emitter.old emitter.new
             (a.Perform (erase.designator (tree.designator d.now))
             (erase.expressions (tree.expressions_of (map tree.expression es.now)))) low next) }
     {
-        match self.scope.callee(d)? {
+        match self.scope.callee(d) {
             Some(called) => self.procedure_call(&called, es, low, next, d.root.at, emitter),
-            None => self.standard_statement(lone_name(d)?, es, low, next, d.root.at, emitter),
+            None => self.standard_statement(lone_name(d), es, low, next, d.root.at, emitter),
         }
     }
 }

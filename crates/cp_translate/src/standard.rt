@@ -24,17 +24,17 @@ use crate::translator::Translator;
 use cp_emit::call::MadeTerm;
 use cp_model::tree::{Designator, Expression};
 use cp_program::term::{Function, Term};
-use cp_scope::{Base, CompileError, base_type, first_ordinal, last_ordinal};
+use cp_scope::{Base, base_type, first_ordinal, is_part, last_ordinal};
+use std::alloc::AllocError;
 
-/// The name that a designator consists of. A designator of a part is refused.
-pub fn lone_name(d: &Designator) -> Result<&[u8], CompileError>
-    ensures { IfOk result (λ x. x.now ≡ name_of (erase.designator (tree.designator d.now))) }
+/// The name that a designator consists of, empty for a designator of a part.
+pub fn lone_name(d: &Designator) -> &[u8]
+    ensures { result.now ≡ name_of (erase.designator (tree.designator d.now)) }
 {
-    if d.selectors.is_empty() {
-        Ok(d.root.name.as_bytes())
-    } else {
-        Err(CompileError::Unaccepted)
+    if is_part(d) {
+        return &[];
     }
+    d.root.name.as_bytes()
 }
 
 /// Whether a name is that of the standard function `empty`, which takes a queue.
@@ -45,7 +45,7 @@ pub fn is_empty_test(name: &[u8]) -> bool
 }
 
 // The function that shifts a value by `by`, within the bounds of a base type.
-fn shift(by: i32, base: Base) -> Result<Function, CompileError>
+fn shift(by: i32, base: Base) -> Result<Function, AllocError>
     ensures { IfOk result (λ f. view.function f
         ≡ plain.Shift by (types.first_ordinal (base_of base.entry))
         (types.last_ordinal (base_of base.entry))) }
@@ -59,7 +59,7 @@ fn shift(by: i32, base: Base) -> Result<Function, CompileError>
 
 impl<'s, 't> Translator<'s, 't> {
     /// The base type of the value of an expression.
-    pub fn base(&self, e: &Expression) -> Result<Base<'t>, CompileError>
+    pub fn base(&self, e: &Expression) -> Result<Base<'t>, AllocError>
         ensures { IfOk result (λ b. (s : code.Scope) → IsScope self.now.scope s → base_of b
             ≡ base_of_type (expression_type (environment s)
             (erase.expression (tree.expression e.now)))) }
@@ -69,7 +69,7 @@ impl<'s, 't> Translator<'s, 't> {
 
     /// The standard function with this name, for the argument `e`. Any name not listed counts as
     /// `chr`.
-    pub fn function(&self, name: &[u8], e: &Expression) -> Result<Function, CompileError>
+    pub fn function(&self, name: &[u8], e: &Expression) -> Result<Function, AllocError>
         ensures { IfOk result (λ f. (s : code.Scope) → IsScope self.now.scope s
             → view.function f ≡ function_named name.now (base_of_type
             (expression_type (environment s) (erase.expression (tree.expression e.now))))) }
@@ -88,7 +88,7 @@ impl<'s, 't> Translator<'s, 't> {
     }
 
     /// A standard function applied to a term.
-    pub fn apply(&self, function: Function, made: MadeTerm) -> Result<MadeTerm, CompileError>
+    pub fn apply(&self, function: Function, made: MadeTerm) -> Result<MadeTerm, AllocError>
         ensures { IfOk result (λ n. (before : List coded.CodedCall) (after : List CodedCall)
             (t : coded.CodedTerm) → IsTerm before after made t → IsTerm before after n
             (record t { term = plain.Standard (view.function function) t.term })) }
@@ -100,7 +100,7 @@ impl<'s, 't> Translator<'s, 't> {
     }
 
     /// The test whether a queue is empty.
-    pub fn empty(&self, made: MadeSpot) -> Result<MadeTerm, CompileError>
+    pub fn empty(&self, made: MadeSpot) -> Result<MadeTerm, AllocError>
         ensures { IfOk result (λ n. (before : List coded.CodedCall) (after : List CodedCall)
             (c : coded.CodedSpot) → IsSpot before after made c → IsTerm before after n
             (record { term = plain.Empty c.spot; calls = c.calls; temps = c.temps })) }

@@ -8,21 +8,22 @@ ghost use Rattle.cp_scope.specs.Components.{RightIs};
 ghost use Rattle.cp_scope.specs.Layouts.{PartIs};
 ghost use Rattle.cp_scope.specs.declared.types.Types.{Types};
 
-use cp_scope::{CompileError, Part, Right, small_number};
+use cp_scope::{Part, Right, small_number};
+use std::alloc::AllocError;
 
 /// The word at which a part begins, or 0 if there is no part.
-pub fn part_start(part: Option<Part>) -> Result<u32, CompileError>
+pub fn part_start(part: Option<Part>) -> Result<u32, AllocError>
     ensures { IfOk result (λ at. (types : Types) (q : Option layout.Part) → PartIs types part q
         → at ≡ code.part_start q) }
 {
     match part {
-        Some(part) => part.at.ok_or(CompileError::Unaccepted),
+        Some(part) => part.at.ok_or(AllocError),
         None => Ok(0),
     }
 }
 
 /// The word that holds a right, or 0 if there is no right.
-pub fn right_start(right: Option<Right>) -> Result<u32, CompileError>
+pub fn right_start(right: Option<Right>) -> Result<u32, AllocError>
     ensures { IfOk result (λ at. (types : Types) (q : Option (ℕ × Variable))
         → RightIs types right q → at ≡ code.right_start q) }
 {

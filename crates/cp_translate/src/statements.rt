@@ -16,7 +16,8 @@ use cp_emit::Emitter;
 use cp_model::tree::{Arm, Expression, ForHeader, Statement};
 use cp_program::arm::Arm as CodedArm;
 use cp_program::operation::Operation;
-use cp_scope::CompileError;
+use cp_scope::small_sum;
+use std::alloc::AllocError;
 
 impl<'s, 't> Translator<'s, 't> {
     /// Emits the operations of a statement, which lead to the place `next`, and returns the place
@@ -28,7 +29,7 @@ impl<'s, 't> Translator<'s, 't> {
         low: u32,
         next: u32,
         emitter: &mut Emitter,
-    ) -> Result<u32, CompileError>
+    ) -> Result<u32, AllocError>
         ensures { IfOk result (StatementOf self.now.scope emitter.old emitter.new
             (erase.statement (tree.statement s.now)) low next) }
     {
@@ -71,7 +72,7 @@ impl<'s, 't> Translator<'s, 't> {
         low: u32,
         next: u32,
         emitter: &mut Emitter,
-    ) -> Result<u32, CompileError>
+    ) -> Result<u32, AllocError>
         ensures { IfOk result (StatementOf self.now.scope emitter.old emitter.new
             (erase.statements (tree.statements_of (map tree.statement list.now))) low next) }
     {
@@ -90,7 +91,7 @@ impl<'s, 't> Translator<'s, 't> {
         low: u32,
         next: u32,
         emitter: &mut Emitter,
-    ) -> Result<u32, CompileError>
+    ) -> Result<u32, AllocError>
         ensures { IfOk result (StatementOf self.now.scope emitter.old emitter.new
             (a.Case (erase.expression (tree.expression selector.now))
             (erase.arms (tree.arms_of (map tree.arm list.now)))) low next) }
@@ -107,7 +108,7 @@ impl<'s, 't> Translator<'s, 't> {
         low: u32,
         next: u32,
         emitter: &mut Emitter,
-    ) -> Result<Vec<CodedArm>, CompileError>
+    ) -> Result<Vec<CodedArm>, AllocError>
         ensures { IfOk result (λ arms. ArmsOf self.now.scope emitter.old emitter.new
             (erase.arms (tree.arms_of (map tree.arm list.now))) low next arms.items) }
     {
@@ -129,7 +130,7 @@ impl<'s, 't> Translator<'s, 't> {
         low: u32,
         next: u32,
         emitter: &mut Emitter,
-    ) -> Result<u32, CompileError>
+    ) -> Result<u32, AllocError>
         ensures { IfOk result (StatementOf self.now.scope emitter.old emitter.new
             (a.While (erase.expression (tree.expression condition.now))
             (erase.statement (tree.statement body.now))) low next) }
@@ -149,7 +150,7 @@ impl<'s, 't> Translator<'s, 't> {
         low: u32,
         next: u32,
         emitter: &mut Emitter,
-    ) -> Result<u32, CompileError>
+    ) -> Result<u32, AllocError>
         ensures { IfOk result (StatementOf self.now.scope emitter.old emitter.new
             (a.Repeat (erase.statements (tree.statements_of (map tree.statement list.now)))
             (erase.expression (tree.expression condition.now))) low next) }
@@ -170,14 +171,14 @@ impl<'s, 't> Translator<'s, 't> {
         low: u32,
         next: u32,
         emitter: &mut Emitter,
-    ) -> Result<u32, CompileError>
+    ) -> Result<u32, AllocError>
         ensures { IfOk result (StatementOf self.now.scope emitter.old emitter.new
             (a.For header.now.variable.name (erase.is_down header.now.direction)
             (erase.expression (tree.expression header.now.from))
             (erase.expression (tree.expression header.now.last))
             (erase.statement (tree.statement body.now))) low next) }
     {
-        let inner = low.checked_add(2).ok_or(CompileError::Unaccepted)?;
+        let inner = small_sum(low, 2)?;
         let variable = &header.variable;
         let name = variable.name.as_bytes();
         let mut counting = self.counting(name, header.direction, low, next)?;
@@ -189,12 +190,7 @@ impl<'s, 't> Translator<'s, 't> {
     }
 
     #[cycle(statements)]
-    fn cycle(
-        &self,
-        list: &[Statement],
-        low: u32,
-        emitter: &mut Emitter,
-    ) -> Result<u32, CompileError>
+    fn cycle(&self, list: &[Statement], low: u32, emitter: &mut Emitter) -> Result<u32, AllocError>
         ensures { IfOk result (λ entry. (next : ℕ) → StatementOf self.now.scope emitter.old
             emitter.new (a.Cycle (erase.statements (tree.statements_of
             (map tree.statement list.now)))) low next entry) }

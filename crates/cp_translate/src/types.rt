@@ -11,7 +11,8 @@ ghost use Rattle.cp_scope.specs.Scopes.{IsScope};
 ghost use Rattle.cp_scope.specs.Standing.{Stands};
 
 use crate::translator::Translator;
-use cp_scope::{CompileError, Simple};
+use cp_scope::Simple;
+use std::alloc::AllocError;
 
 /// The least and the greatest value of a type.
 #[derive(Clone, Copy)]
@@ -36,18 +37,18 @@ pub fn bounds_of(of: Option<Simple>) -> Bounds
 
 impl<'s, 't> Translator<'s, 't> {
     /// The size in words of a variable of the type `of`.
-    pub fn words(&self, of: usize) -> Result<u32, CompileError>
+    pub fn words(&self, of: usize) -> Result<u32, AllocError>
         ensures { IfOk result (λ n. (s : code.Scope) (t : ResolvedType) → IsScope self.now.scope s
             → Stands self.now.scope.tables.now.types of t → n ≡ words s.globals t) }
     {
         match self.scope.tables().layouts.words(of) {
             Some(words) => Ok(words),
-            None => Err(CompileError::Unaccepted),
+            None => Err(AllocError),
         }
     }
 
     /// The size in words of a variable of the type `of`, where `None` stands for no type.
-    pub fn place_words(&self, of: Option<usize>) -> Result<u32, CompileError>
+    pub fn place_words(&self, of: Option<usize>) -> Result<u32, AllocError>
         ensures { IfOk result (λ n. (s : code.Scope) (t : ResolvedType) → IsScope self.now.scope s
             → TypeIs self.now.scope.tables.now.types of t → n ≡ words s.globals t) }
     {

@@ -8,8 +8,8 @@ use Rattle.cp_compile.specs.Compiles.{body_of}
 use Rattle.cp_compile.proofs.UnitsCompiled.{unit_compiled}
 use Rattle.cp_compile.proofs.unit.compile_unit.Goals as goal
 
-pub returns : goal.returns
-returns c = λ known s d i is.
+pub returns-clause-code : goal.returns-clause-code
+returns-clause-code c = λ known s d i is.
     let e0 = c.args.emitter.now in
     let e1 = c.begin.new.self in
     let e2 = c.push.new.self in
@@ -35,3 +35,9 @@ returns c = λ known s d i is.
     ∙ ap (λ os. units_of known e0 ++ code_unit entry starts (need_of_all (units_of known e0) e3.words (drop e3.first os)) ∷ [])
     (sym c.in_ok-end.ensures.operations))
     is
+
+pub returns-clause-origin : goal.returns-clause-origin
+returns-clause-origin c = λ s i.
+    let more = (c.in_ok-entry.ensures s i).emits.origins_continue in
+    let first = c.in_ok-at.ensures.origin ∙ ap (λ v. v.items ++ c.args.origin ∷ []) c.begin.ensures.origins in
+    (more.0, ap (λ v. v.items) c.in_ok-end.ensures.origins ∙ more.1 ∙ ap (λ xs. xs ++ more.0) first)

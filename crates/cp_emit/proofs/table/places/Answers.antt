@@ -15,7 +15,7 @@ loop-i-init c =
     let all = c.args.arms.now in
     let low = narrow c.args.low in
     let end : length all ≤ length all = omega arith in
-    c.in_ok-places.ensures.places
+    c.in_ok-places.ensures
     ∙ (none_left low c.args.count
     ∙ sym (at_drop_all (λ xs. places_from (map arm xs) low c.args.count) all (length all) end))
 

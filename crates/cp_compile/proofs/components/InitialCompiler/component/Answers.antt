@@ -1,7 +1,6 @@
 use Rattle.std.proofs.Common.{rules, ◌≡◌, ◌+◌, ◌∙◌, Some, ap, length, slice_get, subst}
 use Rattle.cp_model.specs.Names.{lookup}
 use Rattle.cp_program_model.specs.Scopes.{declared_type, or_zero}
-use Rattle.cp_scope.specs.Standing.{system_at}
 use Rattle.cp_scope.proofs.Unrefused.{if_ok}
 use Rattle.cp_compile.specs.CompiledComponents.{IsOwner}
 use Rattle.cp_compile.proofs.ComponentsCompiled.{component_put}
@@ -12,17 +11,15 @@ returns c =
     let of = c.args.self.now in
     let tables = of.tables.now in
     let k = c.args.number in
-    let text = c.in_ok-text.text in
-    let table = c.in_ok-table.table.now in
-    let text_is : system_at tables.types k ≡ Some text = search rules in
-    let table_is : slice_get tables.systems.items k ≡ Some table = search rules in
+    let text = c.args.text in
+    let table = c.args.table.now in
     let first : c.unwrap_or-first.result ≡ or_zero (lookup c.variable_type-of.result.now of.firsts.now) = search rules in
     let routines : c.in_ok-routines.routines ≡ length text.now.routines.items = search rules in
     let body : c.in_ok-body.body ≡ c.unwrap_or-first.result + c.in_ok-routines.routines = search rules in
     let behind : c.in_ok-behind.behind ≡ k = search rules in
     let plan : c.in_ok-plan.plan ≡ of.plans + c.in_ok-behind.behind = search rules in
     if_ok c.of.result
-    (λ o is plans g firsts groups vs v i stands number.
+    (λ o is plans g firsts groups vs v i stands number text_is table_is.
     let x = c.args.d.now.name.now in
     let own : c.unwrap_or-first.result ≡ or_zero (lookup (declared_type x groups) firsts) =
     first ∙ ap (λ n. or_zero (lookup n of.firsts.now)) (c.variable_type-of.ensures ∙ i.type_names x) ∙ ap or_zero (i.firsts_are (declared_type x groups)) in

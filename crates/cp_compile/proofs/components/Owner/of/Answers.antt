@@ -9,7 +9,7 @@ pub returns : goal.returns
 returns c = λ plans g types s ps vs rs stands written plan.
     let table = c.args.table.now in
     let words : table.members.words ≡ Some c.in_ok-ok_or.field-0 = search rules in
-    let waiting : c.in_ok-ok_or-2.field-0 ≡ c.in_ok-waiting.waiting + 1 = search rules in
+    let waiting : c.in_ok-small_sum.field-0 ≡ c.in_ok-waiting.waiting + 1 = search rules in
     let count : c.in_ok-waiting.waiting ≡ length table.parameters.items = search rules in
     let all : ℕ = suc (rights_of g ps) + words_of_members g (own_members g ps vs) in
     record {

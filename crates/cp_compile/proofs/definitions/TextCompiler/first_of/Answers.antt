@@ -1,4 +1,4 @@
-use Rattle.std.proofs.Common.{◌≡◌, ap, subst, sym}
+use Rattle.std.proofs.Common.{◌≡◌, ap, refl, subst, sym}
 use Rattle.cp_model.specs.Abstract as a
 use Rattle.cp_model.specs.Abstract.{Definition}
 use Rattle.cp_model.specs.Erase as erase
@@ -13,13 +13,13 @@ use Rattle.cp_compile.proofs.definitions.TextCompiler.first_of.Goals as goal
 pub returns-in-System : goal.returns-in-System
 returns-in-System c =
     let x = c.args.d.now.name in
-    let s = erase.system (tree.system c.in-System.field-0) in
+    let s = erase.system (tree.system c.in-System.text) in
     let is : erase.type_definition (tree.type_definition c.args.d.now) ≡ a.SystemDef x.name s =
     ap (λ t. erase.definition x (tree.defined_type t)) c.in-System.is in
     if_ok c.system.result
     (λ first made g m i named are.
     let own = subst (IsNamed g) is named in
-    let both = (rw c.as_bytes.ensures at made) g m s own.0 i own.1 are in
+    let both = (rw c.as_bytes.ensures at made) g m s own.0 i refl own.1 are in
     subst (λ (d : Definition). IsDefined (known_of c.args.self.now.planner.now) c.system.new.emitter first d m (with_definition g d m)) (sym is)
     (system_defined (known_of c.args.self.now.planner.now) g x.name s m c.system.new.emitter first both.0 both.1))
-    c.system.ensures
+    c.system.ensures.code

@@ -10,8 +10,8 @@ use Rattle.cp_program.specs.View as view
 use Rattle.cp_compile.proofs.SystemsCompiled.{function_written, planner_knows, result_written, routine_compiled, scope_made, unit_scope}
 use Rattle.cp_compile.proofs.system.SystemCompiler.routine.Goals as goal
 
-pub returns : goal.returns
-returns c =
+pub returns-clause-code : goal.returns-clause-code
+returns-clause-code c =
     let of = c.args.self.now in
     let text = c.args.text.now in
     let r = erase.routine (tree.routine text) in
@@ -26,4 +26,13 @@ returns c =
     (declared (map declared_entry table.variables.items) (declarations g r.variables) stands.variables) (is ∙ result_written text.result_type))
     (ap Return (is ∙ function_written text.result_type))
     (rw c.deref-3.ensures.value at (made (known_of of.planner.now) (unit_scope of g s firsts (Some r)) d (scope_made of g s firsts i c.new-scope.result (Some c.args.table) (Some r) c.new-scope.ensures stands) so)))
-    c.compile_unit.ensures
+    c.compile_unit.ensures.code
+
+pub returns-clause-origin : goal.returns-clause-origin
+returns-clause-origin c =
+    let of = c.args.self.now in
+    let r = erase.routine (tree.routine c.args.text.now) in
+    on_ok c.compile_unit.result
+    (λ added g s firsts i stands.
+    added (unit_scope of g s firsts (Some r)) (scope_made of g s firsts i c.new-scope.result (Some c.args.table) (Some r) c.new-scope.ensures stands))
+    c.compile_unit.ensures.origin

@@ -8,4 +8,4 @@ use Rattle.cp_emit.proofs.draft.Draft.pieces.Given as goal
 -- The pieces from this one on are planned.
 abbrev pub invariant-loop-i : goal.invariant-loop-i
 invariant-loop-i l =
-    (known : List code.StartPlan) → plan_of known l.self ≡ pieces_before l.at (view.plan_of (take l.below known) (drop l.i l.pieces)) (plan_of known l.fn.self)
+    (known : List code.StartPlan) → view.plan_at known l.none ≡ code.Done → plan_of known l.self ≡ pieces_before l.at (view.plan_of (take l.below known) (drop l.i l.pieces)) (plan_of known l.fn.self)

@@ -21,6 +21,11 @@ loop-made-preserved c =
     let place : place_of c.loop-made.self ≡ at + length before.operations = ap length i.emits.operations_are ∙ length-append old before.operations in
     let made = view.call c.in-Some.made.call in
     let into = c.in-Some.made.into in
+    let origins : c.push.new.self.origins.items ≡ c.args.self.now.origins.items ++ origins_of_calls (drop (length rest) all) =
+    c.in_ok-entry.ensures.origin
+    ∙ (ap (λ xs. xs ++ c.in-Some.made.at ∷ []) i.origins
+    ∙ (append_assoc c.args.self.now.origins.items (origins_of_calls (drop (length left) all)) (c.in-Some.made.at ∷ [])
+    ∙ ap (λ cs. c.args.self.now.origins.items ++ origins_of_calls cs) (sym (back_of all left rest c.in-Some.made i.left last)))) in
     record {
       left = front_of all left rest c.in-Some.made i.left last;
       entry = c.in_ok-entry.ensures.place ∙ (place ∙ ap (λ e. e.entry) (sym back));
@@ -30,13 +35,10 @@ loop-made-preserved c =
             ∙ ((λ j. i.emits.operations_are j ++ code.Function made into (i.entry j) ∷ [])
             ∙ (append_assoc old before.operations (code.Function made into before.entry ∷ [])
             ∙ ap (λ e. old ++ e.operations) (sym back)));
+        origins_continue = (origins_of_calls (drop (length rest) all), origins);
         units_are = c.in_ok-entry.ensures.emits.units_are ∙ i.emits.units_are;
         first_is = c.in_ok-entry.ensures.emits.first_is ∙ i.emits.first_is;
         words_are = c.in_ok-entry.ensures.emits.words_are ∙ i.emits.words_are;
       };
-      origins =
-          c.in_ok-entry.ensures.origin
-          ∙ (ap (λ xs. xs ++ c.in-Some.made.at ∷ []) i.origins
-          ∙ (append_assoc c.args.self.now.origins.items (origins_of_calls (drop (length left) all)) (c.in-Some.made.at ∷ [])
-          ∙ ap (λ cs. c.args.self.now.origins.items ++ origins_of_calls cs) (sym (back_of all left rest c.in-Some.made i.left last))));
+      origins = origins;
     }

@@ -7,6 +7,7 @@ use Rattle.cp_model.specs.View as tree_view
 use Rattle.cp_program.specs.View.{plan_at}
 use Rattle.cp_scope.specs.declared.systems.SystemTable.{SystemTable}
 use Rattle.cp_scope.specs.declared.tables.Tables.{Tables}
+use Rattle.cp_scope.proofs.SystemsMade.{has_table}
 use Rattle.cp_scope.specs.Variables.{AreDeclared, declared_entry}
 use Rattle.cp_emit.specs.ComponentPlans.{ArePlans}
 use Rattle.cp_emit.specs.Planning.{known_of}
@@ -46,7 +47,7 @@ loop-table-preserved c =
           let found : slice_get old.tables.now.systems.items count ≡ Some table = sym c.table.ensures ∙ ap (option_map (λ (b : Bor SystemTable). b.now)) c.in-Some.is in
           let same : t ≡ table =
           same_Some t table (sym there ∙ ap (λ (b : Bor Tables). slice_get b.now.systems.items count) (sym so_far.extends.tables_are) ∙ found) in
-          let stands = systems count y t here there in
+          let stands = has_table g start.tables.now.types start.tables.now.systems.items count y t systems here there in
           let s = erase.system (tree_view.system y.now) in
           let made = (rw (c.deref.ensures.value, c.deref-in-Some.ensures.value) at one.plan) g s known in
           let own =

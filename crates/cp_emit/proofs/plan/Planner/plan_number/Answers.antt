@@ -7,9 +7,7 @@ use Rattle.cp_emit.proofs.plan.Planner.plan_number.Goals as goal
 pub returns : goal.returns
 returns c = λ g t knows stands.
     let known = known_of c.args.self.now in
-    let numbers = c.in_ok-numbers.numbers in
     let plans = c.in_ok-plans.plans in
-    let first : slice_get c.args.self.now.types.items c.args.of ≡ Some numbers = search rules in
-    let second : numbers ≡ Some plans = search rules in
+    let there : slice_get c.args.self.now.types.items c.args.of ≡ Some (Some plans) = rw c.in_ok-plans.ensures.ok_part at c.numbers.ensures in
     ap (plan_at known) c.number.ensures
-    ∙ number_planned known g c.args.zeros plans t (knows.planned c.args.of plans t (first ∙ ap (λ o. Some o) second) stands)
+    ∙ number_planned known g c.args.zeros plans t (knows.planned c.args.of plans t there stands)

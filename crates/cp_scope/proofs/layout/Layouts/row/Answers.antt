@@ -3,6 +3,7 @@ use Rattle.cp_model.specs.Integers.{count_between}
 use Rattle.cp_typing.specs.Words.{words}
 use Rattle.cp_scope.specs.Layouts.{Counts}
 use Rattle.cp_scope.proofs.Laying.{array_laid, component_laid, laid_later, record_laid}
+use Rattle.cp_scope.proofs.Standing.{has_system, same_system}
 use Rattle.cp_scope.proofs.Unrefused.{if_ok}
 use Rattle.cp_scope.proofs.layout.Layouts.row.Goals as goal
 
@@ -34,6 +35,12 @@ returns-in-Some c =
     if_ok c.component.result
     (λ l lays g later n t scope grows laid at stands.
     component_laid g later n l t c.in-Component.system c.in-Component.members c.in-Some.system (at ∙ ap Some c.in-Component.is)
-    (grows.systems c.in-Component.system c.in-Some.system (sym c.in-Some.ensures)) stands
+    (same_system c.args.types.now later grows c.in-Component.system ∙ sym c.in-Some.ensures) stands
     (λ ms stand. lays g later ms scope grows laid stand))
     component
+
+pub returns-in-None : goal.returns-in-None
+returns-in-None c = λ g later n t scope grows laid at stands.
+    absurd
+    (has_system later n t c.in-Component.system c.in-Component.members (at ∙ ap Some c.in-Component.is) stands
+    (same_system c.args.types.now later grows c.in-Component.system ∙ sym c.in-None.ensures))

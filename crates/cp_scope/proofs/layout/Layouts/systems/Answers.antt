@@ -1,10 +1,9 @@
-use Rattle.std.proofs.Common.{◌≡◌, ◌∙◌, ap, arith, length, length-append, refl, rules, subst, sym}
+use Rattle.std.proofs.Common.{◌≡◌, ◌<◌, ◌∙◌, ap, arith, length, length-append, refl, rules, subst, sym}
 use Rattle.std.proofs.lemmas.Option.{slice_get_read}
 use Rattle.std.specs.Prelude.{Some}
 use Rattle.cp_scope.specs.Standing.{system_at}
-use Rattle.cp_scope.specs.Texts.{AreSystems}
-use Rattle.cp_scope.proofs.Standing.{grows_more, still_scope, still_within}
-use Rattle.cp_scope.proofs.SystemsMade.{builds_more, builds_nothing, no_systems, one_system}
+use Rattle.cp_scope.proofs.Standing.{grows_more, same_system, still_scope}
+use Rattle.cp_scope.proofs.SystemsMade.{AreTables, all_tables, builds_more, builds_nothing, no_tables, one_table}
 use Rattle.cp_scope.proofs.layout.Layouts.systems.Goals as goal
 
 pub loop-number-init : goal.loop-number-init
@@ -12,7 +11,7 @@ loop-number-init c = record {
   count = ap length c.new-tables.ensures.items;
   made = record {
     builds = builds_nothing c.args.names.now c.args.types.now c.args.self.now.rows.items;
-    stands = λ g later scope laid grows. no_systems g later c.new-tables.result.items c.new-tables.ensures.items;
+    stands = λ g later scope laid grows. no_tables g later c.new-tables.result.items c.new-tables.ensures.items;
   };
 }
 
@@ -30,7 +29,8 @@ loop-number-preserved c =
     let y = c.index-y.result.now in
     let before = c.loop-number.invariant in
     let count : c.len-number-end.result ≡ length old.systems.items = search rules in
-    let within = still_within old here before.made.builds.grows c.loop-number.number (omega (arith, count, c.loop-number-test.true)) in
+    let same = ap length before.made.builds.grows.systems in
+    let within : c.loop-number.number < length here.systems.items = omega (arith, count, same, c.loop-number-test.true) in
     let there : system_at here c.loop-number.number ≡ Some y =
     slice_get_read here.systems.items (length here.systems.items) c.loop-number.number y refl within c.index-y.ensures in
     let at : system_at here (length tables) ≡ Some y = ap (system_at here) before.count ∙ there in
@@ -41,8 +41,8 @@ loop-number-preserved c =
         builds = builds_more names old here new ls ms ns before.made.builds one.builds;
         stands = λ g later scope laid grows.
             let from = grows_more here new later one.builds.grows grows in
-            subst (AreSystems g later) (sym items)
-            (one_system g later tables c.in_ok-table.table y (from.systems (length tables) y at)
+            subst (AreTables g later) (sym items)
+            (one_table g later tables c.in_ok-table.table y (same_system here later from (length tables) ∙ at)
             (one.stands g later (still_scope old here before.made.builds.grows names g scope) (before.made.builds.laid g scope laid) grows)
             (before.made.stands g later scope laid from));
       };
@@ -53,14 +53,15 @@ index-y-requires c =
     let old = c.args.types.now in
     let here = c.loop-number.types in
     let count : c.len-number-end.result ≡ length old.systems.items = search rules in
-    let within = still_within old here c.loop-number.invariant.made.builds.grows c.loop-number.number (omega (arith, count, c.loop-number-test.true)) in
-    omega (arith, within, here.systems.ok.0)
+    let same = ap length c.loop-number.invariant.made.builds.grows.systems in
+    omega (arith, count, same, c.loop-number-test.true, here.systems.ok.0)
 
 pub returns : goal.returns
 returns c = record {
   builds = c.loop-number.invariant.made.builds;
-  complete =
+  stands = λ g later scope laid grows.
       let count : c.len-number-end.result ≡ length c.args.types.now.systems.items = search rules in
-      grind (arith, count, c.loop-number-test.false, c.loop-number.invariant.count);
-  stands = c.loop-number.invariant.made.stands;
+      let same = ap length (grows.systems ∙ c.loop-number.invariant.made.builds.grows.systems) in
+      all_tables g later c.loop-number.tables.items (omega (arith, count, same, c.loop-number-test.false, c.loop-number.invariant.count))
+      (c.loop-number.invariant.made.stands g later scope laid grows);
 }

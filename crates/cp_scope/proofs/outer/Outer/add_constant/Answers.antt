@@ -7,5 +7,5 @@ use Rattle.cp_scope.proofs.outer.Outer.add_constant.Goals as goal
 pub returns : goal.returns
 returns c =
     let old = c.args.self.now in
-    let later : Names = record { constants = c.add_name.new.table; types = old.names.types } in
-    on_ok c.add_name.result (λ front g scope. constant_named old.names later old.types g c.args.name.now c.args.value scope refl front) c.add_name.ensures
+    let later : Names = record { constants = c.set.new.self; types = old.names.types } in
+    on_ok c.set.result (λ front g scope. constant_named old.names later old.types g c.args.name.now c.args.value scope refl front) c.set.ensures

@@ -7,7 +7,7 @@ use Rattle.cp_scope.proofs.outer.Outer.add_type.Goals as goal
 pub returns : goal.returns
 returns c =
     let old = c.args.self.now in
-    let later : Names = record { constants = old.names.constants; types = c.add_name.new.table } in
-    on_ok c.add_name.result
+    let later : Names = record { constants = old.names.constants; types = c.set.new.self } in
+    on_ok c.set.result
     (λ front g t scope stands. type_named old.names later old.types g c.args.name.now c.args.of t scope refl front stands)
-    c.add_name.ensures
+    c.set.ensures

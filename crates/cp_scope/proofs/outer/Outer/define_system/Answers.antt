@@ -1,4 +1,4 @@
-use Rattle.cp_scope.proofs.Standing.{still_scope}
+use Rattle.cp_scope.proofs.Standing.{kept_scope}
 use Rattle.cp_scope.proofs.Unrefused.{on_ok}
 use Rattle.cp_scope.specs.Outer.{component_of}
 use Rattle.cp_scope.proofs.outer.Outer.define_system.Goals as goal
@@ -8,5 +8,5 @@ returns c =
     let old = c.args.self.now in
     let made = c.in_ok-of.ensures in
     on_ok c.add_type.result
-    (λ names g scope. names g (component_of c.args.system.now g) (still_scope old.types c.component.new.self made.grows old.names g scope) (made.stands g scope))
+    (λ names g scope. names g (component_of c.args.system.now g) (kept_scope old.types c.component.new.self made.keeps old.names g scope) (made.stands g scope))
     (rw c.as_bytes.ensures at c.add_type.ensures)

@@ -19,31 +19,31 @@ returns-in-Some c =
     (λ of gives s e es i typed.
     let found = callee (environment s) d in
     user_answers c.args.self.now s c.in-Some.callee found of (standard_type (name_of d) (expression_type (environment s) (erase.expression e)))
-    (subst (λ (f : Option Callee). CalleeIs c.args.self.now s f found) c.in-Some.is (c.in_ok-callee.ensures s i)) (λ f is. gives s f i is))
+    (subst (λ (f : Option Callee). CalleeIs c.args.self.now s f found) c.in-Some.is (c.callee.ensures s i)) (λ f is. gives s f i is))
     c.answer_type.ensures
 
-pub returns-then-branch : goal.returns-then-branch
-returns-then-branch c =
+pub returns-then-is_part : goal.returns-then-is_part
+returns-then-is_part c =
     let d = erase.designator (view.designator c.args.d.now) in
     if_ok c.standard_type.result
     (λ of gives s e es i typed.
     let found = callee (environment s) d in
     let t = expression_type (environment s) (erase.expression e) in
-    let none = part_has_no_name d (sym c.in_ok-is_part-in-None.ensures ∙ c.if-branch.true) in
+    let none = part_has_no_name d (sym c.is_part.ensures ∙ c.if-is_part.true) in
     nothing_called c.args.self.now s found of (standard_type (name_of d) t)
-    (subst (λ (f : Option Callee). CalleeIs c.args.self.now s f found) c.in-None.is (c.in_ok-callee.ensures s i))
+    (subst (λ (f : Option Callee). CalleeIs c.args.self.now s f found) c.in-None.is (c.callee.ensures s i))
     (subst (λ x. SimpleIs of (standard_type x t)) (sym none) (gives t typed)))
     c.standard_type.ensures
 
-pub returns-else-branch : goal.returns-else-branch
-returns-else-branch c =
+pub returns-else-is_part : goal.returns-else-is_part
+returns-else-is_part c =
     let d = erase.designator (view.designator c.args.d.now) in
-    if_ok c.standard_type-else-branch.result
+    if_ok c.standard_type-else-is_part.result
     (λ of gives s e es i typed.
     let found = callee (environment s) d in
     let t = expression_type (environment s) (erase.expression e) in
-    let is = is_name c.args.d.now (sym c.in_ok-is_part-in-None.ensures ∙ c.if-branch.false) in
+    let is = is_name c.args.d.now (sym c.is_part.ensures ∙ c.if-is_part.false) in
     nothing_called c.args.self.now s found of (standard_type (name_of d) t)
-    (subst (λ (f : Option Callee). CalleeIs c.args.self.now s f found) c.in-None.is (c.in_ok-callee.ensures s i))
+    (subst (λ (f : Option Callee). CalleeIs c.args.self.now s f found) c.in-None.is (c.callee.ensures s i))
     (subst (λ x. SimpleIs of (standard_type x t)) (c.as_bytes.ensures ∙ sym (ap name_of is)) (gives t typed)))
-    c.standard_type-else-branch.ensures
+    c.standard_type-else-is_part.ensures

@@ -1,11 +1,26 @@
-use Rattle.std.proofs.Common.{None, subst, sym}
+use Rattle.std.proofs.Common.{◌∙◌, None, ap, map, subst, sym}
+use Rattle.cp_model.specs.Abstract as a
+use Rattle.cp_model.specs.Calls.{callee}
+use Rattle.cp_model.specs.Erase as erase
+use Rattle.cp_model.specs.View as view
 use Rattle.cp_program_model.specs.Scopes.{environment}
+use Rattle.cp_scope.specs.Designators.{IsFirstPart}
 use Rattle.cp_scope.specs.Scopes.{CalleeIs}
-use Rattle.cp_scope.proofs.Called.{two_selectors_call_nothing}
+use Rattle.cp_scope.proofs.Called.{two_call_nothing}
+use Rattle.cp_scope.proofs.Designating.{first_of_name}
 use Rattle.cp_scope.proofs.scope.Scope.callee.Goals as goal
 
-pub returns-in_ok-refuse_no_index-in-len2-up-2 : goal.returns-in_ok-refuse_no_index-in-len2-up-2
-returns-in_ok-refuse_no_index-in-len2-up-2 c = λ s i.
+pub returns-in-Some-first_part : goal.returns-in-Some-first_part
+returns-in-Some-first_part c = λ s i.
+    let d = c.args.d.now in
+    let first = c.in-Some.first.now in
+    let rest = c.in-Some.rest.now in
+    let second = c.in-Some-first_part.field-0.0.now in
+    let last = c.in-Some-first_part.field-0.1.now in
+    let one : IsFirstPart d.selectors.items first rest = rw (c.deref.ensures.value, c.in-Some.is) at c.first_part.ensures in
+    let two : IsFirstPart rest second last = rw c.in-Some-first_part.is at c.first_part-in-Some.ensures in
+    let whole = first_of_name d first rest one ∙ two.same (erase.select (a.Plain d.root.name) (view.selector first)) in
     subst (CalleeIs c.args.self.now s None)
-    (sym (two_selectors_call_nothing (environment s) c.args.d.now c.as_slice.result.now c.first-item.result c.second-item.result c.as_slice.ensures.value
-    c.in-len2-up.len_at_least c.first-item.is c.second-item.is c.in_ok-refuse_no_index-in-len2-up.ensures c.in_ok-refuse_no_index-in-len2-up-2.ensures)) tt
+    (sym (ap (callee (environment s)) whole
+    ∙ two_call_nothing (environment s) d.root.name (view.selector first) (view.selector second) (view.selectors_of (map view.selector last)) one.selects
+    two.selects)) tt

@@ -1,5 +1,5 @@
 use Rattle.std.proofs.Common.{None, Some, sym}
-use Rattle.cp_scope.proofs.Called.{component_called, component_known}
+use Rattle.cp_scope.proofs.Called.{component_called, component_known, component_tabled}
 use Rattle.cp_scope.proofs.scope.Scope.component_callee.Goals as goal
 
 pub returns-in-None-routine : goal.returns-in-None-routine
@@ -18,3 +18,11 @@ returns-in-Some-routine c = λ s i.
     component_called c.args.self.now s i x c.args.name.now f c.in-Some-system.system.now (Some c.in-Some-routine.routine)
     (component_known c.args.self.now s i x (Some f) found) (sym c.in-Some-system.ensures)
     (rw c.in-Some-routine.is at c.routine.ensures)
+
+pub returns-in-None-system : goal.returns-in-None-system
+returns-in-None-system c = λ s i.
+    let f = c.in-Some.of in
+    let found = (rw c.in-Some.is at c.component.ensures) s.globals i.parameters i.variables i.routines i.system in
+    absurd
+    (component_tabled c.args.self.now s i c.args.component.now f (component_known c.args.self.now s i c.args.component.now (Some f) found)
+    (sym c.in-None-system.ensures))

@@ -7,14 +7,14 @@ use Rattle.cp_scope.proofs.ValueTypes.{is_name, part_typed}
 use Rattle.cp_scope.proofs.Unrefused.{if_ok}
 use Rattle.cp_scope.proofs.scope.Scope.own_type.Goals as goal
 
-pub returns-in_ok-place_type : goal.returns-in_ok-place_type
-returns-in_ok-place_type c = λ s i.
-    let is = sym c.in_ok-is_part.ensures ∙ c.if-branch.true in
-    subst (SimpleIs c.simple.result) (sym (part_typed (environment s) _ is)) (c.simple.ensures _ (c.in_ok-place_type.ensures s i))
+pub returns-then-is_part : goal.returns-then-is_part
+returns-then-is_part c = λ s i.
+    let is = sym c.is_part.ensures ∙ c.if-is_part.true in
+    subst (SimpleIs c.simple.result) (sym (part_typed (environment s) _ is)) (c.simple.ensures _ (c.place_type.ensures s i))
 
-pub returns-else-branch : goal.returns-else-branch
-returns-else-branch c =
-    let is = is_name c.args.d.now (sym c.in_ok-is_part.ensures ∙ c.if-branch.false) in
+pub returns-else-is_part : goal.returns-else-is_part
+returns-else-is_part c =
+    let is = is_name c.args.d.now (sym c.is_part.ensures ∙ c.if-is_part.false) in
     if_ok c.name_type.result
     (λ of typed s i.
     subst (λ d. SimpleIs of (own_value_type (environment s) d)) (ap a.Plain c.as_bytes.ensures ∙ sym is) (typed s i))

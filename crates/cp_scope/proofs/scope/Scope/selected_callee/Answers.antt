@@ -4,8 +4,8 @@ use Rattle.cp_scope.specs.Scopes.{CalleeIs}
 use Rattle.cp_scope.proofs.Called.{indexed_calls_nothing}
 use Rattle.cp_scope.proofs.scope.Scope.selected_callee.Goals as goal
 
-pub returns-in_ok-refuse_no_index-in-Indexed : goal.returns-in_ok-refuse_no_index-in-Indexed
-returns-in_ok-refuse_no_index-in-Indexed c = λ s i.
-    let selects = rw c.in-Indexed.is at c.in_ok-refuse_no_index-in-Indexed.ensures in
+pub returns-in-Indexed : goal.returns-in-Indexed
+returns-in-Indexed c = λ s i selects.
     rw c.in-Indexed.is
-    (subst (CalleeIs c.args.self.now s None) (sym (indexed_calls_nothing (environment s) c.args.name.now c.in-Indexed.field-0 selects)) tt)
+    (subst (CalleeIs c.args.self.now s None)
+    (sym (indexed_calls_nothing (environment s) c.args.name.now c.in-Indexed.field-0 (rw c.in-Indexed.is at selects))) tt)

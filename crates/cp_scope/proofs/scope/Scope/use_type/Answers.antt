@@ -17,7 +17,7 @@ returns-in-Some c =
     (λ of gives s i.
     let found = callee (environment s) d in
     user_answers c.args.self.now s c.in-Some.callee found of (own_value_type (environment s) d)
-    (subst (λ (f : Option Callee). CalleeIs c.args.self.now s f found) c.in-Some.is (c.in_ok-callee.ensures s i)) (λ f is. gives s f i is))
+    (subst (λ (f : Option Callee). CalleeIs c.args.self.now s f found) c.in-Some.is (c.callee.ensures s i)) (λ f is. gives s f i is))
     c.answer_type.ensures
 
 pub returns-in-None : goal.returns-in-None
@@ -27,5 +27,5 @@ returns-in-None c =
     (λ of typed s i.
     let found = callee (environment s) d in
     nothing_called c.args.self.now s found of (own_value_type (environment s) d)
-    (subst (λ (f : Option Callee). CalleeIs c.args.self.now s f found) c.in-None.is (c.in_ok-callee.ensures s i)) (typed s i))
+    (subst (λ (f : Option Callee). CalleeIs c.args.self.now s f found) c.in-None.is (c.callee.ensures s i)) (typed s i))
     c.own_type.ensures

@@ -16,11 +16,12 @@ returns c =
     let two = rw (c.deref.ensures.value, c.deref-2.ensures.value) at c.in_ok-initial.ensures in
     let scope = c.in_ok-outer.ensures in
     let scope_1 = still_scope t0 t1 one.builds.grows names g scope in
+    let scope_2 = still_scope t1 t2 two.builds.grows names g scope_1 in
     let laid = nothing_laid g t0 c.new-layouts.result.rows.items c.new-layouts.ensures in
     let laid_1 = one.builds.laid g scope laid in
     record {
-      scope = still_scope t1 t2 two.builds.grows names g scope_1;
-      laid = two.builds.laid g scope_1 laid_1;
+      scope = scope_2;
+      laid = record { laid = c.in_ok-extend.ensures.laid g scope_2 (two.builds.laid g scope_1 laid_1); complete = c.in_ok-extend.ensures.complete };
       systems = one.stands g t2 scope laid two.builds.grows;
       initial = two.stands g t2 scope_1 laid_1 (grows_not t2);
     }

@@ -8,7 +8,7 @@ returns c =
     let items = c.in_ok-push.ensures.items in
     let count : c.len-number.result ≡ length old = search rules in
     record {
-      grows = record { rows = λ n r h. h; systems = λ k s h. rw items (still_item old c.args.system k s h) };
+      keeps = record { rows = λ n r h. h; systems = λ k s h. rw items (still_item old c.args.system k s h) };
       system = c.args.system;
       added = rw (count, items) (last_item old c.args.system);
       is = refl;

@@ -6,7 +6,7 @@ use Rattle.cp_model.specs.View as view
 use Rattle.cp_model.specs.Types.{NoMembers}
 use Rattle.cp_scope.specs.declared.types.Field.{Field}
 use Rattle.cp_scope.specs.Standing.{AreMembers, entry, with_groups}
-use Rattle.cp_scope.proofs.Standing.{grows_more, still_scope}
+use Rattle.cp_scope.proofs.Standing.{grows_not, kept, kept_members, kept_more, same_system, still_scope}
 use Rattle.cp_scope.proofs.Unrefused.{if_ok}
 use Rattle.cp_scope.proofs.Members.{variables_are}
 use Rattle.cp_scope.proofs.types.Types.component.Goals as goal
@@ -26,25 +26,25 @@ returns c =
     let three = c.in_ok-number.ensures in
     if_ok c.add.result
     (λ n adds.
-    let after_b = grows_more b d new three.grows adds.grows in
-    let after_a = grows_more a b new two.grows after_b in
+    let after_b = kept_more b d new three.keeps (kept d new adds.grows) in
+    let after_a = kept_more a b new (kept a b two.grows) after_b in
     record {
-      grows = grows_more old a new one.grows after_a;
+      keeps = kept_more old a new (kept old a one.grows) after_a;
       stands = λ g scope.
-          let inner = two.stands g new [] NoMembers (still_scope old a one.grows names g scope) after_b tt in
-          let all = one.stands g new (two.added ++ []) (with_groups y.variables.items g NoMembers) scope after_a inner in
+          let inner = two.stands g b [] NoMembers (still_scope old a one.grows names g scope) (grows_not b) tt in
+          let all = one.stands g b (two.added ++ []) (with_groups y.variables.items g NoMembers) scope two.grows inner in
           let same : map entry members.items ≡ one.added ++ (two.added ++ []) =
           two.all ∙ ap (λ fs. fs ++ two.added) (one.all ∙ ap (λ (fs : List Field). map entry fs ++ one.added) c.new-members.ensures.items)
           ∙ ap (λ fs. one.added ++ fs) (sym (append-nil two.added)) in
-          let stand : AreMembers new (map entry members.items) (reported_members g (erase.system (view.system y))) =
+          let stand : AreMembers b (map entry members.items) (reported_members g (erase.system (view.system y))) =
           rw (same, ← variables_are g y.variables.items) all in (
             c.in_ok-number.number,
             members,
             three.system,
             adds.added,
-            adds.grows.systems _ three.system three.added,
+            same_system d new adds.grows c.in_ok-number.number ∙ three.added,
             ap (λ z. erase.system (view.system z)) three.is,
-            stand,
+            kept_members b new after_b (map entry members.items) (reported_members g (erase.system (view.system y))) stand,
           );
     })
     c.add.ensures

@@ -1,13 +1,9 @@
-use Rattle.std.proofs.Common.{◌≡◌, ◌∷◌, ◌+◌, List, [], arith, false, drop, get_or, map, refl, subst}
+use Rattle.std.proofs.Common.{◌≡◌, ◌∷◌, ◌+◌, List, arith, drop, get_or, map, refl, subst}
 use Rattle.std.proofs.lemmas.List.{at_drop_all, at_drop_more}
 use Rattle.cp_scope.specs.declared.variables.Declared.{Declared}
 use Rattle.cp_scope.specs.Variables.{declared_entry}
-use Rattle.cp_scope.proofs.Counting.{PartlyNumbered, all_numbered, none_numbered, one_numbered}
+use Rattle.cp_scope.proofs.Counting.{PartlyNumbered, all_numbered, none_numbered, nothing, one_numbered}
 use Rattle.cp_scope.proofs.types.Types.numbered_names.Goals as goal
-
--- A placeholder for an index past the end of a list of declared names.
-abbrev nothing : Declared
-nothing = record { name = record { ref_ptr = (0, 0); now = [] }; by_reference = false; of = 0 }
 
 pub loop-d-init : goal.loop-d-init
 loop-d-init c = record {

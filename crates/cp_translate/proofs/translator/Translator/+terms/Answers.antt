@@ -1,13 +1,13 @@
 -- Expressions, designators and arguments contain one another, so each answer joins what the calls in it promise of
 -- the parts. A loop over operands or selectors keeps the expression read so far, which the definition groups to the
 -- left: its invariant is that what was made is the definition's for that expression, and that what is left completes it.
-use Rattle.std.proofs.Common.{◌≡◌, ◌∷◌, ◌++◌, ◌+◌, ◌∙◌, [], Some, pos, ℕ, List, add-one, ap, arith, codes, drop, length, length-append, map, refl, slice_get, subst, sym}
+use Rattle.std.proofs.Common.{◌≡◌, ◌∷◌, ◌++◌, ◌+◌, ◌≤◌, ◌∙◌, [], Some, pos, ℕ, List, add-one, ap, arith, codes, drop, length, length-append, map, refl, slice_get, subst, sym}
 use Rattle.std.specs.Str.{bytes_eq}
 use Rattle.std.specs.Int.{w32}
 use Rattle.std.proofs.lemmas.Int.{to_z-of_z}
 use Rattle.std.proofs.lemmas.List.{at_drop_more, drop_all}
 use Rattle.cp_model.specs.Abstract as a
-use Rattle.cp_model.specs.Abstract.{NoExpression}
+use Rattle.cp_model.specs.Abstract.{MoreExpressions, NoExpression}
 use Rattle.cp_model.specs.Calls.{callee}
 use Rattle.cp_model.specs.Erase as erase
 use Rattle.cp_model.specs.Expressions.{name_of}
@@ -20,16 +20,19 @@ use Rattle.cp_model.specs.Syntax as syntax
 use Rattle.cp_model.specs.Syntax.{chain_of}
 use Rattle.cp_model.specs.View as tree
 use Rattle.cp_model.specs.declared.tree.Expression.{Expression}
-use Rattle.cp_program_model.specs.CodedTerms.{CodedArguments, argument_of, coded_arguments, coded_spot, coded_term, coded_variable, function_named, lone_term, name_or_item, no_arguments, parameters_of, term_of_name, with_argument}
+use Rattle.cp_model.specs.declared.tree.Expression.TheVariants as written
+use Rattle.cp_program_model.specs.CodedTerms.{CodedArguments, argument_of, coded_arguments, coded_spot, coded_standard, coded_term, coded_variable, function_named, lone_term, name_or_item, no_arguments, parameters_of, term_of_name, with_argument}
 use Rattle.cp_program_model.specs.Terms.{Function, Number, Standard}
 use Rattle.cp_emit.specs.Emission.{coded_call}
 use Rattle.cp_scope.proofs.Unrefused.{if_ok}
+use Rattle.cp_scope.proofs.ValueTypes.{is_name}
 use Rattle.cp_emit.specs.declared.call.MadeTerm.{MadeTerm}
 use Rattle.cp_program.proofs.Wide.{narrow}
-use Rattle.cp_translate.specs.Translated.{AreArguments, IsPlace, IsTerm}
-use Rattle.cp_translate.proofs.ArgumentsMade.{Finishes, all_made, declared_at, got, none_made, one_made}
-use Rattle.cp_translate.proofs.CallsMade.{called_as, called_by, first_at, nothing_passed, standard_as, standard_empty, standard_other, valued}
-use Rattle.cp_translate.proofs.TermsMade.{first_of, lone_made, name_designated, part_designated, part_held, seen_as}
+use Rattle.cp_translate.specs.Translated.{AreArguments, IsPlace, IsSpot, IsTerm}
+use Rattle.cp_translate.proofs.ArgumentsMade.{Finishes, all_made, declared_at, got, no_parameters, none_made, one_made, parameters_past}
+use Rattle.cp_translate.proofs.CallsMade.{called_as, called_by, first_at, none_called, nothing_passed, standard_as, standard_empty, standard_other, valued}
+use Rattle.cp_translate.proofs.Consisting.{bare_call, bare_chain, meant, no_bare_call, no_bare_chain, no_character, no_not, no_number, no_signed, other_spot}
+use Rattle.cp_translate.proofs.TermsMade.{lone_made, part_held, seen_as}
 use Rattle.cp_model.proofs.Views.{view_call, view_chain, view_character, view_designator, view_field, view_index, view_not, view_number, view_operation, view_signed}
 use Rattle.cp_translate.proofs.translator.Translator.+terms.Goals as goal
 
@@ -75,7 +78,7 @@ select_elements-loop-i-preserved t c = λ s low before d scope place.
     ∙ ap (λ q. erase.with_indices p (tree.indices_of (map tree.index (q ∷ drop (i + 1) all)))) (sym c.i-item.is) in
     let view = ap (λ q. erase.with_indices p (tree.indices_of (q ∷ map tree.index (drop (i + 1) all)))) (view_index o) in (
       a.At p e,
-      c.in_ok-made.ensures s low before c.loop-i.calls.items c.term.new.calls.items p e scope so_far.1 (c.in_ok-index.ensures s scope),
+      c.in_ok-made.ensures s low before p scope so_far.1,
       sym (step ∙ view) ∙ so_far.2,
     )
 
@@ -128,31 +131,38 @@ spot-returns t c = λ s scope.
     subst (λ x. IsPlace c.args.self.now.scope s c.args.low (map coded_call c.args.calls.now.items) c.loop-selector.calls.items x c.loop-selector.made) end
     so_far.1
 
-pub place_term-returns-in_default : goal.place_term-returns-in_default
-place_term-returns-in_default t c = λ s scope.
+pub place_term-returns-then-not-is_part : goal.place_term-returns-then-not-is_part
+place_term-returns-then-not-is_part t c = λ s scope.
     let d = c.args.d.now in
     let calls = c.args.calls.now.items in
-    let none : d.selectors.items ≡ [] =
-    sym c.deref.ensures.value ∙ drop_all 0 c.deref.result.now (rw c.in_default.is at c.first.ensures.item.3) in
-    let named = name_designated d none in
+    let named = is_name d (sym c.is_part.ensures ∙ c.if-not-is_part.true) in
     let made : MadeTerm = record { term = c.in_ok-term.term; temps = c.args.low } in
     subst (λ x. IsTerm (map coded_call calls) calls made (name_or_item s x (coded_spot s x c.args.low) c.args.low)) (sym named)
     (lone_made calls made (term_of_name s d.root.name) c.args.low (rw c.as_bytes.ensures at (c.in_ok-term.ensures s scope)) refl)
 
 pub place_term-returns : goal.place_term-returns
 place_term-returns t c =
-    let d = c.args.d.now in
-    let x = erase.designator (tree.designator d) in
+    let x = erase.designator (tree.designator c.args.d.now) in
     let before = map coded_call c.args.calls.now.items in
     let after = c.spot.new.calls.items in
     let low = c.args.low in
-    let some = first_of c.deref.result.now c.in-Some.first.now c.in-Some.ensures.value in
-    let all : d.selectors.items ≡ c.in-Some.first.now ∷ drop 1 c.deref.result.now = sym c.deref.ensures.value ∙ some in
-    let part = part_designated d c.in-Some.first.now (drop 1 c.deref.result.now) all c.in_ok-refuse_no_index.ensures in
+    let part = sym c.is_part.ensures ∙ c.if-not-is_part.false in
     if_ok c.item.result
     (λ made h s scope.
     subst (IsTerm before after made) (sym (part_held s x (coded_spot s x low) low part)) (h before after (coded_spot s x low) (c.in_ok-made.ensures s scope).spot))
     c.item.ensures
+
+pub select_element-returns-in-None : goal.select_element-returns-in-None
+select_element-returns-in-None t c = λ s low before d scope place.
+    c.no_element.ensures s low before c.args.calls.now.items d (erase.expression (tree.expression c.args.index.now)) (sym c.elements.ensures ∙ c.in-None.is) place
+
+pub select_element-returns-in_ok-index-in-Some : goal.select_element-returns-in_ok-index-in-Some
+select_element-returns-in_ok-index-in-Some t c =
+    if_ok c.element.result
+    (λ made h s low before d scope place.
+    h s low before c.args.calls.now.items c.term.new.calls.items d (erase.expression (tree.expression c.args.index.now)) (sym c.elements.ensures ∙ c.in-Some.is) scope place
+    (c.in_ok-index-in-Some.ensures s scope))
+    c.element.ensures
 
 pub term-returns-in-Number : goal.term-returns-in-Number
 term-returns-in-Number t c = λ s scope.
@@ -227,12 +237,12 @@ arguments-loop-e-preserved t c =
     let next = c.in_ok-next.next in
     let after = c.argument.new.calls.items in
     let longer : length c.push.new.self.items ≡ length (made.arguments.items ++ next.argument ∷ []) = ap length c.in_ok-push.ensures.items in
-    let read = got c.args.parameters.now c.len.result c.get.result c.in_ok-parameter.parameter c.get.ensures.lookup.3 c.in_ok-parameter.ensures.ok_part in
+    let read = got c.args.parameters.now c.len.result c.get.result c.in-Some.parameter c.get.ensures.lookup.3 c.in-Some.is in
     let same : k ≡ c.len.result = omega (arith, c.len.ensures, c.loop-e.invariant.count, made.arguments.ok.0) in
-    let there : slice_get c.args.parameters.now k ≡ Some c.in_ok-parameter.parameter.now = ap (slice_get c.args.parameters.now) same ∙ read in record {
+    let there : slice_get c.args.parameters.now k ≡ Some c.in-Some.parameter.now = ap (slice_get c.args.parameters.now) same ∙ read in record {
       count = omega (arith, longer, length-append made.arguments.items (next.argument ∷ []), c.loop-e.invariant.count);
       so_far = λ s ps scope declared.
-          let p = declared_at types c.args.parameters.now ps k c.in_ok-parameter.parameter.now declared there in
+          let p = declared_at types c.args.parameters.now ps k c.in-Some.parameter.now declared there in
           let v = p.declared in
           let split : drop k ps ≡ v ∷ drop (k + 1) ps = p.split ∙ ap (λ n. v ∷ drop n ps) (sym (add-one k)) in
           let one = c.in_ok-next.ensures s v.1 scope p.reference p.type in
@@ -265,6 +275,21 @@ arguments-returns t c = λ s ps scope declared.
     (subst (λ es. Finishes before c.loop-e.calls.items made (left es) whole) (drop_all k all c.loop-e-test.false)
     (c.loop-e.invariant.so_far s ps scope declared))
 
+pub arguments-returns-in_default : goal.arguments-returns-in_default
+arguments-returns-in_default t c = λ s ps scope declared.
+    let k = c.loop-e.e-index in
+    let all = c.args.es.now in
+    let made = c.loop-e.made in
+    let before = map coded_call c.args.calls.now.items in
+    let es = erase.expressions (tree.expressions_of (map tree.expression (drop k all))) in
+    let whole = coded_arguments s (erase.expressions (tree.expressions_of (map tree.expression all))) ps c.args.at c.args.low in
+    let none : length c.args.parameters.now ≤ c.len.result = rw c.in_default.is at c.get.ensures.lookup.3 in
+    let past : length c.args.parameters.now ≤ k = omega (arith, none, c.len.ensures, c.loop-e.invariant.count, made.arguments.ok.0) in
+    all_made before c.loop-e.calls.items made whole
+    (subst (λ r. Finishes before c.loop-e.calls.items made r whole)
+    (ap (λ qs. coded_arguments s es qs c.loop-e.at made.temps) (parameters_past c.args.self.now.scope.tables.now.types c.args.parameters.now ps k declared past)
+    ∙ no_parameters s es c.loop-e.at made.temps) (c.loop-e.invariant.so_far s ps scope declared))
+
 pub user_call-returns : goal.user_call-returns
 user_call-returns t c =
     let before = map coded_call c.args.calls.now.items in
@@ -284,42 +309,29 @@ pub standard_call-returns-then-is_empty_test : goal.standard_call-returns-then-i
 standard_call-returns-then-is_empty_test t c =
     let before = map coded_call c.args.calls.now.items in
     let after = c.argument_spot.new.calls.items in
-    let all = c.args.es.now in
     let low = c.args.low in
-    let o = c.e-item.result in
-    let e = erase.expression (tree.expression o) in
-    let es = erase.expressions (tree.expressions_of (map tree.expression (drop 1 all))) in
-    let split : all ≡ o ∷ drop 1 all = first_at all o c.in-len1-up.len_at_least c.e-item.is in
+    let e = erase.expression (tree.expression c.args.e.now) in
     if_ok c.empty.result
-    (λ made h s d scope none named.
-    let known = ap (λ x. bytes_eq x (codes "empty")) (sym named) ∙ (sym c.is_empty_test.ensures ∙ c.if-is_empty_test.true) in
+    (λ made h s es scope.
     let b = base_of_type (expression_type (environment s) e) in
-    subst (λ xs. IsTerm before after made (coded_term s (erase.call_or_name d (erase.expressions (tree.expressions_of (map tree.expression xs)))) low)) (sym split)
-    (subst (IsTerm before after made)
-    (sym (standard_as s d e es low none ∙ standard_empty (name_of d) b (coded_term s e low) (coded_variable s e low) known))
-    (h before after (coded_variable s e low) (c.in_ok-made.ensures s scope))))
+    subst (IsTerm before after made)
+    (sym (standard_empty c.args.name.now b (coded_term s e low) (coded_variable s e low) (sym c.is_empty_test.ensures ∙ c.if-is_empty_test.true)))
+    (h before after (coded_variable s e low) (c.in_ok-made.ensures s scope)))
     c.empty.ensures
 
 pub standard_call-returns : goal.standard_call-returns
 standard_call-returns t c =
     let before = map coded_call c.args.calls.now.items in
     let after = c.term.new.calls.items in
-    let all = c.args.es.now in
     let low = c.args.low in
-    let o = c.e-item.result in
-    let e = erase.expression (tree.expression o) in
-    let es = erase.expressions (tree.expressions_of (map tree.expression (drop 1 all))) in
-    let split : all ≡ o ∷ drop 1 all = first_at all o c.in-len1-up.len_at_least c.e-item.is in
+    let e = erase.expression (tree.expression c.args.e.now) in
     if_ok c.apply.result
-    (λ made h s d scope none named.
-    let known = ap (λ x. bytes_eq x (codes "empty")) (sym named) ∙ (sym c.is_empty_test.ensures ∙ c.if-is_empty_test.false) in
+    (λ made h s es scope.
     let b = base_of_type (expression_type (environment s) e) in
-    let f = c.in_ok-function.ensures s scope ∙ ap (λ x. function_named x b) named in
-    subst (λ xs. IsTerm before after made (coded_term s (erase.call_or_name d (erase.expressions (tree.expressions_of (map tree.expression xs)))) low)) (sym split)
-    (subst (IsTerm before after made)
-    (sym (standard_as s d e es low none ∙ standard_other (name_of d) b (coded_term s e low) (coded_variable s e low) known))
-    (subst (λ (g : Function). IsTerm before after made (record (coded_term s e low) { term = Standard g (coded_term s e low).term })) f
-    (h before after (coded_term s e low) (c.in_ok-made-2.ensures s scope)))))
+    subst (IsTerm before after made)
+    (sym (standard_other c.args.name.now b (coded_term s e low) (coded_variable s e low) (sym c.is_empty_test.ensures ∙ c.if-is_empty_test.false)))
+    (subst (λ (g : Function). IsTerm before after made (record (coded_term s e low) { term = Standard g (coded_term s e low).term })) (c.in_ok-function.ensures s scope)
+    (h before after (coded_term s e low) (c.in_ok-made-2.ensures s scope))))
     c.apply.ensures
 
 pub use_term-returns-in-Some : goal.use_term-returns-in-Some
@@ -330,7 +342,7 @@ use_term-returns-in-Some t c =
     let low = c.args.low in
     if_ok c.function_call.result
     (λ made h s scope.
-    let found = called_by c.args.self.now.scope s c.in-Some.callee (callee (environment s) d) (rw c.in-Some.is at (c.in_ok-callee.ensures s scope)) in
+    let found = called_by c.args.self.now.scope s c.in-Some.callee (callee (environment s) d) (rw c.in-Some.is at (c.callee.ensures s scope)) in
     subst (IsTerm (map coded_call calls) after made) (sym (called_as s d NoExpression low found.callee found.is))
     (h s found.callee (map coded_call calls) (no_arguments low) scope found.stands
     (nothing_passed calls c.no_arguments-none.result low c.no_arguments-none.ensures.arguments c.no_arguments-none.ensures.temps)))
@@ -370,8 +382,92 @@ term-returns-in-Some t c =
     if_ok c.user_call.result
     (λ made h s scope.
     let found = called_by c.args.self.now.scope s c.in-Some.callee (callee (environment s) (erase.designator d))
-    (rw c.in-Some.is at (c.in_ok-callee-in-Call.ensures s scope)) in
+    (rw c.in-Some.is at (c.callee.ensures s scope)) in
     seen_as before after made s low (tree.expression c.args.e.now) (syntax.Call d es) v
     (subst (IsTerm before after made) (sym (called_as s (erase.designator d) (erase.expressions es) low found.callee found.is))
     ((rw c.deref.ensures.value at h) s found.callee scope found.stands)))
     c.user_call.ensures
+
+pub term-returns-in-None : goal.term-returns-in-None
+term-returns-in-None t c =
+    let before = map coded_call c.args.calls.now.items in
+    let after = c.standard_call.new.calls.items in
+    let low = c.args.low in
+    let d = tree.designator c.in-Call.d in
+    let x = erase.designator d in
+    let es = tree.expressions_of (map tree.expression c.in-Call.es.items) in
+    let v : tree.expression c.args.e.now ≡ syntax.Call d es = rw c.in-Call.is (view_call c.in-Call.d c.in-Call.es) in
+    let o = c.first-item.result in
+    let e = erase.expression (tree.expression o) in
+    let ss = c.as_slice.result.now in
+    let split : c.in-Call.es.items ≡ o ∷ drop 1 ss = sym c.as_slice.ensures.value ∙ first_at ss o c.in-len1-up.len_at_least c.first-item.is in
+    let rest = erase.expressions (tree.expressions_of (map tree.expression (drop 1 ss))) in
+    if_ok c.standard_call.result
+    (λ made h s scope.
+    let none = none_called c.args.self.now.scope s (callee (environment s) x) (rw c.in-None.is at (c.callee.ensures s scope)) in
+    seen_as before after made s low (tree.expression c.args.e.now) (syntax.Call d es) v
+    (subst (λ xs. IsTerm before after made (coded_term s (erase.call_or_name x (erase.expressions (tree.expressions_of (map tree.expression xs)))) low)) (sym split)
+    (subst (IsTerm before after made) (sym (standard_as s x e rest low none))
+    (subst (λ n. IsTerm before after made (coded_standard s n (MoreExpressions e rest) low)) c.lone_name.ensures (h s rest scope)))))
+    c.standard_call.ensures
+
+pub term-returns-in-empty : goal.term-returns-in-empty
+term-returns-in-empty t c =
+    let before = map coded_call c.args.calls.now.items in
+    let after = c.use_term-in-empty.new.calls.items in
+    let is = ap meant c.in-Call.is ∙ bare_call c.in-Call.d c.in-Call.es (rw c.as_slice.ensures.value at c.in-empty.len_below) in
+    if_ok c.use_term-in-empty.result
+    (λ made h s scope. subst (λ x. IsTerm before after made (coded_term s x c.args.low)) (sym is) (h s scope)) c.use_term-in-empty.ensures
+
+pub argument_spot-returns-in-empty : goal.argument_spot-returns-in-empty
+argument_spot-returns-in-empty t c =
+    let before = map coded_call c.args.calls.now.items in
+    let after = c.spot-in-empty.new.calls.items in
+    let is = ap meant c.in-Call.is ∙ bare_call c.in-Call.d c.in-Call.es (rw c.as_slice.ensures.value at c.in-empty.len_below) in
+    if_ok c.spot-in-empty.result
+    (λ made h s scope. subst (λ x. IsSpot before after made (coded_variable s x c.args.low)) (sym is) (h s scope).spot) c.spot-in-empty.ensures
+
+pub argument_spot-returns-in-len1-up : goal.argument_spot-returns-in-len1-up
+argument_spot-returns-in-len1-up t c = λ s scope.
+    let calls = c.args.calls.now.items in
+    other_spot calls c.first_word.result s c.args.e.now (written.Call c.in-Call.d c.in-Call.es) c.args.low c.in-Call.is
+    (no_bare_call c.in-Call.d c.in-Call.es (rw c.as_slice.ensures.value at c.in-len1-up.len_at_least)) (c.first_word.ensures calls)
+
+pub argument_spot-returns-in-empty-as_slice : goal.argument_spot-returns-in-empty-as_slice
+argument_spot-returns-in-empty-as_slice t c =
+    let before = map coded_call c.args.calls.now.items in
+    let after = c.argument_spot-in-empty-as_slice.new.calls.items in
+    let is = ap meant c.in-Chain.is ∙ bare_chain c.in-Chain.first c.in-Chain.rest (rw c.as_slice-in-Chain.ensures.value at c.in-empty-as_slice.len_below) in
+    if_ok c.argument_spot-in-empty-as_slice.result
+    (λ made h s scope.
+    subst (λ x. IsSpot before after made (coded_variable s x c.args.low)) (sym is) ((rw c.deref-in-empty-as_slice.ensures at h) s scope)) c.argument_spot-in-empty-as_slice.ensures
+
+pub argument_spot-returns-in-len1-up-as_slice : goal.argument_spot-returns-in-len1-up-as_slice
+argument_spot-returns-in-len1-up-as_slice t c = λ s scope.
+    let calls = c.args.calls.now.items in
+    other_spot calls c.first_word-in-len1-up-as_slice.result s c.args.e.now (written.Chain c.in-Chain.first c.in-Chain.rest) c.args.low c.in-Chain.is
+    (no_bare_chain c.in-Chain.first c.in-Chain.rest (rw c.as_slice-in-Chain.ensures.value at c.in-len1-up-as_slice.len_at_least)) (c.first_word-in-len1-up-as_slice.ensures calls)
+
+pub argument_spot-returns-in-Number : goal.argument_spot-returns-in-Number
+argument_spot-returns-in-Number t c = λ s scope.
+    let calls = c.args.calls.now.items in
+    other_spot calls c.first_word-in-Number.result s c.args.e.now (written.Number c.in-Number.at c.in-Number.value) c.args.low c.in-Number.is
+    (no_number c.in-Number.at c.in-Number.value) (c.first_word-in-Number.ensures calls)
+
+pub argument_spot-returns-in-Character : goal.argument_spot-returns-in-Character
+argument_spot-returns-in-Character t c = λ s scope.
+    let calls = c.args.calls.now.items in
+    other_spot calls c.first_word-in-Character.result s c.args.e.now (written.Character c.in-Character.at c.in-Character.ordinal) c.args.low c.in-Character.is
+    (no_character c.in-Character.at c.in-Character.ordinal) (c.first_word-in-Character.ensures calls)
+
+pub argument_spot-returns-in-Not : goal.argument_spot-returns-in-Not
+argument_spot-returns-in-Not t c = λ s scope.
+    let calls = c.args.calls.now.items in
+    other_spot calls c.first_word-in-Not.result s c.args.e.now (written.Not c.in-Not.at c.in-Not.operand) c.args.low c.in-Not.is
+    (no_not c.in-Not.at c.in-Not.operand) (c.first_word-in-Not.ensures calls)
+
+pub argument_spot-returns-in-Signed : goal.argument_spot-returns-in-Signed
+argument_spot-returns-in-Signed t c = λ s scope.
+    let calls = c.args.calls.now.items in
+    other_spot calls c.first_word-in-Signed.result s c.args.e.now (written.Signed c.in-Signed.sign c.in-Signed.at c.in-Signed.operand) c.args.low c.in-Signed.is
+    (no_signed c.in-Signed.sign c.in-Signed.at c.in-Signed.operand) (c.first_word-in-Signed.ensures calls)

@@ -7,24 +7,24 @@ use Rattle.cp_scope.proofs.Unrefused.{if_ok}
 use Rattle.cp_translate.specs.Statements.{Enters}
 use Rattle.cp_translate.proofs.translator.Translator.assign.Goals as goal
 
-pub returns-then-branch : goal.returns-then-branch
-returns-then-branch c =
+pub returns-then-is_result : goal.returns-then-is_result
+returns-then-is_result c =
     let d = erase.designator (tree.designator c.args.d.now) in
     let e = erase.expression (tree.expression c.args.e.now) in
     let old = c.args.emitter.now in
     if_ok c.set_result.result
     (λ entry h s scope.
     subst (λ b. Enters old c.set_result.new.emitter entry (assign_by s d e c.args.low (place_of old) c.args.next b))
-    (sym c.if-branch.true ∙ c.in_ok-is_result.ensures s scope) (h s scope))
+    (sym c.if-is_result.true ∙ c.is_result.ensures s scope) (h s scope))
     c.set_result.ensures
 
-pub returns-else-branch : goal.returns-else-branch
-returns-else-branch c =
+pub returns-else-is_result : goal.returns-else-is_result
+returns-else-is_result c =
     let d = erase.designator (tree.designator c.args.d.now) in
     let e = erase.expression (tree.expression c.args.e.now) in
     let old = c.args.emitter.now in
     if_ok c.store.result
     (λ entry h s scope.
     subst (λ b. Enters old c.store.new.emitter entry (assign_by s d e c.args.low (place_of old) c.args.next b))
-    (sym c.if-branch.false ∙ c.in_ok-is_result.ensures s scope) (h s scope))
+    (sym c.if-is_result.false ∙ c.is_result.ensures s scope) (h s scope))
     c.store.ensures

@@ -26,14 +26,14 @@ returns-in_ok-right_at-in-Monitor-true c = λ s n scope named.
     target_is (environment s) n Monitor true (plain.MonitorRight c.in_ok-right_at-in-Monitor-true.field-0)
     (rw c.in-Monitor-true.is-0 at (c.sort.ensures s n named)) (rw c.in-Monitor-true.is-1 at named.parameter) (ap plain.MonitorRight at)
 
-pub returns-in_ok-ok_or-in-Monitor-false : goal.returns-in_ok-ok_or-in-Monitor-false
-returns-in_ok-ok_or-in-Monitor-false c = λ s n scope named.
+pub returns-in_ok-small_sum-in-Monitor-false : goal.returns-in_ok-small_sum-in-Monitor-false
+returns-in_ok-small_sum-in-Monitor-false c = λ s n scope named.
     let declared : n.is_parameter ≡ false = sym (rw c.in-Monitor-false.is-1 at named.parameter) in
     let count : count_before Monitor n.name (declarations s.globals s.system.variables) ≡ c.args.of.monitors = rw declared at named.monitors in
-    let added : c.in_ok-ok_or-in-Monitor-false.field-0 ≡ c.in_ok-small_number-in-Monitor-false.field-0 + 1 = search rules in
-    let number : c.in_ok-ok_or-in-Monitor-false.field-0 ≡ declared_monitor (environment s) n =
+    let added : c.in_ok-small_sum-in-Monitor-false.field-0 ≡ c.in_ok-small_number-in-Monitor-false.field-0 + 1 = search rules in
+    let number : c.in_ok-small_sum-in-Monitor-false.field-0 ≡ declared_monitor (environment s) n =
     omega (arith, added, c.in_ok-small_number-in-Monitor-false.ensures, count) in
-    target_is (environment s) n Monitor false (plain.Monitor c.in_ok-ok_or-in-Monitor-false.field-0)
+    target_is (environment s) n Monitor false (plain.Monitor c.in_ok-small_sum-in-Monitor-false.field-0)
     (rw c.in-Monitor-false.is-0 at (c.sort.ensures s n named)) (sym declared) (ap plain.Monitor number)
 
 pub returns-in-Process-default : goal.returns-in-Process-default

@@ -1,4 +1,4 @@
-use Rattle.std.proofs.Common.{◌≡◌, ◌∷◌, ◌++◌, ◌+◌, ◌∙◌, ℕ, List, [], Some, add-one, ap, arith, drop, length, length-append, map, slice_get, subst, sym}
+use Rattle.std.proofs.Common.{◌≡◌, ◌∷◌, ◌++◌, ◌+◌, ◌≤◌, ◌∙◌, ℕ, List, [], Some, add-one, ap, arith, drop, length, length-append, map, slice_get, subst, sym}
 use Rattle.std.proofs.lemmas.List.{at_drop_more, drop_all}
 use Rattle.cp_model.specs.Declarations.{declarations}
 use Rattle.cp_model.specs.Erase as erase
@@ -6,7 +6,7 @@ use Rattle.cp_model.specs.View as tree
 use Rattle.cp_model.specs.declared.tree.Expression.{Expression}
 use Rattle.cp_program_model.specs.CodedTerms.{CodedArguments, init_argument, init_arguments, with_argument}
 use Rattle.cp_emit.specs.Emission.{coded_call}
-use Rattle.cp_translate.proofs.ArgumentsMade.{Finishes, all_made, declared_at, got, none_made, one_made}
+use Rattle.cp_translate.proofs.ArgumentsMade.{Finishes, all_made, declared_at, got, no_init_parameters, none_made, one_made, parameters_past}
 use Rattle.cp_translate.proofs.Initialising.{parameters_stand}
 use Rattle.cp_translate.proofs.translator.Translator.init_arguments.Goals as goal
 
@@ -34,15 +34,15 @@ loop-e-preserved c =
     let after = c.init_argument.new.calls.items in
     let longer : length c.push.new.self.items ≡ length (made.arguments.items ++ next.argument ∷ []) = ap length c.in_ok-push.ensures.items in
     let list = c.deref.result.now in
-    let read = got list c.len.result c.get.result c.in_ok-parameter.parameter c.get.ensures.lookup.3 c.in_ok-parameter.ensures.ok_part in
+    let read = got list c.len.result c.get.result c.in-Some.parameter c.get.ensures.lookup.3 c.in-Some.is in
     let same : k ≡ c.len.result = omega (arith, c.len.ensures, c.loop-e.invariant.count, made.arguments.ok.0) in
-    let there : slice_get c.args.table.now.parameters.items k ≡ Some c.in_ok-parameter.parameter.now =
+    let there : slice_get c.args.table.now.parameters.items k ≡ Some c.in-Some.parameter.now =
     ap (λ xs. slice_get xs k) (sym c.deref.ensures.value) ∙ (ap (slice_get list) same ∙ read) in record {
       count = omega (arith, longer, length-append made.arguments.items (next.argument ∷ []), c.loop-e.invariant.count);
       so_far = λ s y scope is.
           let ps = declarations s.globals y.parameters in
           let declared = parameters_stand s.globals types c.args.table.now y is in
-          let p = declared_at types c.args.table.now.parameters.items ps k c.in_ok-parameter.parameter.now declared there in
+          let p = declared_at types c.args.table.now.parameters.items ps k c.in-Some.parameter.now declared there in
           let v = p.declared in
           let split : drop k ps ≡ v ∷ drop (k + 1) ps = p.split ∙ ap (λ n. v ∷ drop n ps) (sym (add-one k)) in
           let one = c.in_ok-next.ensures s y v scope is p.name p.type in
@@ -76,3 +76,22 @@ returns c = λ s y scope is.
     all_made before c.loop-e.calls.items made whole
     (subst (λ es. Finishes before c.loop-e.calls.items made (left es) whole) (drop_all k all c.loop-e-test.false)
     (c.loop-e.invariant.so_far s y scope is))
+
+pub returns-in_default : goal.returns-in_default
+returns-in_default c = λ s y scope is.
+    let k = c.loop-e.e-index in
+    let all = c.args.es.now in
+    let made = c.loop-e.made in
+    let types = c.args.self.now.scope.tables.now.types in
+    let table = c.args.table.now in
+    let ps = declarations s.globals y.parameters in
+    let before = map coded_call c.args.calls.now.items in
+    let es = erase.expressions (tree.expressions_of (map tree.expression (drop k all))) in
+    let whole = init_arguments s y (erase.expressions (tree.expressions_of (map tree.expression all))) ps c.args.low in
+    let none : length c.deref.result.now ≤ c.len.result = rw c.in_default.is at c.get.ensures.lookup.3 in
+    let same = ap length c.deref.ensures.value in
+    let past : length table.parameters.items ≤ k = omega (arith, none, same, c.len.ensures, c.loop-e.invariant.count, made.arguments.ok.0) in
+    all_made before c.loop-e.calls.items made whole
+    (subst (λ r. Finishes before c.loop-e.calls.items made r whole)
+    (ap (λ qs. init_arguments s y es qs made.temps) (parameters_past types table.parameters.items ps k (parameters_stand s.globals types table y is) past)
+    ∙ no_init_parameters s y es made.temps) (c.loop-e.invariant.so_far s y scope is))

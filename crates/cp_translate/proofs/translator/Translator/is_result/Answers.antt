@@ -1,15 +1,16 @@
-use Rattle.std.proofs.Common.{◌≡◌, ◌∷◌, ◌∙◌, drop, sym}
+use Rattle.std.proofs.Common.{◌∙◌, ap, sym}
 use Rattle.cp_model.specs.Erase as erase
 use Rattle.cp_model.specs.View as tree
-use Rattle.cp_translate.proofs.CallsMade.{first_at}
+use Rattle.cp_program_model.specs.CodedStatements.{is_result}
+use Rattle.cp_scope.proofs.ValueTypes.{is_name}
 use Rattle.cp_translate.proofs.Storing.{part_no_result}
-use Rattle.cp_translate.proofs.TermsMade.{part_designated}
 use Rattle.cp_translate.proofs.translator.Translator.is_result.Goals as goal
 
-pub returns-in_ok-refuse_no_index-in-len1-up : goal.returns-in_ok-refuse_no_index-in-len1-up
-returns-in_ok-refuse_no_index-in-len1-up c = λ s scope.
-    let d = c.args.d.now in
-    let y = c.first-item.result in
-    let ss = c.as_slice.result.now in
-    let all : d.selectors.items ≡ y ∷ drop 1 ss = sym c.as_slice.ensures.value ∙ first_at ss y c.in-len1-up.len_at_least c.first-item.is in
-    sym (part_no_result s (erase.designator (tree.designator d)) (part_designated d y (drop 1 ss) all c.in_ok-refuse_no_index-in-len1-up.ensures))
+pub returns-then-is_part : goal.returns-then-is_part
+returns-then-is_part c = λ s scope.
+    sym (part_no_result s (erase.designator (tree.designator c.args.d.now)) (sym c.is_part.ensures ∙ c.if-is_part.true))
+
+pub returns : goal.returns
+returns c = λ s scope.
+    (rw c.as_bytes.ensures at c.names_result.ensures) s scope
+    ∙ ap (is_result s) (sym (is_name c.args.d.now (sym c.is_part.ensures ∙ c.if-is_part.false)))

@@ -25,7 +25,7 @@ returns c =
     let t = place_type (environment s) (erase.designator (tree.designator c.args.d.now)) in
     let d = coded_term s (erase.expression (tree.expression c.args.e.now)) c.args.low in
     let made = rw c.new-calls.ensures.items at (c.in_ok-made.ensures s scope) in
-    let of = (rw c.tables.ensures at c.simple.ensures) t (c.in_ok-of.ensures s scope) in
+    let of = (rw c.tables.ensures at c.simple.ensures) t (c.place_type-of.ensures s scope) in
     entered c.args.emitter.now c.emit.new.self place c.term.new.calls.items d.calls
     (operation.SetResult (narrow x.low) (narrow x.high) c.in_ok-made.made.term c.args.next) (op.SetResult (low_of t) (high_of t) d.term c.args.next)
     made.calls

@@ -1,8 +1,8 @@
-use Rattle.std.proofs.Common.{sym}
-use Rattle.cp_translate.proofs.Initialising.{table_stands}
+use Rattle.cp_translate.proofs.Initialising.{table_found}
 use Rattle.cp_translate.proofs.translator.Translator.system_table.Goals as goal
 
-pub returns-in-Some : goal.returns-in-Some
-returns-in-Some c = λ s n scope named.
-    let here = rw (c.tables.ensures, c.in-Some.is) at c.system.ensures in
-    table_stands c.args.self.now.scope s scope c.args.component.now n c.in-Some.table.now named (sym here)
+pub returns : goal.returns
+returns c = λ s n scope named.
+    let tables = c.args.self.now.scope.tables.now in
+    table_found s.globals tables.types tables.systems.items c.args.component.now.system named.text n.system c.system.result scope.systems named.there named.system
+    (rw c.tables.ensures at c.system.ensures)
