@@ -60,10 +60,12 @@ def least(trials, *words, **how):
     return Usage(*map(min, zip(*(call(*words, **how) for _ in range(trials)))))
 
 
-def instructions(words):
-    """The instructions that a program takes, and what it prints."""
+def instructions(words, status=0):
+    """The instructions that a program takes, which has to end with this status, and what it prints."""
     command = ['valgrind', '--tool=callgrind', '--callgrind-out-file=/dev/null', *map(str, words)]
-    run = subprocess.run(command, capture_output=True, check=True, text=True)
+    run = subprocess.run(command, capture_output=True, text=True)
+    if run.returncode != status:
+        raise SystemExit(f'{words} ended with {run.returncode}')
     return int(re.search(r'Collected : (\d+)', run.stderr)[1]), run.stdout
 
 
