@@ -1,7 +1,7 @@
 //! Words in lower case: reserved words, according to the table in `Spelling` of cp_model, and
 //! names. `word` of `specs/Pieces.antt` defines what is read.
 
-ghost use Rattle.std.specs.Prelude.{◌≡◌, ◌<◌, map, IfOk, take};
+ghost use Rattle.std.specs.Prelude.{◌≡◌, ◌<◌, ◌∷◌, ℕ, List, map, IfOk, take};
 ghost use Rattle.cp_model.specs.Spelling as spelling;
 ghost use Rattle.cp_scan.specs.Pieces as spec;
 ghost use Rattle.cp_scan.specs.Words.{kind_or_name};
@@ -15,45 +15,65 @@ use std::alloc::{AllocError, Global};
 // The largest number of letters, digits and underscores in a word.
 const LONGEST_WORD: usize = 64;
 
-// The reserved words, in lower case.
-const RESERVED_WORDS: [(&[u8], Symbol); 36] = [
-    (b"array", Symbol::Array),
-    (b"begin", Symbol::Begin),
+// The reserved words that begin with each letter, in lower case.
+const WITH_A: [(&[u8], Symbol); 1] = [(b"array", Symbol::Array)];
+
+const WITH_B: [(&[u8], Symbol); 1] = [(b"begin", Symbol::Begin)];
+
+const WITH_C: [(&[u8], Symbol); 4] = [
     (b"case", Symbol::Case),
     (b"class", Symbol::Class),
     (b"const", Symbol::Const),
     (b"cycle", Symbol::Cycle),
+];
+
+const WITH_D: [(&[u8], Symbol); 3] = [
     (b"div", Symbol::Div),
     (b"do", Symbol::Do),
     (b"downto", Symbol::Downto),
+];
+
+const WITH_E: [(&[u8], Symbol); 3] = [
     (b"else", Symbol::Else),
     (b"end", Symbol::End),
     (b"entry", Symbol::Entry),
-    (b"for", Symbol::For),
-    (b"function", Symbol::Function),
+];
+
+const WITH_F: [(&[u8], Symbol); 2] = [(b"for", Symbol::For), (b"function", Symbol::Function)];
+
+const WITH_I: [(&[u8], Symbol); 3] = [
     (b"if", Symbol::If),
     (b"in", Symbol::In),
     (b"init", Symbol::Init),
-    (b"mod", Symbol::Mod),
-    (b"monitor", Symbol::Monitor),
-    (b"not", Symbol::Not),
-    (b"of", Symbol::Of),
-    (b"or", Symbol::Or),
+];
+
+const WITH_M: [(&[u8], Symbol); 2] = [(b"mod", Symbol::Mod), (b"monitor", Symbol::Monitor)];
+
+const WITH_N: [(&[u8], Symbol); 1] = [(b"not", Symbol::Not)];
+
+const WITH_O: [(&[u8], Symbol); 2] = [(b"of", Symbol::Of), (b"or", Symbol::Or)];
+
+const WITH_P: [(&[u8], Symbol); 3] = [
     (b"procedure", Symbol::Procedure),
     (b"process", Symbol::Process),
     (b"program", Symbol::Program),
-    (b"record", Symbol::Record),
-    (b"repeat", Symbol::Repeat),
-    (b"set", Symbol::Set),
+];
+
+const WITH_R: [(&[u8], Symbol); 2] = [(b"record", Symbol::Record), (b"repeat", Symbol::Repeat)];
+
+const WITH_S: [(&[u8], Symbol); 1] = [(b"set", Symbol::Set)];
+
+const WITH_T: [(&[u8], Symbol); 3] = [
     (b"then", Symbol::Then),
     (b"to", Symbol::To),
     (b"type", Symbol::Type),
-    (b"univ", Symbol::Univ),
-    (b"until", Symbol::Until),
-    (b"var", Symbol::Var),
-    (b"while", Symbol::While),
-    (b"with", Symbol::With),
 ];
+
+const WITH_U: [(&[u8], Symbol); 2] = [(b"univ", Symbol::Univ), (b"until", Symbol::Until)];
+
+const WITH_V: [(&[u8], Symbol); 1] = [(b"var", Symbol::Var)];
+
+const WITH_W: [(&[u8], Symbol); 2] = [(b"while", Symbol::While), (b"with", Symbol::With)];
 
 // The symbol of the word in the table that is spelled like this.
 fn look_up(table: &[(&[u8], Symbol)], letters: &[u8]) -> Option<Symbol>
@@ -68,11 +88,48 @@ fn look_up(table: &[(&[u8], Symbol)], letters: &[u8]) -> Option<Symbol>
     None
 }
 
+// The symbol of the reserved word that is spelled like this, whose first letter is `first`.
+fn reserved(first: u8, letters: &[u8]) -> Option<Symbol>
+    ensures { (rest : List ℕ) → letters.now ≡ first ∷ rest
+        → kind_or_name result letters.now ≡ spelling.kind_of_word letters.now }
+{
+    match first {
+        b'a' => look_up(&WITH_A, letters),
+        b'b' => look_up(&WITH_B, letters),
+        b'c' => look_up(&WITH_C, letters),
+        b'd' => look_up(&WITH_D, letters),
+        b'e' => look_up(&WITH_E, letters),
+        b'f' => look_up(&WITH_F, letters),
+        b'i' => look_up(&WITH_I, letters),
+        b'm' => look_up(&WITH_M, letters),
+        b'n' => look_up(&WITH_N, letters),
+        b'o' => look_up(&WITH_O, letters),
+        b'p' => look_up(&WITH_P, letters),
+        b'r' => look_up(&WITH_R, letters),
+        b's' => look_up(&WITH_S, letters),
+        b't' => look_up(&WITH_T, letters),
+        b'u' => look_up(&WITH_U, letters),
+        b'v' => look_up(&WITH_V, letters),
+        b'w' => look_up(&WITH_W, letters),
+        _ => None,
+    }
+}
+
+// The symbol of the reserved word that is spelled like this.
+fn reserved_word(letters: &[u8]) -> Option<Symbol>
+    ensures { kind_or_name result letters.now ≡ spelling.kind_of_word letters.now }
+{
+    match letters {
+        [] => None,
+        [first, ..] => reserved(*first, letters),
+    }
+}
+
 // The kind of a word in lower case.
 fn kind_of_word(word: Name) -> Kind
     ensures { result ≡ spelling.kind_of_word word }
 {
-    match look_up(&RESERVED_WORDS, word.as_bytes()) {
+    match reserved_word(word.as_bytes()) {
         Some(symbol) => Kind::Symbol(symbol),
         None => Kind::Name(word),
     }
