@@ -77,9 +77,13 @@ impl<'t> Checker<'t> {
         ensures { OnOk result
             (self.new ≡ after self.old (declared_name self.old.env x.now entity)) }
     {
-        let is_new = self.environment.find(x.name.as_bytes()).is_none();
-        self.unless(is_new, Rule::C1, x.at);
-        self.add(x, entity)
+        let name = x.name.as_bytes();
+        if self.environment.find(name).is_none() {
+            self.environment.declare(name, entity)?;
+        } else {
+            self.unless(false, Rule::C1, x.at);
+        }
+        Ok(())
     }
 
     /// The number of visible names, as a mark for `leave`.
