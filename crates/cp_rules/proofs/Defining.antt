@@ -17,6 +17,7 @@ use Rattle.cp_rules.specs.Checking.{Judges, Makes, State, after, declared_name, 
 use Rattle.cp_rules.specs.Definitions.{constant_entity, type_entity}
 use Rattle.cp_rules.proofs.Kept.{begins_at, begins_trans, declare_begins, declare_each_begins, declare_each_is, left, left_names, placed_keeps}
 use Rattle.cp_rules.proofs.Telling.{told_in, told_more}
+use Rattle.cp_rules.proofs.Visible.{told_alike}
 
 constant_is : (j : Judged (ℕ × ℤ)) → constant_entity (first_of j) ≡ entity_of (λ c. entity.Constant c.0 c.1) j
 constant_is (Sound c) = refl
@@ -61,44 +62,25 @@ module _ (old s1 s2 s3 s4 : State) (x : Identifier) (e : Entity) (mark : ℕ) (a
 
 -- ---- enumerations
 
-pub enumeration_defined : (old s1 s2 s3 s4 s5 s6 : State) (x : Identifier) (xs : List Identifier) (t mark : ℕ)
+pub enumeration_defined : (old s1 s2 s3 : State) (x : Identifier) (xs : List Identifier) (t : ℕ)
     → t ≡ length old.env.types → s1 ≡ record old { env = add_type old.env (simple_row t (pos 0) (pos (length xs - 1))) }
-    → mark ≡ length s1.env.names → s2 ≡ after s1 (declared_name s1.env x entity.UnfinishedType)
+    → s2 ≡ after s1 (declared_name s1.env x (entity.Type t))
     → s3 ≡ after s2 (d.declare_each s2.env (values t 0 xs))
-    → s4 ≡ record s3 { env = with_names (take mark s3.env.names) s3.env }
-    → s5 ≡ record s4 { env = declare x (entity.Type t) s4.env }
-    → s6 ≡ record s5 { env = (d.declare_each s5.env (values t 0 xs)).env }
-    → s6 ≡ after old (define_enumeration old.env x xs)
-enumeration_defined old s1 s2 s3 s4 s5 s6 x xs t mark t_is made at declared valued outside named shown =
+    → s3 ≡ after old (define_enumeration old.env x xs)
+enumeration_defined old s1 s2 s3 x xs t t_is made declared valued =
     let n : ℕ = length old.env.types in
     let own : Environment = add_type old.env (simple_row n (pos 0) (pos (length xs - 1))) in
     let vs : List (Identifier × Entity) = values n 0 xs in
     let vs_are : values t 0 xs ≡ vs = ap (λ m. values m 0 xs) t_is in
     let made_is : s1 ≡ told_in own old.told [] =
     made ∙ ap (λ m. told_in (add_type old.env (simple_row m (pos 0) (pos (length xs - 1)))) old.told []) t_is in
-    let inner : d.Declared = declared_name own x entity.UnfinishedType in
-    let told2 : s2 ≡ told_in inner.env old.told inner.violations = declared ∙ ap (λ (z : State). after z (declared_name z.env x entity.UnfinishedType)) made_is in
+    let inner : d.Declared = declared_name own x (entity.Type n) in
+    let told2 : s2 ≡ told_in inner.env old.told inner.violations =
+    declared ∙ (λ i. after (made_is i) (declared_name (made_is i).env x (entity.Type (t_is i)))) in
     let all : d.Declared = d.declare_each inner.env vs in
     let told3 : s3 ≡ told_in all.env old.told (inner.violations ++ all.violations) =
     valued ∙ (λ i. after (told2 i) (d.declare_each (told2 i).env (vs_are i))) ∙ told_more all.env old.told inner.violations all.violations in
-    let mark_is : mark ≡ length own.names = at ∙ ap (λ (z : State). length z.env.names) made_is in
-    let told4 : s4 ≡ told_in own old.told (inner.violations ++ all.violations) =
-    outside ∙ ap (λ (z : State). let st : State = record z { env = with_names (take mark z.env.names) z.env } in st) told3
-    ∙ ap (λ m. told_in (with_names (take m all.env.names) all.env) old.told (inner.violations ++ all.violations)) mark_is
-    ∙ ap (λ (e : Environment). told_in e old.told (inner.violations ++ all.violations)) (left_all own x vs) in
-    let told5 : s5 ≡ told_in (declare x (entity.Type n) own) old.told (inner.violations ++ all.violations) =
-    named ∙ (λ i. let st : State = record (told4 i) { env = declare x (entity.Type (t_is i)) (told4 i).env } in st) in
-    shown ∙ (λ i. let st : State = record (told5 i) { env = (d.declare_each (told5 i).env (vs_are i)).env } in st)
-  where
-    left_all : (env : Environment) (y : Identifier) (es : List (Identifier × Entity))
-        → let after_all : Environment = (d.declare_each (declare y entity.UnfinishedType env) es).env in
-        with_names (take (length env.names) after_all.names) after_all ≡ env
-    left_all env y es =
-        let first : Environment = declare y entity.UnfinishedType env in
-        let after_all : Environment = (d.declare_each first es).env in
-        let begins = begins_trans env.names first.names after_all.names (declare_begins y entity.UnfinishedType env) (declare_each_begins first es) in
-        ap (λ (ns : Names). with_names ns after_all) (left_names env.names after_all.names begins)
-        ∙ ap (with_names env.names) (declare_each_is first es)
+    told3 ∙ ap (λ (ws : Violations). told_in all.env old.told (inner.violations ++ ws)) (told_alike x (entity.Type n) entity.UnfinishedType own vs)
 
 -- ---- one definition, and then the rest
 

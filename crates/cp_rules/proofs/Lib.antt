@@ -15,5 +15,6 @@ pub mod TypeViews
 pub mod FieldsMade
 pub mod Unrefused
 pub mod TypesMade
+pub mod Visible
 pub mod Defining
 pub mod WholeTexts

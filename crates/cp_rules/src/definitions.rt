@@ -96,12 +96,9 @@ impl<'t> Checker<'t> {
         let row = enumeration(t, names.len())?;
         self.add_type(row)?;
         let values = values(self.alloc, t, names)?;
-        let outside = self.mark();
-        self.declare(x, Entity::UnfinishedType)?;
-        self.declare_each(&values)?;
-        self.leave(outside);
-        self.add(x, Entity::Type(t))?;
-        self.add_each(&values)
+        // What its name stands for makes no difference to its values.
+        self.declare(x, Entity::Type(t))?;
+        self.declare_each(&values)
     }
 
     fn define_type(&mut self, x: &'t Identifier, t: &'t TypeExpression) -> Result<(), AllocError>

@@ -15,10 +15,8 @@ returns c =
     c.in_ok-add_type.ensures.1
     ∙ ap (λ row. let st : State = record old { env = add_type old.env row } in st)
     c.in_ok-row.ensures in
-    let valued = rw (c.deref.ensures.value, c.in_ok-values.ensures) at c.in_ok-declare_each.ensures in
-    let shown = rw (c.deref-2.ensures.value, c.in_ok-values.ensures) at c.add_each.ensures in
-    on_ok c.add_each.result
-    (λ shown. enumeration_defined old c.add_type.new.self c.declare.new.self c.declare_each.new.self c.leave.new.self
-    c.add.new.self c.add_each.new.self c.args.x.now c.args.names.now t c.mark-outside.result
-    number made c.mark-outside.ensures c.in_ok-declare.ensures valued c.leave.ensures c.in_ok-add.ensures shown)
-    shown
+    let valued = rw (c.deref.ensures.value, c.in_ok-values.ensures) at c.declare_each.ensures in
+    on_ok c.declare_each.result
+    (λ valued. enumeration_defined old c.add_type.new.self c.declare.new.self c.declare_each.new.self
+    c.args.x.now c.args.names.now t number made c.in_ok-declare.ensures valued)
+    valued
