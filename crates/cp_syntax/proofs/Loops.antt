@@ -1,5 +1,5 @@
 -- The iterations of the loop that reads a list, and its end.
-use Rattle.std.proofs.Common.{◌≡◌, ℕ, suc, ◌+◌, ◌-◌, ◌<◌, ◌≤◌, Bool, true, false, List, [], ◌∷◌, ◌++◌, Option, Ok, refl, sym, ap, ◌∙◌, arith}
+use Rattle.std.proofs.Common.{◌≡◌, ℕ, zero, suc, ◌+◌, ◌-◌, ◌<◌, ◌≤◌, Bool, true, false, List, [], ◌∷◌, ◌++◌, Option, Ok, refl, sym, ap, ◌∙◌, arith}
 use Rattle.cp_model.specs.declared.token.Token.{Token}
 use Rattle.cp_model.specs.declared.token.Kind.{Kind}
 use Rattle.cp_grammar.specs.declared.stop.Stop.{Stop}
@@ -36,3 +36,10 @@ module _ {A : Type 0} (goes_on : Option Kind → Bool) (item : Reader A) (found 
       let k : end - at ≡ suc (end - (at + 1)) = omega arith in
       let next : A → Reader (List A) = λ x. repeat goes_on item (end - (at + 1)) (found ++ x ∷ []) in
       fails_as s (and_then (item ts) next) _ (fails_then s (item ts) next fails) (sym (rw (k, go) refl))
+
+-- no item begins with the next token, whatever the bound
+pub repeat_rests : {A : Type 0} (goes_on : Option Kind → Bool) (item : Reader A) (found : List A) (ts : List Token) (n : ℕ)
+    → goes_on (kind_at ts) ≡ false → repeat goes_on item n found ts ≡ Ok (found, ts)
+unfolding repeat
+repeat_rests goes_on item found ts zero stop = refl
+repeat_rests goes_on item found ts (suc n) stop = rw stop refl

@@ -124,7 +124,7 @@ impl<O: Operators> Item<O> for Operation {
 }
 
 /// Reads the operations after the first operand.
-#[tactic(auto, unfolding(cp_grammar::specs::Expressions::chain_from))]
+#[tactic(auto, using(crate::proofs::Loops::repeat_rests), unfolding(cp_grammar::specs::Expressions::chain_from))]
 fn chain<O: Operators>(
     alloc: Global,
     class: O,
@@ -135,6 +135,10 @@ fn chain<O: Operators>(
     ensures { Gives view.expression result
         (spec.chain_from O.operators (O.operands class) (view.expression first) tokens.now) }
 {
+    // Most operands stand alone.
+    if O::operator(tokens).is_none() {
+        return Ok((first, tokens));
+    }
     let (operations, rest) = repeated::<Operation, O>(alloc, class, tokens)?;
     Ok((join(alloc, first, operations)?, rest))
 }
