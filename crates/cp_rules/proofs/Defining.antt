@@ -15,7 +15,7 @@ use Rattle.cp_model.specs.RulesDeclarations as d
 use Rattle.cp_model.specs.Rules.{define_constant, define_each, define_enumeration, define_type, values}
 use Rattle.cp_rules.specs.Checking.{Judges, Makes, State, after, declared_name, first_of}
 use Rattle.cp_rules.specs.Definitions.{constant_entity, type_entity}
-use Rattle.cp_rules.proofs.Kept.{begins_at, begins_trans, declare_begins, declare_each_begins, declare_each_is, left, left_names, placed_keeps}
+use Rattle.cp_rules.proofs.Kept.{begins_at, declare_begins, left, left_names, placed_keeps}
 use Rattle.cp_rules.proofs.Telling.{told_in, told_more}
 use Rattle.cp_rules.proofs.Visible.{told_alike}
 

@@ -8,7 +8,7 @@ use Rattle.cp_model.specs.Names.{lookup}
 use Rattle.cp_model.specs.declared.tree.Identifier.{Identifier}
 use Rattle.cp_model.specs.declared.rules.Entity.{Entity}
 use Rattle.cp_model.specs.declared.rules.Rule.TheVariants.{C1}
-use Rattle.cp_model.specs.RulesEnvironment.{Environment, Names, Text, c1_declared, declare, declare_if_new}
+use Rattle.cp_model.specs.RulesEnvironment.{Environment, Names, Text, declare, declare_if_new}
 use Rattle.cp_model.specs.RulesJudged.{Violations, unless}
 use Rattle.cp_model.specs.RulesDeclarations as d
 
