@@ -14,7 +14,7 @@ import subprocess
 import sys
 import tempfile
 
-from measuring import CPM, ROOT, instructions, least, show
+from measuring import CPM, ROOT, call, instructions, show
 from texts import REFUSED, TEXTS, TOO_MANY_WORDS
 
 sys.path += [str(ROOT / 'worked'), str(ROOT / 'trials')]
@@ -23,7 +23,6 @@ import make_rows
 
 PLAIN = ROOT / 'bench' / 'plain_front' / 'main.rs'
 TRIALS = 15
-GOAL = 1.2
 LIMIT = 1_048_576
 # What a text is cut into to make others of it.
 PIECES = re.compile(r'''\w+|'[^']*'|"[^"]*"|:=|\.\.|<>|\s+|.''', re.DOTALL)
@@ -77,13 +76,18 @@ def compare(plain, texts):
     print(f'both say the same of {len(texts)} texts')
 
 
+def seconds(words, status):
+    """The seconds of a processor that a call takes."""
+    usage = call(words, status=status)
+    return usage.processor + usage.system
+
+
 def row(plain, folder, what, text, status):
     file = folder / 'text.cp'
     file.write_text(text)
     programs = [CPM, 'check', file], [plain, file]
     ours, other = (instructions(words, status)[0] for words in programs)
-    times = [least(TRIALS, words, status=status) for words in programs]
-    spent = [time.processor + time.system for time in times]
+    spent = [min(seconds(words, status) for _ in range(TRIALS)) for words in programs]
     cells = f'{ours / 1e6:.0f}', f'{other / 1e6:.0f}', f'{ours / other:.2f}', *(f'{seconds:.3f}' for seconds in spent), f'{spent[0] / spent[1]:.2f}'
     print(' | '.join([what, *cells]), flush=True)
     return [what, *cells]
