@@ -31,6 +31,11 @@ module _ (o changed : PrivateState) (f : Frame) (fs : List Frame) (e : Effect) w
       by true h = let same : x ≡ fault.NoResult = cc in ap (fault_in o) (sym same)
       by false h = absurd (cc)
 
+-- Who receives a value runs as before.
+pub receiving : (o : PrivateState) (f : Frame) (v : Option ℤ) → (returning o f v).activity ≡ o.activity
+receiving o f None = refl
+receiving o f (Some n) = refl
+
 -- A word may be written before or after the return.
 pub written_after : (o : PrivateState) (f : Frame) (fs : List Frame) (at : ℕ) (n : ℤ) (v : Option ℤ)
     → set_word (leave (returning o f v) f fs) at n ≡ leave (returning (set_word o at n) f v) f fs

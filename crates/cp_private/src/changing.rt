@@ -33,6 +33,7 @@ impl Private {
             → join self.new input shared ≡ plain.set_temp
             (join self.old input shared) at n }
         ensures kept { KeepsOwn self.old self.new }
+        ensures ready { IsReady self.old → IsReady self.new }
     {
         if at < self.memory.temps.len() {
             self.memory.temps[at] = n;
@@ -46,6 +47,7 @@ impl Private {
             → let o = join self.old input shared.old in join self.new input shared.new
             ≡ record o { words = paste i (block o.words j count) o.words } }
         ensures kept { ChangesOnlyWords self.old shared.old self.new shared.new }
+        ensures ready { IsReady self.old → IsReady self.new }
     {
         words::copy(&mut self.memory.words, shared, to, from, count);
     }
@@ -71,6 +73,7 @@ impl Private {
         ensures kept { ChangesOnlyWords self.old shared.old self.new shared.new }
     {
         match pieces {
+            [] => {}
             [
                 StartPiece::Fill {
                     at,

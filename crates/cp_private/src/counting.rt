@@ -19,7 +19,8 @@ use cp_program::term::Term;
 
 impl Private {
     // Returns the temp at a place, or 0 if it is missing.
-    fn temp_at(&self, at: usize) -> i32
+    #[inline(always)]
+    pub(crate) fn temp_at(&self, at: usize) -> i32
         ensures { result ≡ word self.now.memory.temps.items at }
     {
         match self.memory.temps.get(at) {
@@ -117,7 +118,8 @@ fn is_past(down: bool, n: i32, last: i32) -> bool
 }
 
 // Returns the next counter, if it fits in 32 bits.
-fn next_counter(down: bool, n: i32) -> Option<i32>
+#[inline(always)]
+pub(crate) fn next_counter(down: bool, n: i32) -> Option<i32>
     ensures { MatchOption result (FitsSigned w32 (statements.next_counter down n) → ⊥)
         (λ m. m ≡ statements.next_counter down n) }
 {

@@ -55,7 +55,7 @@ impl Private {
         Ok(())
     }
 
-    #[inline(never)]
+    #[inline(always)]
     fn pass_copy(
         &mut self,
         shared: &mut [i32],
@@ -90,7 +90,7 @@ impl Private {
         }
     }
 
-    #[inline(never)]
+    #[inline(always)]
     fn pass_reference(
         &mut self,
         shared: &mut [i32],
@@ -112,7 +112,7 @@ impl Private {
         Ok(())
     }
 
-    #[inline(never)]
+    #[inline(always)]
     fn pass_right(&mut self, shared: &mut [i32], at: usize, home: usize, of: Target)
         requires shared { IsAddressable shared.old }
         requires at { at < 2 ^ 36 }
@@ -125,8 +125,9 @@ impl Private {
         self.set_word(shared, at, word);
     }
 
-    #[inline(always)]
-    fn pass_one(
+    // Passes any argument. Most are values, and the others would take registers from these.
+    #[inline(never)]
+    fn pass_any(
         &mut self,
         shared: &mut [i32],
         outside: &Outside,
@@ -159,6 +160,39 @@ impl Private {
                 self.pass_right(shared, to + far, home + far, *of);
                 Ok(())
             }
+        }
+    }
+
+    #[inline(always)]
+    fn pass_one(
+        &mut self,
+        shared: &mut [i32],
+        outside: &Outside,
+        destination: Destination,
+        argument: &Argument,
+    ) -> Result<(), Fault>
+        requires { IsAddressable shared.old }
+        ensures step { (own : ℕ)
+            → passing_of (join self.new outside.now.input.now shared.new) result
+            ≡ plain.pass_one (outside_of outside.now own) destination.to destination.home
+            (join self.old outside.now.input.now shared.old) (view.argument argument.now) }
+        ensures kept { ChangesOnlyWords self.old shared.old self.new shared.new }
+    {
+        match argument {
+            Argument::Value {
+                at,
+                low,
+                high,
+                term,
+            } => self.pass_value(
+                shared,
+                outside,
+                destination.to + *at as usize,
+                low,
+                high,
+                term,
+            ),
+            _ => self.pass_any(shared, outside, destination, argument),
         }
     }
 

@@ -282,7 +282,6 @@ impl Private {
         match self.take_quick_step(operation) {
             Attempt::Made => true,
             Attempt::Calls => self.take_call_of(operation, program, outside),
-            Attempt::Returns => self.take_step_of(operation, program, outside),
             Attempt::Rare => self.take_rare_step(operation, program, outside),
         }
     }

@@ -8,7 +8,8 @@ use Rattle.cp_program_model.specs.Functions.{unless}
 use Rattle.cp_program_model.specs.Layout.{distance}
 use Rattle.cp_program_model.specs.Terms as plain
 use Rattle.cp_program_model.specs.TermsFor.{move_spot}
-use Rattle.cp_machine_model.specs.Values.{View, apply, bind, place_of, value_of}
+use Rattle.cp_program_model.specs.Starts.{word}
+use Rattle.cp_machine_model.specs.Values.{View, apply, bind, place_of, root_place, value_of}
 use Rattle.cp_program.specs.declared.term.Operand.{Operand}
 use Rattle.cp_program.specs.declared.term.Root.{Root}
 use Rattle.cp_program.specs.declared.term.Term.{Term, out-Term, roll-Term}
@@ -17,7 +18,7 @@ use Rattle.cp_program.specs.declared.term.Index.{Index, out-Index, roll-Index}
 use Rattle.cp_program.specs.declared.term.Application.{Application}
 use Rattle.cp_program.specs.declared.term.Application.TheFolds.{fold-roll-Index, fold-roll-Spot, fold-roll-Term, fold_out-Index, fold_out-Spot, fold_out-Term}
 use Rattle.cp_program.specs.Reaches.{apply_operation, cap_place, capped_result, chain_value, elements_place, offset_of}
-use Rattle.cp_program.specs.View.{PlainApplication, PlainIndex, application, application_layer, chain_of, elements_of, index, index_layer, operand, operand_layer, root, spot, spot_layer, term, term_layer}
+use Rattle.cp_program.specs.View.{After, Before, PlainApplication, PlainIndex, application, application_layer, applied_to, chain_of, elements_of, index, index_layer, operand, operand_layer, root, spot, spot_layer, term, term_layer}
 
 -- The value of a chain is computed from its first operand and then from the others.
 pub value_chain : (v : View) (e : plain.Term) (xs : List PlainApplication)
@@ -27,13 +28,20 @@ value_chain v e [] = keep (value_of v e)
     keep : (r : Result ℤ Fault) → r ≡ bind r (λ x. Ok x)
     keep (Ok x) = refl
     keep (Err f) = refl
-value_chain v e (o ∷ os) = value_chain v (plain.Binary o.operator e o.operand) os ∙ after (value_of v e)
+value_chain v e (After o right ∷ os) = value_chain v (plain.Binary o e right) os ∙ after (value_of v e)
   where
     after : (r : Result ℤ Fault)
-        → bind (bind r (λ x. bind (value_of v o.operand) (λ y. apply o.operator x y))) (λ z. chain_value v z os)
-        ≡ bind r (λ x. bind (apply_operation v x o) (λ z. chain_value v z os))
+        → bind (bind r (λ x. bind (value_of v right) (λ y. apply o x y))) (λ z. chain_value v z os)
+        ≡ bind r (λ x. bind (apply_operation v x (After o right)) (λ z. chain_value v z os))
     after (Ok x) = refl
     after (Err f) = refl
+value_chain v e (Before o left ∷ os) = value_chain v (plain.Binary o (plain.Item (plain.Rooted left)) e) os ∙ before (value_of v e)
+  where
+    before : (r : Result ℤ Fault)
+        → bind (bind r (λ y. apply o (word v.words (root_place v left)) y)) (λ z. chain_value v z os)
+        ≡ bind r (λ x. bind (apply_operation v x (Before o left)) (λ z. chain_value v z os))
+    before (Ok x) = refl
+    before (Err f) = refl
 
 -- The place of an element is the place of the whole, moved on as far as the indices lead.
 pub place_elements : (v : View) (s : plain.Spot) (is : List PlainIndex)
@@ -93,10 +101,9 @@ index_is = fold_out-Index PlainApplication plain.Term PlainIndex plain.Spot plai
 
 -- ---- Chains that grow
 
-pub chain_more : (e : plain.Term) (xs : List PlainApplication) (x : PlainApplication)
-    → chain_of e (xs ++ x ∷ []) ≡ plain.Binary x.operator (chain_of e xs) x.operand
+pub chain_more : (e : plain.Term) (xs : List PlainApplication) (x : PlainApplication) → chain_of e (xs ++ x ∷ []) ≡ applied_to (chain_of e xs) x
 chain_more e [] x = refl
-chain_more e (y ∷ ys) x = chain_more (plain.Binary y.operator e y.operand) ys x
+chain_more e (y ∷ ys) x = chain_more (applied_to e y) ys x
 
 pub elements_more : (s : plain.Spot) (is : List PlainIndex) (i : PlainIndex)
     → elements_of s (is ++ i ∷ []) ≡ plain.Element (elements_of s is) i.low i.high i.size i.plus i.value

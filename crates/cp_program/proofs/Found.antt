@@ -1,21 +1,20 @@
 -- What is found in registers is what the definitions find.
 use Rattle.std.proofs.Math.ListN.{get_or}
-use Rattle.std.proofs.Common.{arith, Box, Global, ℕ, length, ◌≤◌, ◌<◌, ◌≡◌, ℤ, List, [], ◌∷◌, map, Option, None, Some, Result, Ok, Err, IfSome, refl, ap, sym, subst, ◌∙◌}
+use Rattle.std.proofs.Common.{arith, Box, Global, ℕ, length, ◌≤◌, ◌<◌, ◌≡◌, ℤ, List, [], ◌∷◌, map, Option, None, Some, Result, Ok, Err, IfSome, refl, ap, sym, subst, ◌∙◌, to_z, of_z, w32}
 use Rattle.cp_model.specs.declared.state.Fault.{Fault}
-use Rattle.cp_machine_model.specs.Values.{View, bind, value_of}
+use Rattle.cp_machine_model.specs.Values.{View, apply, bind, value_of}
+use Rattle.cp_model.specs.Abstract as operator
 use Rattle.cp_model.specs.Erase.{operator_of}
 use Rattle.cp_model.specs.declared.tree.Operator.{Operator}
 use Rattle.cp_program_model.specs.Terms as plain
 use Rattle.cp_program.specs.declared.term.Application.{Application}
 use Rattle.cp_program.specs.declared.term.Application.TheFolds.{fold-roll-Application, fold-roll-Operand}
 use Rattle.cp_program.specs.declared.term.Application.TheVariants as application_case
-use Rattle.cp_program.specs.declared.term.Operand.{Operand}
 use Rattle.cp_program.specs.declared.term.Operand.TheVariants as operand_case
-use Rattle.cp_program.specs.View.{PlainApplication, PlainIndex, application_layer, index_layer, operand_layer, spot_layer, term_layer}
-use Rattle.cp_program.specs.declared.term.Term.{Term, out-Term}
+use Rattle.cp_program.specs.View.{After, Before, PlainApplication, PlainIndex, application_layer, index_layer, operand_layer, spot_layer, term_layer}
+use Rattle.cp_program.specs.declared.term.Term.{Term}
 use Rattle.cp_program.specs.Reaches.{apply_operation, chain_value}
 use Rattle.cp_program.specs.View as view
-use Rattle.cp_program.proofs.Chains.{term_is, value_chain}
 
 -- A value that was found is the result.
 pub told : {A : Type 0} (o : Option A) (n : A) (r : Result A Fault) → o ≡ Some n → IfSome o (λ m. r ≡ Ok m) → r ≡ Ok n
@@ -40,26 +39,89 @@ chain_lone v n x xs is =
     keep (Ok z) = refl
     keep (Err f) = refl
 
--- A term of one operand and one application.
-pub value_single : (v : View) (t : Term) (x : Application) (n : ℤ) → (out-Term t).rest.items ≡ x ∷ []
-    → value_of v (view.operand (out-Term t).first) ≡ Ok n → apply_operation v n (view.application x) ≡ value_of v (view.term t)
-value_single v t x n is known =
-    chain_lone v n x (out-Term t).rest.items is
-    ∙ (ap (λ r. bind r (λ k. chain_value v k (map view.application (out-Term t).rest.items))) (sym known)
-    ∙ (sym (value_chain v (view.operand (out-Term t).first) (map view.application (out-Term t).rest.items))
-    ∙ ap (value_of v) (sym (term_is t))))
-
 -- A list with one item.
 pub one : {A : Type 0} (xs : List A) (d : A) → 1 ≤ length xs → length xs < 2 → xs ≡ get_or xs 0 d ∷ []
 one [] d h k = absurd (omega (arith, h))
 one (x ∷ []) d h k = refl
 one (x ∷ y ∷ ys) d h k = absurd (omega (arith, k))
 
-pub application_with : (o : Operator) (x : Operand)
-    → view.application (application_case.WithOperand o x) ≡ record { operator = operator_of o; operand = view.operand x }
-application_with o x =
-    ap view.application (sym (application_case.rolls-WithOperand o x))
+-- ---- Applications as plain data
+
+pub add_local : (at : ℕ) → view.application (application_case.AddLocal at) ≡ After operator.Add (view.local at)
+add_local at =
+    ap view.application (sym (application_case.rolls-AddLocal at))
     ∙ fold-roll-Application PlainApplication plain.Term PlainIndex plain.Spot plain.Term application_layer operand_layer index_layer spot_layer term_layer _
+
+pub add_member : (at : ℕ) → view.application (application_case.AddMember at) ≡ After operator.Add (view.member at)
+add_member at =
+    ap view.application (sym (application_case.rolls-AddMember at))
+    ∙ fold-roll-Application PlainApplication plain.Term PlainIndex plain.Spot plain.Term application_layer operand_layer index_layer spot_layer term_layer _
+
+pub subtract_local : (at : ℕ) → view.application (application_case.SubtractLocal at) ≡ After operator.Subtract (view.local at)
+subtract_local at =
+    ap view.application (sym (application_case.rolls-SubtractLocal at))
+    ∙ fold-roll-Application PlainApplication plain.Term PlainIndex plain.Spot plain.Term application_layer operand_layer index_layer spot_layer term_layer _
+
+pub subtract_member : (at : ℕ) → view.application (application_case.SubtractMember at) ≡ After operator.Subtract (view.member at)
+subtract_member at =
+    ap view.application (sym (application_case.rolls-SubtractMember at))
+    ∙ fold-roll-Application PlainApplication plain.Term PlainIndex plain.Spot plain.Term application_layer operand_layer index_layer spot_layer term_layer _
+
+pub multiply_local : (at : ℕ) → view.application (application_case.MultiplyLocal at) ≡ After operator.Multiply (view.local at)
+multiply_local at =
+    ap view.application (sym (application_case.rolls-MultiplyLocal at))
+    ∙ fold-roll-Application PlainApplication plain.Term PlainIndex plain.Spot plain.Term application_layer operand_layer index_layer spot_layer term_layer _
+
+pub multiply_member : (at : ℕ) → view.application (application_case.MultiplyMember at) ≡ After operator.Multiply (view.member at)
+multiply_member at =
+    ap view.application (sym (application_case.rolls-MultiplyMember at))
+    ∙ fold-roll-Application PlainApplication plain.Term PlainIndex plain.Spot plain.Term application_layer operand_layer index_layer spot_layer term_layer _
+
+pub with_local : (o : Operator) (at : ℕ) → view.application (application_case.WithLocal o at) ≡ After (operator_of o) (view.local at)
+with_local o at =
+    ap view.application (sym (application_case.rolls-WithLocal o at))
+    ∙ fold-roll-Application PlainApplication plain.Term PlainIndex plain.Spot plain.Term application_layer operand_layer index_layer spot_layer term_layer _
+
+pub with_member : (o : Operator) (at : ℕ) → view.application (application_case.WithMember o at) ≡ After (operator_of o) (view.member at)
+with_member o at =
+    ap view.application (sym (application_case.rolls-WithMember o at))
+    ∙ fold-roll-Application PlainApplication plain.Term PlainIndex plain.Spot plain.Term application_layer operand_layer index_layer spot_layer term_layer _
+
+pub local_before : (o : Operator) (at : ℕ) → view.application (application_case.LocalBefore o at) ≡ Before (operator_of o) (plain.Local at)
+local_before o at =
+    ap view.application (sym (application_case.rolls-LocalBefore o at))
+    ∙ fold-roll-Application PlainApplication plain.Term PlainIndex plain.Spot plain.Term application_layer operand_layer index_layer spot_layer term_layer _
+
+pub member_before : (o : Operator) (at : ℕ) → view.application (application_case.MemberBefore o at) ≡ Before (operator_of o) (plain.Member at)
+member_before o at =
+    ap view.application (sym (application_case.rolls-MemberBefore o at))
+    ∙ fold-roll-Application PlainApplication plain.Term PlainIndex plain.Spot plain.Term application_layer operand_layer index_layer spot_layer term_layer _
+
+-- ---- Values of applications
+
+-- A number of 32 bits, put into a word and read back.
+abbrev pub kept : ℤ → ℤ
+kept n = to_z w32 (of_z w32 n)
+
+-- The value of an operator with an operand whose value was found.
+pub after_found : (v : View) (x y m : ℤ) (o : operator.Operator) (right : plain.Term) (p : PlainApplication)
+    → p ≡ After o right → value_of v right ≡ Ok y → kept x ≡ x → kept y ≡ y → kept m ≡ m → apply o (kept x) (kept y) ≡ Ok m
+    → apply_operation v x p ≡ Ok (kept m)
+after_found v x y m o right p is known rx ry rm applied =
+    ap (apply_operation v x) is
+    ∙ (ap (λ r. bind r (λ z. apply o x z)) known
+    ∙ ((λ i. apply o (sym rx i) (sym ry i)) ∙ (applied ∙ ap (λ k. Ok k) (sym rm))))
+
+-- The same of a word before the chain.
+pub before_found : (v : View) (x y m : ℤ) (o : operator.Operator) (left : plain.Root) (p : PlainApplication)
+    → p ≡ Before o left → value_of v (plain.Item (plain.Rooted left)) ≡ Ok y → kept x ≡ x → kept y ≡ y → kept m ≡ m → apply o (kept y) (kept x) ≡ Ok m
+    → apply_operation v x p ≡ Ok (kept m)
+before_found v x y m o left p is known rx ry rm applied =
+    ap (apply_operation v x) is
+    ∙ (ap (λ r. bind r (λ z. apply o z x)) known
+    ∙ ((λ i. apply o (sym ry i) (sym rx i)) ∙ (applied ∙ ap (λ k. Ok k) (sym rm))))
+
+-- ---- Operands as plain data
 
 pub operand_local : (at : ℕ) → view.operand (operand_case.Local at) ≡ plain.Item (plain.Rooted (plain.Local at))
 operand_local at =

@@ -6,10 +6,11 @@ use Rattle.cp_model.specs.declared.state.Fault.TheVariants as fault
 use Rattle.cp_model.specs.Places.{within}
 use Rattle.cp_program_model.specs.Functions.{unless}
 use Rattle.cp_program_model.specs.Layout.{distance}
-use Rattle.cp_machine_model.specs.Values.{View, apply, bind, value_of}
+use Rattle.cp_program_model.specs.Starts.{word}
+use Rattle.cp_machine_model.specs.Values.{View, apply, bind, root_place, value_of}
 use Rattle.cp_program.specs.declared.reach.Memory.{Memory}
 use Rattle.cp_program.specs.declared.reach.Reach.{Reach}
-use Rattle.cp_program.specs.View.{PlainApplication, PlainIndex}
+use Rattle.cp_program.specs.View.{After, Before, PlainApplication, PlainIndex}
 
 abbrev pub view_with : Memory → List ℤ → ℕ → View
 view_with m shared clock = record {
@@ -32,9 +33,10 @@ abbrev pub capped_result : Result ℕ Fault → Result ℕ Fault
 capped_result (Ok n) = Ok (cap_place n)
 capped_result (Err f) = Err f
 
--- The value of an operator, if its left operand has the value `x`.
+-- The value of an operator, if the chain before it has the value `x`.
 abbrev pub apply_operation : View → ℤ → PlainApplication → Result ℤ Fault
-apply_operation v x o = bind (value_of v o.operand) (λ y. apply o.operator x y)
+apply_operation v x (After o right) = bind (value_of v right) (λ y. apply o x y)
+apply_operation v x (Before o left) = apply o (word v.words (root_place v left)) x
 
 -- The value of a chain whose first operands have the value `x`.
 abbrev pub chain_value : View → ℤ → List PlainApplication → Result ℤ Fault

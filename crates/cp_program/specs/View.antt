@@ -49,10 +49,10 @@ function function_case.Ord = plain.Ord
 function function_case.Chr = plain.Chr
 function (function_case.Shift by low high) = plain.Shift by low high
 
--- An operator and its right operand.
-pub record PlainApplication : Type 0 where
-  pub operator : a.Operator
-  pub operand : plain.Term
+-- An operator with one of its operands; the other one is the chain before it. A word can be the left operand.
+pub data PlainApplication : Type 0 where
+  After : (o : a.Operator) (right : plain.Term) → PlainApplication
+  Before : (o : a.Operator) (left : plain.Root) → PlainApplication
 
 pub record PlainIndex : Type 0 where
   pub low : ℤ
@@ -62,9 +62,13 @@ pub record PlainIndex : Type 0 where
   pub value : plain.Term
 
 -- The term for operands with operators between them, which group to the left.
+abbrev pub applied_to : plain.Term → PlainApplication → plain.Term
+applied_to e (After o right) = plain.Binary o e right
+applied_to e (Before o left) = plain.Binary o (plain.Item (plain.Rooted left)) e
+
 abbrev pub chain_of : plain.Term → List PlainApplication → plain.Term
 chain_of e [] = e
-chain_of e (x ∷ xs) = chain_of (plain.Binary x.operator e x.operand) xs
+chain_of e (x ∷ xs) = chain_of (applied_to e x) xs
 
 -- The element of an element, and so on, one for each index.
 abbrev pub elements_of : plain.Spot → List PlainIndex → plain.Spot
@@ -85,9 +89,32 @@ operand_layer (Operand-F.Standard f t) = plain.Standard (function f) t.value
 operand_layer (Operand-F.Empty s) = plain.Empty s.value
 operand_layer Operand-F.Realtime = plain.Realtime
 
+-- A word of the activation, and one of the component.
+abbrev pub local : ℕ → plain.Term
+local at = plain.Item (plain.Rooted (plain.Local at))
+
+abbrev pub member : ℕ → plain.Term
+member at = plain.Item (plain.Rooted (plain.Member at))
+
 abbrev pub application_layer : Application-F PlainApplication plain.Term PlainIndex plain.Spot plain.Term → PlainApplication
-application_layer (Application-F.WithNumber o n) = record { operator = operator_of o; operand = plain.Number n }
-application_layer (Application-F.WithOperand o x) = record { operator = operator_of o; operand = x }
+application_layer (Application-F.AddNumber n) = After a.Add (plain.Number n)
+application_layer (Application-F.SubtractNumber n) = After a.Subtract (plain.Number n)
+application_layer (Application-F.MultiplyNumber n) = After a.Multiply (plain.Number n)
+application_layer (Application-F.DivideNumber d) = After a.Divide (plain.Number d.number)
+application_layer (Application-F.ModuloNumber d) = After a.Modulo (plain.Number d.number)
+application_layer (Application-F.WithNumber o n) = After (operator_of o) (plain.Number n)
+application_layer (Application-F.AddLocal at) = After a.Add (local at)
+application_layer (Application-F.AddMember at) = After a.Add (member at)
+application_layer (Application-F.SubtractLocal at) = After a.Subtract (local at)
+application_layer (Application-F.SubtractMember at) = After a.Subtract (member at)
+application_layer (Application-F.MultiplyLocal at) = After a.Multiply (local at)
+application_layer (Application-F.MultiplyMember at) = After a.Multiply (member at)
+application_layer (Application-F.WithLocal o at) = After (operator_of o) (local at)
+application_layer (Application-F.WithMember o at) = After (operator_of o) (member at)
+application_layer (Application-F.WithMade o temp) = After (operator_of o) (plain.Made temp)
+application_layer (Application-F.LocalBefore o at) = Before (operator_of o) (plain.Local at)
+application_layer (Application-F.MemberBefore o at) = Before (operator_of o) (plain.Member at)
+application_layer (Application-F.WithOperand o x) = After (operator_of o) x
 
 abbrev pub index_layer : Index-F PlainApplication plain.Term PlainIndex plain.Spot plain.Term → PlainIndex
 index_layer i = record { low = i.low; high = i.high; size = i.size; plus = i.plus; value = i.value }

@@ -3,118 +3,20 @@
 //! Words have 32 bits, which the ordinals of long enumerations and addresses need. The results of
 //! arithmetic lie within -32768..32767.
 
-ghost use Rattle.std.specs.Prelude.{◌≡◌, ℕ, ◌+◌, ◌*◌, ◌<◌, ◌^◌, ◌++◌, length, map};
-ghost use Rattle.cp_program_model.specs.Functions as functions;
+ghost use Rattle.std.specs.Prelude.{◌≡◌, ℕ, ◌+◌, ◌*◌, ◌<◌, ◌^◌, ◌++◌, Ok, length, map};
 ghost use Rattle.cp_program_model.specs.Layout as layout;
 ghost use Rattle.cp_program_model.specs.Starts as starts;
 ghost use Rattle.cp_program_model.specs.Terms as terms;
-ghost use Rattle.cp_model.specs.Abstract as abstract;
-ghost use Rattle.cp_model.specs.Erase.{operator_of};
-ghost use Rattle.cp_model.specs.Places.{within};
-ghost use Rattle.cp_model.specs.declared.state.Fault.TheVariants as fault;
 ghost use Rattle.cp_machine_model.specs.Values as values;
 ghost use Rattle.cp_program.specs.Reaches.{apply_operation, cap_place, capped_result, chain_value, elements_place, offset_of, view_of};
 ghost use Rattle.cp_program.specs.View as view;
 
+use crate::arithmetic::{apply, in_range, standard, truth};
 use crate::memory::{natural, word};
 use crate::reach::Reach;
-use crate::term::{Application, Function, Index, Operand, Root, Spot, Term};
+use crate::term::{Application, Index, Operand, Root, Spot, Term};
 use cp_model::state::Fault;
 use cp_model::tree::Operator;
-
-fn in_range(n: i64) -> Result<i32, Fault>
-    ensures { result ≡ functions.in_range n }
-{
-    if -32768 <= n && n <= 32767 {
-        Ok(n as i32)
-    } else {
-        Err(Fault::Overflow)
-    }
-}
-
-#[inline(always)]
-pub(crate) fn truth(b: bool) -> i32
-    ensures { result ≡ values.truth b }
-{
-    if b { 1 } else { 0 }
-}
-
-fn quotient(a: i32, b: i32) -> Result<i32, Fault>
-    ensures { result ≡ values.apply abstract.Divide a b }
-{
-    if b == 0 {
-        return Err(Fault::DivisionByZero);
-    }
-    if b == -1 {
-        return in_range(-i64::from(a));
-    }
-    in_range(i64::from(a / b))
-}
-
-fn remainder(a: i32, b: i32) -> Result<i32, Fault>
-    ensures { result ≡ values.apply abstract.Modulo a b }
-{
-    if b == 0 {
-        return Err(Fault::DivisionByZero);
-    }
-    if b == -1 {
-        return Ok(0);
-    }
-    in_range(i64::from(a % b))
-}
-
-// `div` truncates toward zero, and `mod` is its remainder.
-#[inline(always)]
-fn apply(operator: Operator, a: i32, b: i32) -> Result<i32, Fault>
-    ensures { result ≡ values.apply (operator_of operator) a b }
-{
-    match operator {
-        Operator::Add => in_range(i64::from(a) + i64::from(b)),
-        Operator::Subtract => in_range(i64::from(a) - i64::from(b)),
-        Operator::Multiply => in_range(i64::from(a) * i64::from(b)),
-        Operator::Divide => quotient(a, b),
-        Operator::Modulo => remainder(a, b),
-        Operator::And => Ok(truth(a == 1 && b == 1)),
-        Operator::Or => Ok(truth(a == 1 || b == 1)),
-        Operator::Equal => Ok(truth(a == b)),
-        Operator::Unequal => Ok(truth(a != b)),
-        Operator::Less => Ok(truth(a < b)),
-        Operator::Greater => Ok(truth(b < a)),
-        Operator::AtMost => Ok(truth(a <= b)),
-        Operator::AtLeast => Ok(truth(b <= a)),
-    }
-}
-
-// Returns `n` if it lies within the bounds.
-fn check_range(n: i64, low: i32, high: i32) -> Result<i32, Fault>
-    ensures { result ≡ functions.unless (within low high n) fault.Range n }
-{
-    if i64::from(low) <= n && n <= i64::from(high) {
-        Ok(n as i32)
-    } else {
-        Err(Fault::Range)
-    }
-}
-
-fn shift(n: i32, by: i32, low: i32, high: i32) -> Result<i32, Fault>
-    ensures { result ≡ functions.standard (terms.Shift by low high) n }
-{
-    check_range(i64::from(n) + i64::from(by), low, high)
-}
-
-fn standard(function: Function, n: i32) -> Result<i32, Fault>
-    ensures { result ≡ functions.standard (view.function function) n }
-{
-    match function {
-        Function::Abs => {
-            let n = i64::from(n);
-            in_range(if n < 0 { -n } else { n })
-        }
-        Function::Ord => in_range(i64::from(n)),
-        Function::Chr => check_range(i64::from(n), 0, 127),
-        Function::Shift { by, low, high } => shift(n, by, low, high),
-    }
-}
 
 impl<'a> Reach<'a> {
     // The word at a place, or 0 if there is no such word. A place that is too large may be given as
@@ -146,6 +48,22 @@ impl<'a> Reach<'a> {
         ensures small { result < 2 ^ 33 }
     {
         self.memory.member(at)
+    }
+
+    // A word of the activation.
+    #[inline(always)]
+    fn local_word(&self, at: u32) -> i32
+        ensures { values.value_of (view_of self.now) (view.local at) ≡ Ok result }
+    {
+        self.word(self.local(at))
+    }
+
+    // A word of the component.
+    #[inline(always)]
+    fn member_word(&self, at: u32) -> i32
+        ensures { values.value_of (view_of self.now) (view.member at) ≡ Ok result }
+    {
+        self.word(self.member(at))
     }
 
     // The temp with this number, counted from the first temp of the running activation.
@@ -262,7 +180,37 @@ impl Application {
         ensures { result ≡ apply_operation (view_of reach.now) left (view.application self.now) }
     {
         match self {
-            Application::WithNumber(operator, number) => apply(*operator, left, *number),
+            Application::AddNumber(n) => apply(Operator::Add, left, *n),
+            Application::SubtractNumber(n) => apply(Operator::Subtract, left, *n),
+            Application::MultiplyNumber(n) => apply(Operator::Multiply, left, *n),
+            Application::DivideNumber(divisor) => apply(Operator::Divide, left, divisor.number()),
+            Application::ModuloNumber(divisor) => apply(Operator::Modulo, left, divisor.number()),
+            Application::AddLocal(at) => apply(Operator::Add, left, reach.local_word(*at)),
+            Application::AddMember(at) => apply(Operator::Add, left, reach.member_word(*at)),
+            Application::SubtractLocal(at) => apply(
+                Operator::Subtract,
+                left,
+                reach.local_word(*at),
+            ),
+            Application::SubtractMember(at) => {
+                apply(Operator::Subtract, left, reach.member_word(*at))
+            }
+            Application::MultiplyLocal(at) => apply(
+                Operator::Multiply,
+                left,
+                reach.local_word(*at),
+            ),
+            Application::MultiplyMember(at) => {
+                apply(Operator::Multiply, left, reach.member_word(*at))
+            }
+            Application::WithNumber(operator, n) => apply(*operator, left, *n),
+            Application::WithLocal(operator, at) => apply(*operator, left, reach.local_word(*at)),
+            Application::WithMember(operator, at) => apply(*operator, left, reach.member_word(*at)),
+            Application::WithMade(operator, temp) => apply(*operator, left, reach.temp(*temp)),
+            Application::LocalBefore(operator, at) => apply(*operator, reach.local_word(*at), left),
+            Application::MemberBefore(operator, at) => {
+                apply(*operator, reach.member_word(*at), left)
+            }
             Application::WithOperand(operator, operand) => {
                 let right = operand.value(reach)?;
                 apply(*operator, left, right)

@@ -1,80 +1,23 @@
 //! Evaluates the commonest terms, and computes the commonest places, in registers.
 //!
 //! A flat operand is a number or a word of a variable, so a flat term is evaluated without a call.
-//! The indices of a flat spot are flat operands, alone or with an operator and a number. A near
-//! operand is flat, a flat term in parentheses or its negation, the word at a flat spot or of a
-//! `var` parameter, or the value of a call.
+//! The indices of a flat spot are flat terms. A near operand is flat, a flat term in parentheses or
+//! its negation, the word at a flat spot or of a `var` parameter, or the value of a call.
 //!
 //! These functions find what those of `evaluation` find, in a result that fits registers, or find
 //! nothing where a term or spot goes deeper, has a fault or lies among the shared words: then
 //! `evaluation` is asked.
 
 ghost use Rattle.std.specs.Prelude.{◌≡◌, ℕ, ℤ, List, ◌+◌, ◌<◌, ◌^◌, ◌++◌, ◌∷◌, [], IfSome, Ok, map};
-ghost use Rattle.cp_program_model.specs.Functions as functions;
 ghost use Rattle.cp_program_model.specs.Terms as terms;
-ghost use Rattle.cp_model.specs.Abstract as abstract;
-ghost use Rattle.cp_model.specs.Erase.{operator_of};
 ghost use Rattle.cp_machine_model.specs.Values as values;
-ghost use Rattle.cp_machine_model.specs.Values.{View};
 ghost use Rattle.cp_program.specs.Reaches.{apply_operation, chain_value, elements_place, offset_of, view_with};
 ghost use Rattle.cp_program.specs.View as view;
 
-use crate::evaluation::truth;
+use crate::arithmetic::truth;
+use crate::exact::{apply, difference, product, sum};
 use crate::reach::Memory;
 use crate::term::{Application, Index, Operand, Root, Spot, Term};
-use cp_model::tree::Operator;
-
-#[inline(always)]
-fn in_range(n: i64) -> Option<i32>
-    ensures { IfSome result (λ m. functions.in_range n ≡ Ok m) }
-{
-    if -32768 <= n && n <= 32767 {
-        Some(n as i32)
-    } else {
-        None
-    }
-}
-
-#[inline(always)]
-fn quotient(a: i32, b: i32) -> Option<i32>
-    ensures { IfSome result (λ m. values.apply abstract.Divide a b ≡ Ok m) }
-{
-    if b == 0 || b == -1 {
-        return None;
-    }
-    in_range(i64::from(a / b))
-}
-
-#[inline(always)]
-fn remainder(a: i32, b: i32) -> Option<i32>
-    ensures { IfSome result (λ m. values.apply abstract.Modulo a b ≡ Ok m) }
-{
-    if b == 0 || b == -1 {
-        return None;
-    }
-    in_range(i64::from(a % b))
-}
-
-#[inline(always)]
-fn apply(operator: Operator, a: i32, b: i32) -> Option<i32>
-    ensures { IfSome result (λ m. values.apply (operator_of operator) a b ≡ Ok m) }
-{
-    match operator {
-        Operator::Add => in_range(i64::from(a) + i64::from(b)),
-        Operator::Subtract => in_range(i64::from(a) - i64::from(b)),
-        Operator::Multiply => in_range(i64::from(a) * i64::from(b)),
-        Operator::Divide => quotient(a, b),
-        Operator::Modulo => remainder(a, b),
-        Operator::And => Some(truth(a == 1 && b == 1)),
-        Operator::Or => Some(truth(a == 1 || b == 1)),
-        Operator::Equal => Some(truth(a == b)),
-        Operator::Unequal => Some(truth(a != b)),
-        Operator::Less => Some(truth(a < b)),
-        Operator::Greater => Some(truth(b < a)),
-        Operator::AtMost => Some(truth(a <= b)),
-        Operator::AtLeast => Some(truth(b <= a)),
-    }
-}
 
 impl Operand {
     // The value of a flat operand.
@@ -85,8 +28,8 @@ impl Operand {
     {
         match self {
             Operand::Number(n) => Some(*n),
-            Operand::Local(at) => memory.own_word(memory.local(*at)),
-            Operand::Member(at) => memory.own_word(memory.member(*at)),
+            Operand::Local(at) => memory.own_local(*at),
+            Operand::Member(at) => memory.own_member(*at),
             _ => None,
         }
     }
@@ -99,8 +42,8 @@ impl Operand {
     {
         match self {
             Operand::Number(n) => Some(*n),
-            Operand::Local(at) => memory.own_word(memory.local(*at)),
-            Operand::Member(at) => memory.own_word(memory.member(*at)),
+            Operand::Local(at) => memory.own_local(*at),
+            Operand::Member(at) => memory.own_member(*at),
             _ => self.further_value(memory),
         }
     }
@@ -126,44 +69,57 @@ impl Operand {
 }
 
 impl Application {
-    // The value of the operator, if its left operand has the value `left` and its right operand is a
-    // number.
-    #[inline(always)]
-    fn with_number(&self, left: i32) -> Option<i32>
-        ensures { (v : View) → IfSome result (λ n. apply_operation v left
-            (view.application self.now) ≡ Ok n) }
-    {
-        match self {
-            Application::WithNumber(operator, number) => apply(*operator, left, *number),
-            Application::WithOperand(_, _) => None,
-        }
-    }
-
+    // The value of the operator, if the value so far is `left` and the operand is flat. Each arm
+    // tests its own result, so that the machine code has no test that all share.
     #[inline(always)]
     fn flat_value_after(&self, left: i32, memory: &Memory) -> Option<i32>
         ensures { (shared : List ℤ) (clock : ℕ) → IfSome result (λ n. apply_operation
             (view_with memory.now shared clock) left (view.application self.now) ≡ Ok n) }
     {
         match self {
-            Application::WithNumber(operator, number) => apply(*operator, left, *number),
-            Application::WithOperand(operator, operand) => {
-                let right = operand.flat_value(memory)?;
-                apply(*operator, left, right)
+            Application::AddNumber(n) => Some(sum(left, *n)?),
+            Application::SubtractNumber(n) => Some(difference(left, *n)?),
+            Application::MultiplyNumber(n) => Some(product(left, *n)?),
+            Application::DivideNumber(divisor) => Some(divisor.quotient(left)?),
+            Application::ModuloNumber(divisor) => Some(divisor.remainder(left)),
+            Application::WithNumber(operator, n) => Some(apply(*operator, left, *n)?),
+            Application::AddLocal(at) => Some(sum(left, memory.own_local(*at)?)?),
+            Application::AddMember(at) => Some(sum(left, memory.own_member(*at)?)?),
+            Application::SubtractLocal(at) => Some(difference(left, memory.own_local(*at)?)?),
+            Application::SubtractMember(at) => Some(difference(left, memory.own_member(*at)?)?),
+            Application::MultiplyLocal(at) => Some(product(left, memory.own_local(*at)?)?),
+            Application::MultiplyMember(at) => Some(product(left, memory.own_member(*at)?)?),
+            Application::WithLocal(operator, at) => {
+                Some(apply(*operator, left, memory.own_local(*at)?)?)
             }
+            Application::WithMember(operator, at) => {
+                Some(apply(*operator, left, memory.own_member(*at)?)?)
+            }
+            Application::WithMade(operator, temp) => {
+                Some(apply(*operator, left, memory.made(*temp))?)
+            }
+            Application::LocalBefore(operator, at) => {
+                Some(apply(*operator, memory.own_local(*at)?, left)?)
+            }
+            Application::MemberBefore(operator, at) => {
+                Some(apply(*operator, memory.own_member(*at)?, left)?)
+            }
+            Application::WithOperand(_, _) => None,
         }
     }
 
+    // The same, if the operand is near.
     #[inline(always)]
     fn near_value_after(&self, left: i32, memory: &Memory) -> Option<i32>
         ensures { (shared : List ℤ) (clock : ℕ) → IfSome result (λ n. apply_operation
             (view_with memory.now shared clock) left (view.application self.now) ≡ Ok n) }
     {
         match self {
-            Application::WithNumber(operator, number) => apply(*operator, left, *number),
             Application::WithOperand(operator, operand) => {
-                let right = operand.near_value(memory)?;
-                apply(*operator, left, right)
+                let right = operand.further_value(memory)?;
+                Some(apply(*operator, left, right)?)
             }
+            _ => self.flat_value_after(left, memory),
         }
     }
 }
@@ -244,34 +200,55 @@ fn offset(i: &Index, n: i32) -> Option<usize>
 }
 
 impl Index {
-    // The value of an index that is a flat operand, or one with an operator and a number.
+    // The value of an index that is a word.
     #[inline(always)]
-    fn flat_value(&self, memory: &Memory) -> Option<i32>
+    fn word(&self, memory: &Memory) -> Option<i32>
         ensures { (shared : List ℤ) (clock : ℕ) → IfSome result (λ n. values.value_of
             (view_with memory.now shared clock) (view.term self.now.value) ≡ Ok n) }
     {
-        let n = self.value.first.flat_value(memory)?;
-        match self.value.rest.as_slice() {
-            [] => Some(n),
-            [x] => x.with_number(n),
+        if !self.value.rest.is_empty() {
+            return None;
+        }
+        match self.value.first {
+            Operand::Local(at) => memory.own_local(at),
+            Operand::Member(at) => memory.own_member(at),
             _ => None,
         }
     }
 
-    // The place to which the index leads from another.
+    // The place to which the index leads from another, if its value is `n`.
+    #[inline(always)]
+    fn place_at(&self, from: usize, n: i32) -> Option<usize>
+        ensures { IfSome result (λ at. values.bind (offset_of (view.index self.now) n)
+            (λ far. Ok (from + far)) ≡ Ok at) }
+    {
+        let far = offset(self, n)?;
+        from.checked_add(far)
+    }
+
+    // The place to which the index leads from another, if it is a word.
+    #[inline(always)]
+    fn word_place(&self, from: usize, memory: &Memory) -> Option<usize>
+        ensures { (shared : List ℤ) (clock : ℕ) → IfSome result (λ at. elements_place
+            (view_with memory.now shared clock) from (view.index self.now ∷ []) ≡ Ok at) }
+    {
+        let n = self.word(memory)?;
+        self.place_at(from, n)
+    }
+
+    // The same, if the index is flat.
     #[inline(always)]
     fn flat_place(&self, from: usize, memory: &Memory) -> Option<usize>
         ensures { (shared : List ℤ) (clock : ℕ) → IfSome result (λ at. elements_place
             (view_with memory.now shared clock) from (view.index self.now ∷ []) ≡ Ok at) }
     {
-        let n = self.flat_value(memory)?;
-        let far = offset(self, n)?;
-        from.checked_add(far)
+        let n = self.value.flat_value(memory)?;
+        self.place_at(from, n)
     }
 }
 
-// The place to which the indices lead, starting from the place `from`.
-#[inline(always)]
+// The place to which the indices lead, starting from the place `from`, if they are flat.
+#[inline(never)]
 fn flat_place_of_element(from: usize, indices: &[Index], memory: &Memory) -> Option<usize>
     ensures { (shared : List ℤ) (clock : ℕ) → IfSome result (λ at. elements_place
         (view_with memory.now shared clock) from (map view.index indices.now) ≡ Ok at) }
@@ -283,6 +260,24 @@ fn flat_place_of_element(from: usize, indices: &[Index], memory: &Memory) -> Opt
     Some(at)
 }
 
+// The same. Most indices are words, which need no call.
+#[inline(always)]
+fn near_place_of_element(from: usize, indices: &[Index], memory: &Memory) -> Option<usize>
+    ensures { (shared : List ℤ) (clock : ℕ) → IfSome result (λ at. elements_place
+        (view_with memory.now shared clock) from (map view.index indices.now) ≡ Ok at) }
+{
+    let mut at = from;
+    let mut left = indices;
+    while let Some((i, after)) = left.split_first() {
+        let Some(next) = i.word_place(at, memory) else {
+            return flat_place_of_element(at, left, memory);
+        };
+        at = next;
+        left = after;
+    }
+    Some(at)
+}
+
 impl Spot {
     #[inline(always)]
     fn place_of_indices(&self, memory: &Memory) -> Option<usize>
@@ -290,7 +285,7 @@ impl Spot {
             (view_with memory.now shared clock) (view.spot self.now) ≡ Ok at) }
     {
         let from = memory.own_root_place(self.root)?;
-        flat_place_of_element(from, &self.indices, memory)
+        near_place_of_element(from, &self.indices, memory)
     }
 
     #[inline(never)]

@@ -58,6 +58,24 @@ impl Memory {
         self.component + at as usize
     }
 
+    // The value of a word of the activation, if it is one of the process's own.
+    #[inline(always)]
+    pub(crate) fn own_local(&self, at: u32) -> Option<i32>
+        ensures { (shared : List ℤ) (clock : ℕ) → IfSome result (λ n. values.value_of
+            (view_with self.now shared clock) (view.local at) ≡ Ok n) }
+    {
+        self.own_word(self.local(at))
+    }
+
+    // The value of a word of the component, if it is one of the process's own.
+    #[inline(always)]
+    pub(crate) fn own_member(&self, at: u32) -> Option<i32>
+        ensures { (shared : List ℤ) (clock : ℕ) → IfSome result (λ n. values.value_of
+            (view_with self.now shared clock) (view.member at) ≡ Ok n) }
+    {
+        self.own_word(self.member(at))
+    }
+
     // The temp with this number, counted from the first temp of the running activation.
     #[inline(always)]
     pub(crate) fn made(&self, temp: u32) -> i32
@@ -66,9 +84,9 @@ impl Memory {
         word(&self.temps, self.temp + temp as usize)
     }
 
-    // The place where a variable begins, if it is found among the process's own words.
+    /// The place where a variable begins, if it is found among the process's own words.
     #[inline(always)]
-    pub(crate) fn own_root_place(&self, root: Root) -> Option<usize>
+    pub fn own_root_place(&self, root: Root) -> Option<usize>
         ensures { (shared : List ℤ) (clock : ℕ) → IfSome result (λ at. values.root_place
             (view_with self.now shared clock) (view.root root) ≡ at) }
     {

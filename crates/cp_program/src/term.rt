@@ -10,6 +10,7 @@ ghost use Rattle.cp_program_model.specs.TermsFor.{move_spot, move_root};
 ghost use Rattle.cp_model.specs.Erase.{operator_of};
 ghost use Rattle.cp_program.specs.View as view;
 
+use crate::divisor::Divisor;
 use cp_model::tree::Operator;
 use std::alloc::{AllocError, Global};
 
@@ -60,13 +61,35 @@ pub enum Operand {
     Realtime,
 }
 
-/// An operator and its right operand. Most right operands are numbers, so these have a case of
-/// their own.
+/// An operator with one of its operands, which is the right one but for the last two cases; the
+/// other operand is the chain before it. The commonest have cases of their own, so that one match
+/// tells operator and operand.
 #[cycle(terms)]
 #[derive(Drop)]
 pub enum Application {
+    AddNumber(i32),
+    SubtractNumber(i32),
+    MultiplyNumber(i32),
+    DivideNumber(Divisor),
+    ModuloNumber(Divisor),
+    AddLocal(u32),
+    AddMember(u32),
+    SubtractLocal(u32),
+    SubtractMember(u32),
+    MultiplyLocal(u32),
+    MultiplyMember(u32),
     WithNumber(Operator, i32),
+    /// A word of the activation as the right operand.
+    WithLocal(Operator, u32),
+    /// A word of the component as the right operand.
+    WithMember(Operator, u32),
+    /// The value of a call as the right operand.
+    WithMade(Operator, u32),
     WithOperand(Operator, Operand),
+    /// A word of the activation as the left operand, and the chain so far as the right one.
+    LocalBefore(Operator, u32),
+    /// A word of the component as the left operand, and the chain so far as the right one.
+    MemberBefore(Operator, u32),
 }
 
 /// An index: the bounds of the array, the size of an element in words, the offset of a part within
@@ -171,12 +194,51 @@ impl Spot {
 }
 
 impl Application {
+    fn of_number(operator: Operator, number: i32) -> Application
+        ensures { view.application result ≡ view.After (operator_of operator)
+            (plain.Number number) }
+    {
+        match (operator, Divisor::new(number)) {
+            (Operator::Add, _) => Application::AddNumber(number),
+            (Operator::Subtract, _) => Application::SubtractNumber(number),
+            (Operator::Multiply, _) => Application::MultiplyNumber(number),
+            (Operator::Divide, Some(divisor)) => Application::DivideNumber(divisor),
+            (Operator::Modulo, Some(divisor)) => Application::ModuloNumber(divisor),
+            _ => Application::WithNumber(operator, number),
+        }
+    }
+
+    fn of_local(operator: Operator, at: u32) -> Application
+        ensures { view.application result ≡ view.After (operator_of operator) (view.local at) }
+    {
+        match operator {
+            Operator::Add => Application::AddLocal(at),
+            Operator::Subtract => Application::SubtractLocal(at),
+            Operator::Multiply => Application::MultiplyLocal(at),
+            _ => Application::WithLocal(operator, at),
+        }
+    }
+
+    fn of_member(operator: Operator, at: u32) -> Application
+        ensures { view.application result ≡ view.After (operator_of operator) (view.member at) }
+    {
+        match operator {
+            Operator::Add => Application::AddMember(at),
+            Operator::Subtract => Application::SubtractMember(at),
+            Operator::Multiply => Application::MultiplyMember(at),
+            _ => Application::WithMember(operator, at),
+        }
+    }
+
     fn new(operator: Operator, operand: Operand) -> Application
-        ensures { view.application
-            result ≡ record { operator = operator_of operator; operand = view.operand operand } }
+        ensures { view.application result ≡ view.After (operator_of operator)
+            (view.operand operand) }
     {
         match operand {
-            Operand::Number(number) => Application::WithNumber(operator, number),
+            Operand::Number(number) => Application::of_number(operator, number),
+            Operand::Local(at) => Application::of_local(operator, at),
+            Operand::Member(at) => Application::of_member(operator, at),
+            Operand::Made(temp) => Application::WithMade(operator, temp),
             operand => Application::WithOperand(operator, operand),
         }
     }
@@ -274,15 +336,43 @@ impl Term {
         Ok(Operand::Nested(Box::new(alloc, self)?))
     }
 
+    // The operator before a chain, if this term is a word.
+    fn before_chain(&self, operator: Operator) -> Option<Application>
+        ensures { (e : plain.Term) → IfSome result (λ x. view.applied_to e (view.application x)
+            ≡ plain.Binary (operator_of operator) (view.term self.now) e) }
+    {
+        if !self.rest.is_empty() {
+            return None;
+        }
+        match self.first {
+            Operand::Local(at) => Some(Application::LocalBefore(operator, at)),
+            Operand::Member(at) => Some(Application::MemberBefore(operator, at)),
+            _ => None,
+        }
+    }
+
+    // The term with one more application.
+    fn applied(self, application: Application) -> Result<Term, AllocError>
+        ensures { IfOk result (λ t. view.term t ≡ view.applied_to (view.term self)
+            (view.application application)) }
+    {
+        let Term { first, mut rest } = self;
+        push_exactly(&mut rest, application)?;
+        Ok(Term { first, rest })
+    }
+
     /// A binary operator, with this term on its left.
     pub fn binary(self, alloc: Global, operator: Operator, right: Term) -> Result<Term, AllocError>
         ensures { IfOk result
             (λ t. view.term t ≡ plain.Binary (operator_of operator) (view.term self)
             (view.term right)) }
     {
+        if !right.rest.is_empty() {
+            if let Some(application) = self.before_chain(operator) {
+                return right.applied(application);
+            }
+        }
         let operand = right.into_operand(alloc)?;
-        let Term { first, mut rest } = self;
-        push_exactly(&mut rest, Application::new(operator, operand))?;
-        Ok(Term { first, rest })
+        self.applied(Application::new(operator, operand))
     }
 }

@@ -1,4 +1,4 @@
-use Rattle.std.proofs.Common.{rules, ◌≡◌, ◌∙◌, ◌∷◌, ◌++◌, [], length, take, length-append, sym}
+use Rattle.std.proofs.Common.{rules, ◌≡◌, ◌∙◌, ◌∷◌, ◌++◌, [], take, length-append}
 use Rattle.cp_program.specs.declared.program.StartPiece.TheVariants as start
 use Rattle.cp_program.specs.View.{plans_of}
 use Rattle.cp_private.proofs.CarriedOut.{last_done, last_part, less_left, pieces_done}

@@ -3,7 +3,6 @@ use Rattle.cp_machine_model.specs.Calling.{call_step}
 use Rattle.cp_machine_model.specs.PrivateStates.{is_running}
 use Rattle.cp_machine_model.specs.Steps.{act, is_private}
 use Rattle.cp_program.specs.View as view
-use Rattle.cp_private.specs.Calls.{back}
 use Rattle.cp_private.specs.States.{join, outside_of, private_of}
 use Rattle.cp_private.proofs.Unshared.{private_acted}
 use Rattle.cp_private.proofs.private.Private.take_call_of.Goals as goal

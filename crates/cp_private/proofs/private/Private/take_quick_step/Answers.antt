@@ -28,3 +28,18 @@ pub returns-in-SetMember-clause-step : goal.returns-in-SetMember-clause-step
 returns-in-SetMember-clause-step c =
     λ yes program w input.
     c.set_member_quickly.ensures.step (c.attempted-in-SetMember.ensures.made yes) w input ∙ sym (ap (λ x. (act program w (join c.args.self.now input []) (view.operation x)).0) c.in-SetMember.is)
+
+pub returns-in-ForNext-clause-step : goal.returns-in-ForNext-clause-step
+returns-in-ForNext-clause-step c =
+    λ yes program w input.
+    c.count_quickly.ensures.step (c.attempted-in-ForNext.ensures.made yes) w input ∙ sym (ap (λ x. (act program w (join c.args.self.now input []) (view.operation x)).0) c.in-ForNext.is)
+
+pub returns-in-CopyWords-clause-step : goal.returns-in-CopyWords-clause-step
+returns-in-CopyWords-clause-step c =
+    λ yes program w input.
+    c.copy_quickly.ensures.step (c.attempted-in-CopyWords.ensures.made yes) w input ∙ sym (ap (λ x. (act program w (join c.args.self.now input []) (view.operation x)).0) c.in-CopyWords.is)
+
+pub returns-in-Return-clause-step : goal.returns-in-Return-clause-step
+returns-in-Return-clause-step c =
+    λ yes program w input.
+    c.return_quickly.ensures.step (c.attempted-in-Return.ensures.made yes) w input ∙ sym (ap (λ x. (act program w (join c.args.self.now input []) (view.operation x)).0) c.in-Return.is)

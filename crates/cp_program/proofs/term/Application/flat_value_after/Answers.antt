@@ -1,25 +1,128 @@
-use Rattle.std.proofs.Common.{rules, ◌≡◌, ap, sym, subst, ◌∙◌, Ok, IfSome, to_z, of_z, w32}
+use Rattle.std.proofs.Common.{rules, ◌≡◌, ap, ◌∙◌}
+use Rattle.cp_model.specs.Abstract as operator
 use Rattle.cp_model.specs.Erase.{operator_of}
-use Rattle.cp_machine_model.specs.Values.{apply, bind, value_of}
-use Rattle.cp_program.specs.Reaches.{apply_operation, view_with}
+use Rattle.cp_program_model.specs.Terms as plain
+use Rattle.cp_program.specs.Reaches.{view_with}
 use Rattle.cp_program.specs.View as view
-use Rattle.cp_program.proofs.Found.{application_with, found, told}
+use Rattle.cp_program.proofs.Found.{add_local, add_member, after_found, before_found, kept, local_before, member_before, multiply_local, multiply_member, subtract_local, subtract_member, told, with_local, with_member}
 use Rattle.cp_program.proofs.term.Application.flat_value_after.Goals as goal
 
-pub returns-in_ok-right-in-WithOperand : goal.returns-in_ok-right-in-WithOperand
-returns-in_ok-right-in-WithOperand c shared clock =
+pub returns-in_ok-sum-in-AddLocal : goal.returns-in_ok-sum-in-AddLocal
+returns-in_ok-sum-in-AddLocal c shared clock =
     let v = view_with c.args.memory.now shared clock in
-    let x = c.in-WithOperand in
-    let right = c.in_ok-right-in-WithOperand.right in
-    let known : value_of v (view.operand x.operand) ≡ Ok right = told _ right _ c.in_ok-right-in-WithOperand.was (c.flat_value.ensures shared clock) in
-    let parted : view.application c.args.self.now ≡ record { operator = operator_of x.operator; operand = view.operand x.operand } =
-    ap view.application x.is ∙ application_with x.operator x.operand in
-    let same : to_z w32 (of_z w32 right) ≡ right = search rules in
-    let same_left : to_z w32 (of_z w32 c.args.left) ≡ c.args.left = search rules in
-    let applied : IfSome c.apply-in-WithOperand.result (λ m. apply (operator_of x.operator) c.args.left right ≡ Ok m) =
-    subst (λ y. IfSome c.apply-in-WithOperand.result (λ m. apply (operator_of x.operator) c.args.left y ≡ Ok m)) same
-    (subst (λ y. IfSome c.apply-in-WithOperand.result (λ m. apply (operator_of x.operator) y (to_z w32 (of_z w32 right)) ≡ Ok m)) same_left
-    c.apply-in-WithOperand.ensures) in
-    found c.apply-in-WithOperand.result (apply (operator_of x.operator) c.args.left right) _
-    (ap (λ r. bind r (λ y. apply (operator_of x.operator) c.args.left y)) (sym known) ∙ sym (ap (apply_operation v c.args.left) parted))
-    applied
+    let n = c.in_ok-own_local-in-AddLocal.field-0 in
+    let m = c.in_ok-sum-in-AddLocal.field-0 in
+    let known = told _ n _ c.in_ok-own_local-in-AddLocal.was (c.own_local.ensures shared clock) in
+    let left : kept c.args.left ≡ c.args.left = search rules in
+    let right : kept n ≡ n = search rules in
+    let result : kept m ≡ m = search rules in
+    after_found v c.args.left n m operator.Add (view.local c.in-AddLocal.at) _ (ap view.application c.in-AddLocal.is ∙ add_local c.in-AddLocal.at) known left right result
+    (told _ m _ c.in_ok-sum-in-AddLocal.was c.sum-in-AddLocal.ensures)
+
+pub returns-in_ok-sum-in-AddMember : goal.returns-in_ok-sum-in-AddMember
+returns-in_ok-sum-in-AddMember c shared clock =
+    let v = view_with c.args.memory.now shared clock in
+    let n = c.in_ok-own_member-in-AddMember.field-0 in
+    let m = c.in_ok-sum-in-AddMember.field-0 in
+    let known = told _ n _ c.in_ok-own_member-in-AddMember.was (c.own_member.ensures shared clock) in
+    let left : kept c.args.left ≡ c.args.left = search rules in
+    let right : kept n ≡ n = search rules in
+    let result : kept m ≡ m = search rules in
+    after_found v c.args.left n m operator.Add (view.member c.in-AddMember.at) _ (ap view.application c.in-AddMember.is ∙ add_member c.in-AddMember.at) known left right result
+    (told _ m _ c.in_ok-sum-in-AddMember.was c.sum-in-AddMember.ensures)
+
+pub returns-in_ok-difference-in-SubtractLocal : goal.returns-in_ok-difference-in-SubtractLocal
+returns-in_ok-difference-in-SubtractLocal c shared clock =
+    let v = view_with c.args.memory.now shared clock in
+    let n = c.in_ok-own_local-in-SubtractLocal.field-0 in
+    let m = c.in_ok-difference-in-SubtractLocal.field-0 in
+    let known = told _ n _ c.in_ok-own_local-in-SubtractLocal.was (c.own_local-in-SubtractLocal.ensures shared clock) in
+    let left : kept c.args.left ≡ c.args.left = search rules in
+    let right : kept n ≡ n = search rules in
+    let result : kept m ≡ m = search rules in
+    after_found v c.args.left n m operator.Subtract (view.local c.in-SubtractLocal.at) _ (ap view.application c.in-SubtractLocal.is ∙ subtract_local c.in-SubtractLocal.at) known left right result
+    (told _ m _ c.in_ok-difference-in-SubtractLocal.was c.difference-in-SubtractLocal.ensures)
+
+pub returns-in_ok-difference-in-SubtractMember : goal.returns-in_ok-difference-in-SubtractMember
+returns-in_ok-difference-in-SubtractMember c shared clock =
+    let v = view_with c.args.memory.now shared clock in
+    let n = c.in_ok-own_member-in-SubtractMember.field-0 in
+    let m = c.in_ok-difference-in-SubtractMember.field-0 in
+    let known = told _ n _ c.in_ok-own_member-in-SubtractMember.was (c.own_member-in-SubtractMember.ensures shared clock) in
+    let left : kept c.args.left ≡ c.args.left = search rules in
+    let right : kept n ≡ n = search rules in
+    let result : kept m ≡ m = search rules in
+    after_found v c.args.left n m operator.Subtract (view.member c.in-SubtractMember.at) _ (ap view.application c.in-SubtractMember.is ∙ subtract_member c.in-SubtractMember.at) known left right result
+    (told _ m _ c.in_ok-difference-in-SubtractMember.was c.difference-in-SubtractMember.ensures)
+
+pub returns-in_ok-product-in-MultiplyLocal : goal.returns-in_ok-product-in-MultiplyLocal
+returns-in_ok-product-in-MultiplyLocal c shared clock =
+    let v = view_with c.args.memory.now shared clock in
+    let n = c.in_ok-own_local-in-MultiplyLocal.field-0 in
+    let m = c.in_ok-product-in-MultiplyLocal.field-0 in
+    let known = told _ n _ c.in_ok-own_local-in-MultiplyLocal.was (c.own_local-in-MultiplyLocal.ensures shared clock) in
+    let left : kept c.args.left ≡ c.args.left = search rules in
+    let right : kept n ≡ n = search rules in
+    let result : kept m ≡ m = search rules in
+    after_found v c.args.left n m operator.Multiply (view.local c.in-MultiplyLocal.at) _ (ap view.application c.in-MultiplyLocal.is ∙ multiply_local c.in-MultiplyLocal.at) known left right result
+    (told _ m _ c.in_ok-product-in-MultiplyLocal.was c.product-in-MultiplyLocal.ensures)
+
+pub returns-in_ok-product-in-MultiplyMember : goal.returns-in_ok-product-in-MultiplyMember
+returns-in_ok-product-in-MultiplyMember c shared clock =
+    let v = view_with c.args.memory.now shared clock in
+    let n = c.in_ok-own_member-in-MultiplyMember.field-0 in
+    let m = c.in_ok-product-in-MultiplyMember.field-0 in
+    let known = told _ n _ c.in_ok-own_member-in-MultiplyMember.was (c.own_member-in-MultiplyMember.ensures shared clock) in
+    let left : kept c.args.left ≡ c.args.left = search rules in
+    let right : kept n ≡ n = search rules in
+    let result : kept m ≡ m = search rules in
+    after_found v c.args.left n m operator.Multiply (view.member c.in-MultiplyMember.at) _ (ap view.application c.in-MultiplyMember.is ∙ multiply_member c.in-MultiplyMember.at) known left right result
+    (told _ m _ c.in_ok-product-in-MultiplyMember.was c.product-in-MultiplyMember.ensures)
+
+pub returns-in_ok-apply-in-WithLocal : goal.returns-in_ok-apply-in-WithLocal
+returns-in_ok-apply-in-WithLocal c shared clock =
+    let v = view_with c.args.memory.now shared clock in
+    let n = c.in_ok-own_local-in-WithLocal.field-0 in
+    let m = c.in_ok-apply-in-WithLocal.field-0 in
+    let known = told _ n _ c.in_ok-own_local-in-WithLocal.was (c.own_local-in-WithLocal.ensures shared clock) in
+    let left : kept c.args.left ≡ c.args.left = search rules in
+    let right : kept n ≡ n = search rules in
+    let result : kept m ≡ m = search rules in
+    after_found v c.args.left n m (operator_of c.in-WithLocal.operator) (view.local c.in-WithLocal.at) _ (ap view.application c.in-WithLocal.is ∙ with_local c.in-WithLocal.operator c.in-WithLocal.at) known left right result
+    (told _ m _ c.in_ok-apply-in-WithLocal.was c.apply-in-WithLocal.ensures)
+
+pub returns-in_ok-apply-in-WithMember : goal.returns-in_ok-apply-in-WithMember
+returns-in_ok-apply-in-WithMember c shared clock =
+    let v = view_with c.args.memory.now shared clock in
+    let n = c.in_ok-own_member-in-WithMember.field-0 in
+    let m = c.in_ok-apply-in-WithMember.field-0 in
+    let known = told _ n _ c.in_ok-own_member-in-WithMember.was (c.own_member-in-WithMember.ensures shared clock) in
+    let left : kept c.args.left ≡ c.args.left = search rules in
+    let right : kept n ≡ n = search rules in
+    let result : kept m ≡ m = search rules in
+    after_found v c.args.left n m (operator_of c.in-WithMember.operator) (view.member c.in-WithMember.at) _ (ap view.application c.in-WithMember.is ∙ with_member c.in-WithMember.operator c.in-WithMember.at) known left right result
+    (told _ m _ c.in_ok-apply-in-WithMember.was c.apply-in-WithMember.ensures)
+
+pub returns-in_ok-apply-in-LocalBefore : goal.returns-in_ok-apply-in-LocalBefore
+returns-in_ok-apply-in-LocalBefore c shared clock =
+    let v = view_with c.args.memory.now shared clock in
+    let n = c.in_ok-own_local-in-LocalBefore.field-0 in
+    let m = c.in_ok-apply-in-LocalBefore.field-0 in
+    let known = told _ n _ c.in_ok-own_local-in-LocalBefore.was (c.own_local-in-LocalBefore.ensures shared clock) in
+    let left : kept c.args.left ≡ c.args.left = search rules in
+    let right : kept n ≡ n = search rules in
+    let result : kept m ≡ m = search rules in
+    before_found v c.args.left n m (operator_of c.in-LocalBefore.operator) (plain.Local c.in-LocalBefore.at) _ (ap view.application c.in-LocalBefore.is ∙ local_before c.in-LocalBefore.operator c.in-LocalBefore.at) known left right result
+    (told _ m _ c.in_ok-apply-in-LocalBefore.was c.apply-in-LocalBefore.ensures)
+
+pub returns-in_ok-apply-in-MemberBefore : goal.returns-in_ok-apply-in-MemberBefore
+returns-in_ok-apply-in-MemberBefore c shared clock =
+    let v = view_with c.args.memory.now shared clock in
+    let n = c.in_ok-own_member-in-MemberBefore.field-0 in
+    let m = c.in_ok-apply-in-MemberBefore.field-0 in
+    let known = told _ n _ c.in_ok-own_member-in-MemberBefore.was (c.own_member-in-MemberBefore.ensures shared clock) in
+    let left : kept c.args.left ≡ c.args.left = search rules in
+    let right : kept n ≡ n = search rules in
+    let result : kept m ≡ m = search rules in
+    before_found v c.args.left n m (operator_of c.in-MemberBefore.operator) (plain.Member c.in-MemberBefore.at) _ (ap view.application c.in-MemberBefore.is ∙ member_before c.in-MemberBefore.operator c.in-MemberBefore.at) known left right result
+    (told _ m _ c.in_ok-apply-in-MemberBefore.was c.apply-in-MemberBefore.ensures)

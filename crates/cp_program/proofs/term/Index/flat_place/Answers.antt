@@ -1,4 +1,4 @@
-use Rattle.std.proofs.Common.{rules, ◌≡◌, ap, sym, ◌∙◌, ◌+◌, Ok}
+use Rattle.std.proofs.Common.{rules, ◌≡◌, ap, sym, subst, ◌∙◌, ◌+◌, Ok, IfSome, to_z, of_z, w32}
 use Rattle.cp_machine_model.specs.Values.{bind, value_of}
 use Rattle.cp_program.specs.Reaches.{offset_of, view_with}
 use Rattle.cp_program.specs.View as view
@@ -12,10 +12,8 @@ returns c shared clock =
     let from = c.args.from in
     let i = view.index c.args.self.now in
     let n = c.in_ok-n.n in
-    let far = c.in_ok-far.far in
     let valued : value_of v i.value ≡ Ok n = ap (λ x. value_of v x.value) (index_is c.args.self.now) ∙ told _ n _ c.in_ok-n.was (c.flat_value.ensures shared clock) in
-    let moved : offset_of i n ≡ Ok far = search rules in
-    found c.checked_add.result (Ok (from + far)) _
-    (ap (λ r. bind r (λ k. Ok (from + k))) (sym moved)
-    ∙ ap (λ r. bind r (λ m. bind (offset_of i m) (λ k. Ok (from + k)))) (sym valued))
-    (search rules)
+    let same : to_z w32 (of_z w32 n) ≡ n = search rules in
+    let placed : IfSome c.place_at.result (λ at. bind (offset_of i n) (λ k. Ok (from + k)) ≡ Ok at) =
+    subst (λ m. IfSome c.place_at.result (λ at. bind (offset_of i m) (λ k. Ok (from + k)) ≡ Ok at)) same c.place_at.ensures in
+    found c.place_at.result _ _ (ap (λ r. bind r (λ m. bind (offset_of i m) (λ k. Ok (from + k)))) (sym valued)) placed

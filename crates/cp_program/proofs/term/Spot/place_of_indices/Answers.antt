@@ -13,9 +13,9 @@ returns c shared clock =
     let v = view_with c.args.memory.now shared clock in
     let s = c.args.self.now in
     let is = map view.index (out-Spot s).indices.items in
-    found c.flat_place_of_element.result _ _
+    found c.near_place_of_element.result _ _
     (ap (λ xs. elements_place v c.in_ok-from.from (map view.index xs)) c.deref.ensures.value
     ∙ (ap (λ n. elements_place v n is) (sym (c.in_ok-from.ensures shared clock))
     ∙ (sym (place_elements v (terms.Rooted (view.root (out-Spot s).root)) is)
     ∙ ap (place_of v) (sym (spot_is s)))))
-    (c.flat_place_of_element.ensures shared clock)
+    (c.near_place_of_element.ensures shared clock)

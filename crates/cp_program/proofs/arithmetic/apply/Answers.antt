@@ -2,7 +2,7 @@ use Rattle.std.proofs.Common.{◌≡◌, ◌-ℤ◌, ◌*ℤ◌, ap, sym, ◌∙
 use Rattle.cp_model.specs.Erase.{operator_of}
 use Rattle.cp_machine_model.specs.Values.{apply}
 use Rattle.cp_program.proofs.Wide.{wide, widened, in_range_wide, difference_fits, product_fits}
-use Rattle.cp_program.proofs.evaluation.apply.Goals as goal
+use Rattle.cp_program.proofs.arithmetic.apply.Goals as goal
 
 pub returns-in-Subtract : goal.returns-in-Subtract
 returns-in-Subtract c =

@@ -6,7 +6,7 @@ use Rattle.cp_model.specs.Places.{within}
 use Rattle.cp_model.specs.declared.state.Fault.TheVariants as fault
 use Rattle.cp_program_model.specs.Functions.{unless}
 use Rattle.cp_program.proofs.Wide.{bounds_wide, wide, widened}
-use Rattle.cp_program.proofs.evaluation.shift.Goals as goal
+use Rattle.cp_program.proofs.arithmetic.shift.Goals as goal
 
 pub returns : goal.returns
 returns c =

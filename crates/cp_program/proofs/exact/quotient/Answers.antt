@@ -3,7 +3,7 @@ use Rattle.std.specs.Prelude.{int_div}
 use Rattle.std.specs.Int.{w32, cast_unsigned}
 use Rattle.cp_program_model.specs.Functions.{in_range}
 use Rattle.cp_program.proofs.Wide.{apart, in_range_narrow, quotient_fits, unless_zero_passed}
-use Rattle.cp_program.proofs.flat.quotient.Goals as goal
+use Rattle.cp_program.proofs.exact.quotient.Goals as goal
 
 pub returns : goal.returns
 returns c =

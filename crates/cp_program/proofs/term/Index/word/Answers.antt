@@ -1,0 +1,34 @@
+use Rattle.std.proofs.Common.{rules, ◌≡◌, length, map, ap, sym, ◌∙◌}
+use Rattle.std.proofs.lemmas.List.{nil_from_length}
+use Rattle.cp_machine_model.specs.Values.{value_of}
+use Rattle.cp_program.specs.declared.term.Term.{out-Term}
+use Rattle.cp_program.specs.Reaches.{view_with}
+use Rattle.cp_program.specs.View as view
+use Rattle.cp_program.specs.View.{chain_of}
+use Rattle.cp_program.proofs.Chains.{term_is}
+use Rattle.cp_program.proofs.Found.{found, operand_local, operand_member}
+use Rattle.cp_program.proofs.term.Index.word.Goals as goal
+
+pub returns-in-Local : goal.returns-in-Local
+returns-in-Local c shared clock =
+    let v = view_with c.args.memory.now shared clock in
+    let t = c.args.self.now.value in
+    let zero : length (out-Term t).rest.items ≡ 0 = search rules in
+    let none = nil_from_length (out-Term t).rest.items zero in
+    let there : view.term t ≡ view.local c.in-Local.at =
+    term_is t
+    ∙ (ap (λ xs. chain_of (view.operand (out-Term t).first) (map view.application xs)) none
+    ∙ (ap view.operand c.in-Local.is ∙ operand_local c.in-Local.at)) in
+    found c.own_local.result _ _ (sym (ap (value_of v) there)) (c.own_local.ensures shared clock)
+
+pub returns-in-Member : goal.returns-in-Member
+returns-in-Member c shared clock =
+    let v = view_with c.args.memory.now shared clock in
+    let t = c.args.self.now.value in
+    let zero : length (out-Term t).rest.items ≡ 0 = search rules in
+    let none = nil_from_length (out-Term t).rest.items zero in
+    let there : view.term t ≡ view.member c.in-Member.at =
+    term_is t
+    ∙ (ap (λ xs. chain_of (view.operand (out-Term t).first) (map view.application xs)) none
+    ∙ (ap view.operand c.in-Member.is ∙ operand_member c.in-Member.at)) in
+    found c.own_member.result _ _ (sym (ap (value_of v) there)) (c.own_member.ensures shared clock)
