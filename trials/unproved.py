@@ -67,7 +67,7 @@ def inline_marks():
 def bare_line(line, marks):
     """A line of a module without tests, with the mark of the function that it defines."""
     name = re.match(r'define internal .*@"(cp[^"<]*)', line)
-    mark = name and marks.get(tuple(name[1].split('::')[-2:]))
+    mark = name and marks.get(tuple(name[1].rstrip(':').split('::')[-2:]))
     if mark:
         line = line.replace(') #', f') {mark} #', 1)
     return line.replace(' sanitize_address', '').replace('"frame-pointer"="all"', '"frame-pointer"="none"')
