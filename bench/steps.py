@@ -33,8 +33,8 @@ WORKERS, STEPS_OF_WORKER = 16, 416
 PROCESSES_OF_BUFFER = 17
 
 
-def run_text(text, rounds):
-    return instructions([CPM, 'run', text, '--rounds', rounds, '--turn', TURN, '--workers', 1])
+def run_text(text, rounds, turn=TURN):
+    return instructions([CPM, 'run', text, '--rounds', rounds, '--turn', turn, '--workers', 1])
 
 
 def variables(report):
@@ -89,20 +89,35 @@ def buffer_row():
     return ['`buffer.cp`', what, f'{taken / rounds / PROCESSES_OF_BUFFER:.0f}', '']
 
 
-def ended_row():
-    """Instructions a round of processes that have ended."""
-    fewer, more = 100, 1_100
+def text_at_a_monitor(entry):
+    """A text whose processes, all but the initial one, stay at this entry of a monitor."""
+    names = [f'v{k}' for k in range(PROCESSES)]
+    return (f'type m = monitor; var x: integer; q: array [1..{PROCESSES}] of queue; procedure entry stay; {entry}; begin x := 0 end; '
+            f'p = process(a: m); begin a.stay end; var a: m; {", ".join(names)}: p; begin init a, {", ".join(f"{name}(a)" for name in names)} end.')
+
+
+# The first process that enters runs inside for ever, so the others ask; or each is delayed in a queue of its own.
+AT_REST = {
+    '254 processes that have ended': ended_text(),
+    '252 processes that ask for a gate, which one more holds': text_at_a_monitor('begin cycle x := x end end'),
+    '253 processes that are delayed': text_at_a_monitor('begin x := x + 1; delay(q[x]) end'),
+}
+
+
+def row_at_rest(what, text):
+    """Instructions a round of processes that can't move. In turns of one step the initial process takes some 260 rounds to start them."""
+    fewer, more = 600, 1_600
     with tempfile.TemporaryDirectory() as folder:
-        text = pathlib.Path(folder) / 'ended.cp'
-        text.write_text(ended_text())
-        (few, _), (many, _) = (run_text(text, rounds) for rounds in (fewer, more))
+        file = pathlib.Path(folder) / 'rest.cp'
+        file.write_text(text)
+        (few, _), (many, _) = (run_text(file, rounds, 1) for rounds in (fewer, more))
     taken = (many - few) / (more - fewer) / (PROCESSES + 1)
-    return ['254 processes that have ended', 'nothing', f'{taken:.0f}', GOAL_AT_REST]
+    return [what, 'nothing', f'{taken:.0f}', GOAL_AT_REST]
 
 
 def main():
     measure_steps()
-    show('rounds', ['Text', 'What it does', 'Instructions a process and a round', 'Goal'], [buffer_row(), ended_row()])
+    show('rounds', ['Text', 'What it does', 'Instructions a process and a round', 'Goal'], [buffer_row(), *(row_at_rest(*case) for case in AT_REST.items())])
 
 
 if __name__ == '__main__':

@@ -11,7 +11,9 @@ import time
 
 from measuring import CPM, show
 
-TRIALS = 5
+TRIALS = 9
+# An idle run is so short that chance takes most of it: of nine trials, four workers took up to twice as long as one.
+IDLE_TRIALS = 25
 WORKERS = 1, 2, 4
 PROCESSES = 253
 COUNTING = 'var x: integer; begin cycle x := (x + 1) mod 30000 end end'
@@ -45,9 +47,9 @@ def seconds(words, copies=1):
     return time.perf_counter() - began
 
 
-def best(cases):
+def best(cases, count=TRIALS):
     """The least time of each case. Each trial runs all of them, so that they meet the same load."""
-    trials = [{name: seconds(words, copies) for name, (words, copies) in cases.items()} for _ in range(TRIALS)]
+    trials = [{name: seconds(words, copies) for name, (words, copies) in cases.items()} for _ in range(count)]
     return {name: min(trial[name] for trial in trials) for name in cases}
 
 
@@ -68,7 +70,7 @@ def measure_turns(text):
 
 
 def measure_idle_rounds(text):
-    times = best({workers: (command(text, IDLE_ROUNDS, 100, workers), 1) for workers in WORKERS})
+    times = best({workers: (command(text, IDLE_ROUNDS, 100, workers), 1) for workers in WORKERS}, IDLE_TRIALS)
     row = [f'{times[workers] / IDLE_ROUNDS * 1e6:.2f}' for workers in WORKERS]
     show('idle rounds', ['Microseconds a round', '1 worker', '2 workers', '4 workers'], [['of 254 processes that have ended', *row]])
 
