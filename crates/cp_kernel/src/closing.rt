@@ -70,8 +70,8 @@ fn has_fresh(stages: &[Stage]) -> bool
     false
 }
 
-// The end of a round, as plain data.
-fn close(program: &Program, kernel: &mut Kernel, privates: &mut [Resident])
+// The end of a round in which a process may have been started, as plain data.
+fn close_started(program: &Program, kernel: &mut Kernel, privates: &mut [Resident])
     ensures kernel { let k = kernel_of kernel.old in kernel_of kernel.new
         ≡ record k { stages = map plain.next_stage k.stages } }
     ensures gates { kernel.new.gates ≡ kernel.old.gates }
@@ -83,10 +83,31 @@ fn close(program: &Program, kernel: &mut Kernel, privates: &mut [Resident])
         ≡ map (λ (x : Private). x.number) privates.old }
 {
     if !has_fresh(&kernel.stages) {
+        kernel.may_have_fresh = false;
         return;
     }
     begin_all(program, kernel, privates);
+    // The next round looks once more.
+    kernel.may_have_fresh = true;
     close_stages(&mut kernel.stages);
+}
+
+// The end of a round, as plain data. Most rounds start no process, and end with one test.
+fn close(program: &Program, kernel: &mut Kernel, privates: &mut [Resident])
+    ensures kernel { let k = kernel_of kernel.old in kernel_of kernel.new
+        ≡ record k { stages = map plain.next_stage k.stages } }
+    ensures gates { kernel.new.gates ≡ kernel.old.gates }
+    ensures transcripts { kernel.new.transcripts ≡ kernel.old.transcripts }
+    ensures parts { (inputs : ℕ → List ℕ) → parts_of inputs 1 privates.new ≡ map
+        (plain.begin_one (view.program program.now) (kernel_of kernel.old))
+        (parts_of inputs 1 privates.old) }
+    ensures numbers { map (λ (x : Private). x.number) privates.new
+        ≡ map (λ (x : Private). x.number) privates.old }
+{
+    if !kernel.may_have_fresh {
+        return;
+    }
+    close_started(program, kernel, privates);
 }
 
 /// Ends the round: each process that was started in it begins, with the parameters that wait for

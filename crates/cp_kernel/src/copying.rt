@@ -49,6 +49,7 @@ impl Kernel {
             gates: copy_gates(alloc, &self.gates)?,
             stages: Vec::from_slice(alloc, &self.stages)?,
             transcripts: copy_transcripts(alloc, &self.transcripts)?,
+            may_have_fresh: true,
         })
     }
 
@@ -61,6 +62,7 @@ impl Kernel {
             gates: Vec::new(alloc),
             stages: Vec::new(alloc),
             transcripts: Vec::new(alloc),
+            may_have_fresh: true,
         }
     }
 }

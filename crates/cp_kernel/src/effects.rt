@@ -37,6 +37,7 @@ impl Kernel {
         ensures gates { self.new.gates ≡ self.old.gates }
         ensures transcripts { self.new.transcripts ≡ self.old.transcripts }
     {
+        self.may_have_fresh = self.may_have_fresh || matches!(stage, Stage::Fresh);
         if let Some(place) = self.stages.get_mut(index(p)) {
             *place = stage;
         }

@@ -1,6 +1,7 @@
 //! What the kernel keeps: shared words, gates, stages of processes and transcripts.
 
-ghost use Rattle.std.specs.Prelude.{◌≡◌, ◌<◌, ◌^◌, length};
+ghost use Rattle.std.specs.Prelude.{◌≡◌, ◌<◌, ◌^◌, false, length};
+ghost use Rattle.cp_kernel.specs.Fresh.{HasNoFresh};
 
 use cp_private::outside::{Gate, Stage};
 
@@ -15,6 +16,9 @@ pub struct Kernel {
     pub(crate) stages: Vec<Stage>,
     /// The output of processes by number, from 1, without what their private states still hold.
     pub(crate) transcripts: Vec<Vec<u8>>,
+    /// Whether a process may be fresh. Most rounds start none, and needn't look for it.
+    pub(crate) may_have_fresh: bool,
     ghost facts: { (length shared.items < 2 ^ 30) × (length transcripts.items ≡ length
         stages.items) },
+    ghost fresh: { may_have_fresh ≡ false → HasNoFresh stages.items },
 }

@@ -111,6 +111,7 @@ impl Kernel {
             gates: unset_gates(alloc, program.monitors())?,
             stages: first_stages(alloc, processes)?,
             transcripts: empty_transcripts(alloc, processes)?,
+            may_have_fresh: true,
         })
     }
 

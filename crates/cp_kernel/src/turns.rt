@@ -77,7 +77,6 @@ fn move_output(kernel: &mut Kernel, private: &mut Private)
     private.clear_output();
 }
 
-// Returns whether a kernel turn has neither a step to make nor output to move.
 #[inline(always)]
 fn has_nothing_to_do(program: &Program, kernel: &Kernel, private: &Private) -> bool
     ensures due { result ≡ true → (input : List ℕ) → plain.is_due (view.program program.now)
@@ -85,6 +84,18 @@ fn has_nothing_to_do(program: &Program, kernel: &Kernel, private: &Private) -> b
     ensures empty { result ≡ true → private.now.output.items ≡ [] }
 {
     private.output().is_empty() && !is_due(program, kernel, private)
+}
+
+/// Returns whether the kernel turn of a process has neither a step to make nor output to move. It
+/// then leaves everything as it is.
+#[inline(always)]
+pub fn has_no_kernel_turn(program: &Program, kernel: &Kernel, private: &Private) -> bool
+    ensures turn { result ≡ true → (clock n : ℕ) (input : List ℕ)
+        → IsTurned (view.program program.now) clock n kernel.now kernel.now private.now private.now
+        input }
+    ensures empty { result ≡ true → private.now.output.items ≡ [] }
+{
+    has_nothing_to_do(program, kernel, private)
 }
 
 // Makes the steps of a kernel turn, and moves the output.

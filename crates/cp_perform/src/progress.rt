@@ -48,6 +48,7 @@ impl<'a, H: Clock + Eprint> Progress<'a, H> {
     }
 
     // A round begins. Only one thread begins rounds.
+    #[inline(never)]
     fn count(&self) {
         let round = self.round.fetch_add(1, Ordering::SeqCst).saturating_add(1);
         let now = now(self.rt);
@@ -80,6 +81,7 @@ impl<'a, H: Clock + Eprint> Progress<'a, H> {
 impl<H: Clock + Eprint + Sync> TurnGate for Progress<'_, H> {
     fn begin(&self, _p: usize) {}
 
+    #[inline(always)]
     fn kernel(&self, p: usize) {
         if p == 1 && self.is_asked_for {
             self.count();

@@ -15,7 +15,8 @@
 //!   board.
 //! - `desk`, `slot`, `task`, `desk_turns`, `cursor`: private turns on their way between threads, and
 //!   how the threads make them.
-//! - `hand`: what the calling thread holds in a round, and how it takes private states back.
+//! - `hand`, `finishing`: what the calling thread holds in a round, how it takes private states back,
+//!   and how it finishes their turns.
 //! - `replay`, `copies`, `events`: one round in any order of events, on the calling thread.
 #![tactic(auto)]
 
@@ -26,6 +27,7 @@ mod cursor;
 mod desk;
 mod desk_turns;
 mod events;
+mod finishing;
 pub mod gate;
 pub mod halted;
 mod hand;

@@ -1,4 +1,4 @@
-use Rattle.std.proofs.Common.{◌≡◌, ◌≢◌, ◌≤◌, ◌+◌, ◌-◌, suc, ℕ, true, List, Some, slice_get, ap, sym, subst, ◌∙◌, arith, ⊎_elim}
+use Rattle.std.proofs.Common.{◌≡◌, ◌≢◌, ◌≤◌, ◌+◌, ◌-◌, suc, ℕ, List, Some, slice_get, ap, sym, subst, ◌∙◌, arith, ⊎_elim}
 use Rattle.cp_private.specs.Resting.{rests}
 use Rattle.cp_private.specs.declared.private.Private.{Private}
 use Rattle.cp_rounds.proofs.Lists.{got_or, got_set}

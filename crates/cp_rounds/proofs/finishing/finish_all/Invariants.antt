@@ -4,7 +4,7 @@ use Rattle.cp_rounds.specs.Numbers.{AreNumbered}
 use Rattle.cp_rounds.specs.Runs.{TurnsTaken}
 use Rattle.cp_rounds.specs.Tasks.{AreLeft}
 use Rattle.cp_rounds.specs.Turned.{moment_of}
-use Rattle.cp_rounds.proofs.round.finish_all.Given as goal
+use Rattle.cp_rounds.proofs.finishing.finish_all.Given as goal
 
 abbrev pub invariant-loop-i : goal.invariant-loop-i
 invariant-loop-i g l = record {

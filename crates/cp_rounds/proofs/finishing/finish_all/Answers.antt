@@ -5,7 +5,7 @@ use Rattle.cp_rounds.specs.Numbers.{AreNumbered}
 use Rattle.cp_rounds.specs.Runs.{TurnsTaken}
 use Rattle.cp_rounds.proofs.Lists.{none_some}
 use Rattle.cp_rounds.proofs.Made.{none_taken}
-use Rattle.cp_rounds.proofs.round.finish_all.Goals as goal
+use Rattle.cp_rounds.proofs.finishing.finish_all.Goals as goal
 
 pub loop-i-init : goal.loop-i-init
 loop-i-init g c = record {

@@ -1,0 +1,230 @@
+//! How the calling thread finishes the turns of a round: it takes private states back from the desk
+//! and makes the kernel turns, in order of process. A process that has nothing to do costs a few
+//! comparisons.
+
+ghost use Rattle.std.specs.Prelude.{◌≡◌, ◌<◌, ◌+◌, ◌-◌, ℕ, List, true, Some, length, slice_get, take};
+ghost use Rattle.cp_kernel.specs.Turns.{IsTurned};
+ghost use Rattle.cp_kernel.specs.declared.kernel.Kernel.{Kernel};
+ghost use Rattle.cp_private.specs.Resting.{rests};
+ghost use Rattle.cp_program.specs.View as view;
+ghost use Rattle.cp_rounds.specs.Made.{IsReady};
+ghost use Rattle.cp_rounds.specs.Numbers.{AreNumbered};
+ghost use Rattle.cp_rounds.specs.Runs.{TurnsTaken};
+ghost use Rattle.cp_rounds.specs.Tasks.{AllFree, AreLeft, IsTaken};
+ghost use Rattle.cp_rounds.specs.Turned.{moment_of};
+
+use crate::gate::TurnGate;
+use crate::hand::Hand;
+use crate::moment::Moment;
+use crate::run::Run;
+use crate::task::{Course, Start};
+use cp_kernel::kernel::Kernel;
+use cp_kernel::turns::{has_no_kernel_turn, kernel_turn};
+use cp_private::resident::Resident;
+use std::sync::{OnceToken, Wait};
+
+// Takes the private state of a process from the desk, after its private turn. It is kept out of the
+// loop over all processes.
+#[inline(never)]
+fn take_from_desk<'a, C: Course, R: Wait, G: TurnGate>(
+    rt: &R,
+    run: &Run<'a, C, G>,
+    hand: &mut Hand<'a, C>,
+    start: &OnceToken<'a, Start>,
+    round: usize,
+    process: usize,
+    private: &mut Resident,
+)
+    requires cell { start.now.of ≡ C.cell round }
+    ensures { IsTaken (C.turned (C.moment round)) (C.input (process - 1)) C.most
+        start.now.value.value.items process private.new }
+{
+    hand.take(rt, run, start, round, process, private);
+}
+
+// Brings back a private state after its private turn, which it has made where it is if it rests.
+#[inline(always)]
+fn bring_back<'a, C: Course, R: Wait, G: TurnGate>(
+    rt: &R,
+    run: &Run<'a, C, G>,
+    hand: &mut Hand<'a, C>,
+    start: &OnceToken<'a, Start>,
+    round: usize,
+    moment: Moment,
+    process: usize,
+    private: &mut Resident,
+)
+    requires some { 0 < process }
+    requires cell { start.now.of ≡ C.cell round }
+    requires time { moment ≡ C.moment round }
+    requires numbers { AreNumbered start.now.value.value.items }
+    requires free { AllFree C.most start.now.value.value.items }
+    requires left { rests moment.wakes private.old ≡ true
+        → slice_get start.now.value.value.items (process - 1) ≡ Some private.old }
+    ensures taken { IsTaken (C.turned (C.moment round)) (C.input (process - 1)) C.most
+        start.now.value.value.items process private.new }
+{
+    if !private.private().rests(moment.wakes) {
+        take_from_desk(rt, run, hand, start, round, process, private);
+    }
+}
+
+// Brings back the private state at an index after its private turn, and makes its kernel turn. It is
+// kept out of the loop over all processes.
+#[inline(never)]
+fn finish_moving<'a, C: Course, R: Wait, G: TurnGate>(
+    rt: &R,
+    run: &Run<'a, C, G>,
+    hand: &mut Hand<'a, C>,
+    start: &OnceToken<'a, Start>,
+    round: usize,
+    moment: Moment,
+    index: usize,
+    privates: &mut Vec<Resident>,
+    kernel: &mut Kernel,
+)
+    requires within { index < length privates.old.items }
+    requires count { length privates.old.items ≡ length start.now.value.value.items }
+    requires cell { start.now.of ≡ C.cell round }
+    requires time { moment ≡ C.moment round }
+    requires numbers { AreNumbered start.now.value.value.items }
+    requires free { AllFree C.most start.now.value.value.items }
+    requires left { AreLeft moment.wakes index start.now.value.value.items privates.old.items }
+    requires ready { IsReady C.most index start.now.value.value.items kernel.old }
+    ensures taken { (rounds : ℕ) (k : Kernel)
+        → moment ≡ moment_of run.now.turns.setting.now.tick.rounds rounds
+        → TurnsTaken run.now.turns.setting.now run.now.turns.plan.turn.steps rounds
+        start.now.value.value.items k (take index privates.old.items) kernel.old
+        → TurnsTaken run.now.turns.setting.now run.now.turns.plan.turn.steps rounds
+        start.now.value.value.items k (take (index + 1) privates.new.items) kernel.new }
+    ensures numbers { AreNumbered (take index privates.old.items)
+        → AreNumbered (take (index + 1) privates.new.items) }
+    ensures left { AreLeft moment.wakes (index + 1) start.now.value.value.items
+        privates.new.items }
+    ensures count { length privates.new.items ≡ length privates.old.items }
+    ensures ready { IsReady C.most (index + 1) start.now.value.value.items kernel.new }
+{
+    let process = index + 1;
+    let private = &mut privates[index];
+    bring_back(rt, run, hand, start, round, moment, process, private);
+    run.turns.gate.kernel(process);
+    let input = run.turns.setting.input(process);
+    kernel_turn(
+        &run.turns.setting.program,
+        kernel,
+        private.private_mut(),
+        input,
+        moment.clock,
+        run.turns.plan.turn,
+    );
+}
+
+// Returns whether a process has no step to make in the round, nor output to move: then both of its
+// turns leave everything as it is.
+#[inline(always)]
+fn stands_still<'a, C: Course, G: TurnGate>(
+    run: &Run<'a, C, G>,
+    start: &OnceToken<'a, Start>,
+    round: usize,
+    moment: Moment,
+    process: usize,
+    private: &Resident,
+    kernel: &Kernel,
+) -> bool
+    requires some { 0 < process }
+    requires cell { start.now.of ≡ C.cell round }
+    requires time { moment ≡ C.moment round }
+    requires numbers { AreNumbered start.now.value.value.items }
+    requires free { AllFree C.most start.now.value.value.items }
+    requires left { rests moment.wakes private.now ≡ true
+        → slice_get start.now.value.value.items (process - 1) ≡ Some private.now }
+    ensures taken { result ≡ true → IsTaken (C.turned (C.moment round)) (C.input (process - 1))
+        C.most start.now.value.value.items process private.now }
+    ensures turned { result ≡ true → (clock n : ℕ) (input : List ℕ)
+        → IsTurned (view.program run.now.turns.setting.now.program) clock n kernel.now kernel.now
+        private.now private.now input }
+{
+    let private = private.private();
+    // The output is asked for first, so that what `rests` finds is known where the kernel turn is
+    // asked for.
+    private.output().is_empty()
+        && private.rests(moment.wakes)
+        && has_no_kernel_turn(&run.turns.setting.program, kernel, private)
+}
+
+// Finishes the turns of the process at an index: of one that stands still with a few comparisons.
+#[inline(always)]
+fn finish_next<'a, C: Course, R: Wait, G: TurnGate>(
+    rt: &R,
+    run: &Run<'a, C, G>,
+    hand: &mut Hand<'a, C>,
+    start: &OnceToken<'a, Start>,
+    round: usize,
+    moment: Moment,
+    index: usize,
+    privates: &mut Vec<Resident>,
+    kernel: &mut Kernel,
+)
+    requires within { index < length privates.old.items }
+    requires count { length privates.old.items ≡ length start.now.value.value.items }
+    requires cell { start.now.of ≡ C.cell round }
+    requires time { moment ≡ C.moment round }
+    requires numbers { AreNumbered start.now.value.value.items }
+    requires free { AllFree C.most start.now.value.value.items }
+    requires left { AreLeft moment.wakes index start.now.value.value.items privates.old.items }
+    requires ready { IsReady C.most index start.now.value.value.items kernel.old }
+    ensures taken { (rounds : ℕ) (k : Kernel)
+        → moment ≡ moment_of run.now.turns.setting.now.tick.rounds rounds
+        → TurnsTaken run.now.turns.setting.now run.now.turns.plan.turn.steps rounds
+        start.now.value.value.items k (take index privates.old.items) kernel.old
+        → TurnsTaken run.now.turns.setting.now run.now.turns.plan.turn.steps rounds
+        start.now.value.value.items k (take (index + 1) privates.new.items) kernel.new }
+    ensures numbers { AreNumbered (take index privates.old.items)
+        → AreNumbered (take (index + 1) privates.new.items) }
+    ensures left { AreLeft moment.wakes (index + 1) start.now.value.value.items
+        privates.new.items }
+    ensures count { length privates.new.items ≡ length privates.old.items }
+    ensures ready { IsReady C.most (index + 1) start.now.value.value.items kernel.new }
+{
+    let process = index + 1;
+    if stands_still(run, start, round, moment, process, &privates[index], kernel) {
+        run.turns.gate.kernel(process);
+        return;
+    }
+    finish_moving(rt, run, hand, start, round, moment, index, privates, kernel);
+}
+
+// Makes all turns of a round whose tasks are at the desk: kernel turns alongside the private turns
+// that are left. It isn't inlined, so that its loop keeps in registers what a process costs that
+// can't move.
+#[inline(never)]
+pub(crate) fn finish_all<'a, C: Course, R: Wait, G: TurnGate>(
+    rt: &R,
+    run: &Run<'a, C, G>,
+    hand: &mut Hand<'a, C>,
+    start: &OnceToken<'a, Start>,
+    round: usize,
+    moment: Moment,
+    privates: &mut Vec<Resident>,
+    kernel: &mut Kernel,
+)
+    requires count { length privates.old.items ≡ length start.now.value.value.items }
+    requires cell { start.now.of ≡ C.cell round }
+    requires time { moment ≡ C.moment round }
+    requires numbers { AreNumbered start.now.value.value.items }
+    requires free { AllFree C.most start.now.value.value.items }
+    requires left { AreLeft moment.wakes 0 start.now.value.value.items privates.old.items }
+    requires ready { IsReady C.most 0 start.now.value.value.items kernel.old }
+    ensures taken { (rounds : ℕ)
+        → moment ≡ moment_of run.now.turns.setting.now.tick.rounds rounds
+        → TurnsTaken run.now.turns.setting.now run.now.turns.plan.turn.steps rounds
+        start.now.value.value.items kernel.old privates.new.items kernel.new }
+    ensures numbers { AreNumbered privates.new.items }
+    ensures count { length privates.new.items ≡ length privates.old.items }
+    ensures stages { length kernel.new.stages.items ≡ length privates.new.items }
+{
+    for i in 0..privates.len() {
+        finish_next(rt, run, hand, start, round, moment, i, privates, kernel);
+    }
+    hand.end_wave(rt, run);
+}
