@@ -1,10 +1,10 @@
 #!/usr/bin/env python3
-"""Builds cpm without proving anything, in five minutes, to try or measure a change whose proofs are still to come.
+"""Builds cpm without proving anything, in three minutes, to try or measure a change whose proofs are still to come.
 
     trials/unproved.py PROGRAM [--bare]      then CPM=PROGRAM python3 trials/answers.py
 
-`rt try` compiles the sources, and hands a module to clang. A copy of the kit, of links but for that clang, keeps the module, which is then compiled
-and linked as `rt run` does it. It has tests of all that is proved of a built program; --bare leaves them out and inlines what the sources say. So its
+`rt try` compiles the sources, and hands a module to clang. A copy of the kit, of links but for that clang and the prover, keeps the module and ends there. The
+module is then compiled and linked as `rt run` does it. It has tests of all that is proved of a built program; --bare leaves them out and inlines what the sources say. So its
 steps take some 5 percent more instructions than those of the proved program: compare two such builds with each other.
 """
 import pathlib
@@ -17,11 +17,12 @@ import tempfile
 ROOT = pathlib.Path(__file__).resolve().parent.parent
 KIT = pathlib.Path(shutil.which('rt')).resolve().parent.parent
 CLANG = KIT / 'toolchain' / 'bin' / 'clang'
-# Keeps the module that it is given, and does what the kit's clang does.
+# Keeps the module that it is given, and fails, so that `rt try` builds and runs nothing. Before, `rt try` gives it some small ones, with which it does what
+# the kit's clang does.
 KEEPER = '''#!/bin/sh
 for word; do
   case "$word" in
-    *.bc) cp "$word" "{module}" ;;
+    *.bc) cp "$word" "{module}"; [ $(stat -c %s "$word") -gt 100000 ] && exit 1 ;;
   esac
 done
 exec {clang} "$@"
@@ -41,11 +42,12 @@ def copy_kit(folder, module):
             if file.name in ('rt', 'rtlib.py'):
                 # These find the kit by their own place.
                 shutil.copy(file, place)
-            elif file != CLANG and file != CLANG.parent:
+            elif file not in (CLANG, CLANG.parent, KIT / 'bin' / 'rattle'):
                 place.symlink_to(file)
-    keeper = folder / 'toolchain' / 'bin' / 'clang'
-    keeper.write_text(KEEPER.format(module=module, clang=CLANG))
-    keeper.chmod(0o755)
+    scripts = {'toolchain/bin/clang': KEEPER.format(module=module, clang=CLANG), 'bin/rattle': '#!/bin/sh\nexit 1\n'}
+    for place, script in scripts.items():
+        (folder / place).write_text(script)
+        (folder / place).chmod(0o755)
 
 
 def inline_marks():
@@ -88,8 +90,9 @@ def main(program, *words):
         module, bare, objects = folder / 'module.bc', folder / 'bare.ll', folder / 'program.o'
         (folder / 'kit').mkdir()
         copy_kit(folder / 'kit', module)
-        # The program that it runs asks for a text on standard input, and is given none.
-        subprocess.run([folder / 'kit' / 'bin' / 'rt', 'try'], cwd=ROOT / 'crates' / 'cpm', stdin=subprocess.DEVNULL, stdout=subprocess.DEVNULL)
+        tried = subprocess.run([folder / 'kit' / 'bin' / 'rt', 'try'], cwd=ROOT / 'crates' / 'cpm', stdin=subprocess.DEVNULL, capture_output=True, text=True)
+        if not module.exists() or module.stat().st_size < 100_000:
+            raise SystemExit(tried.stdout + tried.stderr)
         if '--bare' in words:
             strip(module, bare)
         subprocess.run([CLANG, '-O3', '-c', bare if '--bare' in words else module, '-o', objects], check=True)
