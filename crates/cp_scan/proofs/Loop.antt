@@ -1,13 +1,19 @@
 -- The iterations of the scanner's loop, and its end.
-use Rattle.std.proofs.Common.{◌≡◌, ℕ, suc, ◌+◌, ◌-◌, ◌<◌, ◌≤◌, List, [], ◌∷◌, length, drop, Option, Ok, Err, refl, sym, ap, subst, ◌∙◌, length-drop, length-append, arith}
+use Rattle.std.proofs.Common.{◌≡◌, ℕ, suc, ◌+◌, ◌-◌, ◌<◌, ◌≤◌, List, [], ◌∷◌, length, drop, get_or, Option, Ok, Err, IfOk, IfErr, IsErrAnd, Bool, true, refl, sym, ap, subst, ◌∙◌, length-drop, length-append, arith}
 use Rattle.std.proofs.lemmas.List.{drop_all, drop-drop}
+use Rattle.cp_model.specs.Characters.{is_letter}
 use Rattle.cp_model.specs.declared.token.Kind.{Kind}
 use Rattle.cp_model.specs.declared.token.Token.{Token}
 use Rattle.cp_scan.specs.declared.refusal.Cause.{Cause}
-use Rattle.cp_scan.specs.Pieces.{Piece, piece, pieces, goes_on, with_token, tokens_of, head_or_zero}
+use Rattle.cp_scan.specs.declared.refusal.ScanError.{ScanError}
+use Rattle.cp_scan.specs.declared.refusal.ScanError.TheVariants as error
+use Rattle.cp_scan.specs.Failures.{Fails}
+use Rattle.cp_scan.specs.Pieces.{Piece, Outcome, piece, pieces, step, goes_on, with_token, tokens_of, head_or_zero, first_piece, word}
 use Rattle.cp_scan.proofs.Fronts.{Holds}
 use Rattle.cp_scan.proofs.Fuel.{same_fuel}
+use Rattle.cp_scan.proofs.Outcomes.{Answer}
 use Rattle.cp_scan.proofs.PieceLaws.{piece_holds}
+use Rattle.cp_scan.proofs.WordLaws.{piece_of_letter}
 use Rattle.cp_scan.proofs.Turns.{after, turn, at_end, has_bytes}
 
 -- the rest of a text begins with its first byte
@@ -18,11 +24,6 @@ left_at (b ∷ rest) some = refl
 pub left : (text : List ℕ) (at : ℕ) → at < length text → drop at text ≡ head_or_zero (drop at text) ∷ drop 1 (drop at text)
 left text at inside = left_at (drop at text) (let l = length-drop at text in omega arith)
 
--- the piece that was read is the one at the front of the rest
-pub read_at : (rest left : List ℕ) (r o : Piece) → rest ≡ left → r ≡ piece (head_or_zero rest) (drop 1 rest) → r ≡ o
-    → piece (head_or_zero left) (drop 1 left) ≡ o
-read_at rest left r o same is_front e = ap (λ (w : List ℕ). piece (head_or_zero w) (drop 1 w)) (sym same) ∙ sym is_front ∙ e
-
 -- a piece has at least one byte, and no more than there are
 piece_length : (b : ℕ) (rest : List ℕ) (k : Option Kind) (n : ℕ) → piece b rest ≡ Ok (k, n) → (0 < n) × (n ≤ length (b ∷ rest))
 piece_length b rest k n e =
@@ -32,6 +33,49 @@ piece_length b rest k n e =
     let m = length-append h.0 h.1 in
     let same = h.3 in
     (omega arith, omega arith)
+
+-- the place after a piece is within the text, and so below a limit of it
+pub piece_within : (text : List ℕ) (at limit : ℕ) → at < length text → length text < limit → (rest : List ℕ) (r : Piece) → rest ≡ drop at text
+    → r ≡ first_piece rest → IfOk r (λ read. at + read.1 < limit)
+piece_within text at limit inside below rest (Err c) is_rest is_front = tt
+piece_within text at limit inside below rest (Ok x) is_rest is_front =
+    let some : 0 < length rest = rw is_rest (let l = length-drop at text in omega arith) in
+    let most = (piece_length (head_or_zero rest) (drop 1 rest) x.0 x.1 (sym is_front)).1 in
+    let l = length-drop at text in
+    let m = ap (λ (w : List ℕ). length w) (left_at rest some) in
+    let s = ap (λ (w : List ℕ). length w) is_rest in
+    omega arith
+
+-- a piece that begins with a letter is a word
+word_first : (rest : List ℕ) → is_letter (get_or rest 0 0) ≡ true → word rest ≡ first_piece rest
+word_first [] h = cc
+word_first (b ∷ rest) h = sym (piece_of_letter b rest h)
+
+pub first_word : (text rest : List ℕ) (is_one : Bool) → rest ≡ text → is_one ≡ is_letter (get_or rest 0 0) → is_one ≡ true
+    → word rest ≡ first_piece text
+first_word text rest is_one same is_first h = word_first rest (sym is_first ∙ h) ∙ ap first_piece same
+
+-- the piece of a step, and what the step makes of it
+piece_of : (r : Piece) (at : ℕ) (found : List Token) (end : ℕ) (with_it : List Token) → step r at found ≡ Ok (end, with_it)
+    → (k : Option Kind) × (n : ℕ) × (r ≡ Ok (k, n)) × (end ≡ at + n) × (with_it ≡ with_token k at (at + n) found)
+piece_of (Ok x) at found end with_it e =
+    let same : (end, with_it) ≡ (at + x.1, with_token x.0 at (at + x.1) found) = cc in
+    (x.0, x.1, refl, ap (λ (went : ℕ × List Token). went.0) same, ap (λ (went : ℕ × List Token). went.1) same)
+piece_of (Err c) at found end with_it e = cc
+
+-- a text that fails at a step fails
+fails_at : (r : Piece) (at : ℕ) (found : List Token) (next : Option Kind → ℕ → Outcome) (error : ScanError) → Fails error (step r at found)
+    → Fails error (goes_on r at next)
+fails_at r at found next error.Memory h = h
+fails_at (Ok x) at found next (error.Refused c place) h = cc
+fails_at (Err d) at found next (error.Refused c place) h =
+    let same : (d, at) ≡ (c, place) = cc in ap (λ (cause : Cause × ℕ). Err cause) same
+
+-- a failure that is passed on as it is
+pub told : (text : List ℕ) (r : Answer) (error : ScanError) → IsErrAnd r (λ e. e ≡ error) → Fails error (tokens_of text)
+    → IfErr r (λ e. Fails e (tokens_of text))
+told text (Ok tokens) error same h = tt
+told text (Err e) error same h = subst (λ (e : ScanError). Fails e (tokens_of text)) (sym same) h
 
 module _ (text : List ℕ) (at : ℕ) (found : List Token)
     (so_far : pieces (length text - at) at (drop at text) found ≡ tokens_of text) where
@@ -49,25 +93,38 @@ module _ (text : List ℕ) (at : ℕ) (found : List Token)
         ∙ ap (λ (m : ℕ). pieces m at (drop at text) found) (sym bytes_left)
         ∙ so_far
 
-    pub fails : (c : Cause) → piece b rest ≡ Err c → tokens_of text ≡ Err (c, at)
-    fails c e = sym here ∙ ap (λ (r : Piece). goes_on r at (after (length rest) at (b ∷ rest) found)) e
+    pub fails : (error : ScanError) → Fails error (step (piece b rest) at found) → Fails error (tokens_of text)
+    fails error h =
+        subst (λ (o : Outcome). Fails error o) here (fails_at (piece b rest) at found (after (length rest) at (b ∷ rest) found) error h)
 
-    module _ (k : Option Kind) (n : ℕ) (e : piece b rest ≡ Ok (k, n)) where
-      pub some_bytes : 0 < n
-      some_bytes = (piece_length b rest k n e).0
+    module _ (end : ℕ) (with_it : List Token) (e : step (piece b rest) at found ≡ Ok (end, with_it)) where
+      pub moves_on : at < end
+      moves_on =
+          let p = piece_of (piece b rest) at found end with_it e in
+          let some = (piece_length b rest p.0 p.1 p.2).0 in
+          let is_end = p.3 in
+          omega arith
 
-      pub within : at + n ≤ length text
-      within = let most = (piece_length b rest k n e).1 in let l = bytes_left in omega arith
+      pub within : end ≤ length text
+      within =
+          let p = piece_of (piece b rest) at found end with_it e in
+          let most = (piece_length b rest p.0 p.1 p.2).1 in
+          let is_end = p.3 in
+          let l = bytes_left in
+          omega arith
 
-      pub goes : pieces (length text - (at + n)) (at + n) (drop (at + n) text) (with_token k at (at + n) found) ≡ tokens_of text
+      pub goes : pieces (length text - end) end (drop end text) with_it ≡ tokens_of text
       goes =
-          let some = some_bytes in
+          let p = piece_of (piece b rest) at found end with_it e in
+          let some = moves_on in
           let most = within in
           let l = bytes_left in
-          let m = length-drop (at + n) text in
-          let found' = with_token k at (at + n) found in
-          let d : drop (at + n) text ≡ drop n (b ∷ rest) = sym (drop-drop n at text) ∙ ap (λ (w : List ℕ). drop n w) is_left in
-          same_fuel (length text - (at + n)) (length rest) (at + n) (drop (at + n) text) found' (omega arith) (omega arith)
-          ∙ ap (λ (w : List ℕ). pieces (length rest) (at + n) w found') d
-          ∙ ap (λ (r : Piece). goes_on r at (after (length rest) at (b ∷ rest) found)) (sym e)
+          let m = length-drop end text in
+          let d : drop end text ≡ drop p.1 (b ∷ rest) =
+          ap (λ (i : ℕ). drop i text) p.3 ∙ sym (drop-drop p.1 at text) ∙ ap (λ (w : List ℕ). drop p.1 w) is_left in
+          same_fuel (length text - end) (length rest) end (drop end text) with_it (omega arith) (omega arith)
+          ∙ ap (λ (w : List ℕ). pieces (length rest) end w with_it) d
+          ∙ ap (λ (i : ℕ). pieces (length rest) i (drop p.1 (b ∷ rest)) with_it) p.3
+          ∙ ap (λ (ts : List Token). pieces (length rest) (at + p.1) (drop p.1 (b ∷ rest)) ts) p.4
+          ∙ ap (λ (r : Piece). goes_on r at (after (length rest) at (b ∷ rest) found)) (sym p.2)
           ∙ here

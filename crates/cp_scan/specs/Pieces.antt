@@ -107,6 +107,10 @@ piece b rest =
     else (if is_letter b then word (b ∷ rest)
     else mark b (head_or_zero rest)))))
 
+-- The piece at the front of a text that isn't empty.
+abbrev pub first_piece : List ℕ → Piece
+first_piece text = piece (head_or_zero text) (drop 1 text)
+
 -- ---- all pieces of a text
 
 -- The tokens, or the first cause and its place.
@@ -116,6 +120,15 @@ Outcome = Result (List Token) (Cause × ℕ)
 abbrev pub with_token : Option Kind → ℕ → ℕ → List Token → List Token
 with_token None from to found = found
 with_token (Some k) from to found = found ++ record { kind = k; span = record { from = from; to = to } } ∷ []
+
+-- The place after a piece, and the tokens up to there. Or the cause and its place.
+abbrev pub Step : Type 0
+Step = Result (ℕ × List Token) (Cause × ℕ)
+
+-- The piece begins at `at`, and `found` are the tokens before it.
+abbrev pub step : Piece → ℕ → List Token → Step
+step (Ok x) at found = Ok (at + x.1, with_token x.0 at (at + x.1) found)
+step (Err c) at found = Err (c, at)
 
 abbrev pub goes_on : Piece → ℕ → (Option Kind → ℕ → Outcome) → Outcome
 goes_on (Ok x) at f = f x.0 x.1

@@ -4,7 +4,9 @@
 
 ghost use Rattle.std.specs.Prelude.{◌≡◌};
 ghost use Rattle.cp_scan.specs.Pieces as spec;
+ghost use Rattle.cp_scan.specs.Pieces.{head_or_zero};
 
+use crate::bytes::byte_at;
 use crate::piece::Front;
 use crate::refusal::Cause;
 use cp_model::token::{Kind, Symbol};
@@ -21,7 +23,8 @@ fn two(symbol: Symbol) -> Front
     Ok((Some(Kind::Symbol(symbol)), 2))
 }
 
-// Reads a mark that starts like a longer one.
+// Reads a mark that starts like a longer one. The byte after `b` is `c`, or `c` is 0 at the end of
+// the text.
 #[tactic(auto, unfolding(crate::specs::Pieces::longer_mark))]
 fn longer_mark(b: u8, c: u8) -> Front
     ensures { result ≡ spec.longer_mark b c }
@@ -43,10 +46,10 @@ fn longer_mark(b: u8, c: u8) -> Front
     }
 }
 
-/// The mark that begins with `b`. The byte after `b` is `c`, or `c` is 0 at the end of the text.
+/// Reads the mark that begins with `b`. The text after `b` is `rest`.
 #[tactic(auto, unfolding(crate::specs::Pieces::mark))]
-pub fn mark(b: u8, c: u8) -> Front
-    ensures { result ≡ spec.mark b c }
+pub fn mark(b: u8, rest: &[u8]) -> Front
+    ensures { result ≡ spec.mark b (head_or_zero rest.now) }
 {
     match b {
         b'+' => one(Symbol::Plus),
@@ -59,6 +62,6 @@ pub fn mark(b: u8, c: u8) -> Front
         b']' => one(Symbol::CloseBracket),
         b',' => one(Symbol::Comma),
         b';' => one(Symbol::Semicolon),
-        _ => longer_mark(b, c),
+        _ => longer_mark(b, byte_at(rest, 0)),
     }
 }

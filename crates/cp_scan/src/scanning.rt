@@ -10,10 +10,10 @@ ghost use Rattle.cp_scan.specs.Pieces as spec;
 ghost use Rattle.cp_scan.specs.declared.refusal.Cause.{Cause};
 ghost use Rattle.cp_scan.specs.declared.refusal.ScanError.TheVariants.{Memory};
 
-use crate::piece::piece;
+use crate::piece::append_piece;
 use crate::refusal::{Cause, ScanError};
-use cp_model::token::{Kind, Span, Token};
-use std::alloc::{AllocError, Global};
+use cp_model::token::Token;
+use std::alloc::Global;
 
 /// The largest number of bytes of a text that is scanned.
 pub const LONGEST_TEXT: usize = 1_048_576;
@@ -61,32 +61,7 @@ fn all_tokens(alloc: Global, text: &[u8]) -> Result<Vec<Token>, ScanError>
     let mut tokens = Vec::new(alloc);
     let mut at = 0;
     while at < text.len() {
-        match piece(alloc, rest_from(text, at))? {
-            Ok((kind, n)) => {
-                let end = at + n;
-                push_token(&mut tokens, kind, Span { from: at, to: end })?;
-                at = end;
-            }
-            Err(cause) => return Err(ScanError::Refused { cause, at }),
-        }
+        at = append_piece(alloc, text, at, &mut tokens)?;
     }
     Ok(tokens)
-}
-
-fn rest_from(text: &[u8], at: usize) -> &[u8]
-    requires { at ≤ length text.now }
-    ensures { result.now ≡ drop at text.now }
-{
-    &text[at..]
-}
-
-// Appends a token. A separator gives none.
-fn push_token(tokens: &mut Vec<Token>, kind: Option<Kind>, span: Span) -> Result<(), AllocError>
-    ensures { OnOk result
-        (tokens.new.items ≡ spec.with_token kind span.from span.to tokens.old.items) }
-{
-    if let Some(kind) = kind {
-        tokens.push(Token { kind, span })?;
-    }
-    Ok(())
 }

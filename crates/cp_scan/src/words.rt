@@ -1,16 +1,17 @@
 //! Words in lower case: reserved words, according to the table in `Spelling` of cp_model, and
 //! names. `word` of `specs/Pieces.antt` defines what is read.
 
-ghost use Rattle.std.specs.Prelude.{◌≡◌, ◌<◌, ◌∷◌, ℕ, List, map, IfOk, take};
+ghost use Rattle.std.specs.Prelude.{◌≡◌, ◌+◌, ◌^◌, ◌<◌, ◌∷◌, ℕ, List, map, length};
 ghost use Rattle.cp_model.specs.Spelling as spelling;
+ghost use Rattle.cp_scan.specs.Failures.{Reads};
 ghost use Rattle.cp_scan.specs.Pieces as spec;
 ghost use Rattle.cp_scan.specs.Words.{kind_or_name};
 
 use crate::bytes::word_length;
-use crate::piece::Front;
-use crate::refusal::Cause;
-use cp_model::token::{Kind, Name, Symbol};
-use std::alloc::{AllocError, Global};
+use crate::piece::append;
+use crate::refusal::{Cause, ScanError};
+use cp_model::token::{Kind, Name, Symbol, Token};
+use std::alloc::Global;
 
 // The largest number of letters, digits and underscores in a word.
 const LONGEST_WORD: usize = 64;
@@ -125,25 +126,27 @@ fn reserved_word(letters: &[u8]) -> Option<Symbol>
     }
 }
 
-// The kind of a word in lower case.
-fn kind_of_word(word: Name) -> Kind
-    ensures { result ≡ spelling.kind_of_word word }
-{
-    match reserved_word(word.as_bytes()) {
-        Some(symbol) => Kind::Symbol(symbol),
-        None => Kind::Name(word),
-    }
-}
-
-/// Reads the word at the front of a text. Fails only if memory runs out.
+/// Reads the word at the front of a text, whose place is `at`, and appends its token. Returns the
+/// place after the word.
 #[tactic(auto, unfolding(crate::specs::Pieces::word))]
-pub fn word(alloc: Global, text: &[u8]) -> Result<Front, AllocError>
-    ensures { IfOk result (λ front. front ≡ spec.word text.now) }
+pub fn append_word(
+    alloc: Global,
+    text: &[u8],
+    at: usize,
+    tokens: &mut Vec<Token>,
+) -> Result<usize, ScanError>
+    requires { at + length text.now < 2 ^ 64 }
+    ensures { Reads result tokens.new.items
+        (spec.step (spec.word text.now) at tokens.old.items) }
 {
     let n = word_length(text);
     if n > LONGEST_WORD {
-        return Ok(Err(Cause::Word));
+        let cause = Cause::Word;
+        return Err(ScanError::Refused { cause, at });
     }
     let word = Name::new(alloc, &text[..n])?;
-    Ok(Ok((Some(kind_of_word(word)), n)))
+    match reserved_word(word.as_bytes()) {
+        Some(symbol) => append(Kind::Symbol(symbol), at, at + n, tokens),
+        None => append(Kind::Name(word), at, at + n, tokens),
+    }
 }
