@@ -34,16 +34,13 @@ piece_length b rest k n e =
     let same = h.3 in
     (omega arith, omega arith)
 
--- the place after a piece is within the text, and so below a limit of it
-pub piece_within : (text : List ℕ) (at limit : ℕ) → at < length text → length text < limit → (rest : List ℕ) (r : Piece) → rest ≡ drop at text
-    → r ≡ first_piece rest → IfOk r (λ read. at + read.1 < limit)
-piece_within text at limit inside below rest (Err c) is_rest is_front = tt
-piece_within text at limit inside below rest (Ok x) is_rest is_front =
-    let some : 0 < length rest = rw is_rest (let l = length-drop at text in omega arith) in
-    let most = (piece_length (head_or_zero rest) (drop 1 rest) x.0 x.1 (sym is_front)).1 in
-    let l = length-drop at text in
-    let m = ap (λ (w : List ℕ). length w) (left_at rest some) in
-    let s = ap (λ (w : List ℕ). length w) is_rest in
+-- the place after a piece is below each limit of the text
+pub piece_below : (text : List ℕ) (at limit : ℕ) → 0 < length text → at + length text < limit → (r : Piece) → r ≡ first_piece text
+    → IfOk r (λ read. at + read.1 < limit)
+piece_below text at limit some below (Err c) is_front = tt
+piece_below text at limit some below (Ok x) is_front =
+    let most = (piece_length (head_or_zero text) (drop 1 text) x.0 x.1 (sym is_front)).1 in
+    let l = ap (λ (w : List ℕ). length w) (left_at text some) in
     omega arith
 
 -- a piece that begins with a letter is a word

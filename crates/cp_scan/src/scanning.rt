@@ -10,7 +10,8 @@ ghost use Rattle.cp_scan.specs.Pieces as spec;
 ghost use Rattle.cp_scan.specs.declared.refusal.Cause.{Cause};
 ghost use Rattle.cp_scan.specs.declared.refusal.ScanError.TheVariants.{Memory};
 
-use crate::piece::append_piece;
+use crate::piece::read_piece;
+use crate::progress::Progress;
 use crate::refusal::{Cause, ScanError};
 use cp_model::token::Token;
 use std::alloc::Global;
@@ -58,10 +59,12 @@ fn all_tokens(alloc: Global, text: &[u8]) -> Result<Vec<Token>, ScanError>
     ensures tokens { IfOk result (λ tokens. spec.tokens_of text.now ≡ Ok tokens.items) }
     ensures fails { IfErr result (λ error. Fails error (spec.tokens_of text.now)) }
 {
-    let mut tokens = Vec::new(alloc);
-    let mut at = 0;
-    while at < text.len() {
-        at = append_piece(alloc, text, at, &mut tokens)?;
+    let mut progress = Progress {
+        tokens: Vec::new(alloc),
+        at: 0,
+    };
+    while progress.at < text.len() {
+        read_piece(alloc, text, &mut progress)?;
     }
-    Ok(tokens)
+    Ok(progress.tokens)
 }

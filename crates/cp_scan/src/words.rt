@@ -3,14 +3,14 @@
 
 ghost use Rattle.std.specs.Prelude.{◌≡◌, ◌+◌, ◌^◌, ◌<◌, ◌∷◌, ℕ, List, map, length};
 ghost use Rattle.cp_model.specs.Spelling as spelling;
-ghost use Rattle.cp_scan.specs.Failures.{Reads};
+ghost use Rattle.cp_scan.specs.Failures.{Takes};
 ghost use Rattle.cp_scan.specs.Pieces as spec;
 ghost use Rattle.cp_scan.specs.Words.{kind_or_name};
 
 use crate::bytes::word_length;
-use crate::piece::append;
+use crate::progress::Progress;
 use crate::refusal::{Cause, ScanError};
-use cp_model::token::{Kind, Name, Symbol, Token};
+use cp_model::token::{Kind, Name, Symbol};
 use std::alloc::Global;
 
 // The largest number of letters, digits and underscores in a word.
@@ -126,27 +126,19 @@ fn reserved_word(letters: &[u8]) -> Option<Symbol>
     }
 }
 
-/// Reads the word at the front of a text, whose place is `at`, and appends its token. Returns the
-/// place after the word.
+/// Reads the word at the front of a text, and goes on after it.
 #[tactic(auto, unfolding(crate::specs::Pieces::word))]
-pub fn append_word(
-    alloc: Global,
-    text: &[u8],
-    at: usize,
-    tokens: &mut Vec<Token>,
-) -> Result<usize, ScanError>
-    requires { at + length text.now < 2 ^ 64 }
-    ensures { Reads result tokens.new.items
-        (spec.step (spec.word text.now) at tokens.old.items) }
+pub fn read_word(alloc: Global, text: &[u8], progress: &mut Progress) -> Result<(), ScanError>
+    requires { progress.old.at + length text.now < 2 ^ 64 }
+    ensures { Takes result progress.old progress.new (spec.word text.now) }
 {
     let n = word_length(text);
     if n > LONGEST_WORD {
-        let cause = Cause::Word;
-        return Err(ScanError::Refused { cause, at });
+        return progress.take(Err(Cause::Word));
     }
     let word = Name::new(alloc, &text[..n])?;
     match reserved_word(word.as_bytes()) {
-        Some(symbol) => append(Kind::Symbol(symbol), at, at + n, tokens),
-        None => append(Kind::Name(word), at, at + n, tokens),
+        Some(symbol) => progress.append(Kind::Symbol(symbol), n),
+        None => progress.append(Kind::Name(word), n),
     }
 }

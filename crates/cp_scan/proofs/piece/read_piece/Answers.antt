@@ -1,0 +1,6 @@
+use Rattle.cp_scan.proofs.Loop.{first_word}
+use Rattle.cp_scan.proofs.piece.read_piece.Goals as goal
+
+pub returns-then-is_letter : goal.returns-then-is_letter
+returns-then-is_letter c =
+    let e = first_word _ _ _ c.rest_from-rest.ensures c.is_letter.ensures c.if-is_letter.true in rw (← e) c.read_word.ensures

@@ -1,0 +1,52 @@
+//! The tokens of a text up to a place, and what each piece adds to them. `step` of
+//! `specs/Pieces.antt` defines it.
+
+ghost use Rattle.std.specs.Prelude.{◌≡◌, ◌+◌, ◌^◌, ◌<◌, Some, Ok, IfOk};
+ghost use Rattle.cp_scan.specs.Failures.{Takes};
+
+use crate::piece::Front;
+use crate::refusal::ScanError;
+use cp_model::token::{Kind, Span, Token};
+
+/// The tokens of a text up to the place `at`.
+#[derive(Drop)]
+pub struct Progress {
+    pub tokens: Vec<Token>,
+    pub at: usize,
+}
+
+impl Progress {
+    /// Appends a token of so many bytes, and goes on after it. Fails only if memory runs out.
+    #[inline(always)]
+    pub fn append(&mut self, kind: Kind, length: usize) -> Result<(), ScanError>
+        requires { self.old.at + length < 2 ^ 64 }
+        ensures { Takes result self.old self.new (Ok (Some kind, length)) }
+    {
+        let span = Span {
+            from: self.at,
+            to: self.at + length,
+        };
+        self.tokens.push(Token { kind, span })?;
+        self.at = span.to;
+        Ok(())
+    }
+
+    /// Goes on after the piece that was read at this place, with its token if it is one. If there is
+    /// none, returns its cause.
+    #[inline(always)]
+    pub fn take(&mut self, front: Front) -> Result<(), ScanError>
+        requires { IfOk front (λ read. self.old.at + read.1 < 2 ^ 64) }
+        ensures { Takes result self.old self.new front }
+    {
+        match front {
+            Ok((kind, length)) => match kind {
+                Some(kind) => self.append(kind, length),
+                None => {
+                    self.at += length;
+                    Ok(())
+                }
+            },
+            Err(cause) => Err(ScanError::Refused { cause, at: self.at }),
+        }
+    }
+}
