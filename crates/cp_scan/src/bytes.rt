@@ -32,7 +32,11 @@ pub fn is_letter(b: u8) -> bool
 pub fn is_in_word(b: u8) -> bool
     ensures { result ≡ character.is_in_word b }
 {
-    is_letter(b) || is_digit(b) || b == b'_'
+    // Most are letters. LLVM would try them last if these were three operands of `||`.
+    if is_letter(b) {
+        return true;
+    }
+    is_digit(b) || b == b'_'
 }
 
 /// A byte that can stand for itself in a character constant, or the apostrophe.
