@@ -1,6 +1,7 @@
 pub mod CauseLaws
 pub mod CharacterLaws
 pub mod Complete
+pub mod FirstPiece
 pub mod Fronts
 pub mod Fuel
 pub mod Loop

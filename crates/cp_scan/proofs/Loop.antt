@@ -1,56 +1,17 @@
 -- The iterations of the scanner's loop, and its end.
-use Rattle.std.proofs.Common.{◌≡◌, ℕ, suc, ◌+◌, ◌-◌, ◌<◌, ◌≤◌, List, [], ◌∷◌, length, drop, get_or, Option, Ok, Err, IfOk, IfErr, IsErrAnd, Bool, true, refl, sym, ap, subst, ◌∙◌, length-drop, length-append, arith}
+use Rattle.std.proofs.Common.{◌≡◌, ℕ, suc, ◌+◌, ◌-◌, ◌<◌, ◌≤◌, List, ◌∷◌, length, drop, Option, Ok, Err, IfErr, IsErrAnd, refl, sym, ap, subst, ◌∙◌, length-drop, arith}
 use Rattle.std.proofs.lemmas.List.{drop_all, drop-drop}
-use Rattle.cp_model.specs.Characters.{is_letter}
 use Rattle.cp_model.specs.declared.token.Kind.{Kind}
 use Rattle.cp_model.specs.declared.token.Token.{Token}
 use Rattle.cp_scan.specs.declared.refusal.Cause.{Cause}
 use Rattle.cp_scan.specs.declared.refusal.ScanError.{ScanError}
 use Rattle.cp_scan.specs.declared.refusal.ScanError.TheVariants as error
 use Rattle.cp_scan.specs.Failures.{Fails}
-use Rattle.cp_scan.specs.Pieces.{Piece, Outcome, piece, pieces, step, goes_on, with_token, tokens_of, head_or_zero, first_piece, word}
-use Rattle.cp_scan.proofs.Fronts.{Holds}
+use Rattle.cp_scan.specs.Pieces.{Piece, Outcome, piece, pieces, step, goes_on, with_token, tokens_of}
+use Rattle.cp_scan.proofs.FirstPiece.{piece_length}
 use Rattle.cp_scan.proofs.Fuel.{same_fuel}
 use Rattle.cp_scan.proofs.Outcomes.{Answer}
-use Rattle.cp_scan.proofs.PieceLaws.{piece_holds}
-use Rattle.cp_scan.proofs.WordLaws.{piece_of_letter}
-use Rattle.cp_scan.proofs.Turns.{after, turn, at_end, has_bytes}
-
--- the rest of a text begins with its first byte
-left_at : (text : List ℕ) → 0 < length text → text ≡ head_or_zero text ∷ drop 1 text
-left_at [] some = absurd (omega arith)
-left_at (b ∷ rest) some = refl
-
-pub left : (text : List ℕ) (at : ℕ) → at < length text → drop at text ≡ head_or_zero (drop at text) ∷ drop 1 (drop at text)
-left text at inside = left_at (drop at text) (let l = length-drop at text in omega arith)
-
--- a piece has at least one byte, and no more than there are
-piece_length : (b : ℕ) (rest : List ℕ) (k : Option Kind) (n : ℕ) → piece b rest ≡ Ok (k, n) → (0 < n) × (n ≤ length (b ∷ rest))
-piece_length b rest k n e =
-    let h : Holds (b ∷ rest) (Ok (k, n)) = subst (λ (r : Piece). Holds (b ∷ rest) r) e (piece_holds b rest) in
-    let some = has_bytes k h.0 h.1 h.4 in
-    let l = ap (λ (w : List ℕ). length w) h.2 in
-    let m = length-append h.0 h.1 in
-    let same = h.3 in
-    (omega arith, omega arith)
-
--- the place after a piece is below each limit of the text
-pub piece_below : (text : List ℕ) (at limit : ℕ) → 0 < length text → at + length text < limit → (r : Piece) → r ≡ first_piece text
-    → IfOk r (λ read. at + read.1 < limit)
-piece_below text at limit some below (Err c) is_front = tt
-piece_below text at limit some below (Ok x) is_front =
-    let most = (piece_length (head_or_zero text) (drop 1 text) x.0 x.1 (sym is_front)).1 in
-    let l = ap (λ (w : List ℕ). length w) (left_at text some) in
-    omega arith
-
--- a piece that begins with a letter is a word
-word_first : (rest : List ℕ) → is_letter (get_or rest 0 0) ≡ true → word rest ≡ first_piece rest
-word_first [] h = cc
-word_first (b ∷ rest) h = sym (piece_of_letter b rest h)
-
-pub first_word : (text rest : List ℕ) (is_one : Bool) → rest ≡ text → is_one ≡ is_letter (get_or rest 0 0) → is_one ≡ true
-    → word rest ≡ first_piece text
-first_word text rest is_one same is_first h = word_first rest (sym is_first ∙ h) ∙ ap first_piece same
+use Rattle.cp_scan.proofs.Turns.{after, turn, at_end}
 
 -- the piece of a step, and what the step makes of it
 piece_of : (r : Piece) (at : ℕ) (found : List Token) (end : ℕ) (with_it : List Token) → step r at found ≡ Ok (end, with_it)

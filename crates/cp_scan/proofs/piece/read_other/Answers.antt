@@ -1,7 +1,7 @@
 use Rattle.std.proofs.Common.{rules, arith, ◌^◌}
 use Rattle.std.proofs.lemmas.Grind.{common_steps}
 use Rattle.cp_scan.specs.Pieces.{piece}
-use Rattle.cp_scan.proofs.Loop.{piece_below}
+use Rattle.cp_scan.proofs.FirstPiece.{piece_below}
 use Rattle.cp_scan.proofs.piece.read_other.Goals as goal
 
 pub take-requires : goal.take-requires

@@ -1,4 +1,4 @@
-use Rattle.cp_scan.proofs.Loop.{first_word}
+use Rattle.cp_scan.proofs.FirstPiece.{first_word}
 use Rattle.cp_scan.proofs.piece.read_piece.Goals as goal
 
 pub returns-then-is_letter : goal.returns-then-is_letter

@@ -1,5 +1,6 @@
 use Rattle.std.proofs.Common.{arith, ◌<◌}
-use Rattle.cp_scan.proofs.Loop.{left, ends, fails, goes, moves_on, within, told}
+use Rattle.cp_scan.proofs.FirstPiece.{left}
+use Rattle.cp_scan.proofs.Loop.{ends, fails, goes, moves_on, within, told}
 use Rattle.cp_scan.proofs.scanning.all_tokens.Goals as goal
 
 pub loop-progress-smaller : goal.loop-progress-smaller
