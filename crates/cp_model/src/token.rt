@@ -26,8 +26,9 @@ impl ShortWord {
         ensures { take result.length result.letters ≡ map lower word.now }
     {
         let mut letters = [0; SHORT];
-        letters[..word.len()].copy_from_slice(word);
-        letters.make_ascii_lowercase();
+        for i in 0..word.len() {
+            letters[i] = word[i].to_ascii_lowercase();
+        }
         ShortWord {
             length: word.len() as u8,
             letters,
