@@ -1,4 +1,6 @@
 pub mod Numbers
 pub mod Distinct
-pub mod Index
+pub mod IndexKept
 pub mod Replaced
+pub mod Keys
+pub mod Changed

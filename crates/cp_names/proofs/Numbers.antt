@@ -55,14 +55,6 @@ some_next : (i : Option ℕ) → option_map suc i ≡ None → i ≡ None
 some_next None h = refl
 some_next (Some i) h = absurd (cc)
 
-pub no_number : {A : Type 0} (x : Text) (es : List (Text × A)) → lookup x es ≡ None → number_of x es ≡ None
-no_number x [] h = refl
-no_number {A} x (e ∷ es) h = go (bytes_eq x e.0) (no_number x es) h
-  where
-    go : (b : Bool) → (lookup x es ≡ None → number_of x es ≡ None) → (if b then Some e.1 else lookup x es) ≡ None → (if b then Some 0 else option_map suc (number_of x es)) ≡ None
-    go true rest g = absurd (cc)
-    go false rest g = ap (option_map suc) (rest g)
-
 -- no entry has a name that has no number
 pub apart_from_each : {A : Type 0} (x : Text) (es : List (Text × A)) (i : ℕ) (e : Text × A) → number_of x es ≡ None → slice_get es i ≡ Some e → bytes_eq x e.0 ≡ false
 apart_from_each x [] i e h at = absurd (cc)
@@ -94,3 +86,13 @@ number_finds {A} x (d ∷ es) i h = go (bytes_eq x d.0) refl h (later (number_of
     go : (b : Bool) → bytes_eq x d.0 ≡ b → (if b then Some 0 else option_map suc (number_of x es)) ≡ Some i → (option_map suc (number_of x es) ≡ Some i → Found) → Found
     go true is g rest = (d, ap (slice_get (d ∷ es)) (sym (same_Some 0 i g)), is)
     go false is g rest = rest g
+
+-- ---- what a name stands for, by its number
+
+pub missing : {A : Type 0} (x : Text) (es : List (Text × A)) → number_of x es ≡ None → lookup x es ≡ None
+missing x es h = lookup_by_number x es ∙ ap (value_at es) h
+
+pub present : {A : Type 0} (x : Text) (es : List (Text × A)) (i : ℕ) → number_of x es ≡ Some i → (v : A) × (lookup x es ≡ Some v)
+present {A} x es i h =
+    let found = number_finds x es i h in
+    (found.0.1, lookup_by_number x es ∙ ap (value_at es) h ∙ ap (option_map (λ (e : Text × A). e.1)) found.1)

@@ -1,5 +1,5 @@
 -- A name stands for another value: its number and the other names stay as they are.
-use Rattle.std.proofs.Common.{◌≡◌, ◌<◌, ◌++◌, ◌∷◌, ◌∙◌, [], ℕ, zero, suc, Bool, true, false, List, Option, Some, None, if◌then◌else◌, ap, arith, length, option_map, refl, slice_get, slice_set, subst, sym}
+use Rattle.std.proofs.Common.{◌≡◌, ◌≤◌, ◌++◌, ◌∷◌, ◌∙◌, [], ℕ, zero, suc, Bool, true, false, List, Option, Some, None, if◌then◌else◌, ap, arith, length, option_map, refl, slice_get, slice_set, subst, sym}
 use Rattle.std.proofs.lemmas.Option.{same_Some}
 use Rattle.std.proofs.lemmas.Slice.Eq.{bytes_eq-Decides}
 use Rattle.std.specs.Borrow.{Bor}
@@ -7,7 +7,7 @@ use Rattle.std.specs.Prelude.{map}
 use Rattle.std.specs.Str.{bytes_eq}
 use Rattle.cp_model.specs.Names.{lookup}
 use Rattle.cp_model.specs.RulesEnvironment.{Text}
-use Rattle.cp_names.specs.Tables.{AreDistinct, entry_view, number_of, with_value}
+use Rattle.cp_names.specs.Tables.{AreDistinct, entry_view, number_of, with_value, with_values_from}
 
 pub number_of-with_value : {A : Type 0} (x : Text) (n : ℕ) (v : A) (es : List (Text × A)) → number_of x (with_value n v es) ≡ number_of x es
 number_of-with_value x n v [] = refl
@@ -88,3 +88,22 @@ pub seen_with_value : {A : Type 0} (es : List (Bor Text × A)) (n : ℕ) (e : Bo
 seen_with_value {A = A} [] n e v h = absurd (cc)
 seen_with_value {A = A} (d ∷ es) zero e v h = ap (λ (p : Bor Text × A). (p.0.now, v) ∷ map entry_view es) (sym (same_Some d e h))
 seen_with_value {A = A} (d ∷ es) (suc n) e v h = ap (λ r. entry_view d ∷ r) (seen_with_value es n e v h)
+
+-- ---- the names from a number on
+
+pub length-with_value : {A : Type 0} (n : ℕ) (v : A) (es : List (Text × A)) → length (with_value n v es) ≡ length es
+length-with_value n v [] = refl
+length-with_value zero v (e ∷ es) = refl
+length-with_value (suc n) v (e ∷ es) = ap suc (length-with_value n v es)
+
+-- the first of them, and then those after it
+pub first_of_values : {A : Type 0} (n : ℕ) (v : A) (es : List (Text × A)) → with_values_from (suc n) v (with_value n v es) ≡ with_values_from n v es
+first_of_values n v [] = refl
+first_of_values zero v (e ∷ es) = refl
+first_of_values (suc n) v (e ∷ es) = ap (λ rest. e ∷ rest) (first_of_values n v es)
+
+-- there are none from the end on
+pub no_values_left : {A : Type 0} (n : ℕ) (v : A) (es : List (Text × A)) → length es ≤ n → with_values_from n v es ≡ es
+no_values_left n v [] h = refl
+no_values_left zero v (e ∷ es) h = absurd (omega (arith, h))
+no_values_left (suc n) v (e ∷ es) h = ap (λ rest. e ∷ rest) (no_values_left n v es (omega (arith, h)))

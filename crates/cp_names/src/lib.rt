@@ -4,6 +4,7 @@
 //! hash table would be faster, but a text could be written whose names all collide.
 #![tactic(auto)]
 
+mod index;
 mod table;
 
 pub use table::NameTable;

@@ -1,12 +1,12 @@
 //! A table of names.
 
-ghost use Rattle.std.specs.Prelude.{◌≡◌, ◌<◌, ◌++◌, ◌-◌, ◌∷◌, [], List, None, OnOk, length, map, option_map, slice_get, take};
+ghost use Rattle.std.specs.Prelude.{◌≡◌, ◌<◌, ◌++◌, ◌-◌, ◌∷◌, [], List, None, IfOk, OnOk, is_some, not, length, map, option_map, slice_get, take};
 ghost use Rattle.cp_model.specs.Names.{lookup};
 ghost use Rattle.cp_model.specs.RulesEnvironment.{Text};
-ghost use Rattle.cp_names.specs.Tables.{AreDistinct, IsIndex, entry_view, number_of, value_at, with_value};
+ghost use Rattle.cp_names.specs.Tables.{AreDistinct, IsIndex, entry_view, number_of, value_at, with_new, with_value, with_values_from};
 
+use crate::index::Index;
 use std::alloc::{AllocError, Global};
-use std::collections::BTreeMap;
 use std::marker::Model;
 
 /// Names and what they stand for. Contracts see the list of them, in the order in which they were
@@ -14,7 +14,7 @@ use std::marker::Model;
 #[derive(Drop)]
 pub struct NameTable<'t, A: Copy> {
     entries: Vec<(&'t [u8], A)>,
-    numbers: BTreeMap<&'t [u8], usize>,
+    numbers: Index<'t>,
 }
 
 impl<'t, A: Copy> Model for NameTable<'t, A> {
@@ -33,7 +33,7 @@ impl<'t, A: Copy> NameTable<'t, A> {
     {
         NameTable {
             entries: Vec::new(alloc),
-            numbers: BTreeMap::new(alloc),
+            numbers: Index::new(alloc),
         }
     }
 
@@ -57,7 +57,7 @@ impl<'t, A: Copy> NameTable<'t, A> {
     fn number(&self, name: &[u8]) -> Option<usize>
         ensures { result ≡ number_of name.now self.now }
     {
-        self.numbers.get(name).copied()
+        self.numbers.get(name)
     }
 
     /// What a name stands for, if it is in the table.
@@ -79,10 +79,27 @@ impl<'t, A: Copy> NameTable<'t, A> {
         requires { lookup name.now self.old ≡ None }
         ensures { OnOk result (self.new ≡ self.old ++ (name.now, value) ∷ []) }
     {
+        self.add_if_new(name, value)?;
+        Ok(())
+    }
+
+    /// Adds a name, unless it is in the table already, and returns whether it is new. Fails only if
+    /// memory runs out.
+    pub fn add_if_new(&mut self, name: &'t [u8], value: A) -> Result<bool, AllocError>
+        ensures new { IfOk result (λ new. new ≡ not (is_some (lookup name.now self.old))) }
+        ensures added { OnOk result
+            (self.new ≡ with_new name.now value self.old (lookup name.now self.old)) }
+    {
         let number = self.len();
         self.entries.push((name, value))?;
         match self.numbers.insert(name, number) {
-            Ok(_) => Ok(()),
+            Ok(None) => Ok(true),
+            Ok(Some(first)) => {
+                // The name keeps its number.
+                self.entries.pop();
+                self.numbers.insert(name, first)?;
+                Ok(false)
+            }
             Err(_) => {
                 self.entries.pop();
                 Err(AllocError)
@@ -97,6 +114,15 @@ impl<'t, A: Copy> NameTable<'t, A> {
     {
         let (name, _) = self.entries[number];
         self.entries[number] = (name, value);
+    }
+
+    /// Lets the names from number `from` on stand for `value` from now on.
+    pub fn set_from(&mut self, from: usize, value: A)
+        ensures { self.new ≡ with_values_from from value self.old }
+    {
+        for number in from..self.len() {
+            self.replace(number, value);
+        }
     }
 
     /// Lets a name stand for `value` from now on. Fails only if memory runs out.

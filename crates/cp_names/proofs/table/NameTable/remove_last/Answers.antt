@@ -1,9 +1,9 @@
 use Rattle.std.proofs.Common.{◌≡◌, ◌++◌, ◌∷◌, [], None, map, ap, subst, ◌∙◌}
 use Rattle.std.proofs.lemmas.List.{map-append}
-use Rattle.std.proofs.lemmas.Map.Text.{btree_map_updates_str}
 use Rattle.cp_model.specs.RulesEnvironment.{Text}
+use Rattle.cp_names.specs.Indices.{Changes}
 use Rattle.cp_names.specs.Tables.{AreDistinct, IsIndex, entry_view}
-use Rattle.cp_names.proofs.Index.{ChangesAt, index_less}
+use Rattle.cp_names.proofs.IndexKept.{index_less}
 use Rattle.cp_names.proofs.Distinct.{distinct_less}
 use Rattle.cp_names.proofs.table.NameTable.remove_last.Goals as goal
 
@@ -16,5 +16,5 @@ invariant_of-self g c =
     let all : map entry_view c.self.inside.entries.items ≡ es ++ d ∷ [] = ap (map entry_view) c.in-Some.ensures.items ∙ map-append entry_view c.pop.new.self.items _ in
     let index : IsIndex m (es ++ d ∷ []) = subst (IsIndex m) all c.self.invariant.0 in
     let distinct : AreDistinct (es ++ d ∷ []) = subst AreDistinct all c.self.invariant.1 in
-    let changed : ChangesAt m n d.0 None = btree_map_updates_str d.0 m n None c.remove.ensures.updates in
+    let changed : Changes m n d.0 None = c.remove.ensures in
     (index_less m n es d index distinct changed, distinct_less es d distinct)
