@@ -1,12 +1,12 @@
 //! The environment in which a part of a text is judged: the visible names, and the tables of types
 //! and routines.
 
-ghost use Rattle.std.specs.Prelude.{◌≡◌, ◌++◌, ◌∷◌, [], ℕ, IfOk, OnOk, Option, None, Some, List, drop, get_or, length, option_map, slice_get, take};
+ghost use Rattle.std.specs.Prelude.{◌≡◌, [], ℕ, IfOk, OnOk, Option, None, Some, List, drop, get_or, is_some, length, not, option_map, slice_get, take};
 ghost use Rattle.cp_model.specs.Names.{lookup};
 ghost use Rattle.cp_model.specs.RulesEnvironment as r;
 ghost use Rattle.cp_model.specs.RulesTypes as types;
 ghost use Rattle.cp_judge.specs.Environments.{with_members, with_parameters, with_routine, with_system};
-ghost use Rattle.cp_names.specs.Tables.{AreDistinct, entry_view};
+ghost use Rattle.cp_names.specs.Tables.{AreDistinct, entry_view, with_values_from};
 
 use cp_model::rules::{
     Entity, Member, ParameterRow, Part, Region, Returns, RoutineRow, Structure, SystemRow, TypeRow,
@@ -80,11 +80,7 @@ pub fn is_base(wanted: usize, base: Option<usize>) -> bool
 fn is_structured(structure: Structure) -> bool
     ensures { result ≡ r.is_structured structure }
 {
-    match structure {
-        Structure::Array(_, _) => true,
-        Structure::Record(_) => true,
-        _ => false,
-    }
+    matches!(structure, Structure::Array(_, _) | Structure::Record(_))
 }
 
 // What is known about names.
@@ -314,13 +310,20 @@ impl<'t> Environment<'t> {
         }
     }
 
-    /// Declares a name that isn't visible.
-    pub fn declare(&mut self, name: &'t [u8], entity: Entity) -> Result<(), AllocError>
-        requires { lookup name.now self.old.names ≡ None }
-        ensures { OnOk result
-            (self.new ≡ r.with_names (self.old.names ++ (name.now, entity) ∷ []) self.old) }
+    /// Declares a name, unless it is visible already, and returns whether it wasn't.
+    pub fn declare(&mut self, x: &'t Identifier, entity: Entity) -> Result<bool, AllocError>
+        ensures new { IfOk result
+            (λ new. new ≡ not (is_some (lookup x.now.name self.old.names))) }
+        ensures declared { OnOk result (self.new ≡ r.declare x.now entity self.old) }
     {
-        self.names.add(name, entity)
+        self.names.add_if_new(x.name.as_bytes(), entity)
+    }
+
+    /// Lets the names that were declared after the first `mark` ones stand for `entity` from now on.
+    pub fn set_from(&mut self, mark: usize, entity: Entity)
+        ensures { self.new ≡ r.with_names (with_values_from mark entity self.old.names) self.old }
+    {
+        self.names.set_from(mark, entity);
     }
 
     /// Removes the names that were declared after the first `mark` ones.

@@ -1,6 +1,5 @@
--- Definitions: a name is judged while it is being defined. Then it is removed, and declared as what
--- it was judged to be.
-use Rattle.std.proofs.Common.{◌≡◌, ◌∷◌, ◌++◌, ◌-◌, ℕ, ℤ, pos, List, [], Result, length, take, subst, refl, ap, ◌∙◌}
+-- Definitions: a name is visible while it is being defined. Then it stands for what it was judged to be.
+use Rattle.std.proofs.Common.{◌≡◌, ◌∷◌, ◌++◌, ◌-◌, ℕ, ℤ, pos, List, [], Result, length, subst, refl, ap, ◌∙◌}
 use Rattle.cp_model.specs.Syntax as s
 use Rattle.cp_model.specs.declared.tree.Constant.{Constant}
 use Rattle.cp_model.specs.declared.tree.Identifier.{Identifier}
@@ -8,14 +7,15 @@ use Rattle.cp_model.specs.declared.rules.Entity.{Entity}
 use Rattle.cp_model.specs.declared.rules.Entity.TheVariants as entity
 use Rattle.cp_model.specs.declared.rules.Position.TheVariants as position
 use Rattle.cp_model.specs.declared.rules.Violation.{Violation}
-use Rattle.cp_model.specs.RulesEnvironment.{Environment, Names, declare, entity_of, simple_row, with_names}
+use Rattle.cp_model.specs.RulesEnvironment.{Environment, declare, entity_of, simple_row, with_names}
 use Rattle.cp_model.specs.RulesJudged.{Broken, Judged, Sound, Violations, violations_of}
 use Rattle.cp_model.specs.RulesTypes.{Made, add_type, constant, type_placed}
 use Rattle.cp_model.specs.RulesDeclarations as d
 use Rattle.cp_model.specs.Rules.{define_constant, define_each, define_enumeration, define_type, values}
-use Rattle.cp_rules.specs.Checking.{Judges, Makes, State, after, declared_name, first_of}
+use Rattle.cp_rules.specs.Checking.{Judges, Makes, State, after, declared_name, first_of, with_set}
 use Rattle.cp_rules.specs.Definitions.{constant_entity, type_entity}
-use Rattle.cp_rules.proofs.Kept.{begins_at, declare_begins, left, left_names, placed_keeps}
+use Rattle.cp_rules.proofs.Finished.{set_in}
+use Rattle.cp_rules.proofs.Kept.{placed_keeps}
 use Rattle.cp_rules.proofs.Telling.{told_in, told_more}
 use Rattle.cp_rules.proofs.Visible.{told_alike}
 
@@ -27,38 +27,33 @@ type_is : (j : Judged ℕ) → type_entity (first_of j) ≡ entity_of entity.Typ
 type_is (Sound t) = refl
 type_is (Broken v vs) = refl
 
-module _ (old s1 s2 s3 s4 : State) (x : Identifier) (e : Entity) (mark : ℕ) (at : mark ≡ length old.env.names)
-    (outside : s3 ≡ record s2 { env = with_names (take mark s2.env.names) s2.env }) (named : s4 ≡ record s3 { env = declare x e s3.env }) where
+module _ (old s1 s2 s3 : State) (x : Identifier) (e : Entity) (mark : ℕ) (at : mark ≡ length old.env.names) (set : s3 ≡ with_set s2 mark e) where
+  -- the name stands for what was judged
+  stands : (now : Environment) (u f : Entity) (vs : Violations) → s2 ≡ told_in now old.told vs → now.names ≡ (declare x u old.env).names → e ≡ f
+      → s3 ≡ told_in (declare x f (with_names old.env.names now)) old.told vs
+  stands now u f vs told names is =
+      set ∙ (λ i. with_set (told i) (at i) (is i))
+      ∙ ap (λ (v : Environment). told_in v old.told vs) (set_in old.env now u f (x ∷ []) names)
+
   pub constant_defined : (v : Constant) (r : Result (ℕ × ℤ) Violation) → s1 ≡ after old (declared_name old.env x entity.UnfinishedConstant)
-      → Judges s1 s2 r (constant s1.env v) → e ≡ constant_entity r → s4 ≡ after old (define_constant old.env (record { name = x; value = v }))
+      → Judges s1 s2 r (constant s1.env v) → e ≡ constant_entity r → s3 ≡ after old (define_constant old.env (record { name = x; value = v }))
   constant_defined v r declared judged entity_is =
       let inner : d.Declared = declared_name old.env x entity.UnfinishedConstant in
       let value : Judged (ℕ × ℤ) = constant inner.env v in
       let judges : Judges (after old inner) s2 r value = subst (λ (z : State). Judges z s2 r (constant z.env v)) declared judged in
-      let all : Violations = inner.violations ++ violations_of value in
-      let told2 : s2 ≡ told_in inner.env old.told all = judges.0 ∙ told_more inner.env old.told inner.violations (violations_of value) in
-      let told3 : s3 ≡ told_in old.env old.told all =
-      outside ∙ ap (λ (z : State). let st : State = record z { env = with_names (take mark z.env.names) z.env } in st) told2
-      ∙ ap (λ n. told_in (with_names (take n inner.env.names) inner.env) old.told all) at
-      ∙ ap (λ (v' : Environment). told_in v' old.told all) (left old.env entity.UnfinishedConstant (x ∷ [])) in
-      let is : e ≡ entity_of (λ c. entity.Constant c.0 c.1) value = entity_is ∙ ap constant_entity judges.1 ∙ constant_is value in
-      named ∙ (λ i. let st : State = record (told3 i) { env = declare x (is i) (told3 i).env } in st)
+      stands inner.env entity.UnfinishedConstant (entity_of (λ c. entity.Constant c.0 c.1) value) (inner.violations ++ violations_of value)
+      (judges.0 ∙ told_more inner.env old.told inner.violations (violations_of value)) refl
+      (entity_is ∙ ap constant_entity judges.1 ∙ constant_is value)
 
   pub type_defined : (t : s.TypeExpression) (r : Result ℕ Violation) → s1 ≡ after old (declared_name old.env x entity.UnfinishedType)
-      → Makes s1 s2 r (type_placed s1.env position.Definition t) → e ≡ type_entity r → s4 ≡ after old (define_type old.env x t)
+      → Makes s1 s2 r (type_placed s1.env position.Definition t) → e ≡ type_entity r → s3 ≡ after old (define_type old.env x t)
   type_defined t r declared judged entity_is =
       let inner : d.Declared = declared_name old.env x entity.UnfinishedType in
       let made : Made (Judged ℕ) = type_placed inner.env position.Definition t in
       let makes : Makes (after old inner) s2 r made = subst (λ (z : State). Makes z s2 r (type_placed z.env position.Definition t)) declared judged in
-      let all : Violations = inner.violations ++ violations_of made.of in
-      let told2 : s2 ≡ told_in made.env old.told all = makes.0 ∙ told_more made.env old.told inner.violations (violations_of made.of) in
-      let begins = begins_at old.env.names inner.env.names made.env.names (declare_begins x entity.UnfinishedType old.env) (placed_keeps inner.env position.Definition t).names in
-      let names : take mark made.env.names ≡ old.env.names = ap (λ n. take n made.env.names) at ∙ left_names old.env.names made.env.names begins in
-      let told3 : s3 ≡ told_in (with_names old.env.names made.env) old.told all =
-      outside ∙ ap (λ (z : State). let st : State = record z { env = with_names (take mark z.env.names) z.env } in st) told2
-      ∙ ap (λ (ns : Names). told_in (with_names ns made.env) old.told all) names in
-      let is : e ≡ entity_of entity.Type made.of = entity_is ∙ ap type_entity makes.1 ∙ type_is made.of in
-      named ∙ (λ i. let st : State = record (told3 i) { env = declare x (is i) (told3 i).env } in st)
+      stands made.env entity.UnfinishedType (entity_of entity.Type made.of) (inner.violations ++ violations_of made.of)
+      (makes.0 ∙ told_more made.env old.told inner.violations (violations_of made.of)) (placed_keeps inner.env position.Definition t).names
+      (entity_is ∙ ap type_entity makes.1 ∙ type_is made.of)
 
 -- ---- enumerations
 

@@ -1,6 +1,6 @@
--- A group of variables: its type is judged while its names are being defined. Then they are
--- removed, and declared with that type.
-use Rattle.std.proofs.Common.{◌≡◌, ◌*◌, ◌+◌, ◌∷◌, ◌++◌, ℕ, List, Result, length, take, subst, refl, ap, sym, ◌∙◌}
+-- A group of variables: its names are visible while its type is judged. Then they stand for variables
+-- of that type.
+use Rattle.std.proofs.Common.{◌≡◌, ◌*◌, ◌+◌, ◌∷◌, ◌++◌, ℕ, List, Result, length, subst, refl, ap, sym, ◌∙◌}
 use Rattle.cp_model.specs.Syntax as s
 use Rattle.cp_model.specs.declared.tree.Identifier.{Identifier}
 use Rattle.cp_model.specs.declared.rules.Entity.{Entity}
@@ -12,10 +12,12 @@ use Rattle.cp_model.specs.RulesDeclarations as d
 use Rattle.cp_model.specs.RulesJudged.{Broken, Judged, Sound, Violations, least, violations_of}
 use Rattle.cp_model.specs.RulesTypes.{Made, cap_words, type_placed}
 use Rattle.cp_judge.proofs.Tells.{least_append}
-use Rattle.cp_rules.specs.Checking.{Makes, State, after, first_of}
-use Rattle.cp_rules.specs.Declaring.{Declares, entity_of_type, group_made, group_type, left_group, owners_of_type, with_variables, words_of_type}
+use Rattle.cp_rules.specs.Checking.{Makes, State, after, first_of, with_set}
+use Rattle.cp_rules.specs.Declaring.{Declares, entity_of_type, owners_of_type, with_variables, words_of_type}
 use Rattle.cp_rules.proofs.CappedWords.{capped_more}
-use Rattle.cp_rules.proofs.Kept.{begins_at, declare_all_begins, left_names, placed_keeps}
+use Rattle.cp_rules.proofs.Finished.{set_in}
+use Rattle.cp_rules.proofs.Kept.{placed_keeps}
+use Rattle.cp_rules.proofs.Telling.{told_in, told_more}
 
 -- ---- what the code keeps of a judged type is enough
 
@@ -37,28 +39,15 @@ owners_is env position.MonitorVariable j xs = refl
 owners_is env position.ComponentVariable j xs = refl
 owners_is env position.RoutineVariable j xs = refl
 
--- ---- the type
+-- ---- the group
 
 module _ (old : State) (p : Position) (g : s.Variables) where
   abbrev defined : d.Declared
   defined = d.declare_all old.env d.unfinished_variable g.names
 
+  -- its type, judged while its names are being defined
   abbrev made : Made (Judged ℕ)
-  made = group_made old.env p g
-
-  pub group_left : (s1 s2 s3 : State) (mark : ℕ) (of : Result ℕ Violation) → mark ≡ length old.env.names → s1 ≡ after old defined
-      → Makes s1 s2 of (type_placed s1.env p g.of) → s3 ≡ record s2 { env = with_names (take mark s2.env.names) s2.env }
-      → (s3 ≡ left_group old p g) × (of ≡ group_type old.env p g)
-  group_left s1 s2 s3 mark of at inside judged outside =
-      let makes : Makes (after old defined) s2 of made = subst (λ (z : State). Makes z s2 of (type_placed z.env p g.of)) inside judged in
-      let begins = begins_at old.env.names defined.env.names made.env.names (declare_all_begins old.env d.unfinished_variable g.names) (placed_keeps defined.env p g.of).names in
-      let names : take mark made.env.names ≡ old.env.names = ap (λ (n : ℕ). take n made.env.names) at ∙ left_names old.env.names made.env.names begins in (
-        outside ∙ ap (λ (z : State). record z { env = with_names (take mark z.env.names) z.env }) makes.0
-            ∙ (λ i. record { env = with_names (names i) made.env; told = sym (least_append old.told defined.violations (violations_of made.of)) i }),
-        makes.1,
-      )
-
-  -- ---- the variables
+  made = type_placed defined.env p g.of
 
   abbrev base : Environment
   base = with_names old.env.names made.env
@@ -83,21 +72,23 @@ module _ (old : State) (p : Position) (g : s.Variables) where
       ap (after v) (owners_is v.env p made.of g.names)
       ∙ ap (λ t. let st : State = record { env = owned.env; told = t } in st) (sym (least_append old.told told owned.violations)))
 
-  pub group_declared : (s1 s2 s3 : State) (of : Result ℕ Violation) (e : Entity) (each n : ℕ)
-      → s1 ≡ left_group old p g → of ≡ group_type old.env p g → each ≡ words_of_type s1.env of → e ≡ entity_of_type d.own_variable of
-      → s2 ≡ record s1 { env = (d.declare_all s1.env e g.names).env } → s3 ≡ after s2 (owners_of_type s2.env p of g.names)
-      → n ≡ cap_words (length g.names * each) → Declares old s3 n (d.variable_group old.env p g)
-  group_declared s1 s2 s3 of e each n left type words entity names owners counting =
-      let shown : s2 ≡ visible (entity_of_type d.own_variable of) =
-      names ∙ ap (λ (z : State). let st : State = record z { env = (d.declare_all z.env e g.names).env } in st) left ∙ ap visible entity in
-      let all : s3 ≡ counted of = owners ∙ ap (λ (z : State). after z (owners_of_type z.env p of g.names)) shown in
+  pub group_declared : (s1 s2 s3 s4 : State) (mark : ℕ) (of : Result ℕ Violation) (e : Entity) (each n : ℕ)
+      → mark ≡ length old.env.names → s1 ≡ after old defined → Makes s1 s2 of (type_placed s1.env p g.of)
+      → each ≡ words_of_type s2.env of → e ≡ entity_of_type d.own_variable of → s3 ≡ with_set s2 mark e
+      → s4 ≡ after s3 (owners_of_type s3.env p of g.names)
+      → n ≡ cap_words (length g.names * each) → Declares old s4 n (d.variable_group old.env p g)
+  group_declared s1 s2 s3 s4 mark of e each n at inside judged words entity set owners counting =
+      let makes : Makes (after old defined) s2 of made = subst (λ (z : State). Makes z s2 of (type_placed z.env p g.of)) inside judged in
+      let typed : s2 ≡ told_in made.env old.told told = makes.0 ∙ told_more made.env old.told defined.violations (violations_of made.of) in
+      let is = entity_of_type d.own_variable of in
+      let shown : s3 ≡ visible is =
+      set ∙ (λ i. with_set (typed i) (at i) (entity i))
+      ∙ ap (λ (v : Environment). told_in v old.told told)
+      (set_in old.env made.env d.unfinished_variable is g.names (placed_keeps defined.env p g.of).names) in
+      let all : s4 ≡ counted of = owners ∙ ap (λ (z : State). after z (owners_of_type z.env p of g.names)) shown in
       let one : each ≡ d.words_of made.env made.of =
-      words ∙ ap (λ (z : State). words_of_type z.env of) left ∙ ap (words_of_type base) type ∙ words_is base made.of ∙ same_words made.of in
-      (all ∙ ap counted type ∙ counted_is, counting ∙ ap (λ (w : ℕ). cap_words (length g.names * w)) one)
-    where
-      same_words : (j : Judged ℕ) → d.words_of base j ≡ d.words_of made.env j
-      same_words (Sound t) = refl
-      same_words (Broken v vs) = refl
+      words ∙ ap (λ (z : State). words_of_type z.env of) typed ∙ ap (words_of_type made.env) makes.1 ∙ words_is made.env made.of in
+      (all ∙ ap counted makes.1 ∙ counted_is, counting ∙ ap (λ (w : ℕ). cap_words (length g.names * w)) one)
 
 -- ---- one group, and then the rest
 

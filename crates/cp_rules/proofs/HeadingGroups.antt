@@ -1,6 +1,5 @@
--- A group of parameters: its type is judged while its names are being defined. Then they are
--- removed, and hidden. Also, what is collected of a heading group by group.
-use Rattle.std.proofs.Common.{◌≡◌, ◌≤◌, ◌+◌, ◌*◌, ◌∷◌, ◌++◌, [], Bool, true, false, ℕ, List, Option, Result, length, replicate, take, subst, refl, ap, sym, ◌∙◌, append_assoc, append-nil, arith}
+-- A group of parameters: its names are visible while its type is judged. Then they are hidden. Also, what is collected of a heading group by group.
+use Rattle.std.proofs.Common.{◌≡◌, ◌≤◌, ◌+◌, ◌*◌, ◌∷◌, ◌++◌, [], Bool, true, false, ℕ, List, Option, Result, length, replicate, subst, refl, ap, sym, ◌∙◌, append_assoc, append-nil, arith}
 use Rattle.cp_model.specs.Syntax as s
 use Rattle.cp_model.specs.declared.tree.Sort.{Sort}
 use Rattle.cp_model.specs.declared.rules.Entity.{Entity}
@@ -14,11 +13,12 @@ use Rattle.cp_model.specs.RulesDeclarations as d
 use Rattle.cp_model.specs.RulesJudged.{Broken, Judged, Sound, Violations, least, meaning_of, then_judge, violations_of}
 use Rattle.cp_model.specs.RulesTypes.{cap_words, named_type}
 use Rattle.cp_judge.proofs.Tells.{least_append}
-use Rattle.cp_rules.specs.Checking.{Judges, State, after, first_of, telling}
+use Rattle.cp_rules.specs.Checking.{Judges, State, after, first_of, telling, with_set}
 use Rattle.cp_rules.specs.Declaring.{entity_of_type}
 use Rattle.cp_rules.specs.Headings.{Bound, Collected, bound_as, hidden_group, is_by_reference, parameter_judged, row_of_type, with_heading, with_names, with_part, words_of_parameter}
 use Rattle.cp_rules.proofs.Groups.{entity_is}
-use Rattle.cp_rules.proofs.Kept.{declare_all_is, left}
+use Rattle.cp_rules.proofs.Finished.{set_in}
+use Rattle.cp_rules.proofs.Kept.{declare_all_is}
 
 module _ (old : State) (of : Option Sort) (is_function : Bool) (g : s.Parameters) where
   abbrev defined : d.Declared
@@ -29,6 +29,9 @@ module _ (old : State) (of : Option Sort) (is_function : Bool) (g : s.Parameters
 
   abbrev judged : Judged ℕ
   judged = parameter_judged old.env of g
+
+  abbrev hidden : Environment
+  hidden = (d.declare_all old.env entity.Hidden g.names).env
 
   abbrev told_after : Environment → Violations → State
   told_after e vs = record { env = e; told = least old.told vs }
@@ -42,14 +45,13 @@ module _ (old : State) (of : Option Sort) (is_function : Bool) (g : s.Parameters
       ap (λ (e : Environment). then_judge (named_type defined.env g.of) (d.c7_c8_parameter e of g.of.at))
       (declare_all_is old.env d.unfinished_variable g.names)
 
-  pub group_hidden : (s1 s2 s3 s4 s5 : State) (mark : ℕ) (rule : Option Rule) (t : Result ℕ Violation)
+  pub group_hidden : (s1 s2 s3 s4 : State) (mark : ℕ) (rule : Option Rule) (t : Result ℕ Violation)
       → mark ≡ length old.env.names → s1 ≡ after old defined → rule ≡ d.var_rule of is_function
       → s2 ≡ telling s1 (d.c7_c11_var rule g.by_reference)
       → Judges s2 s3 t (then_judge (named_type s2.env g.of) (d.c7_c8_parameter s2.env of g.of.at))
-      → s4 ≡ record s3 { env = r.with_names (take mark s3.env.names) s3.env }
-      → s5 ≡ record s4 { env = (d.declare_all s4.env entity.Hidden g.names).env }
-      → (s5 ≡ hidden_group old of is_function g) × (t ≡ first_of judged)
-  group_hidden s1 s2 s3 s4 s5 mark rule t at inside ruled var_told judging outside hiding =
+      → s4 ≡ with_set s3 mark entity.Hidden
+      → (s4 ≡ hidden_group old of is_function g) × (t ≡ first_of judged)
+  group_hidden s1 s2 s3 s4 mark rule t at inside ruled var_told judging hiding =
       let told2 : s2 ≡ told_after defined.env (defined.violations ++ var) =
       var_told ∙ ap (λ (z : State). telling z (d.c7_c11_var rule g.by_reference)) inside
       ∙ ap (λ o. telling (after old defined) (d.c7_c11_var o g.by_reference)) ruled ∙ more defined.env defined.violations var in
@@ -58,11 +60,14 @@ module _ (old : State) (of : Option Sort) (is_function : Bool) (g : s.Parameters
       (subst (λ (z : State). Judges z s3 t (then_judge (named_type z.env g.of) (d.c7_c8_parameter z.env of g.of.at))) told2 judging) in
       let all : Violations = defined.violations ++ var ++ violations_of judged in
       let told3 : s3 ≡ told_after defined.env all = judges.0 ∙ more defined.env (defined.violations ++ var) (violations_of judged) in
-      let told4 : s4 ≡ told_after old.env all =
-      outside ∙ ap (λ (z : State). let st : State = record z { env = r.with_names (take mark z.env.names) z.env } in st) told3
-      ∙ ap (λ (n : ℕ). told_after (r.with_names (take n defined.env.names) defined.env) all) at
-      ∙ ap (λ (e : Environment). told_after e all) (left old.env d.unfinished_variable g.names) in
-      (hiding ∙ ap (λ (z : State). let st : State = record z { env = (d.declare_all z.env entity.Hidden g.names).env } in st) told4, judges.1)
+      let outside : r.with_names old.env.names defined.env ≡ old.env =
+      ap (r.with_names old.env.names) (declare_all_is old.env d.unfinished_variable g.names) in
+      let hidden_in : (d.declare_all (r.with_names old.env.names defined.env) entity.Hidden g.names).env ≡ hidden =
+      ap (λ (env : Environment). (d.declare_all env entity.Hidden g.names).env) outside in (
+        hiding ∙ (λ i. with_set (told3 i) (at i) entity.Hidden)
+            ∙ ap (λ (env : Environment). told_after env all) (set_in old.env defined.env d.unfinished_variable entity.Hidden g.names refl ∙ hidden_in),
+        judges.1,
+      )
 
   -- ---- what is collected of the group
 
@@ -75,9 +80,6 @@ module _ (old : State) (of : Option Sort) (is_function : Bool) (g : s.Parameters
   words_is names true j = refl
   words_is names false (Sound x) = refl
   words_is names false (Broken v vs) = refl
-
-  abbrev hidden : Environment
-  hidden = (d.declare_all old.env entity.Hidden g.names).env
 
   abbrev by_reference : Bool
   by_reference = is_by_reference of g

@@ -30,7 +30,7 @@ begins_same xs = ([], sym (append-nil xs))
 pub begins_trans : (xs ys zs : Names) → Begins xs ys → Begins ys zs → Begins xs zs
 begins_trans xs ys zs a b = (a.0 ++ b.0, b.1 ∙ ap (λ (ws : Names). ws ++ b.0) a.1 ∙ append_assoc xs a.0 b.0)
 
-pub begins_at : (xs ys zs : Names) → Begins xs ys → zs ≡ ys → Begins xs zs
+begins_at : (xs ys zs : Names) → Begins xs ys → zs ≡ ys → Begins xs zs
 begins_at xs ys zs b same = (b.0, same ∙ b.1)
 
 take_front : (xs ys : Names) → take (length xs) (xs ++ ys) ≡ xs
@@ -47,7 +47,7 @@ new_begins : (x : Identifier) (e : Entity) (names : Names) (o : Option Entity) �
 new_begins x e names None = ((x.name, e) ∷ [], refl)
 new_begins x e names (Some old) = begins_same names
 
-pub declare_begins : (x : Identifier) (e : Entity) (env : Environment) → Begins env.names (declare x e env).names
+declare_begins : (x : Identifier) (e : Entity) (env : Environment) → Begins env.names (declare x e env).names
 declare_begins x e env = new_begins x e env.names (lookup x.name env.names)
 
 pub declare_each_begins : (env : Environment) (ds : List (Identifier × Entity)) → Begins env.names (d.declare_each env ds).env.names
@@ -56,11 +56,11 @@ declare_each_begins env (e ∷ es) =
     begins_trans env.names (declare e.0 e.1 env).names (d.declare_each (declare e.0 e.1 env) es).env.names
     (declare_begins e.0 e.1 env) (declare_each_begins (declare e.0 e.1 env) es)
 
-pub declare_all_begins : (env : Environment) (e : Entity) (xs : List Identifier) → Begins env.names (d.declare_all env e xs).env.names
+declare_all_begins : (env : Environment) (e : Entity) (xs : List Identifier) → Begins env.names (d.declare_all env e xs).env.names
 declare_all_begins env e xs = declare_each_begins env (map (λ x. (x, e)) xs)
 
 -- they change nothing but names
-pub declare_each_is : (env : Environment) (ds : List (Identifier × Entity))
+declare_each_is : (env : Environment) (ds : List (Identifier × Entity))
     → (d.declare_each env ds).env ≡ with_names (d.declare_each env ds).env.names env
 declare_each_is env [] = refl
 declare_each_is env (e ∷ es) = declare_each_is (declare e.0 e.1 env) es
@@ -68,14 +68,6 @@ declare_each_is env (e ∷ es) = declare_each_is (declare e.0 e.1 env) es
 pub declare_all_is : (env : Environment) (e : Entity) (xs : List Identifier)
     → (d.declare_all env e xs).env ≡ with_names (d.declare_all env e xs).env.names env
 declare_all_is env e xs = declare_each_is env (map (λ x. (x, e)) xs)
-
--- names that were declared and removed again
-pub left : (env : Environment) (e : Entity) (xs : List Identifier)
-    → with_names (take (length env.names) (d.declare_all env e xs).env.names) (d.declare_all env e xs).env ≡ env
-left env e xs =
-    ap (λ (ns : Names). with_names ns (d.declare_all env e xs).env)
-    (left_names env.names (d.declare_all env e xs).env.names (declare_all_begins env e xs))
-    ∙ ap (λ (v : Environment). with_names env.names v) (declare_all_is env e xs)
 
 -- ---- types
 
@@ -135,12 +127,12 @@ placed_keeps env p t = type_keeps env t
 
 -- ---- headings
 
-pub parameter_group_is : (env : Environment) (of : Option Sort) (is_function : Bool) (g : s.Parameters)
+parameter_group_is : (env : Environment) (of : Option Sort) (is_function : Bool) (g : s.Parameters)
     → (d.parameter_group env of is_function g).env ≡ with_names (d.parameter_group env of is_function g).env.names env
 parameter_group_is env of is_function g = declare_all_is env entity.Hidden g.names
 
 -- they change nothing but names
-pub heading_is : (env : Environment) (of : Option Sort) (is_function : Bool) (gs : List s.Parameters)
+heading_is : (env : Environment) (of : Option Sort) (is_function : Bool) (gs : List s.Parameters)
     → (d.heading env of is_function gs).env ≡ with_names (d.heading env of is_function gs).env.names env
 heading_is env of is_function [] = refl
 heading_is env of is_function (g ∷ gs) =
@@ -148,7 +140,7 @@ heading_is env of is_function (g ∷ gs) =
     let names = (d.heading one of is_function gs).env.names in
     heading_is one of is_function gs ∙ ap (with_names names) (parameter_group_is env of is_function g)
 
-pub heading_begins : (env : Environment) (of : Option Sort) (is_function : Bool) (gs : List s.Parameters)
+heading_begins : (env : Environment) (of : Option Sort) (is_function : Bool) (gs : List s.Parameters)
     → Begins env.names (d.heading env of is_function gs).env.names
 heading_begins env of is_function [] = begins_same env.names
 heading_begins env of is_function (g ∷ gs) =
@@ -231,7 +223,7 @@ variables_grow env p (g ∷ gs) =
 
 -- ---- routines
 
-pub routine_begins : (env : Environment) (y : Sort) (r : s.Routine) → Begins env.names (d.routine env y r).env.names
+routine_begins : (env : Environment) (y : Sort) (r : s.Routine) → Begins env.names (d.routine env y r).env.names
 routine_begins env y r = new_begins r.name _ env.names (lookup r.name.name env.names)
 
 pub routines_begin : (env : Environment) (y : Sort) (rs : List s.Routine) → Begins env.names (d.routines env y rs).env.names

@@ -16,5 +16,6 @@ pub mod FieldsMade
 pub mod Unrefused
 pub mod TypesMade
 pub mod Visible
+pub mod Finished
 pub mod Defining
 pub mod WholeTexts

@@ -1,6 +1,6 @@
 -- A system type: its heading is judged and left. Then its variables, routines and body are judged
--- inside, and left.
-use Rattle.std.proofs.Common.{◌≡◌, ◌+◌, ◌++◌, ℕ, false, Some, if◌then◌else◌, drop, length, take, subst, ap, sym, ◌∙◌, append_assoc, arith}
+-- inside, and left. Its name keeps its place, and stands for the type.
+use Rattle.std.proofs.Common.{◌≡◌, ◌+◌, ◌∷◌, ◌++◌, [], ℕ, false, Some, if◌then◌else◌, drop, length, take, subst, refl, ap, sym, ◌∙◌, append_assoc, arith}
 use Rattle.cp_model.specs.Syntax as s
 use Rattle.cp_model.specs.declared.tree.Identifier.{Identifier}
 use Rattle.cp_model.specs.declared.tree.Sort.{Sort}
@@ -8,18 +8,19 @@ use Rattle.cp_model.specs.declared.tree.Sort.TheVariants as sort
 use Rattle.cp_model.specs.declared.rules.Entity.TheVariants as entity
 use Rattle.cp_model.specs.declared.rules.SystemRow.{SystemRow}
 use Rattle.cp_model.specs.RulesJudged.{Violations, least}
-use Rattle.cp_model.specs.RulesEnvironment.{Environment, Members, declare, is_process, with_names}
+use Rattle.cp_model.specs.RulesEnvironment.{Environment, Members, Names, is_process, with_names}
 use Rattle.cp_model.specs.RulesNeeds.{need_statements}
 use Rattle.cp_model.specs.RulesStatements.{statements}
 use Rattle.cp_model.specs.RulesTypes.{cap_words}
 use Rattle.cp_model.specs.RulesDeclarations as d
 use Rattle.cp_model.specs.Rules.{define_system, routine_members, variable_position}
-use Rattle.cp_rules.specs.Checking.{State, after, declared_name, telling}
+use Rattle.cp_rules.specs.Checking.{State, after, declared_name, telling, with_set}
 use Rattle.cp_rules.specs.Declaring.{Declares}
 use Rattle.cp_rules.specs.Headings.{Collected, Heads, collection, nothing, with_part}
-use Rattle.cp_rules.specs.Systems.{HeadsSystem, JudgesParts, added_system, heading_of, inside, left_system, parts, row_as, words_of}
+use Rattle.cp_rules.specs.Systems.{HeadsSystem, JudgesParts, added_system, heading_of, inside, parts, row_as, with_finished, words_of}
 use Rattle.cp_rules.specs.declared.headings.Heading.{Heading}
-use Rattle.cp_rules.proofs.Kept.{Begins, begins_trans, declare_begins, declare_each_begins, heading_left, left_names, routines_begin, variables_grow}
+use Rattle.cp_rules.proofs.Finished.{set_in}
+use Rattle.cp_rules.proofs.Kept.{Begins, begins_trans, declare_each_begins, heading_left, left_names, routines_begin, variables_grow}
 use Rattle.cp_rules.proofs.Telling.{told_in, told_more}
 
 module _ (old : State) (y : s.System) where
@@ -98,15 +99,16 @@ module _ (old : State) (x : Identifier) (y : s.System) where
       (begins_trans within.names own.env.names judged.env.names
       (variables_grow within (variable_position y.sort) y.variables).names (routines_begin own.env y.sort y.routines))
 
-  pub system_defined : (s1 s2 s3 s4 : State) (h : Heading) (row : SystemRow) (ms : Members) (outside mark first count words : ℕ)
+  pub system_defined : (s1 s2 s3 s4 s5 : State) (h : Heading) (row : SystemRow) (ms : Members) (outside mark first count words : ℕ)
       → outside ≡ length old.env.names → s1 ≡ after old named → mark ≡ length s1.env.names
       → HeadsSystem s1 s2 h y → first ≡ length s2.env.parameters → count ≡ length h.rows.items
       → JudgesParts s2 s3 words (parts s2.env y (collection h))
       → row ≡ row_as s3.env y first count words
       → ms ≡ routine_members (drop mark s3.env.names)
-      → s4 ≡ left_system s3 outside old.env.region x row ms
-      → s4 ≡ after old (define_system old.env x y)
-  system_defined s1 s2 s3 s4 h row ms outside mark first count words at declared inner headed firsts counts parted rowed found left =
+      → s4 ≡ record s3 { env = with_names (take mark s3.env.names) s3.env }
+      → s5 ≡ with_finished s4 outside old.env.region row ms
+      → s5 ≡ after old (define_system old.env x y)
+  system_defined s1 s2 s3 s4 s5 h row ms outside mark first count words at declared inner headed firsts counts parted rowed found left finished =
       let vs1 : Violations = named.violations ++ head.violations in
       let vs2 : Violations = vs1 ++ judged.violations in
       let heads : HeadsSystem (after old named) s2 h y = subst (λ (z : State). HeadsSystem z s2 h y) declared headed in
@@ -125,19 +127,20 @@ module _ (old : State) (x : Identifier) (y : s.System) where
       (words_are y.sort (length head.rows) own.words (need_statements judged.env y.body.list) words judging.1) in
       let ms_is : ms ≡ routine_members (drop (length named.env.names) judged.env.names) =
       found ∙ ap (λ (z : State). routine_members (drop mark z.env.names)) told3 ∙ ap (λ n. routine_members (drop n judged.env.names)) mark_is in
-      let names : take outside judged.env.names ≡ old.env.names =
-      ap (λ n. take n judged.env.names) at
-      ∙ left_names old.env.names judged.env.names
-      (begins_trans old.env.names named.env.names judged.env.names (declare_begins x entity.UnfinishedType old.env) parts_begin) in
-      left
-      ∙ ap (λ (z : State). left_system z outside old.env.region x row ms) told3
-      ∙ (λ i. record {
-        env = declare x (entity.Type (length judged.env.types)) (record (added_system judged.env (row_told i) (ms_is i)) {
-          names = names i;
-          region = old.env.region;
-        });
-        told = least old.told vs2;
-      })
+      let names : take mark judged.env.names ≡ named.env.names =
+      ap (λ n. take n judged.env.names) mark_is ∙ left_names named.env.names judged.env.names parts_begin in
+      let left_told : s4 ≡ told_in (with_names named.env.names judged.env) old.told vs2 =
+      left ∙ ap (λ (z : State). let st : State = record z { env = with_names (take mark z.env.names) z.env } in st) told3
+      ∙ ap (λ (ns : Names). told_in (with_names ns judged.env) old.told vs2) names in
+      let ended : Environment =
+      record (added_system judged.env row_is (routine_members (drop (length named.env.names) judged.env.names))) {
+        names = named.env.names;
+        region = old.env.region;
+      } in
+      finished
+      ∙ (λ i. with_finished (left_told i) (at i) old.env.region (row_told i) (ms_is i))
+      ∙ ap (λ (v : Environment). told_in v old.told vs2)
+      (set_in old.env ended entity.UnfinishedType (entity.Type (length judged.env.types)) (x ∷ []) refl)
       ∙ ap (λ vs. record { env = (define_system old.env x y).env; told = least old.told vs }) regrouped
     where
       regroup : (as' os rs bs : Violations) → as' ++ ((os ++ rs) ++ bs) ≡ ((as' ++ os) ++ rs) ++ bs

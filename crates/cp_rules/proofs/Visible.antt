@@ -12,10 +12,10 @@ use Rattle.cp_model.specs.RulesEnvironment.{Environment, Names, Text, declare, d
 use Rattle.cp_model.specs.RulesJudged.{Violations, unless}
 use Rattle.cp_model.specs.RulesDeclarations as d
 
-abbrev keys : Names → List Text
+abbrev pub keys : Names → List Text
 keys = map (λ n. n.0)
 
-abbrev seen : Text → List Text → Bool
+abbrev pub seen : Text → List Text → Bool
 seen x [] = false
 seen x (k ∷ ks) = if bytes_eq x k then true else seen x ks
 
@@ -24,7 +24,7 @@ seen_first : (same : Bool) (e : Entity) (o : Option Entity) (s : Bool) → is_so
 seen_first true e o s h = refl
 seen_first false e o s h = h
 
-seen_is : (x : Text) (ns : Names) → is_some (lookup x ns) ≡ seen x (keys ns)
+pub seen_is : (x : Text) (ns : Names) → is_some (lookup x ns) ≡ seen x (keys ns)
 seen_is x [] = refl
 seen_is x (n ∷ ns) = seen_first (bytes_eq x n.0) n.1 (lookup x ns) (seen x (keys ns)) (seen_is x ns)
 

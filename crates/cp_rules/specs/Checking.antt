@@ -1,12 +1,13 @@
 -- The state of the code while it judges a part of a text, and what its results mean.
-use Rattle.std.specs.Prelude.{◌≡◌, Option, Result}
+use Rattle.std.specs.Prelude.{◌≡◌, ℕ, Option, Result}
 use Rattle.cp_model.specs.declared.tree.Identifier.{Identifier}
 use Rattle.cp_model.specs.declared.rules.Entity.{Entity}
 use Rattle.cp_model.specs.declared.rules.Violation.{Violation}
 use Rattle.cp_model.specs.RulesJudged.{Judged, Violations, least, violations_of}
-use Rattle.cp_model.specs.RulesEnvironment.{Environment, c1_declared, declare}
+use Rattle.cp_model.specs.RulesEnvironment.{Environment, c1_declared, declare, with_names}
 use Rattle.cp_model.specs.RulesTypes.{Made}
 use Rattle.cp_model.specs.RulesDeclarations.{Declared}
+use Rattle.cp_names.specs.Tables.{with_values_from}
 pub use Rattle.cp_judge.specs.Tells.{first_of}
 
 -- The environment so far, and the earliest violation that was told.
@@ -27,6 +28,10 @@ after s d = record { env = d.env; told = least s.told d.violations }
 -- The declaration of a single name.
 abbrev pub declared_name : Environment → Identifier → Entity → Declared
 declared_name env x e = record { env = declare x e env; violations = c1_declared env x }
+
+-- The state in which the names from a number on stand for this entity.
+abbrev pub with_set : State → ℕ → Entity → State
+with_set s mark e = record s { env = with_names (with_values_from mark e s.env.names) s.env }
 
 -- ---- what is judged
 

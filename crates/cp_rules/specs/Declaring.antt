@@ -1,6 +1,5 @@
 -- Variables of a type that was judged, and the parts of their declaration.
-use Rattle.std.specs.Prelude.{◌≡◌, ◌++◌, ℕ, Result, Ok, Err, List, []}
-use Rattle.cp_model.specs.Syntax as s
+use Rattle.std.specs.Prelude.{◌≡◌, ℕ, Result, Ok, Err, List, []}
 use Rattle.cp_model.specs.declared.tree.Identifier.{Identifier}
 use Rattle.cp_model.specs.declared.rules.Entity.{Entity}
 use Rattle.cp_model.specs.declared.rules.Entity.TheVariants as entity
@@ -8,11 +7,11 @@ use Rattle.cp_model.specs.declared.rules.Position.{Position}
 use Rattle.cp_model.specs.declared.rules.Position.TheVariants as position
 use Rattle.cp_model.specs.declared.rules.SystemRow.{SystemRow}
 use Rattle.cp_model.specs.declared.rules.Violation.{Violation}
-use Rattle.cp_model.specs.RulesJudged.{Judged, least, violations_of}
+use Rattle.cp_model.specs.RulesJudged.{least}
 use Rattle.cp_model.specs.RulesEnvironment.{Environment, row_of}
-use Rattle.cp_model.specs.RulesTypes.{Made, cap_words, type_placed}
-use Rattle.cp_model.specs.RulesDeclarations.{Declared, Variables, c13_owner, declare_all, owners_in, unfinished_variable, with_owner, words_in}
-use Rattle.cp_rules.specs.Checking.{State, first_of}
+use Rattle.cp_model.specs.RulesTypes.{cap_words}
+use Rattle.cp_model.specs.RulesDeclarations.{Declared, Variables, c13_owner, owners_in, with_owner, words_in}
+use Rattle.cp_rules.specs.Checking.{State}
 
 -- An owner was counted, with the violations in it.
 abbrev pub counted_owner : Environment → SystemRow → Identifier → Declared
@@ -38,17 +37,3 @@ with_variables s v = record { env = v.env; told = least s.told v.violations }
 
 abbrev pub Declares : State → State → ℕ → Variables → Type 0
 Declares old new n v = (new ≡ with_variables old v) × (n ≡ cap_words v.words)
-
--- The type of a group, judged while its names are being defined.
-abbrev pub group_made : Environment → Position → s.Variables → Made (Judged ℕ)
-group_made env p g = type_placed (declare_all env unfinished_variable g.names).env p g.of
-
-abbrev pub group_type : Environment → Position → s.Variables → Result ℕ Violation
-group_type env p g = first_of (group_made env p g).of
-
--- The state when the type of a group is known and the names of the group are removed again.
-abbrev pub left_group : State → Position → s.Variables → State
-left_group s p g = record {
-  env = record (group_made s.env p g).env { names = s.env.names };
-  told = least s.told ((declare_all s.env unfinished_variable g.names).violations ++ violations_of (group_made s.env p g).of);
-}

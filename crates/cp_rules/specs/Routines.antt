@@ -1,5 +1,5 @@
 -- Routines: the parts of their declaration.
-use Rattle.std.specs.Prelude.{◌≡◌, ◌+◌, ◌++◌, ℕ, List, [], ◌∷◌, Option, None, Some, Result, Ok, Err, is_some, length, take}
+use Rattle.std.specs.Prelude.{◌≡◌, ◌+◌, ◌++◌, ℕ, List, [], ◌∷◌, Option, None, Some, Result, Ok, Err, is_some, length}
 use Rattle.cp_model.specs.Syntax as s
 use Rattle.cp_model.specs.declared.tree.Identifier.{Identifier}
 use Rattle.cp_model.specs.declared.tree.Sort.{Sort}
@@ -17,7 +17,7 @@ use Rattle.cp_model.specs.RulesTypes.{cap_words, named_type}
 use Rattle.cp_model.specs.RulesStatements.{statements}
 use Rattle.cp_model.specs.RulesNeeds.{need_statements}
 use Rattle.cp_model.specs.RulesDeclarations as d
-use Rattle.cp_rules.specs.Checking.{State, first_of, telling}
+use Rattle.cp_rules.specs.Checking.{State, first_of, telling, with_set}
 use Rattle.cp_rules.specs.Headings.{Collected, collection, nothing, with_part}
 use Rattle.cp_rules.specs.declared.headings.Heading.{Heading}
 
@@ -54,10 +54,17 @@ abbrev pub heading_violations : Environment → Sort → s.Routine → Violation
 heading_violations env y r =
     c1_declared env r.name ++ d.c5_entry y r.entry ++ (heading_of env r).violations ++ d.result_violations (answer_of env r)
 
--- The heading was judged and collected, and its names are removed again.
+-- The state in which the heading was judged, its names are removed again, and the name of the routine is visible.
+abbrev pub with_name : State → Sort → s.Routine → State
+with_name old y r = record {
+  env = declare r.name (entity.UnfinishedRoutine no_routine) old.env;
+  told = least old.told (heading_violations old.env y r);
+}
+
+-- The heading was judged and collected.
 abbrev pub HeadsRoutine : State → State → Heading → Option (Result ℕ Violation) → Sort → s.Routine → Type 0
 HeadsRoutine old new h answer y r =
-    (new ≡ telling old (heading_violations old.env y r)) × (collection h ≡ with_part nothing (heading_of old.env r)) × (answer ≡ first_if (answer_of old.env r))
+    (new ≡ with_name old y r) × (collection h ≡ with_part nothing (heading_of old.env r)) × (answer ≡ first_if (answer_of old.env r))
 
 -- The row of a routine, before its need is known.
 abbrev pub row_as : ℕ → ℕ → Option ℕ → Option (Result ℕ Violation) → RoutineRow
@@ -72,10 +79,9 @@ enter_region env rows region = record env { parameters = env.parameters ++ rows;
 abbrev pub region_of : Sort → s.Routine → Region
 region_of y r = record { sort = y; part = d.part_of r.entry }
 
--- The environment in which the variables of a routine are declared.
-abbrev pub inside : Environment → Sort → s.Routine → RoutineRow → Collected → Environment
-inside env y r row k =
-    (d.declare_each (declare r.name (entity.UnfinishedRoutine row) (enter_region env k.rows (region_of y r))) k.bound).env
+-- The environment in which the variables of a routine are declared, whose name is visible.
+abbrev pub inside : Environment → Sort → s.Routine → Collected → Environment
+inside env y r k = (d.declare_each (enter_region env k.rows (region_of y r)) k.bound).env
 
 abbrev pub locals : Environment → s.Routine → d.Variables
 locals env r = d.variables env position.RoutineVariable r.variables
@@ -86,13 +92,8 @@ JudgesBody old new n v b =
     (new ≡ record { env = v.env; told = least old.told (v.violations ++ statements v.env b.list) })
     × (n ≡ cap_words (v.words + need_statements v.env b.list))
 
--- The state after a routine was left and its row and its name were added.
-abbrev pub left_routine : State → ℕ → Region → Identifier → RoutineRow → State
-left_routine s outside region x row =
-    record s {
-      env = declare x (entity.Routine (length s.env.routines)) (record s.env {
-        names = take outside s.env.names;
-        routines = s.env.routines ++ row ∷ [];
-        region = region;
-      });
-    }
+-- The state after the row of a routine was added, for which the names from a number on stand.
+abbrev pub with_finished : State → ℕ → Region → RoutineRow → State
+with_finished s outside region row =
+    with_set (record s { env = record s.env { routines = s.env.routines ++ row ∷ []; region = region } }) outside
+    (entity.Routine (length s.env.routines))

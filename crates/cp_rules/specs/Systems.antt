@@ -1,5 +1,5 @@
 -- System types: the parts of their definition.
-use Rattle.std.specs.Prelude.{◌≡◌, ◌+◌, ◌++◌, ◌∷◌, [], ℕ, false, Some, length, take}
+use Rattle.std.specs.Prelude.{◌≡◌, ◌+◌, ◌++◌, ◌∷◌, [], ℕ, false, Some, length}
 use Rattle.cp_model.specs.Syntax as s
 use Rattle.cp_model.specs.declared.tree.Identifier.{Identifier}
 use Rattle.cp_model.specs.declared.tree.Sort.{Sort}
@@ -10,13 +10,13 @@ use Rattle.cp_model.specs.declared.rules.Region.{Region}
 use Rattle.cp_model.specs.declared.rules.Structure.TheVariants as structure
 use Rattle.cp_model.specs.declared.rules.SystemRow.{SystemRow}
 use Rattle.cp_model.specs.RulesJudged.{least}
-use Rattle.cp_model.specs.RulesEnvironment.{Environment, Members, declare}
+use Rattle.cp_model.specs.RulesEnvironment.{Environment, Members}
 use Rattle.cp_model.specs.RulesTypes.{cap_words}
 use Rattle.cp_model.specs.RulesStatements.{statements}
 use Rattle.cp_model.specs.RulesNeeds.{need_statements}
 use Rattle.cp_model.specs.RulesDeclarations as d
 use Rattle.cp_model.specs.Rules.{variable_position}
-use Rattle.cp_rules.specs.Checking.{State, telling}
+use Rattle.cp_rules.specs.Checking.{State, telling, with_set}
 use Rattle.cp_rules.specs.Headings.{Collected, collection, nothing, with_part}
 use Rattle.cp_rules.specs.Routines.{enter_region}
 use Rattle.cp_rules.specs.declared.headings.Heading.{Heading}
@@ -58,15 +58,10 @@ added_system env row ms = record env {
   systems = env.systems ++ row ∷ [];
 }
 
--- The state after a system type was left and its row and its name were added.
-abbrev pub left_system : State → ℕ → Region → Identifier → SystemRow → Members → State
-left_system s outside region x row ms =
-    record s {
-      env = declare x (entity.Type (length s.env.types)) (record (added_system s.env row ms) {
-        names = take outside s.env.names;
-        region = region;
-      });
-    }
+-- The state after a system type was added, for which the names from a number on stand.
+abbrev pub with_finished : State → ℕ → Region → SystemRow → Members → State
+with_finished s outside region row ms =
+    with_set (record s { env = record (added_system s.env row ms) { region = region } }) outside (entity.Type (length s.env.types))
 
 -- The row of a system type whose parts were judged.
 abbrev pub row_as : Environment → s.System → ℕ → ℕ → ℕ → SystemRow

@@ -3,7 +3,7 @@
 ghost use Rattle.std.specs.Prelude.{◌≡◌, [], None, IfOk, OnOk, length, take};
 ghost use Rattle.cp_model.specs.RulesEnvironment as r;
 ghost use Rattle.cp_model.specs.RulesJudged as j;
-ghost use Rattle.cp_rules.specs.Checking.{State, Judges, after, declared_name, telling};
+ghost use Rattle.cp_rules.specs.Checking.{State, Judges, after, declared_name, telling, with_set};
 
 use crate::standard::standard_environment;
 use cp_judge::Environment;
@@ -65,10 +65,7 @@ impl<'t> Checker<'t> {
         ensures { OnOk result
             (self.new ≡ record self.old { env = r.declare x.now entity self.old.env }) }
     {
-        let name = x.name.as_bytes();
-        if self.environment.find(name).is_none() {
-            self.environment.declare(name, entity)?;
-        }
+        self.environment.declare(x, entity)?;
         Ok(())
     }
 
@@ -77,20 +74,23 @@ impl<'t> Checker<'t> {
         ensures { OnOk result
             (self.new ≡ after self.old (declared_name self.old.env x.now entity)) }
     {
-        let name = x.name.as_bytes();
-        if self.environment.find(name).is_none() {
-            self.environment.declare(name, entity)?;
-        } else {
-            self.unless(false, Rule::C1, x.at);
-        }
+        let is_new = self.environment.declare(x, entity)?;
+        self.unless(is_new, Rule::C1, x.at);
         Ok(())
     }
 
-    /// The number of visible names, as a mark for `leave`.
+    /// The number of visible names, as a mark for `set_from` and `leave`.
     pub fn mark(&self) -> usize
         ensures { result ≡ length self.now.env.names }
     {
         self.environment.name_count()
+    }
+
+    /// Lets the names that were declared after the first `mark` ones stand for `entity` from now on.
+    pub fn set_from(&mut self, mark: usize, entity: Entity)
+        ensures { self.new ≡ with_set self.old mark entity }
+    {
+        self.environment.set_from(mark, entity);
     }
 
     /// Removes the names that were declared after the first `mark` ones.

@@ -21,16 +21,4 @@ impl<'t> Checker<'t> {
         }
         Ok(())
     }
-
-    /// Declares each of these names, unless it is already visible. Fails only if memory runs out.
-    pub fn add_all(&mut self, names: &'t [Identifier], entity: Entity) -> Result<(), AllocError>
-        ensures { OnOk result
-            (self.new ≡ record
-            self.old { env = (d.declare_all self.old.env entity names.now).env }) }
-    {
-        for x in names {
-            self.add(x, entity)?;
-        }
-        Ok(())
-    }
 }

@@ -79,8 +79,8 @@ impl<'t> Checker<'t> {
         let outside = self.mark();
         self.declare(&d.name, Entity::UnfinishedConstant)?;
         let value = self.constant(&d.value);
-        self.leave(outside);
-        self.add(&d.name, constant_entity(value))
+        self.set_from(outside, constant_entity(value));
+        Ok(())
     }
 
     // Defines an enumeration. C1: one of its values is already visible, or occurs twice.
@@ -109,8 +109,8 @@ impl<'t> Checker<'t> {
         let outside = self.mark();
         self.declare(x, Entity::UnfinishedType)?;
         let of = self.judge_type(Position::Definition, t)?;
-        self.leave(outside);
-        self.add(x, type_entity(of))
+        self.set_from(outside, type_entity(of));
+        Ok(())
     }
 
     fn define(&mut self, d: &'t TypeDefinition) -> Result<(), AllocError>

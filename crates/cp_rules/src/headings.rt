@@ -182,12 +182,11 @@ impl<'t> Checker<'t> {
             (λ t. (self.new ≡ hidden_group self.old of is_function (view.parameters group.now))
             × (t ≡ first_of (parameter_judged self.old.env of (view.parameters group.now)))) }
     {
-        let mark = self.mark();
+        let outside = self.mark();
         self.declare_all(&group.names, UNFINISHED)?;
         self.judge_var(var_rule(of, is_function), group.by_reference);
         let t = self.parameter_type(of, &group.of);
-        self.leave(mark);
-        self.add_all(&group.names, Entity::Hidden)?;
+        self.set_from(outside, Entity::Hidden);
         Ok(t)
     }
 

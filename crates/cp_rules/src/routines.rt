@@ -7,14 +7,14 @@ ghost use Rattle.cp_model.specs.View as view;
 ghost use Rattle.cp_model.specs.declared.rules.Entity.TheVariants as entities;
 ghost use Rattle.cp_rules.specs.Checking.{after};
 ghost use Rattle.cp_rules.specs.Headings.{collection};
-ghost use Rattle.cp_rules.specs.Routines.{HeadsRoutine, JudgesBody, inside, left_routine, locals, row_as};
+ghost use Rattle.cp_rules.specs.Routines.{HeadsRoutine, JudgesBody, inside, locals, row_as, with_finished};
 
 use crate::checker::{Checker, Judged};
 use crate::headings::Heading;
 use crate::results::{part, returns, words};
 use crate::words::sum;
 use cp_model::rules::{Entity, Position, Region, Returns, RoutineRow};
-use cp_model::tree::{Identifier, Routine, Sort};
+use cp_model::tree::{Routine, Sort};
 use std::alloc::AllocError;
 
 // What a routine's name stands for in its own heading.
@@ -45,7 +45,7 @@ fn row(
 }
 
 impl<'t> Checker<'t> {
-    // Judges the heading of a routine and the type of its result.
+    // Declares the name of a routine, and judges its heading and the type of its result.
     fn routine_heading(
         &mut self,
         sort: Sort,
@@ -54,13 +54,13 @@ impl<'t> Checker<'t> {
         ensures { IfOk result
             (λ p. HeadsRoutine self.old self.new p.0 p.1 sort (view.routine routine.now)) }
     {
-        let outside = self.mark();
         self.declare(&routine.name, Entity::UnfinishedRoutine(NO_ROUTINE))?;
+        let inside = self.mark();
         self.judge_entry(sort, routine.entry);
         let is_function = routine.result_type.is_some();
         let heading = self.heading(None, is_function, &routine.parameters)?;
         let answer = self.result_type(&routine.result_type);
-        self.leave(outside);
+        self.leave(inside);
         Ok((heading, answer))
     }
 
@@ -69,12 +69,11 @@ impl<'t> Checker<'t> {
         &mut self,
         sort: Sort,
         routine: &'t Routine,
-        row: RoutineRow,
         heading: &Heading<'t>,
     ) -> Result<usize, AllocError>
         ensures { IfOk result
             (λ n. JudgesBody self.old self.new n
-            (locals (inside self.old.env sort (view.routine routine.now) row
+            (locals (inside self.old.env sort (view.routine routine.now)
             (collection heading.now)) (view.routine routine.now)) (view.body routine.now.body)) }
     {
         let region = Region {
@@ -82,27 +81,25 @@ impl<'t> Checker<'t> {
             part: part(routine.entry),
         };
         self.enter(&heading.rows, region)?;
-        self.add(&routine.name, Entity::UnfinishedRoutine(row))?;
         self.add_each(&heading.bound)?;
         let words = self.variables(Position::RoutineVariable, &routine.variables)?;
         self.statements(&routine.body.statements)?;
         Ok(sum(words, self.need(&routine.body.statements)))
     }
 
-    // Leaves a routine, and adds its row and its name.
-    fn leave_routine(
+    // Adds the row of a routine, whose name stands for it from now on.
+    fn finish_routine(
         &mut self,
         outside: usize,
         region: Region,
-        name: &'t Identifier,
         row: RoutineRow,
     ) -> Result<(), AllocError>
-        ensures { OnOk result (self.new ≡ left_routine self.old outside region name.now row) }
+        ensures { OnOk result (self.new ≡ with_finished self.old outside region row) }
     {
-        self.leave(outside);
         self.environment.stand_in(region);
         let number = self.environment.add_routine(row)?;
-        self.add(name, Entity::Routine(number))
+        self.set_from(outside, Entity::Routine(number));
+        Ok(())
     }
 
     /// Declares a routine of a component of this sort, and judges it. Fails only if memory runs
@@ -116,9 +113,12 @@ impl<'t> Checker<'t> {
         let (heading, answer) = self.routine_heading(sort, routine)?;
         let first = self.environment.parameter_count();
         let mut row = row(first, heading.rows.len(), routine.entry, answer);
-        let inside = self.routine_body(sort, routine, row, &heading)?;
-        row.need = sum(sum(1 + words(answer), heading.words), inside);
-        self.leave_routine(outside, region, &routine.name, row)
+        self.set_from(outside, Entity::UnfinishedRoutine(row));
+        let inside = self.mark();
+        let more = self.routine_body(sort, routine, &heading)?;
+        self.leave(inside);
+        row.need = sum(sum(1 + words(answer), heading.words), more);
+        self.finish_routine(outside, region, row)
     }
 
     /// Declares routines of a component of this sort, one after another. Fails only if memory runs

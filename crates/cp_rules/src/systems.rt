@@ -6,7 +6,7 @@ ghost use Rattle.cp_model.specs.RulesDeclarations as d;
 ghost use Rattle.cp_model.specs.View as view;
 ghost use Rattle.cp_rules.specs.Checking.{after, telling};
 ghost use Rattle.cp_rules.specs.Headings.{collection};
-ghost use Rattle.cp_rules.specs.Systems.{HeadsSystem, JudgesParts, added_system, left_system, parts, row_as, words_of};
+ghost use Rattle.cp_rules.specs.Systems.{HeadsSystem, JudgesParts, added_system, parts, row_as, with_finished, words_of};
 
 use crate::checker::Checker;
 use crate::headings::Heading;
@@ -85,22 +85,21 @@ impl<'t> Checker<'t> {
         Ok(t)
     }
 
-    // Leaves a system type, and adds its row and its name.
-    fn leave_system(
+    // Adds the row of a system type, for whose type its name stands from now on.
+    fn finish_system(
         &mut self,
         outside: usize,
         region: Region,
-        name: &'t Identifier,
         row: SystemRow,
         members: Members<'t>,
     ) -> Result<(), AllocError>
         ensures { OnOk result
-            (self.new ≡ left_system self.old outside region name.now row members.entry) }
+            (self.new ≡ with_finished self.old outside region row members.entry) }
     {
-        self.leave(outside);
         self.environment.stand_in(region);
         let t = self.add_system(row, members)?;
-        self.add(name, Entity::Type(t))
+        self.set_from(outside, Entity::Type(t));
+        Ok(())
     }
 
     // The row of a system type whose parts were judged.
@@ -133,6 +132,7 @@ impl<'t> Checker<'t> {
         let words = self.system_parts(y, &heading)?;
         let row = self.system_row(y, first, heading.rows.len(), words);
         let members = self.routine_members(inside)?;
-        self.leave_system(outside, region, x, row, members)
+        self.leave(inside);
+        self.finish_system(outside, region, row, members)
     }
 }

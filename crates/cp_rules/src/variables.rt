@@ -6,7 +6,7 @@ ghost use Rattle.cp_model.specs.RulesTypes.{cap_words};
 ghost use Rattle.cp_model.specs.RulesDeclarations as d;
 ghost use Rattle.cp_model.specs.View as view;
 ghost use Rattle.cp_rules.specs.Checking.{after};
-ghost use Rattle.cp_rules.specs.Declaring.{Declares, entity_of_type, group_type, left_group, words_of_type};
+ghost use Rattle.cp_rules.specs.Declaring.{Declares, entity_of_type, words_of_type};
 
 use crate::checker::{Checker, Judged};
 use crate::words::{product, sum};
@@ -63,32 +63,18 @@ pub fn words(env: &Environment, of: Judged<usize>) -> usize
 }
 
 impl<'t> Checker<'t> {
-    // Judges the type of a group. Meanwhile the names of the group are visible, but not as types.
-    fn group_type(
-        &mut self,
-        position: Position,
-        group: &'t Fields,
-    ) -> Result<Judged<usize>, AllocError>
-        ensures { IfOk result
-            (λ of. (self.new ≡ left_group self.old position (view.variables group.now))
-            × (of ≡ group_type self.old.env position (view.variables group.now))) }
-    {
-        let mark = self.mark();
-        self.declare_all(&group.names, UNFINISHED)?;
-        let of = self.judge_type(position, &group.of)?;
-        self.leave(mark);
-        Ok(of)
-    }
-
-    // Declares variables of one type, and returns the words that they take.
+    // Declares variables of one type, and returns the words that they take. While the type is
+    // judged their names are visible, but not as types.
     fn variable_group(&mut self, position: Position, group: &'t Fields) -> Result<usize, AllocError>
         ensures { IfOk result
             (λ n. Declares self.old self.new n
             (d.variable_group self.old.env position (view.variables group.now))) }
     {
-        let of = self.group_type(position, group)?;
+        let outside = self.mark();
+        self.declare_all(&group.names, UNFINISHED)?;
+        let of = self.judge_type(position, &group.of)?;
         let each = words(&self.environment, of);
-        self.add_all(&group.names, entity(of))?;
+        self.set_from(outside, entity(of));
         self.owners(position, of, &group.names);
         Ok(product(group.names.len(), each))
     }

@@ -11,11 +11,11 @@ returns c =
     let first : c.parameter_count-first.result ≡ length c.system_heading.new.self.env.parameters = search rules in
     let count : c.len.result ≡ length c.in_ok-heading.heading.rows.items = search rules in
     let opened = ap (λ (z : State). z.env) c.self.view_is in
-    on_ok c.leave_system.result
-    (λ left. system_defined c.args.self.now c.args.x.now y
-    c.declare.new.self c.system_heading.new.self c.system_parts.new.self c.leave_system.new.self
+    on_ok c.finish_system.result
+    (λ finished. system_defined c.args.self.now c.args.x.now y
+    c.declare.new.self c.system_heading.new.self c.system_parts.new.self c.leave.new.self c.finish_system.new.self
     c.in_ok-heading.heading c.system_row-row.result c.in_ok-members.members
     c.mark-outside.result c.mark-inside.result c.parameter_count-first.result c.len.result c.in_ok-words.words
     c.mark-outside.ensures c.in_ok-declare.ensures c.mark-inside.ensures c.in_ok-heading.ensures first count c.in_ok-words.ensures
-    c.system_row-row.ensures c.in_ok-members.ensures left)
-    (rw (c.region-region.ensures, opened) at c.leave_system.ensures)
+    c.system_row-row.ensures c.in_ok-members.ensures c.leave.ensures finished)
+    (rw (c.region-region.ensures, opened) at c.finish_system.ensures)

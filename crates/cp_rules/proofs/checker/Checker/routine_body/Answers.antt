@@ -1,8 +1,6 @@
 use Rattle.std.proofs.Common.{◌≡◌, ap, ◌∙◌}
 use Rattle.cp_model.specs.RulesDeclarations as d
-use Rattle.cp_model.specs.RulesEnvironment as r
 use Rattle.cp_model.specs.View as view
-use Rattle.cp_model.specs.declared.rules.Entity.TheVariants as entity
 use Rattle.cp_rules.specs.Checking.{State}
 use Rattle.cp_rules.specs.Headings.{collection}
 use Rattle.cp_rules.specs.Routines.{enter_region, inside, region_of}
@@ -17,13 +15,10 @@ returns c =
     let k = collection c.args.heading.now in
     let entering : c.enter.new.self ≡ record old { env = enter_region old.env k.rows (region_of y routine) } =
     rw (c.part.ensures, c.deref.ensures.value) at c.in_ok-enter.ensures in
-    let named : c.add.new.self ≡ record old { env = r.declare routine.name (entity.UnfinishedRoutine c.args.row) (enter_region old.env k.rows (region_of y routine)) } =
-    c.in_ok-add.ensures
-    ∙ ap (λ (z : State). let st : State = record z { env = r.declare routine.name (entity.UnfinishedRoutine c.args.row) z.env } in st) entering in
-    let within : c.add_each.new.self ≡ record old { env = inside old.env y routine c.args.row k } =
+    let within : c.add_each.new.self ≡ record old { env = inside old.env y routine k } =
     rw c.deref-2.ensures.value at c.in_ok-add_each.ensures
-    ∙ ap (λ (z : State). let st : State = record z { env = (d.declare_each z.env k.bound).env } in st) named in
-    body_judged old y routine k c.args.row old old c.add_each.new.self c.variables.new.self c.statements.new.self
+    ∙ ap (λ (z : State). let st : State = record z { env = (d.declare_each z.env k.bound).env } in st) entering in
+    body_judged old y routine k c.add_each.new.self c.variables.new.self c.statements.new.self
     c.in_ok-words.words c.need.result c.sum.result
     within (rw c.deref-3.ensures.value at c.in_ok-words.ensures) (rw c.deref-4.ensures.value at c.in_ok-statements.ensures)
     (rw c.deref-5.ensures.value at c.need.ensures) c.sum.ensures

@@ -10,11 +10,11 @@ pub returns : goal.returns
 returns c =
     let group = c.args.group.now in
     let g : s.Variables = record { names = group.names.items; of = view.type_expression group.of } in
-    let judged = rw (view_fields group) at c.in_ok-of.ensures in
     let count : c.len.result ≡ length group.names.items = search rules in
     let opened = ap (λ (z : State). z.env) c.self.view_is in
     rw (view_fields group)
-    (group_declared c.args.self.now c.args.position g c.group_type.new.self c.add_all.new.self c.owners.new.self
-    c.in_ok-of.of c.entity.result c.words-each.result c.product.result
-    judged.0 judged.1 (rw opened at c.words-each.ensures) c.entity.ensures
-    (rw c.deref.ensures.value at c.in_ok-add_all.ensures) (rw c.deref-2.ensures.value at c.owners.ensures) (rw count at c.product.ensures))
+    (group_declared c.args.self.now c.args.position g c.declare_all.new.self c.judge_type.new.self c.set_from.new.self c.owners.new.self
+    c.mark-outside.result c.in_ok-of.of c.entity.result c.words-each.result c.product.result
+    c.mark-outside.ensures (rw c.deref.ensures.value at c.in_ok-declare_all.ensures) c.in_ok-of.ensures
+    (rw opened at c.words-each.ensures) c.entity.ensures c.set_from.ensures
+    (rw c.deref-2.ensures.value at c.owners.ensures) (rw count at c.product.ensures))
