@@ -11,8 +11,10 @@ use Rattle.cp_model.specs.declared.rules.Rule.TheVariants.{C1, C13}
 use Rattle.cp_model.specs.RulesJudged.{Broken, Judged, Sound, Violations, also, both, guard, then_judge, unless, violations_of}
 use Rattle.cp_model.specs.RulesEnvironment.{Environment, Members, Text, row_of}
 use Rattle.cp_model.specs.RulesTypes as ty
+use Rattle.cp_names.specs.Tables.{with_new}
 use Rattle.cp_rules.specs.Records as records
-use Rattle.cp_rules.specs.Records.{first_in, is_new, with_field, with_field_if, with_fields}
+use Rattle.cp_names.specs.Tables.{with_new}
+use Rattle.cp_rules.specs.Records.{first_in, is_new, with_field, with_fields}
 use Rattle.cp_rules.proofs.ArraysMade.{Told}
 
 -- ---- names that were seen, and names of the fields so far
@@ -48,7 +50,7 @@ found_more y x m (n ∷ ns) = go (bytes_eq y n.0) (found_more y x m ns)
 same_more : (seen : List Text) (ms : Members) (x : Identifier) (t : ℕ) → Same seen ms → Same (seen ++ x.name ∷ []) (with_field ms x t)
 same_more seen ms x t same y = has_more y seen x.name ∙ ap (λ b. b || bytes_eq y x.name) (same y) ∙ go (lookup x.name ms) refl
   where
-    go : (o : Option Member) → lookup x.name ms ≡ o → is_some (lookup y ms) || bytes_eq y x.name ≡ is_some (lookup y (with_field_if ms x t o))
+    go : (o : Option Member) → lookup x.name ms ≡ o → is_some (lookup y ms) || bytes_eq y x.name ≡ is_some (lookup y (with_new x.name (member.Field t) ms o))
     go None h = sym (found_more y x.name (member.Field t) ms)
     go (Some m) h = there (bytes_eq y x.name) refl
       where
@@ -84,7 +86,7 @@ nothing_last : (vs ws : Violations) → vs ++ ws ≡ [] → ws ≡ []
 nothing_last [] ws h = h
 nothing_last (v ∷ vs) ws h = absurd (cc)
 
-new_field : (ms : Members) (x : Identifier) (t : ℕ) (o : Option Member) → unless (not (is_some o)) C1 x.at ≡ [] → with_field_if ms x t o ≡ ms ++ (x.name, member.Field t) ∷ []
+new_field : (ms : Members) (x : Identifier) (t : ℕ) (o : Option Member) → unless (not (is_some o)) C1 x.at ≡ [] → with_new x.name (member.Field t) ms o ≡ ms ++ (x.name, member.Field t) ∷ []
 new_field ms x t None h = refl
 new_field ms x t (Some m) h = absurd (cc)
 

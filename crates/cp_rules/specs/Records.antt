@@ -13,17 +13,14 @@ use Rattle.cp_model.specs.declared.rules.Violation.{Violation}
 use Rattle.cp_model.specs.RulesJudged.{Judged, Sound, Broken, Violations, unless, violation, violations_of}
 use Rattle.cp_model.specs.RulesEnvironment.{Environment, Members, Text, row_of}
 use Rattle.cp_model.specs.RulesTypes as ty
+use Rattle.cp_names.specs.Tables.{with_new}
 use Rattle.cp_rules.specs.Outer.{Known}
 
 -- ---- names of fields
 
-abbrev pub with_field_if : Members → Identifier → ℕ → Option Member → Members
-with_field_if ms x t None = ms ++ (x.name, member.Field t) ∷ []
-with_field_if ms x t (Some m) = ms
-
 -- The first field with a name counts.
 abbrev pub with_field : Members → Identifier → ℕ → Members
-with_field ms x t = with_field_if ms x t (lookup x.name ms)
+with_field ms x t = with_new x.name (member.Field t) ms (lookup x.name ms)
 
 abbrev pub is_new : Members → Identifier → Bool
 is_new ms x = not (is_some (lookup x.name ms))

@@ -23,19 +23,6 @@ pub struct FieldList<'t> {
     pub first: Option<Violation>,
 }
 
-// Adds a field, and returns whether its name is new. Fails only if memory runs out.
-fn add_field<'t>(members: &mut Members<'t>, x: &'t Identifier, t: usize) -> Result<bool, AllocError>
-    ensures new { IfOk result (λ n. n ≡ is_new members.old x.now) }
-    ensures members { OnOk result (members.new ≡ with_field members.old x.now t) }
-{
-    let name = x.name.as_bytes();
-    let is_new = members.find(name).is_none();
-    if is_new {
-        members.add(name, Member::Field(t))?;
-    }
-    Ok(is_new)
-}
-
 impl<'t> FieldList<'t> {
     /// Returns an empty list of fields.
     pub fn new(alloc: Global) -> FieldList<'t>
@@ -103,7 +90,8 @@ impl<'t> Checker<'t> {
             (fields.new.first ≡ or_first fields.old.first
             (unless (is_new fields.old.members x.now) C1 x.now.at)) }
     {
-        if !add_field(&mut fields.members, x, t)? {
+        let name = x.name.as_bytes();
+        if !fields.members.add_if_new(name, Member::Field(t))? {
             let broken = self.breaks(Rule::C1, x.at);
             fields.note(broken);
         }
