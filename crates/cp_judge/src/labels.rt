@@ -1,6 +1,6 @@
 //! The labels of a `case`.
 
-ghost use Rattle.std.specs.Prelude.{◌≡◌, ◌++◌, [], ◌∷◌, OnOk, map, not, Option, None, Some};
+ghost use Rattle.std.specs.Prelude.{◌≡◌, ◌++◌, [], ◌∷◌, IfOk, OnOk, map, not, Option, None, Some};
 ghost use Rattle.cp_model.specs.RulesJudged.{least, then_judge, guard, violations_of};
 ghost use Rattle.cp_model.specs.RulesStatements as st;
 ghost use Rattle.cp_model.specs.RulesTypes as types;
@@ -40,19 +40,12 @@ impl Labels {
         }
     }
 
-    /// Whether this label is in the set.
-    fn has(&self, label: (usize, i32)) -> bool
-        ensures { result ≡ st.is_among label self.now }
+    /// Adds a label, and returns whether it is new. Fails only if memory runs out.
+    fn add(&mut self, label: (usize, i32)) -> Result<bool, AllocError>
+        ensures new { IfOk result (λ new. new ≡ not (st.is_among label self.old)) }
+        ensures added { OnOk result (spec.SameLabels self.new (st.with_label self.old label)) }
     {
-        self.seen.contains(&label)
-    }
-
-    /// Adds a label, if it is new. Fails only if memory runs out.
-    fn add(&mut self, label: (usize, i32)) -> Result<(), AllocError>
-        ensures { OnOk result (spec.SameLabels self.new (st.with_label self.old label)) }
-    {
-        self.seen.insert(label)?;
-        Ok(())
+        Ok(self.seen.insert(label)?)
     }
 }
 
@@ -66,14 +59,13 @@ fn fits(base: Option<usize>, label: (usize, i32)) -> bool
 }
 
 // C3: a label occurs twice.
-fn once(told: &mut Told, seen: &Labels, at: usize, label: (usize, i32)) -> Option<(usize, i32)>
-    ensures { Tells told.old told.new result
-        (guard (not (st.is_among label seen.now)) rules.C3 at label) }
+fn once(told: &mut Told, is_new: bool, at: usize, label: (usize, i32)) -> Option<(usize, i32)>
+    ensures { Tells told.old told.new result (guard is_new rules.C3 at label) }
 {
-    if seen.has(label) {
-        return tell_violation(told, Rule::C3, at);
+    if is_new {
+        return Some(label);
     }
-    Some(label)
+    tell_violation(told, Rule::C3, at)
 }
 
 // C2: the base type of a label isn't that of the selector, if that is known. C3: the label occurs
@@ -81,14 +73,15 @@ fn once(told: &mut Told, seen: &Labels, at: usize, label: (usize, i32)) -> Optio
 fn judge_known_label(
     told: &mut Told,
     base: Option<usize>,
-    seen: &Labels,
+    is_new: bool,
     at: usize,
     label: (usize, i32),
 ) -> Option<(usize, i32)>
-    ensures { Tells told.old told.new result (st.c2_c3_label base seen.now at label) }
+    ensures { (seen : spec.Labels) → is_new ≡ not (st.is_among label seen)
+        → Tells told.old told.new result (st.c2_c3_label base seen at label) }
 {
     let fits = unless_holds(told, fits(base, label), Rule::C2, at);
-    let label = once(told, seen, at, label);
+    let label = once(told, is_new, at, label);
     answer_if(fits, label)
 }
 
@@ -131,8 +124,9 @@ fn judge_label(
     match constant(env, told, c) {
         Err(_) => Ok(()),
         Ok(label) => {
-            judge_known_label(told, base, seen, constant_at(c), label);
-            seen.add(label)
+            let is_new = seen.add(label)?;
+            judge_known_label(told, base, is_new, constant_at(c), label);
+            Ok(())
         }
     }
 }

@@ -1,11 +1,15 @@
-use Rattle.std.proofs.Common.{◌≡◌, ◌∙◌, cond, subst, sym, true}
+use Rattle.std.proofs.Common.{◌≡◌, ◌∙◌, ap, cond, not, subst, sym, true}
 use Rattle.cp_model.specs.RulesStatements.{Label, is_among, with_label}
 use Rattle.cp_judge.specs.Labels.{SameLabels}
 use Rattle.cp_judge.proofs.LabelsTold.{added_same, any_among, is_same, same_label}
 use Rattle.cp_judge.proofs.labels.Labels.add.Goals as goal
 
-pub returns : goal.returns
-returns c =
+pub returns-clause-new : goal.returns-clause-new
+returns-clause-new c =
+    c.in_ok-insert.ensures.added ∙ ap not (any_among c.args.label c.self.inside.seen.keys ∙ ap (is_among c.args.label) c.self.view_is)
+
+pub returns-clause-added : goal.returns-clause-added
+returns-clause-added c =
     let label = c.args.label in
     let old = c.self.inside.seen.keys in
     let new = c.insert.new.self.keys in
