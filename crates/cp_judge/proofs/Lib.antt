@@ -8,3 +8,4 @@ pub mod InitTold
 pub mod LabelsTold
 pub mod NeedsOfChains
 pub mod Covers
+pub mod PlainVariables

@@ -5,9 +5,6 @@ use Rattle.cp_model.specs.RulesJudged.{Judged, Sound, least, violations_of, mean
 use Rattle.cp_model.specs.RulesEnvironment as r
 use Rattle.cp_model.specs.RulesNames as n
 use Rattle.cp_model.specs.declared.rules.Entity.{Entity}
-use Rattle.cp_model.specs.declared.rules.RoutineRow.{RoutineRow}
-use Rattle.cp_model.specs.declared.rules.Rule.{Rule}
-use Rattle.cp_model.specs.declared.tree.Identifier.{Identifier}
 use Rattle.cp_model.specs.declared.rules.Want.{Want}
 use Rattle.cp_model.specs.declared.rules.Want.TheVariants as want
 use Rattle.cp_judge.specs.declared.callees.Wants.{Wants}

@@ -2,8 +2,9 @@
 
 ghost use Rattle.std.specs.Prelude.{◌≡◌, ◌++◌, [], ◌∷◌, map, Option, None, Some};
 ghost use Rattle.cp_model.specs.RulesEnvironment as r;
-ghost use Rattle.cp_model.specs.RulesJudged.{least};
+ghost use Rattle.cp_model.specs.RulesJudged.{Sound, least};
 ghost use Rattle.cp_model.specs.RulesNames as n;
+ghost use Rattle.cp_model.specs.declared.rules.Entity.TheVariants as entity;
 ghost use Rattle.cp_model.specs.declared.rules.Mode.TheVariants as mode;
 ghost use Rattle.cp_model.specs.RulesStatements as st;
 ghost use Rattle.cp_model.specs.View.{designator, expression, selector, selectors_of};
@@ -15,8 +16,8 @@ use crate::environment::Environment;
 use crate::expressions::{judge, type_of_designator};
 use crate::names::find_entity;
 use crate::telling::{Told, answer_if, tell, tell_violation};
-use crate::values::{designates_variable, designator_of};
-use cp_model::rules::{Entity, Mode, Returns, Rule, Violation};
+use crate::values::{designates_variable, designator_of, is_changeable, is_plain};
+use cp_model::rules::{Access, Entity, Mode, Returns, Rule, Violation};
 use cp_model::tree::{Designator, Expression, Identifier, Selector};
 
 // The result type of the function that is being defined, if its name is the whole left side. C4 and
@@ -93,6 +94,23 @@ fn other_left(env: &Environment, told: &mut Told, d: &Designator) -> Option<usiz
     answer_if(fits, t)
 }
 
+// The type of a left side whose first name is a variable.
+fn variable_left(
+    env: &Environment,
+    told: &mut Told,
+    d: &Designator,
+    t: usize,
+    access: Access,
+) -> Option<usize>
+    ensures { r.c1_named env.now d.now.root ≡ Sound (entity.Variable t access)
+        → Tells told.old told.new result (st.left_side env.now (designator d.now)) }
+{
+    if d.selectors.is_empty() && is_changeable(access) && is_plain(env, Mode::Variable, t) {
+        return Some(t);
+    }
+    other_left(env, told, d)
+}
+
 // The type of a left side.
 fn left(env: &Environment, told: &mut Told, d: &Designator) -> Option<usize>
     ensures { Tells told.old told.new result (st.left_side env.now (designator d.now)) }
@@ -101,6 +119,7 @@ fn left(env: &Environment, told: &mut Told, d: &Designator) -> Option<usize>
         Some(Entity::UnfinishedRoutine(row)) => {
             own_result(told, &d.root, &d.selectors, row.returns)
         }
+        Some(Entity::Variable(t, access)) => variable_left(env, told, d, t, access),
         _ => other_left(env, told, d),
     }
 }

@@ -24,7 +24,7 @@ use crate::operands::{first_operand, has_form, has_type, mode as mode_of, operan
 use crate::places::first_token;
 use crate::roots::root;
 use crate::telling::{Told, answer_if};
-use crate::values::{result_type, value};
+use crate::values::{plain_variable, result_type, value};
 use cp_model::rules::{ArrayPart, Entity, Mode, Violation, Want};
 use cp_model::tree::{Designator, Expression, Index, Operation, Operator, Selector};
 
@@ -99,6 +99,9 @@ fn judge_operation(
 fn judge_use(env: &Environment, told: &mut Told, mode: Mode, d: &Designator) -> Option<usize>
     ensures { Tells told.old told.new result (parts.judge_use env.now mode (designator d.now)) }
 {
+    if let Some(t) = plain_variable(env, mode, d) {
+        return Some(t);
+    }
     let fits = names_fit(env, told, mode, d);
     let t = type_of_designator(env, told, mode, d);
     answer_if(fits, t)

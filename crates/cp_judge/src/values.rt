@@ -1,11 +1,13 @@
 //! The uses of a designator: as a value, or where a variable is wanted.
 
-ghost use Rattle.std.specs.Prelude.{◌≡◌, ◌++◌, [], ◌∷◌, map, Option, None, Some};
+ghost use Rattle.std.specs.Prelude.{◌≡◌, ◌++◌, [], ◌∷◌, IfSome, map, Option, None, Some};
 ghost use Rattle.cp_model.specs.RulesEnvironment as r;
 ghost use Rattle.cp_model.specs.RulesNames as n;
 ghost use Rattle.cp_model.specs.View.{designator, expression, selector, selectors_of};
+ghost use Rattle.cp_model.specs.RulesJudged.{Sound};
+ghost use Rattle.cp_judge.specs.ExpressionParts.{judge_use};
 ghost use Rattle.cp_judge.specs.Tells.{Tells, TellsOf};
-ghost use Rattle.cp_judge.specs.Designated.{designator_if, designator_in};
+ghost use Rattle.cp_judge.specs.Designated.{designator_if, designator_in, is_plain};
 
 use crate::callees::function;
 use crate::environment::{Environment, INTEGER};
@@ -93,7 +95,8 @@ pub fn value(
     }
 }
 
-fn is_changeable(access: Access) -> bool
+/// Whether a variable with this access may be changed.
+pub fn is_changeable(access: Access) -> bool
     ensures { result ≡ n.is_changeable access }
 {
     match access {
@@ -136,6 +139,34 @@ pub fn designates_variable(env: &Environment, told: &mut Told, d: &Designator) -
         Rule::C10,
         d.root.at,
     )
+}
+
+/// Whether a variable of the type may stand for itself alone where it is used: it has no queues,
+/// and isn't a component that is used as a value.
+pub fn is_plain(env: &Environment, mode: Mode, t: usize) -> bool
+    ensures { result ≡ is_plain env.now mode t }
+{
+    !env.has_queues(t) && is_no_component(env, mode, t)
+}
+
+/// The type of a designator that is the name of a variable, if nothing is broken in its use. So the
+/// commonest designators are looked up once, and the rules about others are judged one by one.
+pub fn plain_variable(env: &Environment, mode: Mode, d: &Designator) -> Option<usize>
+    ensures { IfSome result (λ t. judge_use env.now mode (designator d.now) ≡ Sound t) }
+{
+    if !d.selectors.is_empty() {
+        return None;
+    }
+    match find_entity(env, &d.root) {
+        Some(Entity::Variable(t, _)) => {
+            if is_plain(env, mode, t) {
+                Some(t)
+            } else {
+                None
+            }
+        }
+        _ => None,
+    }
 }
 
 /// The designator, if the expression is one. A chain of one operand counts as that operand.
