@@ -1,4 +1,7 @@
 //! From terms to lists of expressions, given a reader of factors.
+//!
+//! What reads one part of an expression is inlined into what reads the whole, so that a factor
+//! alone isn't copied from one to the next.
 
 ghost use Rattle.std.specs.Prelude.{◌≡◌, map, IfOk, Option};
 ghost use Rattle.std.specs.Option.{is_some};
@@ -125,6 +128,7 @@ impl<O: Operators> Item<O> for Operation {
 
 /// Reads the operations after the first operand.
 #[tactic(auto, using(crate::proofs::Loops::repeat_rests), unfolding(cp_grammar::specs::Expressions::chain_from))]
+#[inline(always)]
 fn chain<O: Operators>(
     alloc: Global,
     class: O,
@@ -169,6 +173,7 @@ fn relation(alloc: Global, left: Expression, right: Operation) -> Result<Express
 
 /// Reads factors with operators between them.
 #[tactic(auto, unfolding(cp_grammar::specs::Expressions::term_of))]
+#[inline(always)]
 fn term<F: Fn(Global, usize, &[Token]) -> Read<'_, Expression> + Copy>(
     level: Level<F>,
     tokens: &[Token],
@@ -182,6 +187,7 @@ fn term<F: Fn(Global, usize, &[Token]) -> Read<'_, Expression> + Copy>(
 
 /// Reads a term, with or without a sign before it.
 #[tactic(auto, unfolding(cp_grammar::specs::Expressions::signed_term))]
+#[inline(always)]
 fn signed_term<F: Fn(Global, usize, &[Token]) -> Read<'_, Expression> + Copy>(
     level: Level<F>,
     tokens: &[Token],
@@ -202,6 +208,7 @@ fn signed_term<F: Fn(Global, usize, &[Token]) -> Read<'_, Expression> + Copy>(
 
 /// Reads terms with operators between them, and with or without a sign before the first.
 #[tactic(auto, unfolding(cp_grammar::specs::Expressions::simple_of))]
+#[inline(always)]
 fn simple<F: Fn(Global, usize, &[Token]) -> Read<'_, Expression> + Copy>(
     level: Level<F>,
     tokens: &[Token],
