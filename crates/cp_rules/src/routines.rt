@@ -87,7 +87,7 @@ impl<'t> Checker<'t> {
         Ok(sum(words, self.need(&routine.body.statements)))
     }
 
-    // Adds the row of a routine, whose name stands for it from now on.
+    // Adds the row of a routine. Its name stands for the routine from now on.
     fn finish_routine(
         &mut self,
         outside: usize,

@@ -85,7 +85,7 @@ impl<'t> Checker<'t> {
         Ok(t)
     }
 
-    // Adds the row of a system type, for whose type its name stands from now on.
+    // Adds the row of a system type. Its name stands for the type from now on.
     fn finish_system(
         &mut self,
         outside: usize,
