@@ -12,7 +12,7 @@ use Rattle.std.specs.Str.{bytes_eq}
 use Rattle.cp_model.specs.RulesEnvironment.{Text}
 use Rattle.cp_names.specs.Indices.{Changes, key_of, number_by_key}
 use Rattle.cp_names.specs.declared.index.Index.{Index}
-use Rattle.cp_names.proofs.Keys.{same_spelling}
+use Rattle.cp_names.proofs.Keys.{same_key}
 
 -- names with other keys are other names
 apart : (x y : Text) (o p : Option ℕ) → key_of x ≡ o → key_of y ≡ p → (o ≡ p → bytes_eq x y ≡ false) → bytes_eq x y ≡ false
@@ -31,7 +31,7 @@ equal_keys x y k q xk yk = go (is_eq (nat_cmp k q)) (bytes_eq x y) refl refl
     go false false h g = refl
     go true false h g =
         let same : k ≡ q = exact_unsigned k q ((Equal-is (nat_cmp k q)).0 h) in
-        sym ((bytes_eq-Decides x y).1 (same_spelling x y q (xk ∙ ap Some same) yk)) ∙ g
+        sym ((bytes_eq-Decides x y).1 (same_key x y q (xk ∙ ap Some same) yk)) ∙ g
     go false true h g =
         let same : k ≡ q = same_Some k q (sym xk ∙ ap key_of ((bytes_eq-Decides x y).0 g) ∙ yk) in
         sym h ∙ (Equal-is (nat_cmp k q)).1 (sym (nat_cmp_is k q Equal same))

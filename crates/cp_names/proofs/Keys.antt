@@ -1,17 +1,16 @@
 -- The numbers that short names spell: no two names spell the same.
-use Rattle.std.proofs.Common.{◌≡◌, ◌<◌, ◌+◌, ◌*◌, ◌-◌, ◌&&◌, ◌∷◌, ◌∙◌, [], ℕ, zero, suc, Bool, true, false, Option, None, Some, ap, arith, drop, length, nat_eq, nat_le, refl, slice_index_or, sym, if◌then◌else◌}
+use Rattle.std.proofs.Common.{◌≡◌, ◌<◌, ◌+◌, ◌*◌, ◌-◌, ◌&&◌, ◌∷◌, ◌∙◌, [], ℕ, Bool, true, false, Option, None, Some, ap, arith, nat_eq, nat_le, refl, sym, if◌then◌else◌}
 use Rattle.std.proofs.lemmas.Bool.Decides.{nat_tests}
 use Rattle.std.proofs.lemmas.Option.{same_Some}
 use Rattle.cp_model.specs.RulesEnvironment.{Text}
-use Rattle.cp_names.specs.Indices.{digit_of, key_of, with_digit, with_letter}
+use Rattle.cp_names.specs.Indices.{digit_of, key_of, with_digit, with_letter, with_letters}
 
 -- ---- names without a key
 
 -- a name is long if one of its letters can't be spelled
-pub long_name : (x : Text) (i k : ℕ) → i < length x → Some k ≡ key_of (drop (suc i) x) → with_letter (slice_index_or x i 0) (Some k) ≡ None → key_of x ≡ None
-long_name [] i k within spelled none = absurd (omega (arith, within))
-long_name (b ∷ bs) zero k within spelled none = ap (with_letter b) (sym spelled) ∙ none
-long_name (b ∷ bs) (suc i) k within spelled none = ap (with_letter b) (long_name bs i k (omega (arith, within)) spelled none)
+pub long_name : (x : Text) → with_letters None x ≡ None
+long_name [] = refl
+long_name (b ∷ bs) = long_name bs
 
 pub no_room : (b k : ℕ) → 485440633518672409 < k → with_letter b (Some k) ≡ None
 no_room b k full = ap (λ t. if t then with_digit k (digit_of b) else None) (too_large k full)
@@ -55,23 +54,28 @@ before_letter b k (Some l) h = go (nat_le l 485440633518672409) (digit_of b) ref
     go true None is g = absurd (cc)
     go false o is g = absurd (cc)
 
-pub same_spelling : (x y : Text) (k : ℕ) → key_of x ≡ Some k → key_of y ≡ Some k → x ≡ y
+-- the number of letters that stand from the last to the first
+abbrev spelled : Text → Option ℕ
+spelled [] = Some 0
+spelled (b ∷ bs) = with_letter b (spelled bs)
+
+same_spelling : (x y : Text) (k : ℕ) → spelled x ≡ Some k → spelled y ≡ Some k → x ≡ y
 same_spelling [] [] k h g = refl
 same_spelling [] (c ∷ cs) k h g =
     let none = same_Some 0 k h in
-    let rest = before_letter c k (key_of cs) g in
+    let rest = before_letter c k (spelled cs) g in
     let some = (letter_is c rest.1 rest.3).1 in
     let sum = rest.4 in
     absurd (omega (arith, none, some, sum))
 same_spelling (b ∷ bs) [] k h g =
     let none = same_Some 0 k g in
-    let rest = before_letter b k (key_of bs) h in
+    let rest = before_letter b k (spelled bs) h in
     let some = (letter_is b rest.1 rest.3).1 in
     let sum = rest.4 in
     absurd (omega (arith, none, some, sum))
 same_spelling (b ∷ bs) (c ∷ cs) k h g =
-    let front = before_letter b k (key_of bs) h in
-    let other = before_letter c k (key_of cs) g in
+    let front = before_letter b k (spelled bs) h in
+    let other = before_letter c k (spelled cs) g in
     let sum = front.4 in
     let sum' = other.4 in
     let first = letter_is b front.1 front.3 in
@@ -83,3 +87,21 @@ same_spelling (b ∷ bs) (c ∷ cs) k h g =
     let letter : b ≡ c = sym first.0 ∙ ap letter_of digit ∙ first'.0 in
     let others : bs ≡ cs = same_spelling bs cs other.0 (front.2 ∙ ap Some rest) other.2 in
     λ i. letter i ∷ others i
+
+abbrev reverse_onto : Text → Text → Text
+reverse_onto [] ys = ys
+reverse_onto (x ∷ xs) ys = reverse_onto xs (x ∷ ys)
+
+there_and_back : (xs ys : Text) → reverse_onto (reverse_onto xs ys) [] ≡ reverse_onto ys xs
+there_and_back [] ys = refl
+there_and_back (x ∷ xs) ys = there_and_back xs (x ∷ ys)
+
+spelled_from_last : (xs ys : Text) → with_letters (spelled ys) xs ≡ spelled (reverse_onto xs ys)
+spelled_from_last [] ys = refl
+spelled_from_last (x ∷ xs) ys = spelled_from_last xs (x ∷ ys)
+
+pub same_key : (x y : Text) (k : ℕ) → key_of x ≡ Some k → key_of y ≡ Some k → x ≡ y
+same_key x y k h g =
+    let same : reverse_onto x [] ≡ reverse_onto y [] =
+    same_spelling (reverse_onto x []) (reverse_onto y []) k (sym (spelled_from_last x []) ∙ h) (sym (spelled_from_last y []) ∙ g) in
+    sym (there_and_back x []) ∙ ap (λ z. reverse_onto z []) same ∙ there_and_back y []

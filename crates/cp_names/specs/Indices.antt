@@ -18,15 +18,18 @@ abbrev pub with_digit : ℕ → Option ℕ → Option ℕ
 with_digit k None = None
 with_digit k (Some d) = Some (38 * k + d)
 
--- The number that a letter and those after it spell, if there is room for the letter.
+-- The number of one letter more, if there is room for the letter.
 abbrev pub with_letter : ℕ → Option ℕ → Option ℕ
 with_letter b None = None
 with_letter b (Some k) = if nat_le k 485440633518672409 then with_digit k (digit_of b) else None
 
--- The number that the letters of a short name spell in base 38, the last letter first.
+abbrev pub with_letters : Option ℕ → Text → Option ℕ
+with_letters k [] = k
+with_letters k (b ∷ bs) = with_letters (with_letter b k) bs
+
+-- The number that the letters of a short name spell in base 38.
 abbrev pub key_of : Text → Option ℕ
-key_of [] = Some 0
-key_of (b ∷ bs) = with_letter b (key_of bs)
+key_of = with_letters (Some 0)
 
 abbrev pub number_by_key : Index → Text → Option ℕ → Option ℕ
 number_by_key m x (Some k) = get_by (nat_cmp k) m.short

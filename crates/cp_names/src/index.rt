@@ -32,17 +32,17 @@ fn digit(letter: u8) -> Option<u64>
     }
 }
 
-// The number that a short name spells in base 38, its last letter first, or `None` if the name
-// isn't short.
+// The number that a short name spells in base 38, or `None` if the name isn't short. Names that
+// begin alike have numbers that lie together, so that names in order are found in near places.
 fn key(name: &[u8]) -> Option<u64>
     ensures { result ≡ key_of name.now }
 {
     let mut key: u64 = 0;
-    for i in (0..name.len()).rev() {
+    for letter in name {
         if key > LARGEST_WITH_ROOM {
             return None;
         }
-        key = 38 * key + digit(name[i])?;
+        key = 38 * key + digit(*letter)?;
     }
     Some(key)
 }
