@@ -1,6 +1,6 @@
--- The piece at the front of a text that isn't empty: its length, and what begins with a letter.
-use Rattle.std.proofs.Common.{◌≡◌, ℕ, ◌+◌, ◌<◌, ◌≤◌, List, [], ◌∷◌, length, drop, get_or, Option, Ok, Err, IfOk, Bool, true, refl, sym, ap, subst, ◌∙◌, length-drop, length-append, arith}
-use Rattle.cp_model.specs.Characters.{is_letter}
+-- The piece at the front of a text that isn't empty: its length, and what begins with a blank or a letter.
+use Rattle.std.proofs.Common.{◌≡◌, ℕ, ◌+◌, ◌<◌, ◌≤◌, List, [], ◌∷◌, length, drop, get_or, Option, None, Ok, Err, IfOk, Bool, true, refl, sym, ap, subst, ◌∙◌, length-drop, length-append, arith}
+use Rattle.cp_model.specs.Characters.{is_blank, is_letter}
 use Rattle.cp_model.specs.declared.token.Kind.{Kind}
 use Rattle.cp_scan.specs.Pieces.{Piece, piece, first_piece, head_or_zero, word}
 use Rattle.cp_scan.proofs.Fronts.{Holds}
@@ -34,6 +34,16 @@ piece_below text at limit some below (Ok x) is_front =
     let most = (piece_length (head_or_zero text) (drop 1 text) x.0 x.1 (sym is_front)).1 in
     let l = ap (λ (w : List ℕ). length w) (left_at text some) in
     omega arith
+
+-- a blank is a piece
+blank_first : (rest : List ℕ) → is_blank (get_or rest 0 0) ≡ true → Ok (None, 1) ≡ first_piece rest
+unfolding piece
+blank_first [] h = absurd (cc)
+blank_first (b ∷ rest) h = rw h refl
+
+pub first_blank : (text rest : List ℕ) (is_one : Bool) → rest ≡ text → is_one ≡ is_blank (get_or rest 0 0) → is_one ≡ true
+    → Ok (None, 1) ≡ first_piece text
+first_blank text rest is_one same is_first h = blank_first rest (sym is_first ∙ h) ∙ ap first_piece same
 
 -- a piece that begins with a letter is a word
 word_first : (rest : List ℕ) → is_letter (get_or rest 0 0) ≡ true → word rest ≡ first_piece rest

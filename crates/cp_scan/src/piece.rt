@@ -10,7 +10,7 @@ ghost use Rattle.cp_scan.specs.Failures.{Takes};
 ghost use Rattle.cp_scan.specs.Pieces as spec;
 ghost use Rattle.cp_scan.specs.Pieces.{head_or_zero};
 
-use crate::bytes::{is_digit, is_letter};
+use crate::bytes::{is_blank, is_digit, is_letter};
 use crate::characters::character;
 use crate::comments::comment;
 use crate::marks::mark;
@@ -32,7 +32,11 @@ pub fn read_piece(alloc: Global, text: &[u8], progress: &mut Progress) -> Result
         (spec.first_piece (drop progress.old.at text.now)) }
 {
     let rest = rest_from(text, progress.at);
-    if is_letter(rest[0]) {
+    let b = rest[0];
+    if is_blank(b) {
+        return progress.take(Ok((None, 1)));
+    }
+    if is_letter(b) {
         read_word(alloc, rest, progress)
     } else {
         read_other(rest, progress)
@@ -46,10 +50,11 @@ fn rest_from(text: &[u8], at: usize) -> &[u8]
     &text[at..]
 }
 
-// Reads the piece at the front of a text, which isn't a word.
+// Reads the piece at the front of a text, which is neither a blank nor a word.
 #[tactic(auto, unfolding(crate::specs::Pieces::piece))]
 fn read_other(text: &[u8], progress: &mut Progress) -> Result<(), ScanError>
     requires some { 0 < length text.now }
+    requires no_blank { character.is_blank (head_or_zero text.now) ≡ false }
     requires no_word { character.is_letter (head_or_zero text.now) ≡ false }
     requires fits { progress.old.at + length text.now < 2 ^ 64 }
     ensures { Takes result progress.old progress.new (spec.first_piece text.now) }
@@ -60,7 +65,6 @@ fn read_other(text: &[u8], progress: &mut Progress) -> Result<(), ScanError>
         return progress.take(number(text));
     }
     match b {
-        b'\t' | b'\n' | b'\r' | b' ' => progress.take(Ok((None, 1))),
         b'"' => progress.take(comment(rest)),
         b'\'' => progress.take(character(rest)),
         _ => progress.take(mark(b, rest)),

@@ -1,5 +1,9 @@
-use Rattle.cp_scan.proofs.FirstPiece.{first_word}
+use Rattle.cp_scan.proofs.FirstPiece.{first_blank, first_word}
 use Rattle.cp_scan.proofs.piece.read_piece.Goals as goal
+
+pub returns-then-is_blank : goal.returns-then-is_blank
+returns-then-is_blank c =
+    let e = first_blank _ _ _ c.rest_from-rest.ensures c.is_blank.ensures c.if-is_blank.true in rw (← e) c.take.ensures
 
 pub returns-then-is_letter : goal.returns-then-is_letter
 returns-then-is_letter c =
