@@ -1,6 +1,6 @@
 //! The rules about the names of a designator, whatever else is broken in it.
 
-ghost use Rattle.std.specs.Prelude.{◌≡◌, ◌++◌, [], ◌∷◌, map, Option, None, Some};
+ghost use Rattle.std.specs.Prelude.{◌≡◌, ◌++◌, [], ◌∷◌, map, true, Option, None, Some};
 ghost use Rattle.cp_model.specs.RulesEnvironment as r;
 ghost use Rattle.cp_model.specs.RulesNames as n;
 ghost use Rattle.cp_model.specs.View.{designator, index, indices_of, selector, selectors_of};
@@ -98,11 +98,28 @@ fn entry_after_point(env: &Environment, told: &mut Told, d: &Designator) -> bool
     selected_has_entry(env, told, &d.root, &d.selectors)
 }
 
+// Whether the first name of a designator is that of a variable which may be named here, and indices
+// come right after it: then nothing is broken in its names, as one look-up tells.
+fn indexes_variable(env: &Environment, mode: Mode, d: &Designator) -> bool
+    ensures { result ≡ true → n.c2_c5_c8_named env.now mode (designator d.now) ≡ [] }
+{
+    if !is_indexed_first(&d.selectors) {
+        return false;
+    }
+    match find_entity(env, &d.root) {
+        Some(Entity::Variable(t, _)) => !env.has_queues(t),
+        _ => false,
+    }
+}
+
 /// C2 or C10, C5 and C8 for the names of a designator: a type before `[`, a routine without
 /// `entry`, a variable with queues in the wrong place.
 pub fn names_fit(env: &Environment, told: &mut Told, mode: Mode, d: &Designator) -> bool
     ensures { TellsOf told.old told.new result (n.c2_c5_c8_named env.now mode (designator d.now)) }
 {
+    if indexes_variable(env, mode, d) {
+        return true;
+    }
     let no_type = no_indexed_type(env, told, mode, d);
     let entry = entry_after_point(env, told, d);
     let no_queue = queue_in_place(env, told, mode, first_name(d));

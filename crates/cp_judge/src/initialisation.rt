@@ -1,9 +1,11 @@
 //! The statement `init`: the components that it names, and their arguments.
 
-ghost use Rattle.std.specs.Prelude.{◌≡◌, ◌++◌, [], ◌∷◌, map, length, Option, None, Some, slice_get};
+ghost use Rattle.std.specs.Prelude.{◌≡◌, ◌++◌, [], ◌∷◌, map, length, IfSome, Option, None, Some, slice_get};
 ghost use Rattle.cp_model.specs.RulesEnvironment as r;
 ghost use Rattle.cp_model.specs.RulesExpressions as x;
-ghost use Rattle.cp_model.specs.RulesJudged.{least, meaning_of, then_judge, violations_of};
+ghost use Rattle.cp_model.specs.RulesJudged.{Sound, least, meaning_of, then_judge, violations_of};
+ghost use Rattle.cp_model.specs.RulesNames as n;
+ghost use Rattle.cp_model.specs.declared.rules.Mode.TheVariants as mode;
 ghost use Rattle.cp_model.specs.RulesStatements as st;
 ghost use Rattle.cp_model.specs.View.{designator, expression, expressions_of, init_item};
 ghost use Rattle.cp_judge.specs.InitParts as parts;
@@ -13,7 +15,7 @@ use crate::callees::parameter;
 use crate::designators::names_fit;
 use crate::environment::{Environment, INTEGER};
 use crate::expressions::{self, judge};
-use crate::names::{anywhere, is_in_routine, judge_name, queue_in_place};
+use crate::names::{anywhere, find_entity, is_in_routine, judge_name, queue_in_place};
 use crate::places::{first_token, last_name};
 use crate::telling::{Told, answer_if, tell, tell_violation, unless_holds};
 use crate::values::designator_of;
@@ -285,11 +287,42 @@ fn arguments(env: &Environment, told: &mut Told, system: Option<usize>, list: &[
     }
 }
 
+// The system type of a component that may be initialised with so many arguments, by one look-up.
+fn plain_component(env: &Environment, x: &Identifier, count: usize) -> Option<usize>
+    ensures named { IfSome result (λ y. n.c8_named env.now mode.Value x.now ≡ []) }
+    ensures component { IfSome result
+        (λ y. violations_of (parts.component env.now x.now count) ≡ []) }
+    ensures system { IfSome result (λ y. parts.system env.now x.now ≡ Sound y) }
+{
+    let Some(Entity::Variable(t, Access::Own)) = find_entity(env, x) else {
+        return None;
+    };
+    let y = env.system(t)?;
+    if env.has_queues(t) || env.system_row(y).count != count {
+        return None;
+    }
+    Some(y)
+}
+
+// Judges the component of an item, and returns its system type, whatever the number of arguments
+// is.
+fn item_component(env: &Environment, told: &mut Told, x: &Identifier, count: usize) -> Option<usize>
+    ensures told { told.new ≡ least told.old (n.c8_named env.now mode.Value x.now ++ violations_of
+        (parts.component env.now x.now count)) }
+    ensures system { result ≡ meaning_of (parts.system env.now x.now) }
+{
+    let plain = plain_component(env, x, count);
+    if plain.is_some() {
+        return plain;
+    }
+    queue_in_place(env, told, Mode::Value, x);
+    component(env, told, x, count)
+}
+
 fn item(env: &Environment, told: &mut Told, item: &InitItem)
     ensures { told.new ≡ least told.old (st.init_item env.now (init_item item.now)) }
 {
-    queue_in_place(env, told, Mode::Value, &item.component);
-    let system = component(env, told, &item.component, item.arguments.len());
+    let system = item_component(env, told, &item.component, item.arguments.len());
     arguments(env, told, system, &item.arguments);
 }
 

@@ -191,6 +191,9 @@ pub fn need_of_statements(env: &Environment, list: &[Statement]) -> usize
 {
     let mut need = 0;
     for s in list {
+        if matches!(s, Statement::Empty) {
+            continue;
+        }
         need = need.max(need_of_statement(env, s));
     }
     need

@@ -138,6 +138,9 @@ pub fn statements(
         (st.statements env.now (view.statements_of (map view.statement list.now)))) }
 {
     for s in list {
+        if matches!(s, Statement::Empty) {
+            continue;
+        }
         statement(env, alloc, told, s)?;
     }
     Ok(())

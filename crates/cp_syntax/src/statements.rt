@@ -36,8 +36,14 @@ impl<F: Fn(Global, usize, &[Token]) -> Read<'_, Statement> + Copy> Node<Level<F>
 
     ghost reader = { λ x. spec.statement_at x.room };
 
+    // A statement before a semicolon that is nothing is told without a call.
+    #[inline(always)]
+    #[tactic(auto, unfolding(cp_grammar::specs::Statements::statement_of, cp_grammar::specs::Statements::statement_by))]
     fn read(level: Level<F>, tokens: &[Token]) -> Read<'_, Statement> {
-        read_at(level, tokens)
+        match peek(tokens) {
+            Some(Kind::Symbol(Symbol::Semicolon)) => Ok((Statement::Empty, tokens)),
+            _ => read_at(level, tokens),
+        }
     }
 }
 

@@ -18,10 +18,9 @@ returns c =
     let es = expressions_of (map expression list) in
     let count : c.len.result ≡ n.count_of es = c.len.ensures ∙ sym c.deref.ensures.len ∙ ap length c.deref.ensures.value ∙ sym (count_expressions list) in
     let j = parts.component env x (n.count_of es) in
-    let told = rw count at c.component-system.ensures.told in
-    let ps = parameters_told env c.component-system.result (parts.system env x) c.component-system.ensures.system in
+    let told = rw count at c.item_component-system.ensures.told in
+    let ps = parameters_told env c.item_component-system.result (parts.system env x) c.item_component-system.ensures.system in
     let rest = rw (ps, c.deref.ensures.value) at c.arguments.ensures in
     let arguments = st.init_arguments env (st.parameters_in env (parts.system env x)) es in
     let named = n.c8_named env mode.Value x in
-    more_told c.args.told.now c.component-system.new.told c.arguments.new.told (named ++ violations_of j) arguments
-    (more_told c.args.told.now c.queue_in_place.new.told c.component-system.new.told named (violations_of j) c.queue_in_place.ensures.0 told) rest
+    more_told c.args.told.now c.item_component-system.new.told c.arguments.new.told (named ++ violations_of j) arguments told rest
