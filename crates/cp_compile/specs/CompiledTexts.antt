@@ -3,10 +3,8 @@
 use Rattle.std.specs.Prelude.{◌≡◌, ℕ, List, [], ◌∷◌, Option, None, Some}
 use Rattle.cp_model.specs.Abstract as a
 use Rattle.cp_model.specs.Abstract.{Definition, Name, System}
-use Rattle.cp_model.specs.Erase as erase
 use Rattle.cp_model.specs.Names.{lookup}
 use Rattle.cp_model.specs.Types.{ComponentOf, GlobalScope, Members}
-use Rattle.cp_model.specs.View as tree
 use Rattle.cp_program_model.specs.Compile.{CompiledTypes, with_definition, with_definitions}
 use Rattle.cp_program_model.specs.Programs.{StartPlan}
 use Rattle.cp_emit.specs.declared.emitter.Emitter.{Emitter}

@@ -1,5 +1,5 @@
 -- Origins are added behind those that are there.
-use Rattle.std.proofs.Common.{◌≡◌, ◌++◌, ◌∷◌, ◌∙◌, ℕ, List, [], ap, append_assoc, sym}
+use Rattle.std.proofs.Common.{◌++◌, ◌∷◌, ◌∙◌, ℕ, List, [], ap, append_assoc, sym}
 use Rattle.std.proofs.lemmas.List.{append-nil}
 use Rattle.cp_emit.specs.Emission.{Continues}
 

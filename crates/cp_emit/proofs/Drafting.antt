@@ -1,5 +1,5 @@
 -- Pieces before others in a plan come last in the list of a draft.
-use Rattle.std.proofs.Common.{◌≡◌, ◌∙◌, ◌+◌, ℕ, ℤ, List, [], ◌∷◌, ◌++◌, None, Some, ap, refl, sym, drop, reverse}
+use Rattle.std.proofs.Common.{◌≡◌, ◌∙◌, ℕ, ℤ, List, [], ◌∷◌, ◌++◌, None, Some, ap, refl, sym}
 use Rattle.std.proofs.lemmas.List.{reverse-append}
 use Rattle.cp_program_model.specs.Plans.{fill_before, pieces_before}
 use Rattle.cp_program_model.specs.Programs as code

@@ -25,9 +25,9 @@ pub one_added : (fields : List Field) (f : Field) (d : Declared) (rest : List (N
 one_added [] f d rest is = ap (λ x. x ∷ rest) is
 one_added (y ∷ ys) f d rest is = ap (λ xs. entry y ∷ xs) (one_added ys f d rest is)
 
-pub one_kept : (types : Types) (kept more : List Declared) (d : Declared) (rest : List Declared)
+pub keeps_one : (types : Types) (kept more : List Declared) (d : Declared) (rest : List Declared)
     → more ≡ (if is_own types d then kept ++ d ∷ [] else kept) → more ++ own_of types rest ≡ kept ++ own_of types (d ∷ rest)
-one_kept types kept more d rest is =
+keeps_one types kept more d rest is =
     ap (λ ds. ds ++ own_of types rest) is ∙ go (is_own types d)
   where
     go : (b : Bool) → (if b then kept ++ d ∷ [] else kept) ++ own_of types rest ≡ kept ++ (if b then d ∷ own_of types rest else own_of types rest)

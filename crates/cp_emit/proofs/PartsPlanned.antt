@@ -1,5 +1,5 @@
 -- Parts are placed, arranged and planned one by one.
-use Rattle.std.proofs.Common.{◌≡◌, ◌≤◌, ◌<◌, ◌∙◌, ◌+◌, ◌++◌, ◌∷◌, ℕ, zero, suc, List, [], Bool, true, false, refl, ap, sym, subst, append-nil, get_or, if◌then◌else◌, length, map, drop, take, arith}
+use Rattle.std.proofs.Common.{◌≡◌, ◌≤◌, ◌<◌, ◌∙◌, ◌+◌, ◌++◌, ◌∷◌, ℕ, zero, suc, List, [], Bool, true, false, refl, ap, sym, subst, append-nil, get_or, if◌then◌else◌, length, map, take, arith}
 use Rattle.std.specs.Prelude.{nat_le, nat_lt, slice_set, ◌&&◌}
 use Rattle.std.proofs.lemmas.Option.{slice_get_past}
 use Rattle.std.specs.List.{swap}

@@ -1,6 +1,5 @@
 -- What a planner knows stays known as plans are added.
-use Rattle.std.proofs.Common.{◌≡◌, ◌<◌, ◌∙◌, ◌++◌, ◌∷◌, ℕ, List, [], Option, None, Some, refl, ap, sym, subst, append_assoc, append-nil, ⊎_elim, length, length-append, slice_get, ◌+◌, Bool, true, false, if◌then◌else◌, arith}
-use Rattle.std.proofs.lemmas.Option.{same_Some}
+use Rattle.std.proofs.Common.{◌≡◌, ◌<◌, ◌∙◌, ◌++◌, ◌∷◌, ℕ, List, [], Option, Some, refl, ap, sym, subst, append_assoc, append-nil, ⊎_elim, length, length-append, slice_get, ◌+◌, Bool, true, false, if◌then◌else◌, arith}
 use Rattle.std.specs.Borrow.{Bor}
 use Rattle.cp_model.specs.Types.{GlobalScope, ResolvedType}
 use Rattle.cp_program_model.specs.Plans.{plan}

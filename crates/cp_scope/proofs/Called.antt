@@ -1,9 +1,9 @@
 -- What a designator calls.
-use Rattle.std.proofs.Common.{◌≡◌, Global, Vec, ◌≤◌, ◌∷◌, ◌+◌, ◌∙◌, Bool, true, false, ℕ, zero, suc, List, [], Option, None, Some, if◌then◌else◌, ap, arith, find, is_some, length, map, refl, option_map, slice_get, slice_index_or, subst, sym}
+use Rattle.std.proofs.Common.{◌≡◌, Global, Vec, ◌∷◌, ◌+◌, ◌∙◌, Bool, true, false, ℕ, zero, suc, List, [], Option, None, Some, if◌then◌else◌, arith, find, is_some, map, refl, option_map, slice_get, subst, sym}
 use Rattle.std.proofs.lemmas.Option.{same_Some}
 use Rattle.std.proofs.lemmas.Slice.Eq.{bytes_eq-Decides}
 use Rattle.std.specs.Str.{bytes_eq}
-use Rattle.cp_model.proofs.Views.{view_designator, view_indexed}
+use Rattle.cp_model.proofs.Views.{view_indexed}
 use Rattle.cp_model.specs.Abstract as a
 use Rattle.cp_model.specs.Abstract.{Name, Routine, System}
 use Rattle.cp_model.specs.Calls as calls
@@ -14,9 +14,7 @@ use Rattle.cp_model.specs.Declarations.{Variable, declarations}
 use Rattle.cp_model.specs.Environments.{Environment}
 use Rattle.cp_model.specs.Erase as erase
 use Rattle.cp_model.specs.View as view
-use Rattle.cp_model.specs.declared.tree.Designator.{Designator}
 use Rattle.cp_model.specs.declared.tree.Index.{Index}
-use Rattle.cp_model.specs.declared.tree.Selector.{Selector}
 use Rattle.cp_model.specs.declared.tree.Selector.TheVariants as tree
 use Rattle.cp_model.specs.Names.{lookup}
 use Rattle.cp_model.specs.Syntax as s

@@ -1,5 +1,5 @@
 -- What the first part of a designator is.
-use Rattle.std.proofs.Common.{◌≡◌, ◌≤◌, ◌<◌, ◌∷◌, ◌∙◌, Bor, Global, Vec, Bool, true, false, ℕ, List, [], Option, None, Some, ap, arith, drop, is_some, length, map, refl, subst, sym}
+use Rattle.std.proofs.Common.{◌≡◌, ◌≤◌, ◌<◌, ◌∷◌, ◌∙◌, Bor, Global, Vec, ℕ, List, [], Option, None, Some, ap, arith, drop, is_some, length, map, refl, subst, sym}
 use Rattle.cp_model.proofs.Views.{view_designator, view_indexed}
 use Rattle.cp_model.specs.Abstract as a
 use Rattle.cp_model.specs.Erase as erase

@@ -14,7 +14,6 @@ use Rattle.cp_model.specs.declared.tree.Designator.{Designator}
 use Rattle.cp_model.specs.declared.tree.Expression.{Expression}
 use Rattle.cp_model.specs.declared.tree.Expression.TheVariants as tree
 use Rattle.cp_model.specs.declared.tree.Operation.{Operation}
-use Rattle.cp_model.specs.declared.tree.Selector.{Selector}
 use Rattle.cp_model.proofs.Views.{view_call, view_designator, view_operation}
 use Rattle.cp_typing.specs.StaticTypes.{answer_type, called_type, operator_type, own_value_type, place_type}
 use Rattle.cp_program_model.specs.Scopes as code

@@ -2,7 +2,7 @@ use Rattle.std.proofs.Common.{◌≡◌, ◌∷◌, ◌++◌, ◌+◌, ◌∙◌
 use Rattle.std.proofs.lemmas.List.{append-nil, at_drop_all, at_drop_more}
 use Rattle.cp_scope.specs.declared.variables.Declared.{Declared}
 use Rattle.cp_emit.specs.Members.{own_of}
-use Rattle.cp_emit.proofs.Membership.{one_kept}
+use Rattle.cp_emit.proofs.Membership.{keeps_one}
 use Rattle.cp_emit.proofs.members.own_parameters.Goals as goal
 
 -- A placeholder for an index past the end of a list of declared names.
@@ -21,7 +21,7 @@ loop-d-preserved c =
     let before = c.loop-d.kept.items in
     let rest = drop (i + 1) all in
     let step : own_of types (drop i all) ≡ own_of types (d ∷ rest) = at_drop_more (λ (ds : List Declared). own_of types ds) all i nothing c.loop-d-test.true in
-    one_kept types before c.keep.new.kept.items d rest c.in_ok-keep.ensures
+    keeps_one types before c.keep.new.kept.items d rest c.in_ok-keep.ensures
     ∙ (ap (λ ds. before ++ ds) (sym step) ∙ c.loop-d.invariant)
 
 pub returns : goal.returns

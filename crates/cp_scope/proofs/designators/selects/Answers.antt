@@ -1,4 +1,3 @@
-use Rattle.std.proofs.Common.{arith}
 use Rattle.cp_scope.proofs.Designating.{indexed_selects, nothing_indexed}
 use Rattle.cp_scope.proofs.designators.selects.Goals as goal
 

@@ -1,4 +1,4 @@
-use Rattle.std.proofs.Common.{rules, ◌≡◌, ◌+◌, ◌∙◌, Some, ap, length, slice_get, subst}
+use Rattle.std.proofs.Common.{rules, ◌≡◌, ◌+◌, ◌∙◌, ap, length, subst}
 use Rattle.cp_model.specs.Names.{lookup}
 use Rattle.cp_program_model.specs.Scopes.{declared_type, or_zero}
 use Rattle.cp_scope.proofs.Unrefused.{if_ok}

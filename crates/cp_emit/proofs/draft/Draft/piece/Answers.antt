@@ -1,4 +1,4 @@
-use Rattle.std.proofs.Common.{rules, ◌≡◌, ◌+◌, ◌<◌, ◌≤◌, ◌∙◌, List, ap, sym, take, arith}
+use Rattle.std.proofs.Common.{rules, ◌≡◌, ◌+◌, ◌<◌, ◌≤◌, ◌∙◌, ap, sym, take, arith}
 use Rattle.cp_program_model.specs.Plans.{fill_before, pieces_before}
 use Rattle.cp_program_model.specs.Programs as code
 use Rattle.cp_program.specs.declared.program.StartPiece.{StartPiece}

@@ -1,4 +1,4 @@
-use Rattle.std.proofs.Common.{rules, ◌≡◌, ◌∙◌, Some, ap, slice_get}
+use Rattle.std.proofs.Common.{◌≡◌, ◌∙◌, Some, ap, slice_get}
 use Rattle.cp_program.specs.View.{plan_at}
 use Rattle.cp_emit.specs.Planning.{known_of}
 use Rattle.cp_emit.proofs.PlansKept.{number_planned}

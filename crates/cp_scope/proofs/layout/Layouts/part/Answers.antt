@@ -1,5 +1,5 @@
-use Rattle.std.proofs.Common.{arith, sym}
-use Rattle.cp_scope.proofs.Standing.{grows_not, has_row}
+use Rattle.std.proofs.Common.{sym}
+use Rattle.cp_scope.proofs.Standing.{grows_not}
 use Rattle.cp_scope.proofs.layout.Layouts.part.Goals as goal
 
 pub returns : goal.returns
