@@ -9,7 +9,7 @@ use Rattle.cp_model.specs.declared.tree.System as tree
 use Rattle.cp_model.specs.Types.{ArrayOf, ComponentOf, GlobalScope, NoType, Queue, RecordOf, ResolvedType, Simple}
 use Rattle.cp_program_model.specs.CodedTerms.{coded_term, init_argument}
 use Rattle.cp_program_model.specs.Layout.{member, right}
-use Rattle.cp_program_model.specs.Scopes.{Scope, environment, part_start, right_start}
+use Rattle.cp_program_model.specs.Scopes.{Scope, part_start, right_start}
 use Rattle.cp_program_model.specs.Terms as plain
 use Rattle.cp_scope.specs.declared.systems.SystemTable.{SystemTable}
 use Rattle.cp_scope.specs.declared.types.Simple as simple

@@ -1,6 +1,6 @@
 //! Calls of routines.
 
-ghost use Rattle.std.specs.Prelude.{◌≡◌, List, Option, IfOk, map};
+ghost use Rattle.std.specs.Prelude.{◌≡◌, ◌++◌, ◌∷◌, [], List, Option, IfOk, OnOk, map};
 ghost use Rattle.cp_model.specs.Abstract.{Routine};
 ghost use Rattle.cp_model.specs.Calls as model;
 ghost use Rattle.cp_model.specs.Components as components;
@@ -118,11 +118,13 @@ impl<'s, 't> Translator<'s, 't> {
         origin: usize,
         calls: &mut Vec<CodedCall>,
     ) -> Result<MadeTerm, AllocError>
-        ensures { IfOk result (λ made. (s : code.Scope) (c : model.Callee)
+        ensures term { IfOk result (λ made. (s : code.Scope) (c : model.Callee)
             (before : List coded.CodedCall) (ys : coded.CodedArguments) → IsScope self.now.scope s
             → IsCallee self.now.scope s callee.now c
             → AreArguments before calls.old.items xs ys
             → IsTerm before calls.new.items made (coded.function_call s c ys low)) }
+        ensures origin { OnOk result
+            (map (λ x. x.at) calls.new.items ≡ map (λ x. x.at) calls.old.items ++ origin ∷ []) }
     {
         let call = self.call(callee, xs.arguments, low)?;
         make_call(self.alloc, calls, call, xs.temps, origin)

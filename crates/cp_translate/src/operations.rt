@@ -1,6 +1,6 @@
 //! The operations of statements, each after the calls of its terms.
 
-ghost use Rattle.std.specs.Prelude.{◌≡◌, ◌++◌, ◌∷◌, [], IfOk, OnOk, map, reverse};
+ghost use Rattle.std.specs.Prelude.{◌≡◌, ◌++◌, ◌∷◌, [], IfOk, List, OnOk, map, reverse};
 ghost use Rattle.cp_model.specs.Erase as erase;
 ghost use Rattle.cp_model.specs.View as tree;
 ghost use Rattle.cp_program_model.specs.CodedStatements as coded;
@@ -8,7 +8,8 @@ ghost use Rattle.cp_program_model.specs.CodedStatements.{arms_at, with_calls};
 ghost use Rattle.cp_program_model.specs.CodedTerms.{coded_term};
 ghost use Rattle.cp_program_model.specs.Programs as op;
 ghost use Rattle.cp_program_model.specs.Scopes as code;
-ghost use Rattle.cp_emit.specs.Emission.{place_of};
+ghost use Rattle.cp_emit.specs.Emission.{origins_of_calls, place_of};
+ghost use Rattle.cp_emit.specs.declared.emitter.CodedCall.{CodedCall};
 ghost use Rattle.cp_scope.specs.Scopes.{IsScope};
 ghost use Rattle.cp_program.specs.Labels.{arm};
 ghost use Rattle.cp_program.specs.View as view;
@@ -144,11 +145,13 @@ impl<'s, 't> Translator<'s, 't> {
         origin: usize,
         emitter: &mut Emitter,
     ) -> Result<u32, AllocError>
-        ensures { IfOk result (λ entry. (s : code.Scope) → IsScope self.now.scope s
+        ensures enters { IfOk result (λ entry. (s : code.Scope) → IsScope self.now.scope s
             → let a = coded_term s (erase.expression (tree.expression from.now)) counting.temp in
             let b = coded_term s (erase.expression (tree.expression last.now)) a.temps in
             Enters emitter.old emitter.new entry (with_calls (a.calls ++ b.calls)
             (op.For (view.counting counting) a.term b.term) (place_of emitter.old))) }
+        ensures origin { OnOk result ((calls : List CodedCall) × (emitter.new.origins.items
+            ≡ emitter.old.origins.items ++ origin ∷ origins_of_calls calls)) }
     {
         let mut calls = Vec::new(self.alloc);
         let first = self.term(from, counting.temp, &mut calls)?;

@@ -150,7 +150,7 @@ for_loop-returns t c =
     (ap (λ (k : op.Counting). k.temp) counts) (h s scope) in
     for_entered s header.variable.name (erase.is_down header.direction) e f y c.args.low c.args.next first place (view.counting open') old
     c.close_loop.new.self c.start_counting.new.emitter counts closed begins)
-    c.start_counting.ensures
+    c.start_counting.ensures.enters
 
 pub cycle-returns : goal.cycle-returns
 cycle-returns t c = λ next s scope.

@@ -1,8 +1,7 @@
 -- Expressions, designators and arguments contain one another, so each answer joins what the calls in it promise of
 -- the parts. A loop over operands or selectors keeps the expression read so far, which the definition groups to the
 -- left: its invariant is that what was made is the definition's for that expression, and that what is left completes it.
-use Rattle.std.proofs.Common.{◌≡◌, ◌∷◌, ◌++◌, ◌+◌, ◌≤◌, ◌∙◌, [], Some, pos, ℕ, List, add-one, ap, arith, codes, drop, length, length-append, map, refl, slice_get, subst, sym}
-use Rattle.std.specs.Str.{bytes_eq}
+use Rattle.std.proofs.Common.{◌≡◌, ◌∷◌, ◌++◌, ◌+◌, ◌≤◌, ◌∙◌, [], Some, pos, ℕ, List, add-one, ap, arith, drop, length, length-append, map, refl, slice_get, subst, sym}
 use Rattle.std.specs.Int.{w32}
 use Rattle.std.proofs.lemmas.Int.{to_z-of_z}
 use Rattle.std.proofs.lemmas.List.{at_drop_more, drop_all}
@@ -10,7 +9,6 @@ use Rattle.cp_model.specs.Abstract as a
 use Rattle.cp_model.specs.Abstract.{MoreExpressions, NoExpression}
 use Rattle.cp_model.specs.Calls.{callee}
 use Rattle.cp_model.specs.Erase as erase
-use Rattle.cp_model.specs.Expressions.{name_of}
 use Rattle.cp_model.specs.Types.{base_of_type}
 use Rattle.cp_typing.specs.StaticTypes.{expression_type}
 use Rattle.cp_program_model.specs.Scopes.{environment}
@@ -21,16 +19,16 @@ use Rattle.cp_model.specs.Syntax.{chain_of}
 use Rattle.cp_model.specs.View as tree
 use Rattle.cp_model.specs.declared.tree.Expression.{Expression}
 use Rattle.cp_model.specs.declared.tree.Expression.TheVariants as written
-use Rattle.cp_program_model.specs.CodedTerms.{CodedArguments, argument_of, coded_arguments, coded_spot, coded_standard, coded_term, coded_variable, function_named, lone_term, name_or_item, no_arguments, parameters_of, term_of_name, with_argument}
-use Rattle.cp_program_model.specs.Terms.{Function, Number, Standard}
+use Rattle.cp_program_model.specs.CodedTerms.{CodedArguments, argument_of, coded_arguments, coded_spot, coded_standard, coded_term, coded_variable, lone_term, name_or_item, no_arguments, parameters_of, term_of_name, with_argument}
+use Rattle.cp_program_model.specs.Terms.{Number}
 use Rattle.cp_emit.specs.Emission.{coded_call}
 use Rattle.cp_scope.proofs.Unrefused.{if_ok}
 use Rattle.cp_scope.proofs.ValueTypes.{is_name}
 use Rattle.cp_emit.specs.declared.call.MadeTerm.{MadeTerm}
 use Rattle.cp_program.proofs.Wide.{narrow}
 use Rattle.cp_translate.specs.Translated.{AreArguments, IsPlace, IsSpot, IsTerm}
-use Rattle.cp_translate.proofs.ArgumentsMade.{Finishes, all_made, declared_at, got, no_parameters, none_made, one_made, parameters_past}
-use Rattle.cp_translate.proofs.CallsMade.{called_as, called_by, first_at, none_called, nothing_passed, standard_as, standard_empty, standard_other, valued}
+use Rattle.cp_translate.proofs.ArgumentsMade.{Finishes, all_made, declared_at, got, no_parameters, one_made, parameters_past}
+use Rattle.cp_translate.proofs.CallsMade.{called_as, called_by, first_at, none_called, nothing_passed, standard_as, standard_empty, valued}
 use Rattle.cp_translate.proofs.Consisting.{bare_call, bare_chain, meant, no_bare_call, no_bare_chain, no_character, no_not, no_number, no_signed, other_spot}
 use Rattle.cp_translate.proofs.TermsMade.{lone_made, part_held, seen_as}
 use Rattle.cp_model.proofs.Views.{view_call, view_chain, view_character, view_designator, view_field, view_index, view_not, view_number, view_operation, view_signed}
@@ -214,18 +212,6 @@ term-returns-in_ok-made-in-Chain t c =
     ((rw c.deref-in-Chain-2.ensures.value at h) s c.args.low before e scope (rw c.deref-in-Chain.ensures at (c.in_ok-made-in-Chain.ensures s scope))))
     c.chain.ensures
 
-pub arguments-loop-e-init : goal.arguments-loop-e-init
-arguments-loop-e-init t c =
-    let made = c.no_arguments-made.result in
-    let calls = c.args.calls.now.items in
-    let es = erase.expressions (tree.expressions_of (map tree.expression c.args.es.now)) in record {
-      count = ap length c.no_arguments-made.ensures.arguments;
-      so_far = λ s ps scope declared.
-          subst (λ n. Finishes (map coded_call calls) calls made (coded_arguments s es ps c.args.at n) (coded_arguments s es ps c.args.at c.args.low))
-          (sym c.no_arguments-made.ensures.temps)
-          (none_made calls made (coded_arguments s es ps c.args.at c.args.low) c.no_arguments-made.ensures.arguments);
-    }
-
 pub arguments-loop-e-preserved : goal.arguments-loop-e-preserved
 arguments-loop-e-preserved t c =
     let types = c.args.self.now.scope.tables.now.types in
@@ -263,18 +249,6 @@ arguments-loop-e-preserved t c =
           (c.loop-e.invariant.so_far s ps scope declared)) one c.in_ok-push.ensures.items;
     }
 
-pub arguments-returns : goal.arguments-returns
-arguments-returns t c = λ s ps scope declared.
-    let k = c.loop-e.e-index in
-    let all = c.args.es.now in
-    let made = c.loop-e.made in
-    let before = map coded_call c.args.calls.now.items in
-    let whole = coded_arguments s (erase.expressions (tree.expressions_of (map tree.expression all))) ps c.args.at c.args.low in
-    let left : List Expression → CodedArguments = λ es. coded_arguments s (erase.expressions (tree.expressions_of (map tree.expression es))) (drop k ps) c.loop-e.at made.temps in
-    all_made before c.loop-e.calls.items made whole
-    (subst (λ es. Finishes before c.loop-e.calls.items made (left es) whole) (drop_all k all c.loop-e-test.false)
-    (c.loop-e.invariant.so_far s ps scope declared))
-
 pub arguments-returns-in_default : goal.arguments-returns-in_default
 arguments-returns-in_default t c = λ s ps scope declared.
     let k = c.loop-e.e-index in
@@ -303,7 +277,7 @@ user_call-returns t c =
     let xs = (rw c.deref.ensures.value at c.in_ok-xs.ensures) s (parameters_of s d) scope declared in
     h s d before (coded_arguments s es (parameters_of s d) (first_parameter d) c.args.low) scope is
     (subst (λ n. AreArguments before c.arguments.new.calls.items c.in_ok-xs.xs (coded_arguments s es (parameters_of s d) n c.args.low)) at xs))
-    c.function_call.ensures
+    c.function_call.ensures.term
 
 pub standard_call-returns-then-is_empty_test : goal.standard_call-returns-then-is_empty_test
 standard_call-returns-then-is_empty_test t c =
@@ -319,21 +293,6 @@ standard_call-returns-then-is_empty_test t c =
     (h before after (coded_variable s e low) (c.in_ok-made.ensures s scope)))
     c.empty.ensures
 
-pub standard_call-returns : goal.standard_call-returns
-standard_call-returns t c =
-    let before = map coded_call c.args.calls.now.items in
-    let after = c.term.new.calls.items in
-    let low = c.args.low in
-    let e = erase.expression (tree.expression c.args.e.now) in
-    if_ok c.apply.result
-    (λ made h s es scope.
-    let b = base_of_type (expression_type (environment s) e) in
-    subst (IsTerm before after made)
-    (sym (standard_other c.args.name.now b (coded_term s e low) (coded_variable s e low) (sym c.is_empty_test.ensures ∙ c.if-is_empty_test.false)))
-    (subst (λ (g : Function). IsTerm before after made (record (coded_term s e low) { term = Standard g (coded_term s e low).term })) (c.in_ok-function.ensures s scope)
-    (h before after (coded_term s e low) (c.in_ok-made-2.ensures s scope))))
-    c.apply.ensures
-
 pub use_term-returns-in-Some : goal.use_term-returns-in-Some
 use_term-returns-in-Some t c =
     let calls = c.args.calls.now.items in
@@ -346,7 +305,7 @@ use_term-returns-in-Some t c =
     subst (IsTerm (map coded_call calls) after made) (sym (called_as s d NoExpression low found.callee found.is))
     (h s found.callee (map coded_call calls) (no_arguments low) scope found.stands
     (nothing_passed calls c.no_arguments-none.result low c.no_arguments-none.ensures.arguments c.no_arguments-none.ensures.temps)))
-    c.function_call.ensures
+    c.function_call.ensures.term
 
 pub argument-returns-in_ok-made-in-Some : goal.argument-returns-in_ok-made-in-Some
 argument-returns-in_ok-made-in-Some t c = λ s v scope reference stands.
@@ -418,14 +377,6 @@ term-returns-in-empty t c =
     let is = ap meant c.in-Call.is ∙ bare_call c.in-Call.d c.in-Call.es (rw c.as_slice.ensures.value at c.in-empty.len_below) in
     if_ok c.use_term-in-empty.result
     (λ made h s scope. subst (λ x. IsTerm before after made (coded_term s x c.args.low)) (sym is) (h s scope)) c.use_term-in-empty.ensures
-
-pub argument_spot-returns-in-empty : goal.argument_spot-returns-in-empty
-argument_spot-returns-in-empty t c =
-    let before = map coded_call c.args.calls.now.items in
-    let after = c.spot-in-empty.new.calls.items in
-    let is = ap meant c.in-Call.is ∙ bare_call c.in-Call.d c.in-Call.es (rw c.as_slice.ensures.value at c.in-empty.len_below) in
-    if_ok c.spot-in-empty.result
-    (λ made h s scope. subst (λ x. IsSpot before after made (coded_variable s x c.args.low)) (sym is) (h s scope).spot) c.spot-in-empty.ensures
 
 pub argument_spot-returns-in-len1-up : goal.argument_spot-returns-in-len1-up
 argument_spot-returns-in-len1-up t c = λ s scope.

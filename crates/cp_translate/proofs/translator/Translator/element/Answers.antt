@@ -1,4 +1,4 @@
-use Rattle.std.proofs.Common.{rules, ◌≡◌, ◌∙◌, ℕ, Option, Some, refl, subst, sym}
+use Rattle.std.proofs.Common.{rules, ◌≡◌, ◌∙◌, Some, refl, subst, sym}
 use Rattle.std.specs.Int.{w32}
 use Rattle.std.specs.Prelude.{FitsSigned}
 use Rattle.std.proofs.lemmas.Int.{to_z-of_z}
@@ -8,9 +8,7 @@ use Rattle.cp_typing.specs.StaticTypes.{element_type, place_type}
 use Rattle.cp_typing.specs.Words.{words}
 use Rattle.cp_program_model.specs.CodedTerms.{coded_spot, coded_term}
 use Rattle.cp_program_model.specs.Scopes.{environment}
-use Rattle.cp_scope.specs.Layouts.{Counts}
-use Rattle.cp_scope.specs.Places.{TypeIs, elements_of}
-use Rattle.cp_scope.specs.Standing.{Stands, row_at}
+use Rattle.cp_scope.specs.Places.{TypeIs}
 use Rattle.cp_translate.proofs.PartsMade.{element_made, elements_there}
 use Rattle.cp_translate.proofs.translator.Translator.element.Goals as goal
 

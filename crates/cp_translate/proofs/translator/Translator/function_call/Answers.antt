@@ -6,8 +6,8 @@ use Rattle.cp_translate.proofs.Answered.{all_ok}
 use Rattle.cp_translate.proofs.ArgumentsMade.{call_made}
 use Rattle.cp_translate.proofs.translator.Translator.function_call.Goals as goal
 
-pub returns : goal.returns
-returns c =
+pub returns-clause-term : goal.returns-clause-term
+returns-clause-term c =
     let middle = c.args.calls.now.items in
     let after = c.make_call.new.calls.items in
     all_ok c.make_call.result

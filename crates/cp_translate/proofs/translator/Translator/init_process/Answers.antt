@@ -1,7 +1,5 @@
-use Rattle.std.proofs.Common.{rules, ◌≡◌, ◌+◌, ◌∙◌, false, arith, map, sym}
-use Rattle.cp_model.specs.Abstract.{Process}
-use Rattle.cp_model.specs.Components.{count_before, process_number}
-use Rattle.cp_model.specs.Declarations.{declarations}
+use Rattle.std.proofs.Common.{◌≡◌, arith, map}
+use Rattle.cp_model.specs.Components.{process_number}
 use Rattle.cp_program_model.specs.Programs as op
 use Rattle.cp_program_model.specs.Scopes.{environment}
 use Rattle.cp_program.specs.View as view

@@ -11,8 +11,8 @@ use Rattle.cp_emit.specs.Emission.{coded_call}
 use Rattle.cp_translate.specs.Translated.{IsTerm}
 use Rattle.cp_translate.proofs.translator.Translator.start_counting.Goals as goal
 
-pub returns : goal.returns
-returns c =
+pub returns-clause-enters : goal.returns-clause-enters
+returns-clause-enters c =
     both_ok c.emit.result
     (λ place at emits s scope.
     let k = c.args.counting in
