@@ -73,6 +73,9 @@ fn move_output(kernel: &mut Kernel, private: &mut Private)
     ensures empty { vec_len private.new.output ≡ 0 }
     ensures capacity { vec_capacity private.old.output ≤ vec_capacity private.new.output }
 {
+    if private.output().is_empty() {
+        return;
+    }
     kernel.append(private.number(), private.output());
     private.clear_output();
 }

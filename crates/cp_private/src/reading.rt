@@ -75,6 +75,10 @@ impl Private {
             (plain.view_of (outside_of outside.now own) (join self.now input shared.now))
             (view.term term.now) }
     {
+        // In a step of the kernel most words are shared.
+        if !shared.is_empty() {
+            return term.value_here(&self.reach(shared, outside));
+        }
         match term.near_value(&self.memory) {
             Some(n) => Ok(n),
             None => self.deep_value(shared, outside, term),
@@ -95,6 +99,9 @@ impl Private {
             (plain.view_of (outside_of outside.now own) (join self.now input shared.now))
             (view.spot spot.now)) }
     {
+        if !shared.is_empty() {
+            return spot.place(&self.reach(shared, outside));
+        }
         match spot.near_place(&self.memory) {
             Some(at) => Ok(at),
             None => self.deep_place(shared, outside, spot),
