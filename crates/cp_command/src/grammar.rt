@@ -71,7 +71,7 @@ const WORKERS: Valued = Valued {
 const CHUNK: Valued = Valued {
     name: "chunk",
     value: "N",
-    about: "processes that a worker takes at once, 1 to 255 (default 1)",
+    about: "least number of processes that a worker takes at once, 1 to 255 (default 1)",
 };
 
 const WAVE: Valued = Valued {

@@ -62,3 +62,8 @@ AllFree most xs = (i : ℕ) (x : Private) → slice_get xs i ≡ Some x → HasR
 -- others may be at the desk.
 abbrev pub AreLeft : Bool → ℕ → List Private → List Private → Type 0
 AreLeft wakes from xs ys = (i : ℕ) (y : Private) → from ≤ i → slice_get ys i ≡ Some y → rests wakes y ≡ true → slice_get xs i ≡ Some y
+
+-- If the calling thread makes a round alone, all private states from index `from` on are those at the
+-- start of the round.
+abbrev pub AreHere : Bool → ℕ → List Private → List Private → Type 0
+AreHere alone from xs ys = alone ≡ true → (i : ℕ) (y : Private) → from ≤ i → slice_get ys i ≡ Some y → slice_get xs i ≡ Some y

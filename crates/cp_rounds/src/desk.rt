@@ -17,9 +17,17 @@ use std::alloc::{AllocError, Global};
 use std::mem;
 use std::sync::{Mutex, OnceToken, Wait};
 
-// How many chunks are laid before the threads hear of them. Each time they do, those that sleep are
-// woken, and whoever counts up a number that others look at waits for them.
-const HEARD_AT_ONCE: usize = 8;
+// Of which chunks the threads hear, if each has so many processes: of those before a number that has
+// none of these bits, so that some eight processes are laid before they hear of them. Each time they
+// do, those that sleep are woken, and whoever counts up a number that others look at waits for them.
+fn unheard(processes: usize) -> usize {
+    match processes {
+        0..=1 => 7,
+        2 => 3,
+        3..=4 => 1,
+        _ => 0,
+    }
+}
 
 /// The tasks of a chunk in order of process.
 pub type Tasks<'a, C> = Vec<Slot<'a, C>>;
@@ -66,6 +74,7 @@ pub struct Desk<'a, C: Course> {
     trays: Vec<CachePadded<Mutex<Tray<'a, C>>>>,
     // How many chunks of the round have been laid.
     laid: CachePadded<Signal>,
+    unheard: usize,
 }
 
 impl<'a, C: Course> Desk<'a, C> {
@@ -86,6 +95,7 @@ impl<'a, C: Course> Desk<'a, C> {
         Ok(Desk {
             trays,
             laid: CachePadded::new(Signal::new()),
+            unheard: unheard(processes),
         })
     }
 
@@ -139,7 +149,7 @@ impl<'a, C: Course> Desk<'a, C> {
         let next = place.next(plan);
         if next.chunk != place.chunk {
             self.lay(rt, place.chunk, tasks);
-            if next.chunk % HEARD_AT_ONCE == 0 {
+            if next.chunk & self.unheard == 0 {
                 self.laid.raise(next.chunk as u64);
             }
         }

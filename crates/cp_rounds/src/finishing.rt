@@ -1,6 +1,6 @@
-//! How the calling thread finishes the turns of a round: it takes private states back from the desk
-//! and makes the kernel turns, in order of process. A process that has nothing to do costs a few
-//! comparisons.
+//! How the calling thread finishes the turns of a round: it takes private states back from the desk,
+//! or makes the private turns itself if nobody else does, and makes the kernel turns, in order of
+//! process. A process that has nothing to do costs a few comparisons.
 
 ghost use Rattle.std.specs.Prelude.{◌≡◌, ◌<◌, ◌+◌, ◌-◌, ℕ, List, true, Some, length, slice_get, take};
 ghost use Rattle.cp_kernel.specs.Turns.{IsTurned};
@@ -10,7 +10,7 @@ ghost use Rattle.cp_program.specs.View as view;
 ghost use Rattle.cp_rounds.specs.Made.{IsReady};
 ghost use Rattle.cp_rounds.specs.Numbers.{AreNumbered};
 ghost use Rattle.cp_rounds.specs.Runs.{TurnsTaken};
-ghost use Rattle.cp_rounds.specs.Tasks.{AllFree, AreLeft, IsTaken};
+ghost use Rattle.cp_rounds.specs.Tasks.{AllFree, AreHere, AreLeft, IsTaken};
 ghost use Rattle.cp_rounds.specs.Turned.{moment_of};
 
 use crate::gate::TurnGate;
@@ -18,6 +18,7 @@ use crate::hand::Hand;
 use crate::moment::Moment;
 use crate::run::Run;
 use crate::task::{Course, Start};
+use crate::turns::turn_in_place;
 use cp_kernel::kernel::Kernel;
 use cp_kernel::turns::{has_no_kernel_turn, kernel_turn};
 use cp_private::resident::Resident;
@@ -42,6 +43,28 @@ fn take_from_desk<'a, C: Course, R: Wait, G: TurnGate>(
     hand.take(rt, run, start, round, process, private);
 }
 
+// Makes the private turn of a process where its private state is. It is kept out of the loop over all
+// processes.
+#[inline(never)]
+fn turn_here<'a, C: Course, G: TurnGate>(
+    run: &Run<'a, C, G>,
+    start: &OnceToken<'a, Start>,
+    moment: Moment,
+    process: usize,
+    private: &mut Resident,
+)
+    requires some { 0 < process }
+    requires numbers { AreNumbered start.now.value.value.items }
+    requires free { AllFree C.most start.now.value.value.items }
+    requires here { slice_get start.now.value.value.items (process - 1) ≡ Some private.old }
+    ensures { IsTaken (C.turned moment) (C.input (process - 1)) C.most
+        start.now.value.value.items process private.new }
+{
+    let private = private.private_mut();
+    let turn = run.turns.plan.turn;
+    turn_in_place(run.turns.setting, private, process, moment, turn);
+}
+
 // Brings back a private state after its private turn, which it has made where it is if it rests.
 #[inline(always)]
 fn bring_back<'a, C: Course, R: Wait, G: TurnGate>(
@@ -51,6 +74,7 @@ fn bring_back<'a, C: Course, R: Wait, G: TurnGate>(
     start: &OnceToken<'a, Start>,
     round: usize,
     moment: Moment,
+    alone: bool,
     process: usize,
     private: &mut Resident,
 )
@@ -61,10 +85,17 @@ fn bring_back<'a, C: Course, R: Wait, G: TurnGate>(
     requires free { AllFree C.most start.now.value.value.items }
     requires left { rests moment.wakes private.old ≡ true
         → slice_get start.now.value.value.items (process - 1) ≡ Some private.old }
+    requires here { alone ≡ true
+        → slice_get start.now.value.value.items (process - 1) ≡ Some private.old }
     ensures taken { IsTaken (C.turned (C.moment round)) (C.input (process - 1)) C.most
         start.now.value.value.items process private.new }
 {
-    if !private.private().rests(moment.wakes) {
+    if private.private().rests(moment.wakes) {
+        return;
+    }
+    if alone {
+        turn_here(run, start, moment, process, private);
+    } else {
         take_from_desk(rt, run, hand, start, round, process, private);
     }
 }
@@ -79,6 +110,7 @@ fn finish_moving<'a, C: Course, R: Wait, G: TurnGate>(
     start: &OnceToken<'a, Start>,
     round: usize,
     moment: Moment,
+    alone: bool,
     index: usize,
     privates: &mut Vec<Resident>,
     kernel: &mut Kernel,
@@ -90,6 +122,7 @@ fn finish_moving<'a, C: Course, R: Wait, G: TurnGate>(
     requires numbers { AreNumbered start.now.value.value.items }
     requires free { AllFree C.most start.now.value.value.items }
     requires left { AreLeft moment.wakes index start.now.value.value.items privates.old.items }
+    requires here { AreHere alone index start.now.value.value.items privates.old.items }
     requires ready { IsReady C.most index start.now.value.value.items kernel.old }
     ensures taken { (rounds : ℕ) (k : Kernel)
         → moment ≡ moment_of run.now.turns.setting.now.tick.rounds rounds
@@ -101,12 +134,13 @@ fn finish_moving<'a, C: Course, R: Wait, G: TurnGate>(
         → AreNumbered (take (index + 1) privates.new.items) }
     ensures left { AreLeft moment.wakes (index + 1) start.now.value.value.items
         privates.new.items }
+    ensures here { AreHere alone (index + 1) start.now.value.value.items privates.new.items }
     ensures count { length privates.new.items ≡ length privates.old.items }
     ensures ready { IsReady C.most (index + 1) start.now.value.value.items kernel.new }
 {
     let process = index + 1;
     let private = &mut privates[index];
-    bring_back(rt, run, hand, start, round, moment, process, private);
+    bring_back(rt, run, hand, start, round, moment, alone, process, private);
     run.turns.gate.kernel(process);
     let input = run.turns.setting.input(process);
     kernel_turn(
@@ -161,6 +195,7 @@ fn finish_next<'a, C: Course, R: Wait, G: TurnGate>(
     start: &OnceToken<'a, Start>,
     round: usize,
     moment: Moment,
+    alone: bool,
     index: usize,
     privates: &mut Vec<Resident>,
     kernel: &mut Kernel,
@@ -172,6 +207,7 @@ fn finish_next<'a, C: Course, R: Wait, G: TurnGate>(
     requires numbers { AreNumbered start.now.value.value.items }
     requires free { AllFree C.most start.now.value.value.items }
     requires left { AreLeft moment.wakes index start.now.value.value.items privates.old.items }
+    requires here { AreHere alone index start.now.value.value.items privates.old.items }
     requires ready { IsReady C.most index start.now.value.value.items kernel.old }
     ensures taken { (rounds : ℕ) (k : Kernel)
         → moment ≡ moment_of run.now.turns.setting.now.tick.rounds rounds
@@ -183,6 +219,7 @@ fn finish_next<'a, C: Course, R: Wait, G: TurnGate>(
         → AreNumbered (take (index + 1) privates.new.items) }
     ensures left { AreLeft moment.wakes (index + 1) start.now.value.value.items
         privates.new.items }
+    ensures here { AreHere alone (index + 1) start.now.value.value.items privates.new.items }
     ensures count { length privates.new.items ≡ length privates.old.items }
     ensures ready { IsReady C.most (index + 1) start.now.value.value.items kernel.new }
 {
@@ -191,11 +228,13 @@ fn finish_next<'a, C: Course, R: Wait, G: TurnGate>(
         run.turns.gate.kernel(process);
         return;
     }
-    finish_moving(rt, run, hand, start, round, moment, index, privates, kernel);
+    finish_moving(
+        rt, run, hand, start, round, moment, alone, index, privates, kernel,
+    );
 }
 
-// Makes all turns of a round whose tasks are at the desk: kernel turns alongside the private turns
-// that are left. It isn't inlined, so that its loop keeps in registers what a process costs that
+// Makes all turns of a round: kernel turns alongside the private turns that are left at the desk, or
+// each after the private turn of its process, if the calling thread is alone. It isn't inlined, so that its loop keeps in registers what a process costs that
 // can't move.
 #[inline(never)]
 pub(crate) fn finish_all<'a, C: Course, R: Wait, G: TurnGate>(
@@ -205,6 +244,7 @@ pub(crate) fn finish_all<'a, C: Course, R: Wait, G: TurnGate>(
     start: &OnceToken<'a, Start>,
     round: usize,
     moment: Moment,
+    alone: bool,
     privates: &mut Vec<Resident>,
     kernel: &mut Kernel,
 )
@@ -214,6 +254,7 @@ pub(crate) fn finish_all<'a, C: Course, R: Wait, G: TurnGate>(
     requires numbers { AreNumbered start.now.value.value.items }
     requires free { AllFree C.most start.now.value.value.items }
     requires left { AreLeft moment.wakes 0 start.now.value.value.items privates.old.items }
+    requires here { AreHere alone 0 start.now.value.value.items privates.old.items }
     requires ready { IsReady C.most 0 start.now.value.value.items kernel.old }
     ensures taken { (rounds : ℕ)
         → moment ≡ moment_of run.now.turns.setting.now.tick.rounds rounds
@@ -224,7 +265,9 @@ pub(crate) fn finish_all<'a, C: Course, R: Wait, G: TurnGate>(
     ensures stages { length kernel.new.stages.items ≡ length privates.new.items }
 {
     for i in 0..privates.len() {
-        finish_next(rt, run, hand, start, round, moment, i, privates, kernel);
+        finish_next(
+            rt, run, hand, start, round, moment, alone, i, privates, kernel,
+        );
     }
     hand.end_wave(rt, run);
 }

@@ -11,8 +11,8 @@
 //!   round.
 //! - `gate`: what is called before each turn.
 //! - `turns`, `closing`: a private turn, and the end of a round.
-//! - `run`, `round`: rounds by threads that are kept, which draw the chunks of each wave from its
-//!   board.
+//! - `run`, `round`, `sharing`: rounds by threads that are kept, which draw the chunks of each wave
+//!   from its board, and how the turns are shared out.
 //! - `desk`, `slot`, `task`, `desk_turns`, `cursor`: private turns on their way between threads, and
 //!   how the threads make them.
 //! - `hand`, `finishing`: what the calling thread holds in a round, how it takes private states back,
@@ -41,6 +41,7 @@ pub mod replay;
 mod round;
 mod run;
 mod setting;
+mod sharing;
 mod slot;
 mod starting;
 pub mod state;

@@ -11,7 +11,7 @@ ghost use Rattle.cp_kernel.specs.declared.kernel.Kernel.{Kernel};
 ghost use Rattle.cp_rounds.specs.Made.{IsReady};
 ghost use Rattle.cp_rounds.specs.Numbers.{AreNumbered};
 ghost use Rattle.cp_rounds.specs.Runs.{AreSame, IsSame, PartsAfter};
-ghost use Rattle.cp_rounds.specs.Tasks.{AllFree, HasRoomLeft};
+ghost use Rattle.cp_rounds.specs.Tasks.{AllFree, AreHere, AreLeft, HasRoomLeft};
 
 use crate::closing::close_round;
 use crate::desk_turns::DeskTurns;
@@ -21,6 +21,7 @@ use crate::hand::Hand;
 use crate::moment::Moment;
 use crate::parts::Parts;
 use crate::run::{Run, cell_at};
+use crate::sharing::helpers;
 use crate::task::{Course, Start};
 use cp_crew::Wave;
 use cp_kernel::kernel::Kernel;
@@ -83,23 +84,6 @@ fn reserve_room(
     Ok(turns)
 }
 
-// How many steps make it worth waking a thread.
-const STEPS_A_THREAD: u64 = 5_000;
-
-// Returns how many threads, besides the calling one, are worth waking for so many private turns: all
-// of them if the gate has to be called for each process, none if there is no turn, and otherwise at
-// least one.
-fn helpers(turns: usize, of_all: bool, turn: Turn) -> usize {
-    if of_all {
-        return usize::MAX;
-    }
-    if turns == 0 {
-        return 0;
-    }
-    let steps = (turns as u64).saturating_mul(u64::from(turn.steps()));
-    (steps / STEPS_A_THREAD).max(1) as usize
-}
-
 // Returns the waves of a round of so many private turns, the first one last, for this many workers.
 fn waves_of<'a, C: Course, R: Wait, G: TurnGate>(
     rt: &R,
@@ -131,6 +115,38 @@ fn waves_of<'a, C: Course, R: Wait, G: TurnGate>(
     Ok(waves)
 }
 
+// Lays the private turns of a round at the desk, unless the calling thread makes them alone.
+fn lay_turns<'a, C: Course, R: Wait, G: TurnGate>(
+    rt: &R,
+    run: &Run<'a, C, G>,
+    hand: &mut Hand<'a, C>,
+    start: &OnceToken<'a, Start>,
+    round: usize,
+    moment: Moment,
+    of_all: bool,
+    turns: usize,
+    alone: bool,
+    privates: &mut Vec<Resident>,
+)
+    requires cell { start.now.of ≡ C.cell round }
+    requires time { moment ≡ C.moment round }
+    requires numbers { AreNumbered privates.old.items }
+    requires start { start.now.value.value.items ≡ privates.old.items }
+    requires free { AllFree C.most privates.old.items }
+    ensures left { AreLeft moment.wakes 0 privates.old.items privates.new.items }
+    ensures here { AreHere alone 0 privates.old.items privates.new.items }
+    ensures count { length privates.new.items ≡ length privates.old.items }
+{
+    if alone {
+        return;
+    }
+    let DeskTurns { desk, plan, .. } = &run.turns;
+    let tasks = &mut hand.tasks;
+    desk.put_all(
+        rt, plan, start, round, moment, of_all, turns, privates, tasks,
+    );
+}
+
 /// Makes the round of a run at this index: room for all output, the waves, the private turns by
 /// whichever thread draws them, the kernel turns in order of number, and the end of the round.
 ///
@@ -152,7 +168,6 @@ pub fn make_round<'a, C: Course, R: Wait, G: TurnGate>(
     ensures count { length parts.new.privates.items ≡ length parts.old.privates.items }
 {
     let DeskTurns {
-        desk,
         setting,
         plan,
         gate,
@@ -168,22 +183,25 @@ pub fn make_round<'a, C: Course, R: Wait, G: TurnGate>(
         moment.wakes,
     )?;
     let helpers = helpers(turns, of_all, plan.turn).min(run.rack.places());
+    let alone = helpers == 0 && !of_all;
+    let turns = if alone { 0 } else { turns };
     let waves = waves_of(rt, run, round, turns, helpers + 1)?;
     // Only this round writes its cell, but no contract says so.
     let Ok(start) = cell_at(run.cells, round).set(rt, Snapshot::of(&parts.privates)) else {
         return Err(AllocError);
     };
     hand.begin(rt, run, waves);
-    desk.put_all(
+    lay_turns(
         rt,
-        plan,
+        run,
+        hand,
         &start,
         round,
         moment,
         of_all,
         turns,
+        alone,
         &mut parts.privates,
-        &mut hand.tasks,
     );
     finish_all(
         rt,
@@ -192,6 +210,7 @@ pub fn make_round<'a, C: Course, R: Wait, G: TurnGate>(
         &start,
         round,
         moment,
+        alone,
         &mut parts.privates,
         &mut parts.kernel,
     );

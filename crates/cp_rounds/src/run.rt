@@ -13,6 +13,7 @@ use crate::law::settings_are_shared;
 use crate::parts::Parts;
 use crate::round::make_round;
 use crate::setting::Setting;
+use crate::sharing::drawn_plan;
 use crate::task::{Course, Start};
 use cp_crew::{Rack, Sheet, Wave, start};
 use cp_plan::plan::Plan;
@@ -227,10 +228,11 @@ fn make_rounds_by_threads<C: Course + Send + Sync, R: Threads + Wait + Sync, G: 
     ensures count { length result.0.privates.items ≡ length parts.privates.items }
 {
     let processes = parts.privates.len();
+    let plan = drawn_plan(plan, processes, gate.does_nothing());
     let threads = plan.threads(processes);
     let chunks = plan.chunks(0, processes);
     let trays = chunks.saturating_mul(waves);
-    let Ok(desk) = Desk::<C>::new(alloc, trays, slots_of(plan)) else {
+    let Ok(desk) = Desk::<C>::new(alloc, trays, slots_of(&plan)) else {
         return (parts, Err(0));
     };
     let Ok(rack) = Rack::<C>::new(alloc, threads.saturating_sub(1)) else {
@@ -241,7 +243,7 @@ fn make_rounds_by_threads<C: Course + Send + Sync, R: Threads + Wait + Sync, G: 
         turns: DeskTurns {
             desk,
             setting,
-            plan: *plan,
+            plan,
             gate,
             waves,
             chunks,

@@ -11,6 +11,7 @@ pub loop-i-init : goal.loop-i-init
 loop-i-init g c = record {
   count = c.requires.count;
   left = c.requires.left;
+  here = c.requires.here;
   ready = c.requires.ready;
   numbers = λ j x e. absurd (none_some x e);
   taken = λ rounds time.
@@ -25,6 +26,7 @@ loop-i-preserved g c =
     record {
       count = more.count ∙ was.count;
       left = more.left;
+      here = more.here;
       ready = more.ready;
       numbers = more.numbers was.numbers;
       taken = λ rounds time. more.taken rounds c.args.kernel.now time (was.taken rounds time);

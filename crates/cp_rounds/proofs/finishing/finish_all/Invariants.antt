@@ -2,7 +2,7 @@ use Rattle.std.proofs.Common.{◌≡◌, ℕ, length, take}
 use Rattle.cp_rounds.specs.Made.{IsReady}
 use Rattle.cp_rounds.specs.Numbers.{AreNumbered}
 use Rattle.cp_rounds.specs.Runs.{TurnsTaken}
-use Rattle.cp_rounds.specs.Tasks.{AreLeft}
+use Rattle.cp_rounds.specs.Tasks.{AreHere, AreLeft}
 use Rattle.cp_rounds.specs.Turned.{moment_of}
 use Rattle.cp_rounds.proofs.finishing.finish_all.Given as goal
 
@@ -10,6 +10,7 @@ abbrev pub invariant-loop-i : goal.invariant-loop-i
 invariant-loop-i g l = record {
   count : length l.privates.items ≡ length l.start.value.value.items;
   left : AreLeft l.moment.wakes l.i l.start.value.value.items l.privates.items;
+  here : AreHere l.alone l.i l.start.value.value.items l.privates.items;
   ready : IsReady g.C.Course.most l.i l.start.value.value.items l.kernel;
   numbers : AreNumbered (take l.i l.privates.items);
   taken : (rounds : ℕ) → l.moment ≡ moment_of l.run.turns.setting.now.tick.rounds rounds

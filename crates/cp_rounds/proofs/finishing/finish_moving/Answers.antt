@@ -48,6 +48,13 @@ returns-clause-left g c = λ j y from e is.
     let z = c.kernel_turn.new.private in
     c.requires.left j y (omega (arith, from)) (sym (set_apart ys i j z (λ f. omega (arith, f, from))) ∙ e) is
 
+pub returns-clause-here : goal.returns-clause-here
+returns-clause-here g c = λ h j y from e.
+    let i = c.args.index in
+    let ys = c.args.privates.now.items in
+    let z = c.kernel_turn.new.private in
+    c.requires.here h j y (omega (arith, from)) (sym (set_apart ys i j z (λ f. omega (arith, f, from))) ∙ e)
+
 pub returns-clause-ready : goal.returns-clause-ready
 returns-clause-ready g c =
     let within = c.requires.within in

@@ -43,6 +43,9 @@ returns-then-stands_still-clause-numbers g c = λ h.
 pub returns-then-stands_still-clause-left : goal.returns-then-stands_still-clause-left
 returns-then-stands_still-clause-left g c = λ j y from e is. c.requires.left j y (omega (arith, from)) e is
 
+pub returns-then-stands_still-clause-here : goal.returns-then-stands_still-clause-here
+returns-then-stands_still-clause-here g c = λ h j y from e. c.requires.here h j y (omega (arith, from)) e
+
 pub returns-then-stands_still-clause-ready : goal.returns-then-stands_still-clause-ready
 returns-then-stands_still-clause-ready g c =
     ready_still g.C.Course.most c.args.index c.args.start.now.value.value.items c.args.kernel.now c.requires.ready

@@ -26,7 +26,7 @@ returns-clause-made g c =
     let start : c.in-Ok.start.value.value.items ≡ ys = search rules in
     let same = c.reserve_room.ensures.same in
     let all = c.finish_all.ensures.count in
-    let put = c.put_all.ensures.count in
+    let put = c.lay_turns.ensures.count in
     let count : length zs ≡ length ys = omega (arith, all, put) in
     let taken = subst (λ (l : List Private). TurnsTaken setting t rounds l k1 zs k2) start (c.finish_all.ensures.taken rounds c.moment-moment.ensures) in
     one_round_made setting t rounds before.privates.items before.kernel ys k1 zs k2 c.close_round.new.privates.items c.close_round.new.kernel
