@@ -17,8 +17,10 @@ TEXTS = ROOT / 'bench' / 'texts'
 TURN = 10_000
 # In round 1 processes are started, so one less are turns of their own.
 FEWER, MORE = 6, 26
+ROUNDS_OF_BUFFER = 51, 551
 GOAL_OF_LOOP = 70
 GOAL_OF_RATIO = 0.8
+GOAL_OF_MONITORS = 0.9
 GOAL_AT_REST = 60
 # What each text does in private steps.
 BESIDE_PLAIN = {
@@ -31,15 +33,22 @@ BESIDE_PLAIN = {
 # 50 that count, then 3 for the tally, 4 in each monitor, and 3 to restart the generator.
 WORKERS, STEPS_OF_WORKER = 16, 416
 PROCESSES_OF_BUFFER = 17
+# An item of buffer.cp takes nine steps to be put and ten to be taken; who waits makes three steps more, and so does who resumes it.
+STEPS_OF_ITEM, STEPS_OF_WAIT = 19, 6
 
 
 def run_text(text, rounds, turn=TURN):
     return instructions([CPM, 'run', text, '--rounds', rounds, '--turn', turn, '--workers', 1])
 
 
+def found_variables(report):
+    """The variables in a report, each with its path."""
+    return [(path, int(value)) for path, value in re.findall(r'^var (\S+) = (-?\d+)$', report, re.MULTILINE)]
+
+
 def variables(report):
-    """The variables in a report, by their paths."""
-    return {path: int(value) for path, value in re.findall(r'^var (\S+) = (-?\d+)$', report, re.MULTILINE)}
+    """The variables in a report, by their paths. Of several processes that have one, the last one counts."""
+    return dict(found_variables(report))
 
 
 def measure(text, fewer=FEWER, more=MORE):
@@ -48,40 +57,62 @@ def measure(text, fewer=FEWER, more=MORE):
     return many - few, first, second
 
 
+def measure_plain(plain, text, reports, fewer=FEWER, more=MORE):
+    """The same of the plain program, which has to leave the variables of the reports."""
+    counts = []
+    for rounds, report in zip((fewer, more), reports):
+        taken, left = instructions([plain, text, rounds - 1])
+        if [value for _, value in found_variables(report)] != [int(line) for line in left.split()]:
+            raise SystemExit(f'{text}: the two programs leave other variables')
+        counts.append(taken)
+    return counts[1] - counts[0]
+
+
 def loop_row():
     taken, _, _ = measure('loop', 1, 11)
     return ['`loop.cp`', 'three assignments in a cycle, in 8 processes', f'{taken / (8 * TURN * 10):.0f}', '', '', GOAL_OF_LOOP]
 
 
+def row(text, what, taken, plain, steps, goal):
+    return [f'`{text}.cp`', what, f'{taken / steps:.0f}', f'{plain / steps:.0f}', f'{taken / plain:.2f}', goal]
+
+
 def row_beside_plain(plain, text, what):
     """Instructions a step of a text with one process, and of the plain program."""
-    taken, first, second = measure(text)
-    (few, left_first), (many, left_second) = (instructions([plain, text, rounds - 1]) for rounds in (FEWER, MORE))
-    for report, left in (first, left_first), (second, left_second):
-        if list(variables(report).values()) != [int(line) for line in left.split()]:
-            raise SystemExit(f'{text}: the two programs leave other variables')
-    steps = TURN * (MORE - FEWER)
-    return [f'`{text}.cp`', what, f'{taken / steps:.0f}', f'{(many - few) / steps:.0f}', f'{taken / (many - few):.2f}', GOAL_OF_RATIO]
+    taken, *reports = measure(text)
+    return row(text, what, taken, measure_plain(plain, text, reports), TURN * (MORE - FEWER), GOAL_OF_RATIO)
 
 
-def classes_row():
-    taken, first, second = measure('classes')
-    uses = variables(second)['uses'] - variables(first)['uses']
+def classes_row(plain):
+    taken, *reports = measure('classes')
+    first, second = map(variables, reports)
+    uses = second['uses'] - first['uses']
     if uses != WORKERS * (MORE - FEWER):
         raise SystemExit(f'classes: the monitor was used {uses} times')
-    return ['`classes.cp`', '16 processes with classes of their own and two shared monitors', f'{taken / uses / STEPS_OF_WORKER:.0f}', '', '', '']
+    what = '16 processes with classes of their own and two shared monitors'
+    return row('classes', what, taken, measure_plain(plain, 'classes', reports), uses * STEPS_OF_WORKER, GOAL_OF_RATIO)
+
+
+def monitors_row(plain):
+    fewer, more = ROUNDS_OF_BUFFER
+    taken, *reports = measure('buffer', fewer, more)
+    first, second = map(variables, reports)
+    grown = {name: second[name] - first[name] for name in ('taken_items', 'sender_waits', 'receiver_waits')}
+    steps = grown['taken_items'] * STEPS_OF_ITEM + (grown['sender_waits'] + grown['receiver_waits']) * STEPS_OF_WAIT
+    what = 'a monitor with a buffer and queues, between 8 producers and 8 consumers; most steps are its own'
+    return row('buffer', what, taken, measure_plain(plain, 'buffer', reports, fewer, more), steps, GOAL_OF_MONITORS)
 
 
 def measure_steps():
     with tempfile.TemporaryDirectory() as folder:
         plain = pathlib.Path(folder) / 'plain'
         subprocess.run(['rustc', '-O', '--edition', '2021', '-o', plain, PLAIN], check=True)
-        rows = [loop_row(), *(row_beside_plain(plain, text, what) for text, what in BESIDE_PLAIN.items()), classes_row()]
-    show('steps', ['Text', 'What it does in private steps', 'cpm', 'Plain Rust', 'Ratio', 'Goal'], rows)
+        rows = [loop_row(), *(row_beside_plain(plain, text, what) for text, what in BESIDE_PLAIN.items()), classes_row(plain), monitors_row(plain)]
+    show('steps', ['Text', 'What it does', 'cpm', 'Plain Rust', 'Ratio', 'Goal'], rows)
 
 
 def buffer_row():
-    fewer, more = 51, 551
+    fewer, more = ROUNDS_OF_BUFFER
     taken, first, second = measure('buffer', fewer, more)
     items = variables(second)['taken_items'] - variables(first)['taken_items']
     rounds = more - fewer

@@ -2,8 +2,8 @@
 
 use crate::process::UNSET;
 use crate::program::{
-    Application, Argument, Bounds, Call, Counting, Fill, Operand, Operation, Operator, Root, Spot,
-    Target, Term, Unit,
+    Application, Argument, Bounds, Call, Counting, Fill, Operand, Operation, Operator, Program,
+    Root, Spot, Start, Target, Term, Unit,
 };
 
 pub const INTEGER: Bounds = Bounds {
@@ -157,4 +157,30 @@ pub fn zeros(at: u32, count: u32) -> Vec<Fill> {
         count,
         value: 0,
     }]
+}
+
+/// The program of one process.
+pub fn alone(operations: Vec<Operation>, units: Vec<Unit>, start: Start) -> Program {
+    Program {
+        operations,
+        units,
+        processes: vec![start],
+        monitors: vec![],
+        shared: 0,
+        shared_variables: vec![],
+    }
+}
+
+/// The initial process, which has ended, and then these.
+pub fn after_initial(processes: impl Iterator<Item = Start>) -> Vec<Start> {
+    let initial = Start {
+        place: u32::MAX,
+        own: 0,
+        words: 0,
+        temps: 0,
+        frames: 0,
+        parameters: vec![],
+        variables: vec![],
+    };
+    [initial].into_iter().chain(processes).collect()
 }

@@ -1,9 +1,9 @@
 //! The program of `texts/calls.cp`.
 
 use crate::assembly::{
-    call, local, made, member, set_member, set_result, term, unit, unset, value,
+    alone, call, local, made, member, set_member, set_result, term, unit, unset, value,
 };
-use crate::program::{Operand, Operation, Operator, Program, Target, Term};
+use crate::program::{Operand, Operation, Operator, Program, Start, Target, Term};
 
 /// A call in `calls.cp` of a function with these arguments.
 fn function(
@@ -77,17 +77,19 @@ fn calls_body() -> Vec<Operation> {
 }
 
 pub fn program() -> Program {
-    Program {
-        operations: [functions(), calls_body()].into_iter().flatten().collect(),
-        units: [1, 4, 8, 12, 16]
-            .into_iter()
-            .map(|start| unit(start, unset()))
-            .collect(),
-        start: 18,
+    let operations = [functions(), calls_body()].into_iter().flatten().collect();
+    let units = [1, 4, 8, 12, 16]
+        .into_iter()
+        .map(|start| unit(start, unset()))
+        .collect();
+    let start = Start {
+        place: 18,
         own: 3,
         words: 17,
         temps: 4,
         frames: 5,
+        parameters: vec![],
         variables: vec![1..3],
-    }
+    };
+    alone(operations, units, start)
 }

@@ -1,6 +1,6 @@
 //! The values of terms, the places of spots, and where a `case` leads.
 
-use crate::memory::Memory;
+use crate::memory::{Reach, Shared};
 use crate::program::{Application, Bounds, Fault, Index, Operand, Operator, Spot, Table, Term};
 
 #[inline(always)]
@@ -37,6 +37,7 @@ impl Operator {
             Operator::Multiply => in_range(i64::from(a) * i64::from(b)),
             Operator::Divide => quotient(a, b),
             Operator::Modulo => remainder(a, b),
+            Operator::Equal => Ok(i32::from(a == b)),
             Operator::Greater => Ok(i32::from(a > b)),
             Operator::AtLeast => Ok(i32::from(a >= b)),
         }
@@ -46,71 +47,76 @@ impl Operator {
 impl Operand {
     /// The value. Numbers and words are read here, since they are the most common.
     #[inline(always)]
-    pub fn value(&self, memory: &Memory) -> Result<i32, Fault> {
+    pub fn value<S: Shared>(&self, reach: Reach<'_, S>) -> Result<i32, Fault> {
+        let memory = reach.memory;
         match self {
             Operand::Number(n) => Ok(*n),
             Operand::Local(at) => Ok(memory.word(memory.local(*at))),
-            Operand::Member(at) => Ok(memory.word(memory.member(*at))),
+            Operand::Member(at) => Ok(reach.word(memory.member(*at))),
             Operand::Made(temp) => Ok(memory.temp(memory.temp as usize + *temp as usize)),
-            Operand::Item(spot) => spot.value(memory),
-            Operand::Nested(term) => term.value(memory),
-            Operand::Negative(term) => term.negative_value(memory),
+            Operand::Item(spot) => spot.value(reach),
+            Operand::Nested(term) => term.value(reach),
+            Operand::Negative(term) => term.negative_value(reach),
         }
     }
 }
 
 impl Application {
     #[inline(always)]
-    fn applied(&self, left: i32, memory: &Memory) -> Result<i32, Fault> {
+    fn applied<S: Shared>(&self, left: i32, reach: Reach<'_, S>) -> Result<i32, Fault> {
         match self {
             Application::WithNumber(operator, number) => operator.apply(left, *number),
             Application::WithOperand(operator, operand) => {
-                operator.apply(left, operand.value(memory)?)
+                operator.apply(left, operand.value(reach)?)
             }
         }
     }
 }
 
 impl Term {
-    pub fn value(&self, memory: &Memory) -> Result<i32, Fault> {
-        self.value_here(memory)
+    pub fn value<S: Shared>(&self, reach: Reach<'_, S>) -> Result<i32, Fault> {
+        self.value_here(reach)
     }
 
     /// The same value, for the operations that are most common.
     #[inline(always)]
-    pub fn value_here(&self, memory: &Memory) -> Result<i32, Fault> {
-        let mut n = self.first.value(memory)?;
+    pub fn value_here<S: Shared>(&self, reach: Reach<'_, S>) -> Result<i32, Fault> {
+        let mut n = self.first.value(reach)?;
         for application in &self.rest {
-            n = application.applied(n, memory)?;
+            n = application.applied(n, reach)?;
         }
         Ok(n)
     }
 
-    fn negative_value(&self, memory: &Memory) -> Result<i32, Fault> {
-        in_range(-i64::from(self.value(memory)?))
+    fn negative_value<S: Shared>(&self, reach: Reach<'_, S>) -> Result<i32, Fault> {
+        in_range(-i64::from(self.value(reach)?))
     }
 }
 
 impl Spot {
     /// What the place holds.
-    pub fn value(&self, memory: &Memory) -> Result<i32, Fault> {
-        Ok(memory.word(self.place(memory)?))
+    pub fn value<S: Shared>(&self, reach: Reach<'_, S>) -> Result<i32, Fault> {
+        Ok(reach.word(self.place(reach)?))
     }
 
     #[inline(always)]
-    pub fn place(&self, memory: &Memory) -> Result<usize, Fault> {
-        let from = memory.root_place(self.root);
+    pub fn place<S: Shared>(&self, reach: Reach<'_, S>) -> Result<usize, Fault> {
+        let from = reach.memory.root_place(self.root);
         if self.indices.is_empty() {
             return Ok(from);
         }
-        place_of_element(from, &self.indices, memory)
+        place_of_element(from, &self.indices, reach)
     }
 }
 
-fn place_of_element(from: usize, indices: &[Index], memory: &Memory) -> Result<usize, Fault> {
+fn place_of_element<S: Shared>(
+    from: usize,
+    indices: &[Index],
+    reach: Reach<'_, S>,
+) -> Result<usize, Fault> {
     let mut at = from;
     for index in indices {
-        let n = index.value.value_here(memory)?;
+        let n = index.value.value_here(reach)?;
         if n < index.low || index.high < n {
             return Err(Fault::Index);
         }

@@ -1,37 +1,45 @@
 //! A plain interpreter of operations, in the shape of the one in cpm but without its proofs: bench/steps.py compares the two.
 //!
-//! `plain TEXT TURNS` makes so many turns of 10,000 steps of the process of `texts/TEXT.cp` and prints its variables, one a line.
-//! The programs are written by hand, as cpm compiles the texts. What none of them needs is left out: monitors, queues, rights,
-//! input, output and most operators.
+//! `plain TEXT ROUNDS` makes so many rounds of `texts/TEXT.cp`, in turns of 10,000 steps, from the second one on, and prints the
+//! variables, one a line. The programs are written by hand, as cpm compiles the texts. What none of them needs is left out: the
+//! initial process, rights to classes, input, output and most operators.
 //!
 //! - `program`: terms and spots, operations, and units of code.
 //! - `memory`, `evaluation`: words, the values of terms and the places of spots.
-//! - `process`: steps and turns.
-//! - `assembly`, `sorting`, `nested`, `calls`: the three programs.
+//! - `process`: steps and private turns. `kernel`: gates, kernel turns and rounds.
+//! - `assembly`, `sorting`, `nested`, `calls`, `classes`, `buffer`: the programs.
 
 mod assembly;
+mod buffer;
 mod calls;
+mod classes;
 mod evaluation;
+mod kernel;
 mod memory;
 mod nested;
 mod process;
 mod program;
 mod sorting;
 
-use process::{Activity, Process};
+use kernel::Machine;
+use process::Activity;
 use program::Program;
 use std::env;
 use std::process::ExitCode;
 
-fn run(program: &Program, turns: u32) -> ExitCode {
-    let mut process = Process::new(program);
-    for _ in 0..turns {
-        process.turn(program, 10_000);
+fn run(program: &Program, rounds: u32) -> ExitCode {
+    let mut machine = Machine::new(program);
+    for _ in 0..rounds {
+        machine.round(10_000);
     }
-    for at in program.variables.iter().cloned().flatten() {
-        println!("{}", process.memory.word(at));
+    for n in machine.variables() {
+        println!("{n}");
     }
-    if process.activity == Activity::Running {
+    let processes = &machine.processes;
+    if processes
+        .iter()
+        .all(|process| process.activity == Activity::Running)
+    {
         ExitCode::SUCCESS
     } else {
         ExitCode::FAILURE
@@ -40,15 +48,17 @@ fn run(program: &Program, turns: u32) -> ExitCode {
 
 fn main() -> ExitCode {
     let words: Vec<String> = env::args().skip(1).collect();
-    let [text, turns] = words.as_slice() else {
-        eprintln!("usage: plain sorting|nested|calls TURNS");
+    let [text, rounds] = words.as_slice() else {
+        eprintln!("usage: plain sorting|nested|calls|classes|buffer ROUNDS");
         return ExitCode::FAILURE;
     };
     let program = match text.as_str() {
         "sorting" => sorting::program(),
         "nested" => nested::program(),
         "calls" => calls::program(),
+        "classes" => classes::program(),
+        "buffer" => buffer::program(),
         _ => return ExitCode::FAILURE,
     };
-    run(&program, turns.parse().unwrap_or(1))
+    run(&program, rounds.parse().unwrap_or(1))
 }

@@ -1,4 +1,5 @@
-//! Words and temps. A word that is missing reads as 0, and nothing is written there.
+//! Words and temps. A word that is missing reads as 0, and nothing is written there. The words of all monitors come after those of
+//! the process.
 
 use crate::program::{Fill, Root};
 
@@ -14,17 +15,82 @@ pub struct Memory {
     pub component: u32,
 }
 
-impl Memory {
+/// The words of all monitors. A private step reaches none: there they are `()`.
+pub trait Shared {
+    /// Whether they can be reached.
+    const IN_REACH: bool;
+
+    fn word(&self, at: usize) -> i32;
+
+    fn set_word(&mut self, at: usize, n: i32);
+}
+
+impl Shared for () {
+    const IN_REACH: bool = false;
+
+    #[inline(always)]
+    fn word(&self, _at: usize) -> i32 {
+        0
+    }
+
+    #[inline(always)]
+    fn set_word(&mut self, _at: usize, _n: i32) {}
+}
+
+impl Shared for Vec<i32> {
+    const IN_REACH: bool = true;
+
+    #[inline(always)]
+    fn word(&self, at: usize) -> i32 {
+        self.get(at).copied().unwrap_or(0)
+    }
+
+    #[inline(always)]
+    fn set_word(&mut self, at: usize, n: i32) {
+        if let Some(word) = self.get_mut(at) {
+            *word = n;
+        }
+    }
+}
+
+/// What a step reads.
+pub struct Reach<'a, S> {
+    pub memory: &'a Memory,
+    pub shared: &'a S,
+}
+
+impl<S> Clone for Reach<'_, S> {
+    #[inline(always)]
+    fn clone(&self) -> Self {
+        *self
+    }
+}
+
+impl<S> Copy for Reach<'_, S> {}
+
+impl<S: Shared> Reach<'_, S> {
     /// The word at a place, or 0 where it is missing.
+    #[inline(always)]
+    pub fn word(self, at: usize) -> i32 {
+        match self.memory.words.get(at) {
+            Some(word) => *word,
+            None => self.shared.word(at - self.memory.words.len()),
+        }
+    }
+}
+
+impl Memory {
+    /// The process's own word at a place, or 0 where it is missing.
     #[inline(always)]
     pub fn word(&self, at: usize) -> i32 {
         self.words.get(at).copied().unwrap_or(0)
     }
 
     #[inline(always)]
-    pub fn set_word(&mut self, at: usize, n: i32) {
-        if let Some(word) = self.words.get_mut(at) {
-            *word = n;
+    pub fn set_word<S: Shared>(&mut self, shared: &mut S, at: usize, n: i32) {
+        match self.words.get_mut(at) {
+            Some(word) => *word = n,
+            None => shared.set_word(at - self.words.len(), n),
         }
     }
 

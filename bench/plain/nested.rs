@@ -1,11 +1,12 @@
 //! The program of `texts/nested.cp`.
 
 use crate::assembly::{
-    call, counting, local, made, member, set, set_member, set_result, start_for, term, unit, unset,
-    value, variable,
+    alone, call, counting, local, made, member, set, set_member, set_result, start_for, term, unit,
+    unset, value, variable,
 };
 use crate::program::{
-    Argument, Bounds, Index, Operand, Operation, Operator, Program, Root, Spot, Table, Target,
+    Argument, Bounds, Index, Operand, Operation, Operator, Program, Root, Spot, Start, Table,
+    Target,
 };
 
 /// A part of `shapes[i]` in `nested.cp`.
@@ -180,20 +181,22 @@ pub fn program() -> Program {
         (15, unset()),
         (17, vec![]),
     ];
-    Program {
-        operations: [counter(), meter(), cycle, ends(), points()]
-            .into_iter()
-            .flatten()
-            .collect(),
-        units: starts
-            .into_iter()
-            .map(|(start, fills)| unit(start, fills))
-            .collect(),
-        start: 32,
+    let operations = [counter(), meter(), cycle, ends(), points()]
+        .into_iter()
+        .flatten()
+        .collect();
+    let units = starts
+        .into_iter()
+        .map(|(start, fills)| unit(start, fills))
+        .collect();
+    let start = Start {
+        place: 32,
         own: 83,
         words: 87,
         temps: 5,
         frames: 2,
+        parameters: vec![],
         variables: vec![1..73, 74..75, 76..83],
-    }
+    };
+    alone(operations, units, start)
 }

@@ -14,6 +14,9 @@ pub enum Fault {
     InitialisedTwice,
     NoLabel,
     NoResult,
+    QueueTaken,
+    /// No fault: the step is the kernel's, and nothing has changed.
+    KernelStep,
 }
 
 #[derive(Clone, Copy)]
@@ -23,6 +26,7 @@ pub enum Operator {
     Multiply,
     Divide,
     Modulo,
+    Equal,
     Greater,
     AtLeast,
 }
@@ -88,6 +92,8 @@ pub enum Target {
     Own,
     /// A class that lies so many words from the first of the running component.
     Class(u32),
+    /// The monitor whose number this word of the running component holds.
+    MonitorRight(u32),
 }
 
 /// A call of a unit. The new activation lies `words` words after the caller's first, and its temps `temps` after the caller's.
@@ -176,6 +182,14 @@ pub enum Operation {
         call: Call,
         next: u32,
     },
+    Delay {
+        queue: Spot,
+        next: u32,
+    },
+    /// Resumes who waits in the queue, and returns from a procedure of a monitor.
+    Continue {
+        queue: Spot,
+    },
     EndBody,
     End,
 }
@@ -194,18 +208,30 @@ pub struct Unit {
     pub starts: Vec<Fill>,
 }
 
-/// The program of one process.
-pub struct Program {
-    pub operations: Vec<Operation>,
-    pub units: Vec<Unit>,
-    /// The place where the process begins.
-    pub start: u32,
+/// What a process begins with.
+pub struct Start {
+    /// The place where it begins.
+    pub place: u32,
     /// The words of the process itself.
     pub own: u32,
     /// The words of the process and of all activations that there can be at once, their temps and their frames.
     pub words: usize,
     pub temps: usize,
     pub frames: usize,
+    /// The parameters, from the first word on.
+    pub parameters: Vec<i32>,
     /// Which of the words are variables.
     pub variables: Vec<Range<usize>>,
+}
+
+/// The program of some processes and monitors, from the second round on, in which all are initialised.
+pub struct Program {
+    pub operations: Vec<Operation>,
+    pub units: Vec<Unit>,
+    pub processes: Vec<Start>,
+    /// Where the words of each monitor begin among those that are shared.
+    pub monitors: Vec<u32>,
+    /// The number of shared words, and which of them are variables.
+    pub shared: usize,
+    pub shared_variables: Vec<Range<usize>>,
 }
