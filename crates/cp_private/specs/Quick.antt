@@ -1,11 +1,23 @@
--- Steps that are made without the outside and without shared words.
-use Rattle.std.specs.Prelude.{◌≡◌, ℕ, List, []}
-use Rattle.cp_program_model.specs.Programs as code
-use Rattle.cp_machine_model.specs.PrivateStates.{Outside}
-use Rattle.cp_machine_model.specs.Steps.{act}
+-- Steps that are made in registers.
+use Rattle.std.specs.Prelude.{◌≡◌, ℕ, ℤ, List, Option, None, Some}
+use Rattle.cp_machine_model.specs.Calling.{gate_effect}
+use Rattle.cp_machine_model.specs.PrivateStates.{Acting, Effect, Leaves, NoEffect, Outside, PrivateState}
 use Rattle.cp_private.specs.States.{join}
 use Rattle.cp_private.specs.declared.private.Private.{Private}
+use Rattle.cp_private.specs.declared.turns.Tried.{Tried}
+use Rattle.cp_private.specs.declared.turns.Tried.TheVariants as tried_case
 
--- The operation leads from one private state to the other, whatever lies outside.
-abbrev pub Makes : code.Operation → Private → Private → Type 0
-Makes x old new = (program : code.Program) (w : Outside) (input : List ℕ) → join new input [] ≡ (act program w (join old input []) x).0
+-- The function `go` of the outside and the state leads from one private state and its shared words
+-- to the other, and leaves this to the kernel, whatever lies outside.
+abbrev pub Makes : (Outside → PrivateState → Acting) → Private → List ℤ → Private → List ℤ → Effect → Type 0
+Makes go old before new after e = (w : Outside) (input : List ℕ) → (join new input after, e) ≡ go w (join old input before)
+
+-- Nothing has changed.
+abbrev pub Stays : Private → List ℤ → Private → List ℤ → Type 0
+Stays old before new after = (new ≡ old) × (after ≡ before)
+
+-- What a step that was made leaves to the kernel.
+abbrev pub left_by : Tried → Option Effect
+left_by tried_case.Made = Some NoEffect
+left_by (tried_case.Returned gate) = Some (gate_effect gate Leaves)
+left_by tried_case.NotMade = None

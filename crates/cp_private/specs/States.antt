@@ -126,6 +126,11 @@ pub record IsReady (x : Private) : Type 0 where
   pub running : is_running (activity x.activity) ≡ true
   pub free : x.gate ≡ 0
 
+-- The process runs as before, and holds the same gate.
+pub record Stands (old new : Private) : Type 0 where
+  pub activity : new.activity ≡ old.activity
+  pub gate : new.gate ≡ old.gate
+
 -- ---- Effects and outcomes
 
 abbrev pub effect : Effect → plain.Effect

@@ -8,7 +8,7 @@ ghost use Rattle.cp_model.specs.Places.{within};
 ghost use Rattle.cp_machine_model.specs.Steps as plain;
 ghost use Rattle.cp_machine_model.specs.PrivateStates.{go_to, private_outcome};
 ghost use Rattle.cp_private.specs.Keeping.{IsAddressable, KeepsOwn, KeepsRest};
-ghost use Rattle.cp_private.specs.States.{IsReady, IsStep, join, outcome};
+ghost use Rattle.cp_private.specs.States.{IsStep, Stands, join, outcome};
 ghost use Rattle.cp_program.specs.Reaches.{cap_place};
 ghost use Rattle.cp_program.specs.View as view;
 
@@ -59,7 +59,7 @@ impl Private {
             → outcome (join self.new input shared.new) result ≡ plain.set_within
             (join self.old input shared.old) bounds.low bounds.high place n next }
         ensures kept { KeepsRest self.old shared.old self.new shared.new }
-        ensures ready { IsReady self.old → IsReady self.new }
+        ensures stands { Stands self.old self.new }
     {
         if !bounds.contain(n) {
             return Err(Fault::Range);
@@ -88,7 +88,7 @@ impl Private {
             (view.term value.now) (λ n. plain.set_within o low.now high.now at n
             next.now))) }
         ensures kept { KeepsRest self.old shared.old self.new shared.new }
-        ensures ready { IsReady self.old → IsReady self.new }
+        ensures stands { Stands self.old self.new }
     {
         let at = self.place(shared, outside, to)?;
         let n = self.evaluate(shared, outside, value)?;

@@ -134,6 +134,8 @@ impl Private {
             (returning (join self.old input shared) (view_frame caller) value) (view_frame caller)
             (frames_in (self.old.depth - 1) self.old.frames.items) }
         ensures kept { KeepsOwn self.old self.new }
+        ensures activity { self.new.activity ≡ self.old.activity }
+        ensures gate { self.new.gate ≡ caller.held }
     {
         self.depth -= 1;
         self.counter = caller.counter;

@@ -1,6 +1,6 @@
 //! How private states are made, copied and read, and how the kernel and rounds change them.
 
-ghost use Rattle.std.specs.Prelude.{◌≡◌, ◌<◌, ◌≤◌, ◌-◌, ◌*◌, ◌^◌, ℕ, List, [], IfOk, OnOk, Some, pos, replicate, length, slice_get, vec_capacity, vec_len};
+ghost use Rattle.std.specs.Prelude.{false, true, ◌≢◌, ◌≡◌, ◌<◌, ◌≤◌, ◌-◌, ◌*◌, ◌^◌, ℕ, List, [], IfOk, OnOk, Some, pos, replicate, length, slice_get, vec_capacity, vec_len};
 ghost use Rattle.cp_program_model.specs.Programs as code;
 ghost use Rattle.cp_program_model.specs.Starts.{carry_out, word};
 ghost use Rattle.cp_private.specs.Promises.{IsAtStart, Wakes};
@@ -198,6 +198,15 @@ impl Private {
         ensures small { result < 2 ^ 31 }
     {
         self.number
+    }
+
+    /// Returns whether the process holds a gate.
+    #[inline(always)]
+    pub fn holds_gate(&self) -> bool
+        ensures yes { result ≡ true → self.now.gate ≢ 0 }
+        ensures no { result ≡ false → self.now.gate ≡ 0 }
+    {
+        self.gate != 0
     }
 
     /// Returns how many words of its own the process has.

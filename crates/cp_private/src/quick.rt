@@ -1,18 +1,19 @@
-//! The commonest private steps, made in registers.
+//! The commonest steps, made in registers.
 //!
 //! A step that isn't made here, since it faults or since its terms go deeper, has changed nothing,
-//! and is made as any other step is.
+//! and is made as any other step is. `W` says whether shared words are looked for.
 
-ghost use Rattle.std.specs.Prelude.{◌≡◌, ◌+◌, false, true, ℕ, List, [], pos, if◌then◌else◌};
-ghost use Rattle.cp_private.specs.Keeping.{KeepsOwn};
-ghost use Rattle.cp_private.specs.Quick.{Makes};
-ghost use Rattle.cp_private.specs.States.{IsReady, join};
+ghost use Rattle.std.specs.Prelude.{◌≡◌, ◌+◌, false, true, None, IfSome, pos, if◌then◌else◌};
+ghost use Rattle.cp_private.specs.Keeping.{IsAddressable, KeepsOwn, KeepsRest};
+ghost use Rattle.cp_private.specs.Quick.{Makes, Stays};
+ghost use Rattle.cp_private.specs.States.{Stands};
 ghost use Rattle.cp_private.specs.declared.quick.Attempt.TheVariants as attempt_case;
 ghost use Rattle.cp_model.specs.Integers.{same_integer};
 ghost use Rattle.cp_machine_model.specs.Calling as calling;
-ghost use Rattle.cp_machine_model.specs.PrivateStates.{Leaves, Outside, go_to, private_outcome};
+ghost use Rattle.cp_machine_model.specs.PrivateStates.{Leaves, NoEffect, go_to, private_outcome};
 ghost use Rattle.cp_machine_model.specs.Steps as plain;
 ghost use Rattle.cp_program.specs.View as view;
+ghost use Rattle.cp_program_model.specs.Programs as code;
 ghost use Rattle.cp_program_model.specs.Starts.{word};
 ghost use Rattle.cp_program_model.specs.Terms as terms;
 
@@ -20,6 +21,7 @@ use crate::assignments::Bounds;
 use crate::counting::next_counter;
 use crate::private::Private;
 use cp_program::operation::{Counting, Operation};
+use cp_program::reach::Words;
 use cp_program::term::{Spot, Term};
 
 /// What became of a step that was tried in registers.
@@ -47,118 +49,146 @@ fn attempted(is_made: bool) -> Attempt
 impl Private {
     // Writes a word, if the value is within its bounds.
     #[inline(always)]
-    fn write_within(&mut self, at: usize, n: i32, low: &i32, high: &i32, next: &u32) -> bool
-        ensures step { result ≡ true → (input : List ℕ)
-            → join self.new input [] ≡ (plain.set_within (join self.old input []) low.now high.now
-            at n next.now).0 }
-        ensures same { result ≡ false → self.new ≡ self.old }
-        ensures kept { KeepsOwn self.old self.new }
-        ensures ready { IsReady self.old → IsReady self.new }
+    fn write_within(
+        &mut self,
+        shared: &mut [i32],
+        at: usize,
+        n: i32,
+        low: &i32,
+        high: &i32,
+        next: &u32,
+    ) -> bool
+        requires { IsAddressable shared.old }
+        ensures step { result ≡ true → Makes (λ w o. plain.set_within o low.now high.now at n next.now)
+            self.old shared.old self.new shared.new NoEffect }
+        ensures same { result ≡ false → Stays self.old shared.old self.new shared.new }
+        ensures kept { KeepsRest self.old shared.old self.new shared.new }
+        ensures stands { Stands self.old self.new }
     {
         if !Bounds::new(*low, *high).contain(n) {
             return false;
         }
-        self.set_word(&mut [], at, n);
+        self.set_word(shared, at, n);
         self.counter = *next;
         true
     }
 
     #[inline(always)]
-    fn set_quickly(&mut self, to: &Spot, value: &Term, low: &i32, high: &i32, next: &u32) -> bool
-        ensures step { result ≡ true → (w : Outside) (input : List ℕ)
-            → let o = join self.old input [] in join self.new input []
-            ≡ (plain.with_place w o (view.spot to.now) (λ at. plain.with_value w o
-            (view.term value.now) (λ n. plain.set_within o low.now high.now at n next.now))).0 }
-        ensures same { result ≡ false → self.new ≡ self.old }
-        ensures kept { KeepsOwn self.old self.new }
-        ensures ready { IsReady self.old → IsReady self.new }
+    fn set_quickly<W: Words>(
+        &mut self,
+        shared: &mut [i32],
+        to: &Spot,
+        value: &Term,
+        low: &i32,
+        high: &i32,
+        next: &u32,
+    ) -> bool
+        requires { IsAddressable shared.old }
+        ensures step { result ≡ true → Makes (λ w o. plain.with_place w o (view.spot to.now) (λ at.
+            plain.with_value w o (view.term value.now) (λ n.
+            plain.set_within o low.now high.now at n next.now)))
+            self.old shared.old self.new shared.new NoEffect }
+        ensures same { result ≡ false → Stays self.old shared.old self.new shared.new }
+        ensures kept { KeepsRest self.old shared.old self.new shared.new }
+        ensures stands { Stands self.old self.new }
     {
         // Both are found or nothing is done, so the place needn't be kept while the value is found.
-        let Some(n) = value.near_value(&self.memory) else {
+        let Some(n) = value.near_value::<W>(&self.memory, shared) else {
             return false;
         };
-        let Some(at) = to.near_place(&self.memory) else {
+        let Some(at) = to.near_place::<W>(&self.memory, shared) else {
             return false;
         };
-        self.write_within(at, n, low, high, next)
+        self.write_within(shared, at, n, low, high, next)
     }
 
     #[inline(always)]
-    fn set_local_quickly(
+    fn set_local_quickly<W: Words>(
         &mut self,
+        shared: &mut [i32],
         at: &u32,
         value: &Term,
         low: &i32,
         high: &i32,
         next: &u32,
     ) -> bool
-        ensures step { result ≡ true → (w : Outside) (input : List ℕ)
-            → let o = join self.old input [] in join self.new input []
-            ≡ (plain.with_place w o (terms.Rooted (terms.Local at.now)) (λ at. plain.with_value w o
-            (view.term value.now) (λ n. plain.set_within o low.now high.now at n next.now))).0 }
-        ensures same { result ≡ false → self.new ≡ self.old }
-        ensures kept { KeepsOwn self.old self.new }
-        ensures ready { IsReady self.old → IsReady self.new }
+        requires { IsAddressable shared.old }
+        ensures step { result ≡ true → Makes (λ w o. plain.with_place w o (terms.Rooted (terms.Local at.now)) (λ at.
+            plain.with_value w o (view.term value.now) (λ n.
+            plain.set_within o low.now high.now at n next.now)))
+            self.old shared.old self.new shared.new NoEffect }
+        ensures same { result ≡ false → Stays self.old shared.old self.new shared.new }
+        ensures kept { KeepsRest self.old shared.old self.new shared.new }
+        ensures stands { Stands self.old self.new }
     {
-        let Some(n) = value.near_value(&self.memory) else {
+        let Some(n) = value.near_value::<W>(&self.memory, shared) else {
             return false;
         };
         let at = self.memory.local(*at);
-        self.write_within(at, n, low, high, next)
+        self.write_within(shared, at, n, low, high, next)
     }
 
     #[inline(always)]
-    fn set_member_quickly(
+    fn set_member_quickly<W: Words>(
         &mut self,
+        shared: &mut [i32],
         at: &u32,
         value: &Term,
         low: &i32,
         high: &i32,
         next: &u32,
     ) -> bool
-        ensures step { result ≡ true → (w : Outside) (input : List ℕ)
-            → let o = join self.old input [] in join self.new input []
-            ≡ (plain.with_place w o (terms.Rooted (terms.Member at.now)) (λ at. plain.with_value w o
-            (view.term value.now) (λ n. plain.set_within o low.now high.now at n next.now))).0 }
-        ensures same { result ≡ false → self.new ≡ self.old }
-        ensures kept { KeepsOwn self.old self.new }
-        ensures ready { IsReady self.old → IsReady self.new }
+        requires { IsAddressable shared.old }
+        ensures step { result ≡ true → Makes (λ w o. plain.with_place w o (terms.Rooted (terms.Member at.now)) (λ at.
+            plain.with_value w o (view.term value.now) (λ n.
+            plain.set_within o low.now high.now at n next.now)))
+            self.old shared.old self.new shared.new NoEffect }
+        ensures same { result ≡ false → Stays self.old shared.old self.new shared.new }
+        ensures kept { KeepsRest self.old shared.old self.new shared.new }
+        ensures stands { Stands self.old self.new }
     {
-        let Some(n) = value.near_value(&self.memory) else {
+        let Some(n) = value.near_value::<W>(&self.memory, shared) else {
             return false;
         };
         let at = self.memory.member(*at);
-        self.write_within(at, n, low, high, next)
+        self.write_within(shared, at, n, low, high, next)
     }
 
     #[inline(always)]
-    fn set_result_quickly(&mut self, value: &Term, low: &i32, high: &i32, next: &u32) -> bool
-        ensures step { result ≡ true → (w : Outside) (input : List ℕ)
-            → let o = join self.old input [] in join self.new input []
-            ≡ (plain.with_value w o (view.term value.now) (λ n. plain.set_within o low.now high.now
-            o.base n next.now)).0 }
-        ensures same { result ≡ false → self.new ≡ self.old }
-        ensures kept { KeepsOwn self.old self.new }
-        ensures ready { IsReady self.old → IsReady self.new }
+    fn set_result_quickly<W: Words>(
+        &mut self,
+        shared: &mut [i32],
+        value: &Term,
+        low: &i32,
+        high: &i32,
+        next: &u32,
+    ) -> bool
+        requires { IsAddressable shared.old }
+        ensures step { result ≡ true → Makes (λ w o. plain.with_value w o (view.term value.now) (λ n.
+            plain.set_within o low.now high.now o.base n next.now))
+            self.old shared.old self.new shared.new NoEffect }
+        ensures same { result ≡ false → Stays self.old shared.old self.new shared.new }
+        ensures kept { KeepsRest self.old shared.old self.new shared.new }
+        ensures stands { Stands self.old self.new }
     {
-        let Some(n) = value.near_value(&self.memory) else {
+        let Some(n) = value.near_value::<W>(&self.memory, shared) else {
             return false;
         };
         let at = self.memory.base;
-        self.write_within(at, n, low, high, next)
+        self.write_within(shared, at, n, low, high, next)
     }
 
     #[inline(always)]
-    fn test_quickly(&mut self, value: &Term, yes: &u32, no: &u32) -> bool
-        ensures step { result ≡ true → (w : Outside) (input : List ℕ)
-            → let o = join self.old input [] in join self.new input []
-            ≡ (plain.with_value w o (view.term value.now) (λ n. private_outcome (go_to (if
-            same_integer n (pos 1) then yes.now else no.now) o))).0 }
-        ensures same { result ≡ false → self.new ≡ self.old }
-        ensures kept { KeepsOwn self.old self.new }
-        ensures ready { IsReady self.old → IsReady self.new }
+    fn test_quickly<W: Words>(&mut self, shared: &[i32], value: &Term, yes: &u32, no: &u32) -> bool
+        requires { IsAddressable shared.now }
+        ensures step { result ≡ true → Makes (λ w o. plain.with_value w o (view.term value.now) (λ n.
+            private_outcome (go_to (if same_integer n (pos 1) then yes.now else no.now) o)))
+            self.old shared.now self.new shared.now NoEffect }
+        ensures same { result ≡ false → Stays self.old shared.now self.new shared.now }
+        ensures kept { KeepsRest self.old shared.now self.new shared.now }
+        ensures stands { Stands self.old self.new }
     {
-        let Some(n) = value.near_value(&self.memory) else {
+        let Some(n) = value.near_value::<W>(&self.memory, shared) else {
             return false;
         };
         self.counter = if n == 1 { *yes } else { *no };
@@ -166,36 +196,45 @@ impl Private {
     }
 
     #[inline(always)]
-    fn copy_quickly(&mut self, to: &Spot, from: &Spot, size: &u32, next: &u32) -> bool
-        ensures step { result ≡ true → (w : Outside) (input : List ℕ)
-            → let o = join self.old input [] in join self.new input []
-            ≡ (plain.with_place w o (view.spot to.now) (λ at. plain.with_place w o
-            (view.spot from.now) (λ b. plain.copy_words o at b size.now next.now))).0 }
-        ensures same { result ≡ false → self.new ≡ self.old }
-        ensures kept { KeepsOwn self.old self.new }
-        ensures ready { IsReady self.old → IsReady self.new }
+    fn copy_quickly<W: Words>(
+        &mut self,
+        shared: &mut [i32],
+        to: &Spot,
+        from: &Spot,
+        size: &u32,
+        next: &u32,
+    ) -> bool
+        requires { IsAddressable shared.old }
+        ensures step { result ≡ true → Makes (λ w o. plain.with_place w o (view.spot to.now) (λ at.
+            plain.with_place w o (view.spot from.now) (λ b.
+            plain.copy_words o at b size.now next.now)))
+            self.old shared.old self.new shared.new NoEffect }
+        ensures same { result ≡ false → Stays self.old shared.old self.new shared.new }
+        ensures kept { KeepsRest self.old shared.old self.new shared.new }
+        ensures stands { Stands self.old self.new }
     {
-        let Some(at) = to.near_place(&self.memory) else {
+        let Some(at) = to.near_place::<W>(&self.memory, shared) else {
             return false;
         };
-        let Some(from) = from.near_place(&self.memory) else {
+        let Some(from) = from.near_place::<W>(&self.memory, shared) else {
             return false;
         };
-        self.move_words(&mut [], at, from, *size as usize);
+        self.move_words(shared, at, from, *size as usize);
         self.counter = *next;
         true
     }
 
-    // Goes on to the next counter, where its variable is found among the process's own words.
+    // Goes on to the next counter, if its variable is found.
     #[inline(always)]
-    fn count_quickly(&mut self, counting: &Counting) -> bool
-        ensures step { result ≡ true → (w : Outside) (input : List ℕ)
-            → let o = join self.old input [] in join self.new input []
-            ≡ (plain.next_count w o (view.counting counting.now) (word o.temps (o.temp +
-            counting.now.temp)) (word o.temps (o.temp + counting.now.temp + 1))).0 }
-        ensures same { result ≡ false → self.new ≡ self.old }
-        ensures kept { KeepsOwn self.old self.new }
-        ensures ready { IsReady self.old → IsReady self.new }
+    fn count_quickly<W: Words>(&mut self, shared: &mut [i32], counting: &Counting) -> bool
+        requires { IsAddressable shared.old }
+        ensures step { result ≡ true → Makes (λ w o. plain.next_count w o (view.counting counting.now)
+            (word o.temps (o.temp + counting.now.temp))
+            (word o.temps (o.temp + counting.now.temp + 1)))
+            self.old shared.old self.new shared.new NoEffect }
+        ensures same { result ≡ false → Stays self.old shared.old self.new shared.new }
+        ensures kept { KeepsRest self.old shared.old self.new shared.new }
+        ensures stands { Stands self.old self.new }
     {
         let temp = self.memory.temp + counting.temp as usize;
         let n = self.temp_at(temp);
@@ -210,50 +249,60 @@ impl Private {
         if !Bounds::new(counting.low, counting.high).contain(n) {
             return false;
         }
-        let Some(at) = self.memory.own_root_place(counting.variable) else {
+        let Some(at) = self.memory.near_root_place::<W>(shared, counting.variable) else {
             return false;
         };
-        self.set_word(&mut [], at, n);
+        self.set_word(shared, at, n);
         self.set_temp(temp, n);
         self.set_temp(temp + 1, last);
         self.counter = counting.body;
         true
     }
 
+    /// Returns from the running routine to a caller that holds no gate. Returns the gate that is
+    /// left, which is 0 if there is none, or `None` if the step wasn't made.
     #[inline(always)]
-    fn return_quickly(&mut self, function: &bool) -> bool
-        ensures step { result ≡ true → (w : Outside) (input : List ℕ)
-            → let o = join self.old input [] in join self.new input []
-            ≡ (calling.with_frame o o.frames (λ f fs. calling.return_with o o f fs function.now
-            (calling.gate_effect f.gate Leaves))).0 }
-        ensures same { result ≡ false → self.new ≡ self.old }
+    pub(crate) fn return_quickly(&mut self, shared: &[i32], function: bool) -> Option<u32>
+        requires { IsAddressable shared.now }
+        ensures step { IfSome result (λ gate. Makes (λ w o.
+            calling.with_frame o o.frames (λ f fs. calling.return_with o o f fs function
+            (calling.gate_effect f.gate Leaves))) self.old shared.now self.new shared.now
+            (calling.gate_effect gate Leaves)) }
+        ensures same { result ≡ None → self.new ≡ self.old }
         ensures kept { KeepsOwn self.old self.new }
-        ensures ready { IsReady self.old → IsReady self.new }
+        ensures activity { self.new.activity ≡ self.old.activity }
+        ensures free { self.old.gate ≡ 0 → self.new.gate ≡ 0 }
     {
         let Some(frame) = self.innermost() else {
-            return false;
+            return None;
         };
         if frame.held != 0 {
-            return false;
+            return None;
         }
-        let Ok(value) = self.value_to_return(&[], *function) else {
-            return false;
+        let Ok(value) = self.value_to_return(shared, function) else {
+            return None;
         };
         self.return_to(frame, value);
-        true
+        Some(frame.gate)
     }
 
-    /// Makes the step of an operation where that takes no more than registers. Returns whether it did,
-    /// and otherwise changes nothing.
+    /// Makes the step of an operation, if that takes no more than registers. Otherwise changes nothing.
     #[inline(always)]
-    pub(crate) fn take_quick_step(&mut self, operation: &Operation) -> Attempt
-        ensures step { result ≡ attempt_case.Made
-            → Makes (view.operation operation.now) self.old self.new }
+    pub(crate) fn take_quick_step<W: Words>(
+        &mut self,
+        shared: &mut [i32],
+        operation: &Operation,
+    ) -> Attempt
+        requires { IsAddressable shared.old }
+        ensures step { result ≡ attempt_case.Made → (program : code.Program)
+            → Makes (λ w o. plain.act program w o (view.operation operation.now))
+            self.old shared.old self.new shared.new NoEffect }
         ensures private { result ≡ attempt_case.Made
             → plain.is_kernel_operation (view.operation operation.now) ≡ false }
-        ensures same { (result ≡ attempt_case.Made → ⊥) → self.new ≡ self.old }
-        ensures kept { KeepsOwn self.old self.new }
-        ensures ready { IsReady self.old → IsReady self.new }
+        ensures same { (result ≡ attempt_case.Made → ⊥)
+            → Stays self.old shared.old self.new shared.new }
+        ensures kept { KeepsRest self.old shared.old self.new shared.new }
+        ensures stands { Stands self.old self.new }
     {
         match operation {
             Operation::Set {
@@ -262,40 +311,41 @@ impl Private {
                 high,
                 value,
                 next,
-            } => attempted(self.set_quickly(to, value, low, high, next)),
+            } => attempted(self.set_quickly::<W>(shared, to, value, low, high, next)),
             Operation::SetLocal {
                 at,
                 low,
                 high,
                 value,
                 next,
-            } => attempted(self.set_local_quickly(at, value, low, high, next)),
+            } => attempted(self.set_local_quickly::<W>(shared, at, value, low, high, next)),
             Operation::SetMember {
                 at,
                 low,
                 high,
                 value,
                 next,
-            } => attempted(self.set_member_quickly(at, value, low, high, next)),
+            } => attempted(self.set_member_quickly::<W>(shared, at, value, low, high, next)),
             Operation::SetResult {
                 low,
                 high,
                 value,
                 next,
-            } => attempted(self.set_result_quickly(value, low, high, next)),
-            Operation::Test { value, yes, no } => attempted(self.test_quickly(value, yes, no)),
+            } => attempted(self.set_result_quickly::<W>(shared, value, low, high, next)),
+            Operation::Test { value, yes, no } => attempted(self.test_quickly::<W>(
+                shared, value, yes, no,
+            )),
             Operation::Cycle { body } => {
                 self.counter = *body;
                 Attempt::Made
             }
-            Operation::ForNext(counting) => attempted(self.count_quickly(counting)),
+            Operation::ForNext(counting) => attempted(self.count_quickly::<W>(shared, counting)),
             Operation::CopyWords {
                 to,
                 from,
                 size,
                 next,
-            } => attempted(self.copy_quickly(to, from, size, next)),
-            Operation::Return { function } => attempted(self.return_quickly(function)),
+            } => attempted(self.copy_quickly::<W>(shared, to, from, size, next)),
             Operation::Procedure { .. } | Operation::Function { .. } => Attempt::Calls,
             _ => Attempt::Rare,
         }

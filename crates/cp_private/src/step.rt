@@ -19,6 +19,7 @@ use crate::quick::Attempt;
 use cp_model::state::Fault;
 use cp_program::operation::{Call, Operation, Target};
 use cp_program::program::Program;
+use cp_program::reach::OwnWords;
 use cp_program::term::Root;
 
 impl Private {
@@ -279,7 +280,13 @@ impl Private {
             return false;
         }
         let operation = program.operation_at(self.counter);
-        match self.take_quick_step(operation) {
+        if let Operation::Return { function } = operation {
+            return match self.return_quickly(&[], *function) {
+                Some(_) => true,
+                None => self.take_rare_step(operation, program, outside),
+            };
+        }
+        match self.take_quick_step::<OwnWords>(&mut [], operation) {
             Attempt::Made => true,
             Attempt::Calls => self.take_call_of(operation, program, outside),
             Attempt::Rare => self.take_rare_step(operation, program, outside),

@@ -1,8 +1,10 @@
 //! Private turns.
 
-ghost use Rattle.std.specs.Prelude.{◌≡◌, ◌≤◌, ◌+◌, ◌*◌, length, vec_capacity, vec_len};
-ghost use Rattle.cp_private.specs.Keeping.{IsAddressable, KeepsRestButOutput};
+ghost use Rattle.std.specs.Prelude.{◌≡◌, ◌≢◌, ◌≤◌, ◌+◌, ◌*◌, None, IfSome, length, vec_capacity, vec_len};
+ghost use Rattle.cp_private.specs.Keeping.{IsAddressable, KeepsRest, KeepsRestButOutput};
 ghost use Rattle.cp_private.specs.Promises.{MakesKernelStep, MakesStep, MakesTurn};
+ghost use Rattle.cp_private.specs.Quick.{Makes, Stays, left_by};
+ghost use Rattle.cp_private.specs.declared.turns.Tried.TheVariants as tried_case;
 ghost use Rattle.cp_private.specs.Rooms.{HasRoomFor, KeepsRoom};
 ghost use Rattle.cp_private.specs.States.{IsAlone, effect, join, outside_of, private_of};
 ghost use Rattle.cp_machine_model.specs.Steps as plain;
@@ -11,10 +13,13 @@ ghost use Rattle.cp_program.specs.View as view;
 use crate::effect::Effect;
 use crate::outside::Outside;
 use crate::private::Private;
+use crate::quick::Attempt;
 use cp_machine_model::law;
 use cp_model::law::invariant;
 use cp_plan::turn::Turn;
+use cp_program::operation::Operation;
 use cp_program::program::Program;
+use cp_program::reach::AllWords;
 
 // Makes `count` steps, as long as the next one is private.
 fn take_steps(program: &Program, private: &mut Private, outside: &Outside, count: u32)
@@ -107,4 +112,44 @@ pub fn step(
     law::kernel_steps();
     invariant();
     act(program, private, shared, outside)
+}
+
+/// What became of a step that was tried in registers, of a process that holds a gate.
+#[derive(Clone, Copy, Debug)]
+pub enum Tried {
+    /// The step was made, and the process holds the same gate.
+    Made,
+    /// The step was made: the routine returned, and left this gate, or none if the number is 0.
+    Returned(u32),
+    /// Nothing has changed.
+    NotMade,
+}
+
+/// Makes the next step of a process that holds a gate, if the step takes no more than registers.
+#[inline(always)]
+pub fn step_in_registers(program: &Program, private: &mut Private, shared: &mut [i32]) -> Tried
+    requires shared { IsAddressable shared.old }
+    requires held { private.old.gate ≢ 0 }
+    ensures step { IfSome (left_by result)
+        (Makes (plain.step_with (view.program program.now)) private.old shared.old private.new
+        shared.new) }
+    ensures same { left_by result ≡ None → Stays private.old shared.old private.new shared.new }
+    ensures held { result ≡ tried_case.Made → private.new.gate ≡ private.old.gate }
+    ensures activity { private.new.activity ≡ private.old.activity }
+    ensures kept { KeepsRest private.old shared.old private.new shared.new }
+{
+    if !program.has_operation(private.counter) {
+        return Tried::NotMade;
+    }
+    let operation = program.operation_at(private.counter);
+    if let Operation::Return { function } = operation {
+        return match private.return_quickly(shared, *function) {
+            Some(gate) => Tried::Returned(gate),
+            None => Tried::NotMade,
+        };
+    }
+    match private.take_quick_step::<AllWords>(shared, operation) {
+        Attempt::Made => Tried::Made,
+        Attempt::Calls | Attempt::Rare => Tried::NotMade,
+    }
 }

@@ -5,10 +5,10 @@
 //! its negation, the word at a flat spot or of a `var` parameter, or the value of a call.
 //!
 //! These functions find what those of `evaluation` find, in a result that fits registers, or find
-//! nothing where a term or spot goes deeper, has a fault or lies among the shared words: then
+//! nothing where a term or spot goes deeper, has a fault or needs a word that `W` doesn't find: then
 //! `evaluation` is asked.
 
-ghost use Rattle.std.specs.Prelude.{◌≡◌, ℕ, ℤ, List, ◌+◌, ◌<◌, ◌^◌, ◌++◌, ◌∷◌, [], IfSome, Ok, map};
+ghost use Rattle.std.specs.Prelude.{◌≡◌, ℕ, ◌+◌, ◌<◌, ◌^◌, ◌++◌, ◌∷◌, [], IfSome, Ok, map};
 ghost use Rattle.cp_program_model.specs.Terms as terms;
 ghost use Rattle.cp_machine_model.specs.Values as values;
 ghost use Rattle.cp_program.specs.Reaches.{apply_operation, chain_value, elements_place, offset_of, view_with};
@@ -16,53 +16,53 @@ ghost use Rattle.cp_program.specs.View as view;
 
 use crate::arithmetic::truth;
 use crate::exact::{apply, difference, product, sum};
-use crate::reach::Memory;
+use crate::reach::{Memory, Words};
 use crate::term::{Application, Index, Operand, Root, Spot, Term};
 
 impl Operand {
     // The value of a flat operand.
     #[inline(always)]
-    fn flat_value(&self, memory: &Memory) -> Option<i32>
-        ensures { (shared : List ℤ) (clock : ℕ) → IfSome result (λ n. values.value_of
-            (view_with memory.now shared clock) (view.operand self.now) ≡ Ok n) }
+    fn flat_value<W: Words>(&self, memory: &Memory, shared: &[i32]) -> Option<i32>
+        ensures { (clock : ℕ) → IfSome result (λ n. values.value_of
+            (view_with memory.now shared.now clock) (view.operand self.now) ≡ Ok n) }
     {
         match self {
             Operand::Number(n) => Some(*n),
-            Operand::Local(at) => memory.own_local(*at),
-            Operand::Member(at) => memory.own_member(*at),
+            Operand::Local(at) => memory.near_local::<W>(shared, *at),
+            Operand::Member(at) => memory.near_member::<W>(shared, *at),
             _ => None,
         }
     }
 
     // The value of a near operand.
     #[inline(always)]
-    fn near_value(&self, memory: &Memory) -> Option<i32>
-        ensures { (shared : List ℤ) (clock : ℕ) → IfSome result (λ n. values.value_of
-            (view_with memory.now shared clock) (view.operand self.now) ≡ Ok n) }
+    fn near_value<W: Words>(&self, memory: &Memory, shared: &[i32]) -> Option<i32>
+        ensures { (clock : ℕ) → IfSome result (λ n. values.value_of
+            (view_with memory.now shared.now clock) (view.operand self.now) ≡ Ok n) }
     {
         match self {
             Operand::Number(n) => Some(*n),
-            Operand::Local(at) => memory.own_local(*at),
-            Operand::Member(at) => memory.own_member(*at),
-            _ => self.further_value(memory),
+            Operand::Local(at) => memory.near_local::<W>(shared, *at),
+            Operand::Member(at) => memory.near_member::<W>(shared, *at),
+            _ => self.further_value::<W>(memory, shared),
         }
     }
 
     #[inline(always)]
-    fn further_value(&self, memory: &Memory) -> Option<i32>
-        ensures { (shared : List ℤ) (clock : ℕ) → IfSome result (λ n. values.value_of
-            (view_with memory.now shared clock) (view.operand self.now) ≡ Ok n) }
+    fn further_value<W: Words>(&self, memory: &Memory, shared: &[i32]) -> Option<i32>
+        ensures { (clock : ℕ) → IfSome result (λ n. values.value_of
+            (view_with memory.now shared.now clock) (view.operand self.now) ≡ Ok n) }
     {
         match self {
-            Operand::Item(s) => s.flat_word(memory),
-            Operand::Nested(t) => t.flat_value(memory),
+            Operand::Item(s) => s.flat_word::<W>(memory, shared),
+            Operand::Nested(t) => t.flat_value::<W>(memory, shared),
             Operand::Made(temp) => Some(memory.made(*temp)),
             Operand::Through { parameter, plus } => {
                 let (parameter, plus) = (*parameter, *plus);
-                let at = memory.own_root_place(Root::Through { parameter, plus })?;
-                memory.own_word(at)
+                let at = memory.near_root_place::<W>(shared, Root::Through { parameter, plus })?;
+                memory.near_word::<W>(shared, at)
             }
-            Operand::Not(t) => Some(truth(t.flat_value(memory)? == 0)),
+            Operand::Not(t) => Some(truth(t.flat_value::<W>(memory, shared)? == 0)),
             _ => None,
         }
     }
@@ -72,9 +72,9 @@ impl Application {
     // The value of the operator, if the value so far is `left` and the operand is flat. Each arm
     // tests its own result, so that the machine code has no test that all share.
     #[inline(always)]
-    fn flat_value_after(&self, left: i32, memory: &Memory) -> Option<i32>
-        ensures { (shared : List ℤ) (clock : ℕ) → IfSome result (λ n. apply_operation
-            (view_with memory.now shared clock) left (view.application self.now) ≡ Ok n) }
+    fn flat_value_after<W: Words>(&self, left: i32, memory: &Memory, shared: &[i32]) -> Option<i32>
+        ensures { (clock : ℕ) → IfSome result (λ n. apply_operation
+            (view_with memory.now shared.now clock) left (view.application self.now) ≡ Ok n) }
     {
         match self {
             Application::AddNumber(n) => Some(sum(left, *n)?),
@@ -83,26 +83,38 @@ impl Application {
             Application::DivideNumber(divisor) => Some(divisor.quotient(left)?),
             Application::ModuloNumber(divisor) => Some(divisor.remainder(left)),
             Application::WithNumber(operator, n) => Some(apply(*operator, left, *n)?),
-            Application::AddLocal(at) => Some(sum(left, memory.own_local(*at)?)?),
-            Application::AddMember(at) => Some(sum(left, memory.own_member(*at)?)?),
-            Application::SubtractLocal(at) => Some(difference(left, memory.own_local(*at)?)?),
-            Application::SubtractMember(at) => Some(difference(left, memory.own_member(*at)?)?),
-            Application::MultiplyLocal(at) => Some(product(left, memory.own_local(*at)?)?),
-            Application::MultiplyMember(at) => Some(product(left, memory.own_member(*at)?)?),
+            Application::AddLocal(at) => Some(sum(left, memory.near_local::<W>(shared, *at)?)?),
+            Application::AddMember(at) => Some(sum(left, memory.near_member::<W>(shared, *at)?)?),
+            Application::SubtractLocal(at) => Some(difference(
+                left,
+                memory.near_local::<W>(shared, *at)?,
+            )?),
+            Application::SubtractMember(at) => Some(difference(
+                left,
+                memory.near_member::<W>(shared, *at)?,
+            )?),
+            Application::MultiplyLocal(at) => Some(product(
+                left,
+                memory.near_local::<W>(shared, *at)?,
+            )?),
+            Application::MultiplyMember(at) => Some(product(
+                left,
+                memory.near_member::<W>(shared, *at)?,
+            )?),
             Application::WithLocal(operator, at) => {
-                Some(apply(*operator, left, memory.own_local(*at)?)?)
+                Some(apply(*operator, left, memory.near_local::<W>(shared, *at)?)?)
             }
             Application::WithMember(operator, at) => {
-                Some(apply(*operator, left, memory.own_member(*at)?)?)
+                Some(apply(*operator, left, memory.near_member::<W>(shared, *at)?)?)
             }
             Application::WithMade(operator, temp) => {
                 Some(apply(*operator, left, memory.made(*temp))?)
             }
             Application::LocalBefore(operator, at) => {
-                Some(apply(*operator, memory.own_local(*at)?, left)?)
+                Some(apply(*operator, memory.near_local::<W>(shared, *at)?, left)?)
             }
             Application::MemberBefore(operator, at) => {
-                Some(apply(*operator, memory.own_member(*at)?, left)?)
+                Some(apply(*operator, memory.near_member::<W>(shared, *at)?, left)?)
             }
             Application::WithOperand(_, _) => None,
         }
@@ -110,16 +122,16 @@ impl Application {
 
     // The same, if the operand is near.
     #[inline(always)]
-    fn near_value_after(&self, left: i32, memory: &Memory) -> Option<i32>
-        ensures { (shared : List ℤ) (clock : ℕ) → IfSome result (λ n. apply_operation
-            (view_with memory.now shared clock) left (view.application self.now) ≡ Ok n) }
+    fn near_value_after<W: Words>(&self, left: i32, memory: &Memory, shared: &[i32]) -> Option<i32>
+        ensures { (clock : ℕ) → IfSome result (λ n. apply_operation
+            (view_with memory.now shared.now clock) left (view.application self.now) ≡ Ok n) }
     {
         match self {
             Application::WithOperand(operator, operand) => {
-                let right = operand.further_value(memory)?;
+                let right = operand.further_value::<W>(memory, shared)?;
                 Some(apply(*operator, left, right)?)
             }
-            _ => self.flat_value_after(left, memory),
+            _ => self.flat_value_after::<W>(left, memory, shared),
         }
     }
 }
@@ -127,39 +139,54 @@ impl Application {
 // The value of a chain whose first operands have the value `first`, if the others are flat. It isn't
 // inlined, so that a term of one operator saves no registers.
 #[inline(never)]
-fn long_flat_value(first: i32, rest: &[Application], memory: &Memory) -> Option<i32>
-    ensures { (shared : List ℤ) (clock : ℕ) → IfSome result (λ n. chain_value
-        (view_with memory.now shared clock) first (map view.application rest.now) ≡ Ok n) }
+fn long_flat_value<W: Words>(
+    first: i32,
+    rest: &[Application],
+    memory: &Memory,
+    shared: &[i32],
+) -> Option<i32>
+    ensures { (clock : ℕ) → IfSome result (λ n. chain_value
+        (view_with memory.now shared.now clock) first (map view.application rest.now) ≡ Ok n) }
 {
     let mut n = first;
     for x in rest {
-        n = x.flat_value_after(n, memory)?;
+        n = x.flat_value_after::<W>(n, memory, shared)?;
     }
     Some(n)
 }
 
 // The same. Most chains have one operator, and need no loop.
 #[inline(always)]
-fn flat_value_of_chain(first: i32, rest: &[Application], memory: &Memory) -> Option<i32>
-    ensures { (shared : List ℤ) (clock : ℕ) → IfSome result (λ n. chain_value
-        (view_with memory.now shared clock) first (map view.application rest.now) ≡ Ok n) }
+fn flat_value_of_chain<W: Words>(
+    first: i32,
+    rest: &[Application],
+    memory: &Memory,
+    shared: &[i32],
+) -> Option<i32>
+    ensures { (clock : ℕ) → IfSome result (λ n. chain_value
+        (view_with memory.now shared.now clock) first (map view.application rest.now) ≡ Ok n) }
 {
     match rest {
-        [x] => x.flat_value_after(first, memory),
-        _ => long_flat_value(first, rest, memory),
+        [x] => x.flat_value_after::<W>(first, memory, shared),
+        _ => long_flat_value::<W>(first, rest, memory, shared),
     }
 }
 
 // The value of a chain whose first operands have the value `first`, if the others are near.
 #[inline(always)]
-fn near_value_of_chain(first: i32, rest: &[Application], memory: &Memory) -> Option<i32>
-    ensures { (shared : List ℤ) (clock : ℕ) → IfSome result (λ n. chain_value
-        (view_with memory.now shared clock) first (map view.application rest.now) ≡ Ok n) }
+fn near_value_of_chain<W: Words>(
+    first: i32,
+    rest: &[Application],
+    memory: &Memory,
+    shared: &[i32],
+) -> Option<i32>
+    ensures { (clock : ℕ) → IfSome result (λ n. chain_value
+        (view_with memory.now shared.now clock) first (map view.application rest.now) ≡ Ok n) }
 {
     let mut n = first;
     let mut left = rest;
     while let Some((x, after)) = left.split_first() {
-        n = x.near_value_after(n, memory)?;
+        n = x.near_value_after::<W>(n, memory, shared)?;
         left = after;
     }
     Some(n)
@@ -168,22 +195,22 @@ fn near_value_of_chain(first: i32, rest: &[Application], memory: &Memory) -> Opt
 impl Term {
     // The value of a term whose operands are flat.
     #[inline(never)]
-    fn flat_value(&self, memory: &Memory) -> Option<i32>
-        ensures { (shared : List ℤ) (clock : ℕ) → IfSome result (λ n. values.value_of
-            (view_with memory.now shared clock) (view.term self.now) ≡ Ok n) }
+    fn flat_value<W: Words>(&self, memory: &Memory, shared: &[i32]) -> Option<i32>
+        ensures { (clock : ℕ) → IfSome result (λ n. values.value_of
+            (view_with memory.now shared.now clock) (view.term self.now) ≡ Ok n) }
     {
-        let first = self.first.flat_value(memory)?;
-        flat_value_of_chain(first, &self.rest, memory)
+        let first = self.first.flat_value::<W>(memory, shared)?;
+        flat_value_of_chain::<W>(first, &self.rest, memory, shared)
     }
 
     /// Evaluates a term, if its operands are near.
     #[inline(always)]
-    pub fn near_value(&self, memory: &Memory) -> Option<i32>
-        ensures { (shared : List ℤ) (clock : ℕ) → IfSome result (λ n. values.value_of
-            (view_with memory.now shared clock) (view.term self.now) ≡ Ok n) }
+    pub fn near_value<W: Words>(&self, memory: &Memory, shared: &[i32]) -> Option<i32>
+        ensures { (clock : ℕ) → IfSome result (λ n. values.value_of
+            (view_with memory.now shared.now clock) (view.term self.now) ≡ Ok n) }
     {
-        let first = self.first.near_value(memory)?;
-        near_value_of_chain(first, &self.rest, memory)
+        let first = self.first.near_value::<W>(memory, shared)?;
+        near_value_of_chain::<W>(first, &self.rest, memory, shared)
     }
 }
 
@@ -202,16 +229,16 @@ fn offset(i: &Index, n: i32) -> Option<usize>
 impl Index {
     // The value of an index that is a word.
     #[inline(always)]
-    fn word(&self, memory: &Memory) -> Option<i32>
-        ensures { (shared : List ℤ) (clock : ℕ) → IfSome result (λ n. values.value_of
-            (view_with memory.now shared clock) (view.term self.now.value) ≡ Ok n) }
+    fn word<W: Words>(&self, memory: &Memory, shared: &[i32]) -> Option<i32>
+        ensures { (clock : ℕ) → IfSome result (λ n. values.value_of
+            (view_with memory.now shared.now clock) (view.term self.now.value) ≡ Ok n) }
     {
         if !self.value.rest.is_empty() {
             return None;
         }
         match self.value.first {
-            Operand::Local(at) => memory.own_local(at),
-            Operand::Member(at) => memory.own_member(at),
+            Operand::Local(at) => memory.near_local::<W>(shared, at),
+            Operand::Member(at) => memory.near_member::<W>(shared, at),
             _ => None,
         }
     }
@@ -228,49 +255,59 @@ impl Index {
 
     // The place to which the index leads from another, if it is a word.
     #[inline(always)]
-    fn word_place(&self, from: usize, memory: &Memory) -> Option<usize>
-        ensures { (shared : List ℤ) (clock : ℕ) → IfSome result (λ at. elements_place
-            (view_with memory.now shared clock) from (view.index self.now ∷ []) ≡ Ok at) }
+    fn word_place<W: Words>(&self, from: usize, memory: &Memory, shared: &[i32]) -> Option<usize>
+        ensures { (clock : ℕ) → IfSome result (λ at. elements_place
+            (view_with memory.now shared.now clock) from (view.index self.now ∷ []) ≡ Ok at) }
     {
-        let n = self.word(memory)?;
+        let n = self.word::<W>(memory, shared)?;
         self.place_at(from, n)
     }
 
     // The same, if the index is flat.
     #[inline(always)]
-    fn flat_place(&self, from: usize, memory: &Memory) -> Option<usize>
-        ensures { (shared : List ℤ) (clock : ℕ) → IfSome result (λ at. elements_place
-            (view_with memory.now shared clock) from (view.index self.now ∷ []) ≡ Ok at) }
+    fn flat_place<W: Words>(&self, from: usize, memory: &Memory, shared: &[i32]) -> Option<usize>
+        ensures { (clock : ℕ) → IfSome result (λ at. elements_place
+            (view_with memory.now shared.now clock) from (view.index self.now ∷ []) ≡ Ok at) }
     {
-        let n = self.value.flat_value(memory)?;
+        let n = self.value.flat_value::<W>(memory, shared)?;
         self.place_at(from, n)
     }
 }
 
 // The place to which the indices lead, starting from the place `from`, if they are flat.
 #[inline(never)]
-fn flat_place_of_element(from: usize, indices: &[Index], memory: &Memory) -> Option<usize>
-    ensures { (shared : List ℤ) (clock : ℕ) → IfSome result (λ at. elements_place
-        (view_with memory.now shared clock) from (map view.index indices.now) ≡ Ok at) }
+fn flat_place_of_element<W: Words>(
+    from: usize,
+    indices: &[Index],
+    memory: &Memory,
+    shared: &[i32],
+) -> Option<usize>
+    ensures { (clock : ℕ) → IfSome result (λ at. elements_place
+        (view_with memory.now shared.now clock) from (map view.index indices.now) ≡ Ok at) }
 {
     let mut at = from;
     for i in indices {
-        at = i.flat_place(at, memory)?;
+        at = i.flat_place::<W>(at, memory, shared)?;
     }
     Some(at)
 }
 
 // The same. Most indices are words, which need no call.
 #[inline(always)]
-fn near_place_of_element(from: usize, indices: &[Index], memory: &Memory) -> Option<usize>
-    ensures { (shared : List ℤ) (clock : ℕ) → IfSome result (λ at. elements_place
-        (view_with memory.now shared clock) from (map view.index indices.now) ≡ Ok at) }
+fn near_place_of_element<W: Words>(
+    from: usize,
+    indices: &[Index],
+    memory: &Memory,
+    shared: &[i32],
+) -> Option<usize>
+    ensures { (clock : ℕ) → IfSome result (λ at. elements_place
+        (view_with memory.now shared.now clock) from (map view.index indices.now) ≡ Ok at) }
 {
     let mut at = from;
     let mut left = indices;
     while let Some((i, after)) = left.split_first() {
-        let Some(next) = i.word_place(at, memory) else {
-            return flat_place_of_element(at, left, memory);
+        let Some(next) = i.word_place::<W>(at, memory, shared) else {
+            return flat_place_of_element::<W>(at, left, memory, shared);
         };
         at = next;
         left = after;
@@ -280,41 +317,41 @@ fn near_place_of_element(from: usize, indices: &[Index], memory: &Memory) -> Opt
 
 impl Spot {
     #[inline(always)]
-    fn place_of_indices(&self, memory: &Memory) -> Option<usize>
-        ensures { (shared : List ℤ) (clock : ℕ) → IfSome result (λ at. values.place_of
-            (view_with memory.now shared clock) (view.spot self.now) ≡ Ok at) }
+    fn place_of_indices<W: Words>(&self, memory: &Memory, shared: &[i32]) -> Option<usize>
+        ensures { (clock : ℕ) → IfSome result (λ at. values.place_of
+            (view_with memory.now shared.now clock) (view.spot self.now) ≡ Ok at) }
     {
-        let from = memory.own_root_place(self.root)?;
-        near_place_of_element(from, &self.indices, memory)
+        let from = memory.near_root_place::<W>(shared, self.root)?;
+        near_place_of_element::<W>(from, &self.indices, memory, shared)
     }
 
     #[inline(never)]
-    fn flat_place(&self, memory: &Memory) -> Option<usize>
-        ensures { (shared : List ℤ) (clock : ℕ) → IfSome result (λ at. values.place_of
-            (view_with memory.now shared clock) (view.spot self.now) ≡ Ok at) }
+    fn flat_place<W: Words>(&self, memory: &Memory, shared: &[i32]) -> Option<usize>
+        ensures { (clock : ℕ) → IfSome result (λ at. values.place_of
+            (view_with memory.now shared.now clock) (view.spot self.now) ≡ Ok at) }
     {
-        self.place_of_indices(memory)
+        self.place_of_indices::<W>(memory, shared)
     }
 
     /// The place of a variable or of a part of one, if the spot is flat.
     #[inline(always)]
-    pub fn near_place(&self, memory: &Memory) -> Option<usize>
-        ensures { (shared : List ℤ) (clock : ℕ) → IfSome result (λ at. values.place_of
-            (view_with memory.now shared clock) (view.spot self.now) ≡ Ok at) }
+    pub fn near_place<W: Words>(&self, memory: &Memory, shared: &[i32]) -> Option<usize>
+        ensures { (clock : ℕ) → IfSome result (λ at. values.place_of
+            (view_with memory.now shared.now clock) (view.spot self.now) ≡ Ok at) }
     {
         if self.indices.is_empty() {
-            return memory.own_root_place(self.root);
+            return memory.near_root_place::<W>(shared, self.root);
         }
-        self.flat_place(memory)
+        self.flat_place::<W>(memory, shared)
     }
 
     // The word at the place of the spot.
     #[inline(never)]
-    fn flat_word(&self, memory: &Memory) -> Option<i32>
-        ensures { (shared : List ℤ) (clock : ℕ) → IfSome result (λ n. values.value_of
-            (view_with memory.now shared clock) (terms.Item (view.spot self.now)) ≡ Ok n) }
+    fn flat_word<W: Words>(&self, memory: &Memory, shared: &[i32]) -> Option<i32>
+        ensures { (clock : ℕ) → IfSome result (λ n. values.value_of
+            (view_with memory.now shared.now clock) (terms.Item (view.spot self.now)) ≡ Ok n) }
     {
-        let at = self.place_of_indices(memory)?;
-        memory.own_word(at)
+        let at = self.place_of_indices::<W>(memory, shared)?;
+        memory.near_word::<W>(shared, at)
     }
 }

@@ -1,13 +1,13 @@
 //! The words of a memory, and the places of variables in it.
 
-ghost use Rattle.std.specs.Prelude.{◌≡◌, ℕ, ℤ, List, IfSome, ◌+◌, ◌<◌, ◌^◌, ◌++◌};
+ghost use Rattle.std.specs.Prelude.{◌≡◌, ℕ, IfSome, ◌+◌, ◌<◌, ◌^◌, ◌++◌};
 ghost use Rattle.cp_program_model.specs.Layout as layout;
 ghost use Rattle.cp_program_model.specs.Starts as starts;
 ghost use Rattle.cp_machine_model.specs.Values as values;
 ghost use Rattle.cp_program.specs.Reaches.{view_with};
 ghost use Rattle.cp_program.specs.View as view;
 
-use crate::reach::Memory;
+use crate::reach::{Memory, Words};
 use crate::term::Root;
 
 // The word at an index, or 0 if there is no such word.
@@ -31,13 +31,16 @@ pub(crate) fn natural(n: i32) -> usize
 }
 
 impl Memory {
-    // The word at a place, if it is one of the process's own.
+    // The word at a place, if it is found.
     #[inline(always)]
-    pub(crate) fn own_word(&self, at: usize) -> Option<i32>
-        ensures { (shared : List ℤ) → IfSome result
-            (λ n. starts.word (self.now.words.items ++ shared) at ≡ n) }
+    pub(crate) fn near_word<W: Words>(&self, shared: &[i32], at: usize) -> Option<i32>
+        ensures { IfSome result
+            (λ n. starts.word (self.now.words.items ++ shared.now) at ≡ n) }
     {
-        self.words.get(at).copied()
+        match self.words.get(at) {
+            Some(n) => Some(*n),
+            None => W::shared_word(shared, at.saturating_sub(self.words.len())),
+        }
     }
 
     /// The place of a word of the activation.
@@ -58,22 +61,22 @@ impl Memory {
         self.component + at as usize
     }
 
-    // The value of a word of the activation, if it is one of the process's own.
+    // The value of a word of the activation, if it is found.
     #[inline(always)]
-    pub(crate) fn own_local(&self, at: u32) -> Option<i32>
-        ensures { (shared : List ℤ) (clock : ℕ) → IfSome result (λ n. values.value_of
-            (view_with self.now shared clock) (view.local at) ≡ Ok n) }
+    pub(crate) fn near_local<W: Words>(&self, shared: &[i32], at: u32) -> Option<i32>
+        ensures { (clock : ℕ) → IfSome result (λ n. values.value_of
+            (view_with self.now shared.now clock) (view.local at) ≡ Ok n) }
     {
-        self.own_word(self.local(at))
+        self.near_word::<W>(shared, self.local(at))
     }
 
-    // The value of a word of the component, if it is one of the process's own.
+    // The value of a word of the component, if it is found.
     #[inline(always)]
-    pub(crate) fn own_member(&self, at: u32) -> Option<i32>
-        ensures { (shared : List ℤ) (clock : ℕ) → IfSome result (λ n. values.value_of
-            (view_with self.now shared clock) (view.member at) ≡ Ok n) }
+    pub(crate) fn near_member<W: Words>(&self, shared: &[i32], at: u32) -> Option<i32>
+        ensures { (clock : ℕ) → IfSome result (λ n. values.value_of
+            (view_with self.now shared.now clock) (view.member at) ≡ Ok n) }
     {
-        self.own_word(self.member(at))
+        self.near_word::<W>(shared, self.member(at))
     }
 
     // The temp with this number, counted from the first temp of the running activation.
@@ -84,17 +87,17 @@ impl Memory {
         word(&self.temps, self.temp + temp as usize)
     }
 
-    /// The place where a variable begins, if it is found among the process's own words.
+    /// The place where a variable begins, if the word that leads there is found.
     #[inline(always)]
-    pub fn own_root_place(&self, root: Root) -> Option<usize>
-        ensures { (shared : List ℤ) (clock : ℕ) → IfSome result (λ at. values.root_place
-            (view_with self.now shared clock) (view.root root) ≡ at) }
+    pub fn near_root_place<W: Words>(&self, shared: &[i32], root: Root) -> Option<usize>
+        ensures { (clock : ℕ) → IfSome result (λ at. values.root_place
+            (view_with self.now shared.now clock) (view.root root) ≡ at) }
     {
         match root {
             Root::Local(at) => Some(self.local(at)),
             Root::Member(at) => Some(self.member(at)),
             Root::Through { parameter, plus } => {
-                Some(natural(self.own_word(self.local(parameter))?) + plus as usize)
+                Some(natural(self.near_word::<W>(shared, self.local(parameter))?) + plus as usize)
             }
         }
     }

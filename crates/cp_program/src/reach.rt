@@ -1,6 +1,7 @@
 //! What the evaluation of terms reads.
 
-ghost use Rattle.std.specs.Prelude.{◌+◌, ◌<◌, ◌^◌, length};
+ghost use Rattle.std.specs.Prelude.{◌≡◌, ◌+◌, ◌<◌, ◌^◌, IfSome, length};
+ghost use Rattle.cp_program_model.specs.Starts as starts;
 
 /// The memory of a process: its words and temps, and where those of the running activation and
 /// component begin.
@@ -25,4 +26,33 @@ pub struct Reach<'a> {
     pub shared: &'a [i32],
     pub clock: u64,
     ghost fits: { length memory.now.words.items + length shared.now < 2 ^ 64 },
+}
+
+/// Which words the evaluation in registers finds. Shared words follow a process's own.
+pub trait Words {
+    /// The shared word at an index, if it is found.
+    fn shared_word(shared: &[i32], at: usize) -> Option<i32>
+        ensures { IfSome result (λ n. starts.word shared.now at ≡ n) };
+}
+
+/// A process's own words alone. A private step has no others.
+#[derive(Clone, Copy, Debug)]
+pub struct OwnWords;
+
+impl Words for OwnWords {
+    #[inline(always)]
+    fn shared_word(_shared: &[i32], _at: usize) -> Option<i32> {
+        None
+    }
+}
+
+/// A process's own words and the shared words.
+#[derive(Clone, Copy, Debug)]
+pub struct AllWords;
+
+impl Words for AllWords {
+    #[inline(always)]
+    fn shared_word(shared: &[i32], at: usize) -> Option<i32> {
+        shared.get(at).copied()
+    }
 }

@@ -1,19 +1,17 @@
-use Rattle.std.proofs.Common.{rules, arith, ◌≡◌, [], Ok, ap, sym, ◌∙◌}
-use Rattle.std.proofs.lemmas.List.{nil_from_length}
-use Rattle.cp_machine_model.specs.PrivateStates.{go_to, view_of}
+use Rattle.std.proofs.Common.{arith, ◌≡◌, Ok, ap}
+use Rattle.cp_machine_model.specs.PrivateStates.{NoEffect, go_to, view_of}
 use Rattle.cp_machine_model.specs.Values.{place_of}
 use Rattle.cp_program.specs.View as view
 use Rattle.cp_private.specs.States.{join}
 use Rattle.cp_private.proofs.private.Private.copy_quickly.Goals as goal
 
 pub returns-clause-step : goal.returns-clause-step
-returns-clause-step c =
-    let none : c.move_words.new.shared ≡ [] = nil_from_length c.move_words.new.shared (search rules) in
+returns-clause-step g c =
     λ yes w input.
-    let o = join c.args.self.now input [] in
+    let o = join c.args.self.now input c.args.shared.now in
     let at = c.in-Some.at in
     let from = c.in-Some-near_place.from in
-    let placed : place_of (view_of w o) (view.spot c.args.to.now) ≡ Ok at = c.in-Some.ensures [] w.clock in
-    let found : place_of (view_of w o) (view.spot c.args.from.now) ≡ Ok from = c.in-Some-near_place.ensures [] w.clock in
+    let placed : place_of (view_of w o) (view.spot c.args.to.now) ≡ Ok at = c.in-Some.ensures w.clock in
+    let found : place_of (view_of w o) (view.spot c.args.from.now) ≡ Ok from = c.in-Some-near_place.ensures w.clock in
     let moved = c.move_words.ensures.step input at from (omega arith) (omega arith) in
-    rw (placed, found) (ap (go_to c.args.next.now) (ap (join c.move_words.new.self input) (sym none) ∙ moved))
+    rw (placed, found) (ap (λ p. (go_to c.args.next.now p, NoEffect)) moved)

@@ -1,18 +1,17 @@
-use Rattle.std.proofs.Common.{rules, arith, ◌≡◌, ◌+◌, true, false, [], to_z, of_z, ap, sym, ◌∙◌}
+use Rattle.std.proofs.Common.{rules, arith, ◌≡◌, ◌+◌, true, false, to_z, of_z, ap, sym, ◌∙◌}
 use Rattle.std.specs.Int.{w32}
-use Rattle.std.proofs.lemmas.List.{nil_from_length}
 use Rattle.cp_model.specs.Integers.{same_integer}
 use Rattle.cp_model.specs.Places.{within}
 use Rattle.cp_model.specs.StatementSteps.{next_counter}
 use Rattle.cp_program_model.specs.Starts.{word}
-use Rattle.cp_machine_model.specs.PrivateStates.{go_to, set_temp, set_word, view_of}
+use Rattle.cp_machine_model.specs.PrivateStates.{NoEffect, go_to, set_temp, set_word, view_of}
 use Rattle.cp_machine_model.specs.Values.{root_place}
 use Rattle.cp_program.specs.View as view
 use Rattle.cp_private.specs.States.{join}
 use Rattle.cp_private.proofs.private.Private.count_quickly.Goals as goal
 
 pub returns-clause-step : goal.returns-clause-step
-returns-clause-step c =
+returns-clause-step g c =
     let counting = c.args.counting.now in
     let temps = c.args.self.now.memory.temps.items in
     let t = c.args.self.now.memory.temp + counting.temp in
@@ -23,13 +22,12 @@ returns-clause-step c =
     let next : to_z w32 (of_z w32 c.in-Some.n) ≡ m = search rules in
     let end : to_z w32 (of_z w32 c.temp_at-last.result) ≡ last = search rules in
     let inside : within counting.low counting.high m ≡ true = search rules in
-    let none : c.set_word.new.shared ≡ [] = nil_from_length c.set_word.new.shared (search rules) in
     λ yes w input.
-    let o = join c.args.self.now input [] in
-    let at = c.in-Some-own_root_place.at in
-    let place : root_place (view_of w o) (view.root counting.variable) ≡ at = c.in-Some-own_root_place.ensures [] w.clock in
-    let written = ap (join c.set_word.new.self input) (sym none) ∙ (rw next at (c.set_word.ensures.step input at (omega arith))) in
-    let counted = rw next at (c.set_temp.ensures.step input []) in
-    let bounded = rw end at (c.set_temp-2.ensures.step input []) in
+    let o = join c.args.self.now input c.args.shared.now in
+    let at = c.in-Some-near_root_place.at in
+    let place : root_place (view_of w o) (view.root counting.variable) ≡ at = c.in-Some-near_root_place.ensures w.clock in
+    let written = rw next at (c.set_word.ensures.step input at (omega arith)) in
+    let counted = rw next at (c.set_temp.ensures.step input c.set_word.new.shared) in
+    let bounded = rw end at (c.set_temp-2.ensures.step input c.set_word.new.shared) in
     let all = bounded ∙ ap (λ x. set_temp x (t + 1) last) (counted ∙ ap (λ x. set_temp x t m) (written ∙ ap (λ a. set_word o a m) (sym place))) in
-    rw (apart, inside) (ap (go_to counting.body) all)
+    rw (apart, inside) (ap (λ p. (go_to counting.body p, NoEffect)) all)

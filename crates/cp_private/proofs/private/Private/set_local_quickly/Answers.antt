@@ -1,4 +1,4 @@
-use Rattle.std.proofs.Common.{rules, ◌≡◌, ◌+◌, [], Ok, to_z, of_z, ap, ◌∙◌}
+use Rattle.std.proofs.Common.{rules, ◌≡◌, ◌+◌, Ok, to_z, of_z, ap, ◌∙◌}
 use Rattle.std.specs.Int.{w32}
 use Rattle.cp_machine_model.specs.PrivateStates.{view_of}
 use Rattle.cp_machine_model.specs.Steps.{set_within}
@@ -8,17 +8,17 @@ use Rattle.cp_private.specs.States.{join}
 use Rattle.cp_private.proofs.private.Private.set_local_quickly.Goals as goal
 
 pub returns-clause-step : goal.returns-clause-step
-returns-clause-step c =
+returns-clause-step g c =
     λ yes w input.
-    let o = join c.args.self.now input [] in
+    let o = join c.args.self.now input c.args.shared.now in
     let place = c.args.self.now.memory.base + c.args.at.now in
     let n = c.in-Some.n in
-    let valued : value_of (view_of w o) (view.term c.args.value.now) ≡ Ok n = c.in-Some.ensures [] w.clock in
+    let valued : value_of (view_of w o) (view.term c.args.value.now) ≡ Ok n = c.in-Some.ensures w.clock in
     let whole : to_z w32 (of_z w32 n) ≡ n = search rules in
     let there : c.local-at.result ≡ place = c.local-at.ensures.place in
     let low = c.args.low.now in
     let high = c.args.high.now in
     let next = c.args.next.now in
     rw valued
-    (c.write_within.ensures.step yes input
-    ∙ (ap (λ k. (set_within o low high c.local-at.result k next).0) whole ∙ ap (λ at. (set_within o low high at n next).0) there))
+    (c.write_within.ensures.step yes w input
+    ∙ (ap (λ k. set_within o low high c.local-at.result k next) whole ∙ ap (λ at. set_within o low high at n next) there))

@@ -1,4 +1,4 @@
-use Rattle.std.proofs.Common.{rules, ◌≡◌, [], Ok, to_z, of_z, ap, ◌∙◌}
+use Rattle.std.proofs.Common.{rules, ◌≡◌, Ok, to_z, of_z, ap, ◌∙◌}
 use Rattle.std.specs.Int.{w32}
 use Rattle.cp_machine_model.specs.PrivateStates.{view_of}
 use Rattle.cp_machine_model.specs.Steps.{set_within}
@@ -8,12 +8,12 @@ use Rattle.cp_private.specs.States.{join}
 use Rattle.cp_private.proofs.private.Private.set_result_quickly.Goals as goal
 
 pub returns-clause-step : goal.returns-clause-step
-returns-clause-step c =
+returns-clause-step g c =
     λ yes w input.
-    let o = join c.args.self.now input [] in
+    let o = join c.args.self.now input c.args.shared.now in
     let base = c.args.self.now.memory.base in
     let n = c.in-Some.n in
-    let valued : value_of (view_of w o) (view.term c.args.value.now) ≡ Ok n = c.in-Some.ensures [] w.clock in
+    let valued : value_of (view_of w o) (view.term c.args.value.now) ≡ Ok n = c.in-Some.ensures w.clock in
     let whole : to_z w32 (of_z w32 n) ≡ n = search rules in
     rw valued
-    (c.write_within.ensures.step yes input ∙ ap (λ k. (set_within o c.args.low.now c.args.high.now base k c.args.next.now).0) whole)
+    (c.write_within.ensures.step yes w input ∙ ap (λ k. set_within o c.args.low.now c.args.high.now base k c.args.next.now) whole)

@@ -1,9 +1,7 @@
-use Rattle.std.proofs.Common.{rules, arith, ◌≡◌, [], true, to_z, of_z, ap, sym, ◌∙◌}
+use Rattle.std.proofs.Common.{rules, arith, ◌≡◌, true, to_z, of_z, ap, sym, ◌∙◌}
 use Rattle.std.specs.Int.{w32}
-use Rattle.std.proofs.lemmas.List.{nil_from_length}
 use Rattle.cp_model.specs.Places.{within}
-use Rattle.cp_machine_model.specs.PrivateStates.{go_to}
-use Rattle.cp_private.specs.States.{join}
+use Rattle.cp_machine_model.specs.PrivateStates.{NoEffect, go_to}
 use Rattle.cp_private.proofs.private.Private.write_within.Goals as goal
 
 pub returns-clause-step : goal.returns-clause-step
@@ -16,7 +14,6 @@ returns-clause-step c =
     let inside : within c.args.low.now c.args.high.now n ≡ true =
     ap (λ k. within k c.args.high.now n) (sym lowest) ∙ (ap (λ k. within bounds.low k n) (sym highest) ∙ held) in
     let whole : to_z w32 (of_z w32 n) ≡ n = search rules in
-    let none : c.set_word.new.shared ≡ [] = nil_from_length c.set_word.new.shared (search rules) in
-    λ yes input.
+    λ yes w input.
     let written = c.set_word.ensures.step input c.args.at (omega arith) in
-    rw inside (ap (go_to c.args.next.now) (ap (join c.set_word.new.self input) (sym none) ∙ (rw whole at written)))
+    rw inside (ap (λ o. (go_to c.args.next.now o, NoEffect)) (rw whole at written))

@@ -8,11 +8,11 @@ use Rattle.cp_program.proofs.Found.{add_local, add_member, after_found, before_f
 use Rattle.cp_program.proofs.term.Application.flat_value_after.Goals as goal
 
 pub returns-in_ok-sum-in-AddLocal : goal.returns-in_ok-sum-in-AddLocal
-returns-in_ok-sum-in-AddLocal c shared clock =
-    let v = view_with c.args.memory.now shared clock in
-    let n = c.in_ok-own_local-in-AddLocal.field-0 in
+returns-in_ok-sum-in-AddLocal g c clock =
+    let v = view_with c.args.memory.now c.args.shared.now clock in
+    let n = c.in_ok-near_local-in-AddLocal.field-0 in
     let m = c.in_ok-sum-in-AddLocal.field-0 in
-    let known = told _ n _ c.in_ok-own_local-in-AddLocal.was (c.own_local.ensures shared clock) in
+    let known = told _ n _ c.in_ok-near_local-in-AddLocal.was (c.near_local.ensures clock) in
     let left : kept c.args.left ≡ c.args.left = search rules in
     let right : kept n ≡ n = search rules in
     let result : kept m ≡ m = search rules in
@@ -20,11 +20,11 @@ returns-in_ok-sum-in-AddLocal c shared clock =
     (told _ m _ c.in_ok-sum-in-AddLocal.was c.sum-in-AddLocal.ensures)
 
 pub returns-in_ok-sum-in-AddMember : goal.returns-in_ok-sum-in-AddMember
-returns-in_ok-sum-in-AddMember c shared clock =
-    let v = view_with c.args.memory.now shared clock in
-    let n = c.in_ok-own_member-in-AddMember.field-0 in
+returns-in_ok-sum-in-AddMember g c clock =
+    let v = view_with c.args.memory.now c.args.shared.now clock in
+    let n = c.in_ok-near_member-in-AddMember.field-0 in
     let m = c.in_ok-sum-in-AddMember.field-0 in
-    let known = told _ n _ c.in_ok-own_member-in-AddMember.was (c.own_member.ensures shared clock) in
+    let known = told _ n _ c.in_ok-near_member-in-AddMember.was (c.near_member.ensures clock) in
     let left : kept c.args.left ≡ c.args.left = search rules in
     let right : kept n ≡ n = search rules in
     let result : kept m ≡ m = search rules in
@@ -32,11 +32,11 @@ returns-in_ok-sum-in-AddMember c shared clock =
     (told _ m _ c.in_ok-sum-in-AddMember.was c.sum-in-AddMember.ensures)
 
 pub returns-in_ok-difference-in-SubtractLocal : goal.returns-in_ok-difference-in-SubtractLocal
-returns-in_ok-difference-in-SubtractLocal c shared clock =
-    let v = view_with c.args.memory.now shared clock in
-    let n = c.in_ok-own_local-in-SubtractLocal.field-0 in
+returns-in_ok-difference-in-SubtractLocal g c clock =
+    let v = view_with c.args.memory.now c.args.shared.now clock in
+    let n = c.in_ok-near_local-in-SubtractLocal.field-0 in
     let m = c.in_ok-difference-in-SubtractLocal.field-0 in
-    let known = told _ n _ c.in_ok-own_local-in-SubtractLocal.was (c.own_local-in-SubtractLocal.ensures shared clock) in
+    let known = told _ n _ c.in_ok-near_local-in-SubtractLocal.was (c.near_local-in-SubtractLocal.ensures clock) in
     let left : kept c.args.left ≡ c.args.left = search rules in
     let right : kept n ≡ n = search rules in
     let result : kept m ≡ m = search rules in
@@ -44,11 +44,11 @@ returns-in_ok-difference-in-SubtractLocal c shared clock =
     (told _ m _ c.in_ok-difference-in-SubtractLocal.was c.difference-in-SubtractLocal.ensures)
 
 pub returns-in_ok-difference-in-SubtractMember : goal.returns-in_ok-difference-in-SubtractMember
-returns-in_ok-difference-in-SubtractMember c shared clock =
-    let v = view_with c.args.memory.now shared clock in
-    let n = c.in_ok-own_member-in-SubtractMember.field-0 in
+returns-in_ok-difference-in-SubtractMember g c clock =
+    let v = view_with c.args.memory.now c.args.shared.now clock in
+    let n = c.in_ok-near_member-in-SubtractMember.field-0 in
     let m = c.in_ok-difference-in-SubtractMember.field-0 in
-    let known = told _ n _ c.in_ok-own_member-in-SubtractMember.was (c.own_member-in-SubtractMember.ensures shared clock) in
+    let known = told _ n _ c.in_ok-near_member-in-SubtractMember.was (c.near_member-in-SubtractMember.ensures clock) in
     let left : kept c.args.left ≡ c.args.left = search rules in
     let right : kept n ≡ n = search rules in
     let result : kept m ≡ m = search rules in
@@ -56,11 +56,11 @@ returns-in_ok-difference-in-SubtractMember c shared clock =
     (told _ m _ c.in_ok-difference-in-SubtractMember.was c.difference-in-SubtractMember.ensures)
 
 pub returns-in_ok-product-in-MultiplyLocal : goal.returns-in_ok-product-in-MultiplyLocal
-returns-in_ok-product-in-MultiplyLocal c shared clock =
-    let v = view_with c.args.memory.now shared clock in
-    let n = c.in_ok-own_local-in-MultiplyLocal.field-0 in
+returns-in_ok-product-in-MultiplyLocal g c clock =
+    let v = view_with c.args.memory.now c.args.shared.now clock in
+    let n = c.in_ok-near_local-in-MultiplyLocal.field-0 in
     let m = c.in_ok-product-in-MultiplyLocal.field-0 in
-    let known = told _ n _ c.in_ok-own_local-in-MultiplyLocal.was (c.own_local-in-MultiplyLocal.ensures shared clock) in
+    let known = told _ n _ c.in_ok-near_local-in-MultiplyLocal.was (c.near_local-in-MultiplyLocal.ensures clock) in
     let left : kept c.args.left ≡ c.args.left = search rules in
     let right : kept n ≡ n = search rules in
     let result : kept m ≡ m = search rules in
@@ -68,11 +68,11 @@ returns-in_ok-product-in-MultiplyLocal c shared clock =
     (told _ m _ c.in_ok-product-in-MultiplyLocal.was c.product-in-MultiplyLocal.ensures)
 
 pub returns-in_ok-product-in-MultiplyMember : goal.returns-in_ok-product-in-MultiplyMember
-returns-in_ok-product-in-MultiplyMember c shared clock =
-    let v = view_with c.args.memory.now shared clock in
-    let n = c.in_ok-own_member-in-MultiplyMember.field-0 in
+returns-in_ok-product-in-MultiplyMember g c clock =
+    let v = view_with c.args.memory.now c.args.shared.now clock in
+    let n = c.in_ok-near_member-in-MultiplyMember.field-0 in
     let m = c.in_ok-product-in-MultiplyMember.field-0 in
-    let known = told _ n _ c.in_ok-own_member-in-MultiplyMember.was (c.own_member-in-MultiplyMember.ensures shared clock) in
+    let known = told _ n _ c.in_ok-near_member-in-MultiplyMember.was (c.near_member-in-MultiplyMember.ensures clock) in
     let left : kept c.args.left ≡ c.args.left = search rules in
     let right : kept n ≡ n = search rules in
     let result : kept m ≡ m = search rules in
@@ -80,11 +80,11 @@ returns-in_ok-product-in-MultiplyMember c shared clock =
     (told _ m _ c.in_ok-product-in-MultiplyMember.was c.product-in-MultiplyMember.ensures)
 
 pub returns-in_ok-apply-in-WithLocal : goal.returns-in_ok-apply-in-WithLocal
-returns-in_ok-apply-in-WithLocal c shared clock =
-    let v = view_with c.args.memory.now shared clock in
-    let n = c.in_ok-own_local-in-WithLocal.field-0 in
+returns-in_ok-apply-in-WithLocal g c clock =
+    let v = view_with c.args.memory.now c.args.shared.now clock in
+    let n = c.in_ok-near_local-in-WithLocal.field-0 in
     let m = c.in_ok-apply-in-WithLocal.field-0 in
-    let known = told _ n _ c.in_ok-own_local-in-WithLocal.was (c.own_local-in-WithLocal.ensures shared clock) in
+    let known = told _ n _ c.in_ok-near_local-in-WithLocal.was (c.near_local-in-WithLocal.ensures clock) in
     let left : kept c.args.left ≡ c.args.left = search rules in
     let right : kept n ≡ n = search rules in
     let result : kept m ≡ m = search rules in
@@ -92,11 +92,11 @@ returns-in_ok-apply-in-WithLocal c shared clock =
     (told _ m _ c.in_ok-apply-in-WithLocal.was c.apply-in-WithLocal.ensures)
 
 pub returns-in_ok-apply-in-WithMember : goal.returns-in_ok-apply-in-WithMember
-returns-in_ok-apply-in-WithMember c shared clock =
-    let v = view_with c.args.memory.now shared clock in
-    let n = c.in_ok-own_member-in-WithMember.field-0 in
+returns-in_ok-apply-in-WithMember g c clock =
+    let v = view_with c.args.memory.now c.args.shared.now clock in
+    let n = c.in_ok-near_member-in-WithMember.field-0 in
     let m = c.in_ok-apply-in-WithMember.field-0 in
-    let known = told _ n _ c.in_ok-own_member-in-WithMember.was (c.own_member-in-WithMember.ensures shared clock) in
+    let known = told _ n _ c.in_ok-near_member-in-WithMember.was (c.near_member-in-WithMember.ensures clock) in
     let left : kept c.args.left ≡ c.args.left = search rules in
     let right : kept n ≡ n = search rules in
     let result : kept m ≡ m = search rules in
@@ -104,11 +104,11 @@ returns-in_ok-apply-in-WithMember c shared clock =
     (told _ m _ c.in_ok-apply-in-WithMember.was c.apply-in-WithMember.ensures)
 
 pub returns-in_ok-apply-in-LocalBefore : goal.returns-in_ok-apply-in-LocalBefore
-returns-in_ok-apply-in-LocalBefore c shared clock =
-    let v = view_with c.args.memory.now shared clock in
-    let n = c.in_ok-own_local-in-LocalBefore.field-0 in
+returns-in_ok-apply-in-LocalBefore g c clock =
+    let v = view_with c.args.memory.now c.args.shared.now clock in
+    let n = c.in_ok-near_local-in-LocalBefore.field-0 in
     let m = c.in_ok-apply-in-LocalBefore.field-0 in
-    let known = told _ n _ c.in_ok-own_local-in-LocalBefore.was (c.own_local-in-LocalBefore.ensures shared clock) in
+    let known = told _ n _ c.in_ok-near_local-in-LocalBefore.was (c.near_local-in-LocalBefore.ensures clock) in
     let left : kept c.args.left ≡ c.args.left = search rules in
     let right : kept n ≡ n = search rules in
     let result : kept m ≡ m = search rules in
@@ -116,11 +116,11 @@ returns-in_ok-apply-in-LocalBefore c shared clock =
     (told _ m _ c.in_ok-apply-in-LocalBefore.was c.apply-in-LocalBefore.ensures)
 
 pub returns-in_ok-apply-in-MemberBefore : goal.returns-in_ok-apply-in-MemberBefore
-returns-in_ok-apply-in-MemberBefore c shared clock =
-    let v = view_with c.args.memory.now shared clock in
-    let n = c.in_ok-own_member-in-MemberBefore.field-0 in
+returns-in_ok-apply-in-MemberBefore g c clock =
+    let v = view_with c.args.memory.now c.args.shared.now clock in
+    let n = c.in_ok-near_member-in-MemberBefore.field-0 in
     let m = c.in_ok-apply-in-MemberBefore.field-0 in
-    let known = told _ n _ c.in_ok-own_member-in-MemberBefore.was (c.own_member-in-MemberBefore.ensures shared clock) in
+    let known = told _ n _ c.in_ok-near_member-in-MemberBefore.was (c.near_member-in-MemberBefore.ensures clock) in
     let left : kept c.args.left ≡ c.args.left = search rules in
     let right : kept n ≡ n = search rules in
     let result : kept m ≡ m = search rules in

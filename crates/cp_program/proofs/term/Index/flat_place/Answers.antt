@@ -7,12 +7,12 @@ use Rattle.cp_program.proofs.Found.{found, told}
 use Rattle.cp_program.proofs.term.Index.flat_place.Goals as goal
 
 pub returns : goal.returns
-returns c shared clock =
-    let v = view_with c.args.memory.now shared clock in
+returns g c clock =
+    let v = view_with c.args.memory.now c.args.shared.now clock in
     let from = c.args.from in
     let i = view.index c.args.self.now in
     let n = c.in_ok-n.n in
-    let valued : value_of v i.value ≡ Ok n = ap (λ x. value_of v x.value) (index_is c.args.self.now) ∙ told _ n _ c.in_ok-n.was (c.flat_value.ensures shared clock) in
+    let valued : value_of v i.value ≡ Ok n = ap (λ x. value_of v x.value) (index_is c.args.self.now) ∙ told _ n _ c.in_ok-n.was (c.flat_value.ensures clock) in
     let same : to_z w32 (of_z w32 n) ≡ n = search rules in
     let placed : IfSome c.place_at.result (λ at. bind (offset_of i n) (λ k. Ok (from + k)) ≡ Ok at) =
     subst (λ m. IfSome c.place_at.result (λ at. bind (offset_of i m) (λ k. Ok (from + k)) ≡ Ok at)) same c.place_at.ensures in

@@ -10,8 +10,8 @@ use Rattle.cp_program.proofs.Found.{found, operand_local, operand_member}
 use Rattle.cp_program.proofs.term.Index.word.Goals as goal
 
 pub returns-in-Local : goal.returns-in-Local
-returns-in-Local c shared clock =
-    let v = view_with c.args.memory.now shared clock in
+returns-in-Local g c clock =
+    let v = view_with c.args.memory.now c.args.shared.now clock in
     let t = c.args.self.now.value in
     let zero : length (out-Term t).rest.items ≡ 0 = search rules in
     let none = nil_from_length (out-Term t).rest.items zero in
@@ -19,11 +19,11 @@ returns-in-Local c shared clock =
     term_is t
     ∙ (ap (λ xs. chain_of (view.operand (out-Term t).first) (map view.application xs)) none
     ∙ (ap view.operand c.in-Local.is ∙ operand_local c.in-Local.at)) in
-    found c.own_local.result _ _ (sym (ap (value_of v) there)) (c.own_local.ensures shared clock)
+    found c.near_local.result _ _ (sym (ap (value_of v) there)) (c.near_local.ensures clock)
 
 pub returns-in-Member : goal.returns-in-Member
-returns-in-Member c shared clock =
-    let v = view_with c.args.memory.now shared clock in
+returns-in-Member g c clock =
+    let v = view_with c.args.memory.now c.args.shared.now clock in
     let t = c.args.self.now.value in
     let zero : length (out-Term t).rest.items ≡ 0 = search rules in
     let none = nil_from_length (out-Term t).rest.items zero in
@@ -31,4 +31,4 @@ returns-in-Member c shared clock =
     term_is t
     ∙ (ap (λ xs. chain_of (view.operand (out-Term t).first) (map view.application xs)) none
     ∙ (ap view.operand c.in-Member.is ∙ operand_member c.in-Member.at)) in
-    found c.own_member.result _ _ (sym (ap (value_of v) there)) (c.own_member.ensures shared clock)
+    found c.near_member.result _ _ (sym (ap (value_of v) there)) (c.near_member.ensures clock)

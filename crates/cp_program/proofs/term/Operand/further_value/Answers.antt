@@ -10,23 +10,23 @@ use Rattle.cp_program.proofs.Found.{found_as, operand_not, operand_through}
 use Rattle.cp_program.proofs.term.Operand.further_value.Goals as goal
 
 pub returns-in_ok-at-in-Through : goal.returns-in_ok-at-in-Through
-returns-in_ok-at-in-Through c shared clock =
-    let v = view_with c.args.memory.now shared clock in
+returns-in_ok-at-in-Through g c clock =
+    let v = view_with c.args.memory.now c.args.shared.now clock in
     let x = c.in-Through in
     let at = c.in_ok-at-in-Through.at in
     let there : value_of v (view.operand c.args.self.now) ≡ Ok (word v.words at) =
     ap (λ y. value_of v (view.operand y)) x.is
-    ∙ (ap (value_of v) (operand_through x.parameter x.plus) ∙ ap (λ a. Ok (word v.words a)) (c.in_ok-at-in-Through.ensures shared clock)) in
-    found_as c.own_word.result _ _ there (c.own_word.ensures shared)
+    ∙ (ap (value_of v) (operand_through x.parameter x.plus) ∙ ap (λ a. Ok (word v.words a)) (c.in_ok-at-in-Through.ensures clock)) in
+    found_as c.near_word.result _ _ there (c.near_word.ensures)
 
 pub returns-in_ok-flat_value-in-Not : goal.returns-in_ok-flat_value-in-Not
-returns-in_ok-flat_value-in-Not c shared clock =
-    let v = view_with c.args.memory.now shared clock in
+returns-in_ok-flat_value-in-Not g c clock =
+    let v = view_with c.args.memory.now c.args.shared.now clock in
     let t = c.in-Not.t in
     let n = c.in_ok-flat_value-in-Not.field-0 in
     let parted : view.operand c.args.self.now ≡ terms.Not (view.term t.value) = ap view.operand c.in-Not.is ∙ operand_not t in
     let known : value_of v (view.term t.value) ≡ Ok n =
-    ap (λ x. value_of v (view.term x)) (sym c.deref-in-Not.ensures) ∙ c.in_ok-flat_value-in-Not.ensures shared clock in
+    ap (λ x. value_of v (view.term x)) (sym c.deref-in-Not.ensures) ∙ c.in_ok-flat_value-in-Not.ensures clock in
     let test : c.truth.result ≡ values.truth (same_integer n (pos 0)) = search rules in
     let whole : to_z w32 (of_z w32 c.truth.result) ≡ c.truth.result = search rules in
     ap (value_of v) parted ∙ (ap (λ r. bind r (λ m. Ok (values.truth (same_integer m (pos 0))))) known ∙ ap (λ m. Ok m) (sym (whole ∙ test)))

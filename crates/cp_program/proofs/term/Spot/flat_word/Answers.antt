@@ -8,10 +8,10 @@ use Rattle.cp_program.proofs.Found.{found_as, told}
 use Rattle.cp_program.proofs.term.Spot.flat_word.Goals as goal
 
 pub returns : goal.returns
-returns c shared clock =
-    let v = view_with c.args.memory.now shared clock in
+returns g c clock =
+    let v = view_with c.args.memory.now c.args.shared.now clock in
     let s = view.spot c.args.self.now in
     let at = c.in_ok-at.at in
-    let placed : place_of v s ≡ Ok at = told _ at _ c.in_ok-at.was (c.place_of_indices.ensures shared clock) in
+    let placed : place_of v s ≡ Ok at = told _ at _ c.in_ok-at.was (c.place_of_indices.ensures clock) in
     let there : value_of v (terms.Item s) ≡ Ok (word v.words at) = ap (λ r. bind r (λ a. Ok (word v.words a))) placed in
-    found_as c.own_word.result _ _ there (c.own_word.ensures shared)
+    found_as c.near_word.result _ _ there (c.near_word.ensures)

@@ -11,11 +11,11 @@ use Rattle.cp_program.proofs.Found.{found_as}
 use Rattle.cp_program.proofs.term.Spot.near_place.Goals as goal
 
 pub returns-then-is_empty : goal.returns-then-is_empty
-returns-then-is_empty c shared clock =
-    let v = view_with c.args.memory.now shared clock in
+returns-then-is_empty g c clock =
+    let v = view_with c.args.memory.now c.args.shared.now clock in
     let s = out-Spot c.args.self.now in
     let zero : length s.indices.items ≡ 0 = search rules in
     let none = nil_from_length s.indices.items zero in
     let there : place_of v (view.spot c.args.self.now) ≡ Ok (root_place v (view.root s.root)) =
     ap (place_of v) (spot_is c.args.self.now) ∙ ap (λ xs. place_of v (elements_of (terms.Rooted (view.root s.root)) (map view.index xs))) none in
-    found_as c.own_root_place.result _ _ there (c.own_root_place.ensures shared clock)
+    found_as c.near_root_place.result _ _ there (c.near_root_place.ensures clock)

@@ -9,13 +9,13 @@ use Rattle.cp_program.proofs.Found.{found}
 use Rattle.cp_program.proofs.term.Spot.place_of_indices.Goals as goal
 
 pub returns : goal.returns
-returns c shared clock =
-    let v = view_with c.args.memory.now shared clock in
+returns g c clock =
+    let v = view_with c.args.memory.now c.args.shared.now clock in
     let s = c.args.self.now in
     let is = map view.index (out-Spot s).indices.items in
     found c.near_place_of_element.result _ _
     (ap (λ xs. elements_place v c.in_ok-from.from (map view.index xs)) c.deref.ensures.value
-    ∙ (ap (λ n. elements_place v n is) (sym (c.in_ok-from.ensures shared clock))
+    ∙ (ap (λ n. elements_place v n is) (sym (c.in_ok-from.ensures clock))
     ∙ (sym (place_elements v (terms.Rooted (view.root (out-Spot s).root)) is)
     ∙ ap (place_of v) (sym (spot_is s)))))
-    (c.near_place_of_element.ensures shared clock)
+    (c.near_place_of_element.ensures clock)

@@ -8,15 +8,15 @@ use Rattle.cp_program.proofs.Found.{found, told}
 use Rattle.cp_program.proofs.term.Term.near_value.Goals as goal
 
 pub returns : goal.returns
-returns c shared clock =
-    let v = view_with c.args.memory.now shared clock in
+returns g c clock =
+    let v = view_with c.args.memory.now c.args.shared.now clock in
     let s = c.args.self.now in
     let xs = map view.application (out-Term s).rest.items in
     let first = c.in_ok-first.first in
-    let known : value_of v (view.operand (out-Term s).first) ≡ Ok first = told _ first _ c.in_ok-first.was (c.near_value.ensures shared clock) in
+    let known : value_of v (view.operand (out-Term s).first) ≡ Ok first = told _ first _ c.in_ok-first.was (c.near_value.ensures clock) in
     let same : to_z w32 (of_z w32 first) ≡ first = search rules in
     let chained : IfSome c.near_value_of_chain.result (λ n. chain_value v first (map view.application c.deref.result.now) ≡ Ok n) =
-    subst (λ y. IfSome c.near_value_of_chain.result (λ n. chain_value v y (map view.application c.deref.result.now) ≡ Ok n)) same (c.near_value_of_chain.ensures shared clock) in
+    subst (λ y. IfSome c.near_value_of_chain.result (λ n. chain_value v y (map view.application c.deref.result.now) ≡ Ok n)) same (c.near_value_of_chain.ensures clock) in
     found c.near_value_of_chain.result _ _
     (ap (λ ys. chain_value v first (map view.application ys)) c.deref.ensures.value
     ∙ (ap (λ r. bind r (λ x. chain_value v x xs)) (sym known)

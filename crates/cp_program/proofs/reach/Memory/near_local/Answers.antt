@@ -4,10 +4,10 @@ use Rattle.cp_machine_model.specs.Values.{value_of}
 use Rattle.cp_program.specs.Reaches.{view_with}
 use Rattle.cp_program.specs.View as view
 use Rattle.cp_program.proofs.Found.{found_as}
-use Rattle.cp_program.proofs.reach.Memory.own_local.Goals as goal
+use Rattle.cp_program.proofs.reach.Memory.near_local.Goals as goal
 
 pub returns : goal.returns
-returns c shared clock =
-    let v = view_with c.args.self.now shared clock in
+returns g c clock =
+    let v = view_with c.args.self.now c.args.shared.now clock in
     let there : value_of v (view.local c.args.at) ≡ Ok (word v.words c.local.result) = ap (λ a. Ok (word v.words a)) (sym c.local.ensures.place) in
-    found_as c.own_word.result _ _ there (c.own_word.ensures shared)
+    found_as c.near_word.result _ _ there (c.near_word.ensures)
