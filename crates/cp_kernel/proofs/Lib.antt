@@ -2,6 +2,7 @@ pub mod Asking
 pub mod Changed
 pub mod Parting
 pub mod Places
+pub mod Registers
 pub mod Starts
 pub mod Stepping
 pub mod Transcripts

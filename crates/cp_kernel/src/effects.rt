@@ -7,7 +7,9 @@ ghost use Rattle.std.specs.Prelude.{◌≡◌, ◌+◌, ◌-◌, ◌∷◌, ◌+
 ghost use Rattle.cp_program_model.specs.Layout as layout;
 ghost use Rattle.cp_model.specs.States as model;
 ghost use Rattle.cp_private.specs.States.{effect as effect_view, holder as holder_view, stage as stage_view};
+ghost use Rattle.cp_machine_model.specs.Calling.{gate_effect};
 ghost use Rattle.cp_machine_model.specs.KernelSteps as plain;
+ghost use Rattle.cp_machine_model.specs.PrivateStates.{Leaves};
 ghost use Rattle.cp_kernel.specs.KernelOf.{HasRoomForAskers, IsAmong, IsBegun, kernel_of};
 
 use crate::kernel::Kernel;
@@ -103,6 +105,7 @@ impl Kernel {
     }
 
     // Gives the gate to the asker that came first, or frees it.
+    #[inline(always)]
     fn pass_on(&mut self, m: u32)
         ensures step { kernel_of self.new ≡ plain.pass_on m (kernel_of self.old) }
         ensures room { (n : ℕ) → HasRoomForAskers self.old n → HasRoomForAskers self.new n }
@@ -111,6 +114,19 @@ impl Kernel {
         match self.grant(m) {
             Some(r) => self.make_ready(r),
             None => self.set_gate(m, Holder::Free),
+        }
+    }
+
+    /// Passes on the gate that a return has left, if its number isn't 0.
+    #[inline(always)]
+    pub(crate) fn leave(&mut self, m: u32)
+        ensures step { (own p : ℕ) → kernel_of self.new ≡ plain.apply_effect own p
+            (gate_effect m Leaves) (kernel_of self.old) }
+        ensures room { (n : ℕ) → HasRoomForAskers self.old n → HasRoomForAskers self.new n }
+        ensures transcripts { self.new.transcripts ≡ self.old.transcripts }
+    {
+        if m != 0 {
+            self.pass_on(m);
         }
     }
 

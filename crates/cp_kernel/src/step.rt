@@ -1,10 +1,13 @@
 //! One step of the kernel: a step inside a monitor, or one that enters or initialises a monitor or
 //! starts a process.
 
-ghost use Rattle.std.specs.Prelude.{◌≡◌, ◌≢◌, ◌≤◌, ◌+◌, ◌-◌, ◌*◌, ◌++◌, true, ℕ, List, length};
+ghost use Rattle.std.specs.Prelude.{◌≡◌, ◌≢◌, ◌≤◌, ◌+◌, ◌-◌, ◌*◌, ◌++◌, true, ℕ, List, None, IfSome, length};
+ghost use Rattle.cp_private.specs.Quick.{left_by};
 ghost use Rattle.cp_private.specs.Rooms.{HasRoomFor, KeepsRoom};
 ghost use Rattle.cp_private.specs.States.{private_of};
-ghost use Rattle.cp_private.specs.States.{effect, join};
+ghost use Rattle.cp_private.specs.States.{activity, effect, join};
+ghost use Rattle.cp_private.specs.declared.turns.Tried.TheVariants as tried_case;
+ghost use Rattle.cp_machine_model.specs.PrivateStates.{is_running};
 ghost use Rattle.cp_machine_model.specs.KernelSteps as plain;
 ghost use Rattle.cp_machine_model.specs.Steps.{step_with};
 ghost use Rattle.cp_program.specs.View as view;
@@ -16,7 +19,7 @@ use cp_private::effect::Effect;
 use cp_private::kind::{Kind, next_kind};
 use cp_private::outside::Outside;
 use cp_private::private::Private;
-use cp_private::turns::step;
+use cp_private::turns::{Tried, step, step_in_registers};
 use cp_program::program::Program;
 
 fn is_kernel(kind: Kind) -> bool
@@ -93,4 +96,59 @@ pub(crate) fn kernel_step(
     let p = private.number() as u32;
     let effect = act(program, kernel, private, input, clock);
     kernel.apply(own, p, effect);
+}
+
+// Makes one step of a process that holds a gate in registers, without its effect on the kernel.
+#[inline(always)]
+fn act_in_registers(program: &Program, kernel: &mut Kernel, private: &mut Private) -> Tried
+    requires held { private.old.gate ≢ 0 }
+    ensures step { IfSome (left_by result) (λ e. (clock : ℕ) (input : List ℕ)
+        → let x = turning kernel.old private.old input in
+        (join private.new input kernel.new.shared.items, e) ≡ step_with
+        (view.program program.now) (plain.outside clock x) (plain.join_words x)) }
+    ensures same { left_by result ≡ None → (input : List ℕ)
+        → turning kernel.new private.new input ≡ turning kernel.old private.old input }
+    ensures held { result ≡ tried_case.Made → private.new.gate ≡ private.old.gate }
+    ensures activity { private.new.activity ≡ private.old.activity }
+    ensures own { length private.new.memory.words.items ≡ length private.old.memory.words.items }
+    ensures number { private.new.number ≡ private.old.number }
+    ensures output { private.new.output ≡ private.old.output }
+    ensures gates { kernel.new.gates ≡ kernel.old.gates }
+    ensures stages { kernel.new.stages ≡ kernel.old.stages }
+    ensures transcripts { kernel.new.transcripts ≡ kernel.old.transcripts }
+{
+    step_in_registers(program, private, &mut kernel.shared)
+}
+
+// Makes one step that is due, of a process that holds a gate, if it takes no more than registers.
+#[inline(always)]
+pub(crate) fn try_in_registers(
+    program: &Program,
+    kernel: &mut Kernel,
+    private: &mut Private,
+) -> Tried
+    requires held { private.old.gate ≢ 0 }
+    requires running { is_running (activity private.old.activity) ≡ true }
+    requires begun { IsBegun kernel.old private.old.number }
+    ensures step { IfSome (left_by result) (λ _. (clock : ℕ) (input : List ℕ)
+        → turning kernel.new private.new input ≡ plain.kernel_step (view.program program.now)
+        clock (turning kernel.old private.old input)) }
+    ensures same { left_by result ≡ None → (input : List ℕ)
+        → turning kernel.new private.new input ≡ turning kernel.old private.old input }
+    ensures held { result ≡ tried_case.Made → private.new.gate ≡ private.old.gate }
+    ensures stages { result ≡ tried_case.Made → kernel.new.stages ≡ kernel.old.stages }
+    ensures asking { (n : ℕ) → HasRoomForAskers kernel.old n → HasRoomForAskers kernel.new n }
+    ensures activity { private.new.activity ≡ private.old.activity }
+    ensures number { private.new.number ≡ private.old.number }
+    ensures output { private.new.output ≡ private.old.output }
+    ensures transcripts { kernel.new.transcripts ≡ kernel.old.transcripts }
+{
+    match act_in_registers(program, kernel, private) {
+        Tried::Made => Tried::Made,
+        Tried::Returned(gate) => {
+            kernel.leave(gate);
+            Tried::Returned(gate)
+        }
+        Tried::NotMade => Tried::NotMade,
+    }
 }

@@ -1,23 +1,133 @@
 //! Kernel turns: the kernel's steps of a process, and the move of its output to its transcript.
 
-ghost use Rattle.std.specs.Prelude.{◌≡◌, ◌≤◌, ◌+◌, ◌*◌, ℕ, List, [], false, true, length, vec_capacity, vec_len};
-ghost use Rattle.cp_private.specs.Rooms.{HasRoomFor};
-ghost use Rattle.cp_private.specs.States.{private_of};
+ghost use Rattle.std.specs.Prelude.{◌≡◌, ◌≤◌, ◌<◌, ◌+◌, ◌*◌, ℕ, List, [], false, true, length, vec_capacity, vec_len};
+ghost use Rattle.cp_private.specs.Rooms.{HasRoomFor, KeepsRoom};
+ghost use Rattle.cp_private.specs.States.{activity, private_of};
 ghost use Rattle.cp_machine_model.specs.KernelSteps as plain;
 ghost use Rattle.cp_program.specs.View as view;
-ghost use Rattle.cp_kernel.specs.KernelOf.{HasRoomForAskers, HasRoomForBytes, IsAmong, kernel_of, turning};
+ghost use Rattle.cp_machine_model.specs.PrivateStates.{is_running};
+ghost use Rattle.cp_kernel.specs.KernelOf.{HasRoomForAskers, HasRoomForBytes, IsAmong, IsBegun, kernel_of, turning};
 ghost use Rattle.cp_kernel.specs.Promises.{MakesKernelTurn};
 ghost use Rattle.cp_kernel.specs.Turns.{IsTurned, Moves};
 
 use crate::kernel::Kernel;
-use crate::step::{is_due, kernel_step};
+use crate::step::{is_due, kernel_step, try_in_registers};
 use cp_machine_model::law;
 use cp_model::law::invariant;
 use cp_plan::turn::Turn;
 use cp_private::private::Private;
+use cp_private::turns::Tried;
 use cp_program::program::Program;
 
-// Makes at most `count` steps, as long as the next one is due.
+// Makes at most `count` steps that take no more than registers, of a process that holds a gate, and
+// none after one that leaves it. Returns how many are left.
+#[inline(always)]
+fn take_quick_steps(
+    program: &Program,
+    kernel: &mut Kernel,
+    private: &mut Private,
+    count: u32,
+) -> u32
+    requires running { is_running (activity private.old.activity) ≡ true }
+    requires begun { IsBegun kernel.old private.old.number }
+    ensures steps { (clock : ℕ) (input : List ℕ)
+        → plain.kernel_steps (view.program program.now) clock result
+        (turning kernel.new private.new input) ≡ plain.kernel_steps (view.program program.now)
+        clock count (turning kernel.old private.old input) }
+    ensures few { result ≤ count }
+    ensures same { result ≡ count → (input : List ℕ)
+        → turning kernel.new private.new input ≡ turning kernel.old private.old input }
+    ensures asking { (n : ℕ) → HasRoomForAskers kernel.old n → HasRoomForAskers kernel.new n }
+    ensures number { private.new.number ≡ private.old.number }
+    ensures output { private.new.output ≡ private.old.output }
+    ensures transcripts { kernel.new.transcripts ≡ kernel.old.transcripts }
+{
+    if !private.holds_gate() {
+        return count;
+    }
+    let mut left = count;
+    while left > 0 {
+        match try_in_registers(program, kernel, private) {
+            Tried::Made => left -= 1,
+            Tried::Returned(_) => return left - 1,
+            Tried::NotMade => return left,
+        }
+    }
+    left
+}
+
+// Makes some of at most `count` steps, of which the next one is due: those that take no more than
+// registers, or else one. Returns how many are left.
+#[inline(always)]
+fn take_some_steps(
+    program: &Program,
+    kernel: &mut Kernel,
+    private: &mut Private,
+    input: &[u8],
+    clock: u64,
+    count: u32,
+) -> u32
+    requires due { plain.is_due (view.program program.now)
+        (turning kernel.old private.old input.now) ≡ true }
+    requires among { IsAmong kernel.old private.old.number }
+    requires begun { IsBegun kernel.old private.old.number }
+    requires asking { HasRoomForAskers kernel.old 1 }
+    requires output { HasRoomFor private.old 1 }
+    requires some { 0 < count }
+    ensures steps { plain.kernel_steps (view.program program.now) clock result
+        (turning kernel.new private.new input.now) ≡ plain.kernel_steps
+        (view.program program.now) clock count (turning kernel.old private.old input.now) }
+    ensures fewer { result < count }
+    ensures asking { (n : ℕ) → HasRoomForAskers kernel.old (n + 1) → HasRoomForAskers kernel.new n }
+    ensures kept { (n : ℕ) → IsBegun kernel.new private.old.number
+        → HasRoomForAskers kernel.old n → HasRoomForAskers kernel.new n }
+    ensures number { private.new.number ≡ private.old.number }
+    ensures output { KeepsRoom private.old private.new }
+    ensures transcripts { kernel.new.transcripts ≡ kernel.old.transcripts }
+{
+    let left = take_quick_steps(program, kernel, private, count);
+    if left < count {
+        return left;
+    }
+    kernel_step(program, kernel, private, input, clock);
+    count - 1
+}
+
+// Makes at most `count` steps, of which the first one is due, as long as the next one is.
+#[inline(never)]
+fn take_due_steps(
+    program: &Program,
+    kernel: &mut Kernel,
+    private: &mut Private,
+    input: &[u8],
+    clock: u64,
+    count: u32,
+)
+    requires due { plain.is_due (view.program program.now)
+        (turning kernel.old private.old input.now) ≡ true }
+    requires among { IsAmong kernel.old private.old.number }
+    requires begun { IsBegun kernel.old private.old.number }
+    requires asking { HasRoomForAskers kernel.old 1 }
+    requires output { HasRoomFor private.old count }
+    ensures steps { turning kernel.new private.new input.now ≡ plain.kernel_steps
+        (view.program program.now) clock count (turning kernel.old private.old input.now) }
+    ensures asking { (n : ℕ) → HasRoomForAskers kernel.old (n + 1) → HasRoomForAskers kernel.new n }
+    ensures transcripts { kernel.new.transcripts ≡ kernel.old.transcripts }
+    ensures number { private.new.number ≡ private.old.number }
+    ensures length { vec_len private.new.output ≤ vec_len private.old.output + 11 * count }
+    ensures capacity { vec_capacity private.old.output ≤ vec_capacity private.new.output }
+{
+    let mut left = count;
+    let mut due = true;
+    while left > 0 && due {
+        left = take_some_steps(program, kernel, private, input, clock, left);
+        due = is_due(program, kernel, private);
+    }
+}
+
+// Makes at most `count` steps, as long as the next one is due. The first test is inlined, so that the
+// turn of a process that can't move costs no call.
+#[inline(always)]
 fn take_steps(
     program: &Program,
     kernel: &mut Kernel,
@@ -37,11 +147,8 @@ fn take_steps(
     ensures length { vec_len private.new.output ≤ vec_len private.old.output + 11 * count }
     ensures capacity { vec_capacity private.old.output ≤ vec_capacity private.new.output }
 {
-    for _i in 0..count {
-        if !is_due(program, kernel, private) {
-            return;
-        }
-        kernel_step(program, kernel, private, input, clock);
+    if is_due(program, kernel, private) {
+        take_due_steps(program, kernel, private, input, clock, count);
     }
 }
 
@@ -102,7 +209,7 @@ pub fn has_no_kernel_turn(program: &Program, kernel: &Kernel, private: &Private)
 }
 
 // Makes the steps of a kernel turn, and moves the output.
-#[inline(never)]
+#[inline(always)]
 fn take_turn(
     program: &Program,
     kernel: &mut Kernel,
@@ -157,9 +264,5 @@ pub fn kernel_turn(
     law::kernel_steps();
     law::between_turns();
     invariant();
-    // The test is inlined, so that the turn of a process that can't move costs no call.
-    if has_nothing_to_do(program, kernel, private) {
-        return;
-    }
     take_turn(program, kernel, private, input, clock, turn);
 }
