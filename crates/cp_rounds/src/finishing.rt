@@ -139,6 +139,7 @@ fn finish_moving<'a, C: Course, R: Wait, G: TurnGate>(
     ensures ready { IsReady C.most (index + 1) start.now.value.value.items kernel.new }
 {
     let process = index + 1;
+    hand.moved = true;
     let private = &mut privates[index];
     bring_back(rt, run, hand, start, round, moment, alone, process, private);
     run.turns.gate.kernel(process);

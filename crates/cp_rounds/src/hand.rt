@@ -22,6 +22,9 @@ pub(crate) struct Hand<'a, C: Course> {
     pub(crate) tasks: Tasks<'a, C>,
     /// The next place from which a private state is taken.
     pub(crate) place: Cursor,
+    /// Whether a process has moved since the clock last woke those that wait. If none has, none has a
+    /// private step.
+    pub(crate) moved: bool,
 }
 
 // Makes the turns of a wave that nobody has made yet, begins the next wave, and closes the board of
@@ -50,6 +53,7 @@ impl<'a, C: Course> Hand<'a, C> {
             waves: Vec::new(alloc),
             tasks: room_for_tasks(alloc, processes)?,
             place: Cursor::first(),
+            moved: true,
         })
     }
 

@@ -56,15 +56,12 @@ fn reserve_output(
 }
 
 // Reserves room for what all processes write in a round, and for all of them as askers of each
-// gate. Returns how many private turns the round makes at the desk: those of all processes, or else
-// of those that don't rest.
+// gate.
 fn reserve_room(
     privates: &mut Vec<Resident>,
     kernel: &mut Kernel,
     turn: Turn,
-    of_all: bool,
-    wakes: bool,
-) -> Result<usize, AllocError>
+) -> Result<(), AllocError>
     requires numbers { AreNumbered privates.old.items }
     requires stages { length kernel.old.stages.items ≡ length privates.old.items }
     ensures same { AreSame privates.old.items kernel.old privates.new.items kernel.new }
@@ -73,15 +70,36 @@ fn reserve_room(
         (λ _. IsReady (11 * turn.steps) 0 privates.new.items kernel.new) }
 {
     kernel.reserve_askers(privates.len())?;
-    let mut turns = 0usize;
     for i in 0..privates.len() {
         let private = privates[i].private_mut();
-        if of_all || !private.rests(wakes) {
-            turns = turns.wrapping_add(1);
-        }
         reserve_output(private, kernel, i + 1, turn)?;
     }
-    Ok(turns)
+    Ok(())
+}
+
+// Returns how many private turns of a round are worth sharing: those of all processes if the gate
+// has to be called for them, and otherwise of those that don't rest, if there are threads to help. If
+// that is told wrongly, the calling thread makes the turns alone.
+fn turns_to_share<'a, C: Course, G: TurnGate>(
+    run: &Run<'a, C, G>,
+    hand: &Hand<'a, C>,
+    privates: &[Resident],
+    of_all: bool,
+    wakes: bool,
+) -> usize {
+    if of_all {
+        return privates.len();
+    }
+    if run.rack.places() == 0 || !hand.moved {
+        return 0;
+    }
+    let mut turns = 0usize;
+    for private in privates {
+        if !private.private().rests(wakes) {
+            turns = turns.wrapping_add(1);
+        }
+    }
+    turns
 }
 
 // Returns the waves of a round of so many private turns, the first one last, for this many workers.
@@ -175,13 +193,11 @@ pub fn make_round<'a, C: Course, R: Wait, G: TurnGate>(
     } = &run.turns;
     let moment = setting.moment(run.done + round as u64);
     let of_all = !gate.does_nothing();
-    let turns = reserve_room(
-        &mut parts.privates,
-        &mut parts.kernel,
-        plan.turn,
-        of_all,
-        moment.wakes,
-    )?;
+    reserve_room(&mut parts.privates, &mut parts.kernel, plan.turn)?;
+    let turns = turns_to_share(run, hand, &parts.privates, of_all, moment.wakes);
+    if moment.wakes {
+        hand.moved = false;
+    }
     let helpers = helpers(turns, of_all, plan.turn).min(run.rack.places());
     let alone = helpers == 0 && !of_all;
     let turns = if alone { 0 } else { turns };
