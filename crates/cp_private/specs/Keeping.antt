@@ -21,6 +21,7 @@ pub record KeepsRest (old : Private) (before : List ℤ) (new : Private) (after 
 -- Only words are written: the registers, and how many frames there are, stay the same too.
 pub record ChangesOnlyWords (old : Private) (before : List ℤ) (new : Private) (after : List ℤ) : Type 0 where
   pub rest : KeepsRest old before new after
+  pub activity : new.activity ≡ old.activity
   pub base : new.memory.base ≡ old.memory.base
   pub temp : new.memory.temp ≡ old.memory.temp
   pub depth : new.depth ≡ old.depth

@@ -121,6 +121,7 @@ impl Private {
             (λ w o. plain.call_step (view.program program.now) w o (view.call call.now) (back
             link)) }
         ensures kept { KeepsRest self.old shared.old self.new shared.new }
+        ensures activity { self.new.activity ≡ self.old.activity }
     {
         let callee = self.callee(program, shared, outside, call.target);
         let Some(unit) = self.unit_with_room(program, shared, call, callee.component) else {

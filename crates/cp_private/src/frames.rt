@@ -68,6 +68,7 @@ impl Private {
         ensures step { (input : List ℕ) (shared : List ℤ) → let o = join self.old input shared in
             join self.new input shared ≡ record o { frames = view_frame frame ∷ o.frames } }
         ensures kept { KeepsOwn self.old self.new }
+        ensures activity { self.new.activity ≡ self.old.activity }
     {
         let depth = self.depth;
         self.frames[depth] = frame;
@@ -87,6 +88,7 @@ impl Private {
             (join self.old input shared) (called_of callee) (view.code_unit plans unit.now)
             (view.call call.now) (back link) }
         ensures kept { KeepsOwn self.old self.new }
+        ensures activity { self.new.activity ≡ self.old.activity }
     {
         let frame = Frame {
             counter: link.counter,

@@ -15,7 +15,7 @@
 //! - `plans`, `starting`: how words start.
 //! - `assignments`, `counting`, `standards`, `targets`, `passing`, `called`, `calls`, `returns`,
 //!   `initialisation`: the steps of operations.
-//! - `quick`: the commonest private steps, made in registers.
+//! - `quick`: the commonest steps, made in registers.
 //! - `step`, `turns`, `kind`, `resting`: a step of any operation, turns, whether the next step
 //!   is private or the kernel's, and processes that have no private step to make.
 #![tactic(auto)]

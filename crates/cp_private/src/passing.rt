@@ -27,31 +27,32 @@ pub(crate) struct Destination {
 }
 
 impl Private {
-    // The bounds are read once the value is known, so that they needn't be kept while it is
-    // evaluated.
+    // The bounds and the place are read once the value is known, so that they needn't be kept while
+    // it is evaluated.
     #[inline(always)]
     fn pass_value(
         &mut self,
         shared: &mut [i32],
         outside: &Outside,
-        at: usize,
+        to: usize,
+        far: &u32,
         low: &i32,
         high: &i32,
         term: &Term,
     ) -> Result<(), Fault>
         requires shared { IsAddressable shared.old }
-        requires at { at < 2 ^ 36 }
+        requires to { to < 2 ^ 35 }
         ensures step { (own : ℕ) → let o = join self.old outside.now.input.now shared.old in
             passing_of (join self.new outside.now.input.now shared.new) result ≡ plain.pass_result o
             (value_of (view_of (outside_of outside.now own) o) (view.term term.now))
-            (λ n. plain.pass_value o at low.now high.now n) }
+            (λ n. plain.pass_value o (to + far.now) low.now high.now n) }
         ensures kept { ChangesOnlyWords self.old shared.old self.new shared.new }
     {
         let n = self.evaluate(shared, outside, term)?;
         if !Bounds::new(*low, *high).contain(n) {
             return Err(Fault::Range);
         }
-        self.set_word(shared, at, n);
+        self.set_word(shared, to + *far as usize, n);
         Ok(())
     }
 
@@ -148,7 +149,7 @@ impl Private {
                 low,
                 high,
                 term,
-            } => self.pass_value(shared, outside, to + *at as usize, low, high, term),
+            } => self.pass_value(shared, outside, to, at, low, high, term),
             Argument::Copy { at, size, from } => {
                 self.pass_copy(shared, outside, to + *at as usize, *size, from)
             }
@@ -184,14 +185,7 @@ impl Private {
                 low,
                 high,
                 term,
-            } => self.pass_value(
-                shared,
-                outside,
-                destination.to + *at as usize,
-                low,
-                high,
-                term,
-            ),
+            } => self.pass_value(shared, outside, destination.to, at, low, high, term),
             _ => self.pass_any(shared, outside, destination, argument),
         }
     }
@@ -214,8 +208,10 @@ impl Private {
             (join self.old outside.now.input.now shared.old) }
         ensures kept { ChangesOnlyWords self.old shared.old self.new shared.new }
     {
-        for argument in arguments {
+        let mut left = arguments;
+        while let Some((argument, after)) = left.split_first() {
             self.pass_one(shared, outside, destination, argument)?;
+            left = after;
         }
         Ok(())
     }

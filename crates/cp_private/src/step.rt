@@ -5,7 +5,8 @@ ghost use Rattle.cp_private.specs.Keeping.{IsAddressable, KeepsOwn, KeepsOwnButO
 ghost use Rattle.cp_private.specs.Calls.{back};
 ghost use Rattle.cp_machine_model.specs.Calling.{call_step};
 ghost use Rattle.cp_private.specs.Rooms.{HasRoomFor};
-ghost use Rattle.cp_private.specs.States.{IsAlone, IsReady, IsStep, effect, join, outside_of, private_of};
+ghost use Rattle.cp_private.specs.States.{IsAlone, IsReady, IsStep, activity, effect, join, outside_of, private_of};
+ghost use Rattle.cp_machine_model.specs.PrivateStates.{is_running};
 ghost use Rattle.cp_program_model.specs.Programs as code;
 ghost use Rattle.cp_machine_model.specs.Steps as plain;
 ghost use Rattle.cp_program.specs.View as view;
@@ -159,10 +160,23 @@ impl Private {
         matches!(self.activity, Activity::Running) && self.gate == 0
     }
 
+    // Whether a process that runs holds no gate, so that its next step may be private.
+    #[inline(always)]
+    fn is_free(&self) -> bool
+        requires { is_running (activity self.now.activity) ≡ true }
+        ensures ready { result ≡ true → IsReady self.now }
+        ensures rest { result ≡ false → (program : code.Program) (clock : ℕ) (input : List ℕ)
+            → plain.private_step program clock (private_of self.now input)
+            ≡ private_of self.now input }
+    {
+        self.gate == 0
+    }
+
     // Makes a private call. Returns whether one more step may be private. Within the loop over steps
     // it would take registers from all other steps.
     #[inline(never)]
     fn take_call(&mut self, program: &Program, outside: &Outside, call: &Call, link: Back) -> bool
+        requires { IsReady self.old }
         ensures step { let w = outside_of outside.now (length self.old.memory.words.items) in
             let input = outside.now.input.now in join self.new input []
             ≡ (call_step (view.program program.now) w (join self.old input []) (view.call call.now)
@@ -173,10 +187,11 @@ impl Private {
             ≡ private_of self.new input }
         ensures kept { KeepsOwn self.old self.new }
     {
-        if let Err(fault) = self.call_here(program, &mut [], outside, call, link) {
-            self.activity = Activity::Faulted(fault);
-        }
-        self.is_ready()
+        let Err(fault) = self.call_here(program, &mut [], outside, call, link) else {
+            return self.is_free();
+        };
+        self.activity = Activity::Faulted(fault);
+        false
     }
 
     // Makes the next step of a process that is ready, which is that of the operation, if the step is

@@ -1,4 +1,4 @@
-//! Private turns.
+//! Private turns, and the steps that the kernel asks for.
 
 ghost use Rattle.std.specs.Prelude.{◌≡◌, ◌≢◌, ◌≤◌, ◌+◌, ◌*◌, None, IfSome, length, vec_capacity, vec_len};
 ghost use Rattle.cp_private.specs.Keeping.{IsAddressable, KeepsRest, KeepsRestButOutput};

@@ -1,4 +1,4 @@
-use Rattle.std.proofs.Common.{rules, arith, ◌≡◌, true, false, Err, None, refl, to_z, of_z, sym, ◌∙◌}
+use Rattle.std.proofs.Common.{rules, arith, ◌≡◌, ◌+◌, true, false, Err, None, refl, to_z, of_z, sym, ◌∙◌}
 use Rattle.std.specs.Int.{w32}
 use Rattle.cp_model.specs.Places.{within}
 use Rattle.cp_private.proofs.private.Private.pass_value.Goals as goal
@@ -24,5 +24,5 @@ returns-clause-step c =
     let is = sym c.in_ok-n.was ∙ c.evaluate.ensures input own in
     let inside : within c.args.low.now c.args.high.now c.in_ok-n.n ≡ true = search rules in
     let whole : to_z w32 (of_z w32 c.in_ok-n.n) ≡ c.in_ok-n.n = search rules in
-    let written = rw whole at (c.set_word.ensures.step input c.args.at (omega (arith, c.requires.at))) in
+    let written = rw whole at (c.set_word.ensures.step input (c.args.to + c.args.far.now) (omega (arith, c.requires.to))) in
     rw (← is, inside) (λ i. record { own = written i; fault = None })
