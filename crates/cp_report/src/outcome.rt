@@ -1,7 +1,7 @@
 //! The outcome of a run: the verdict, and then the reasons for it.
 
 ghost use Rattle.std.specs.Prelude.{◌≡◌, ◌++◌, OnOk, IfOk};
-ghost use Rattle.cp_report.specs.Outcomes.{BeginsWithVerdict, verdict_line, verdict_word};
+ghost use Rattle.cp_report.specs.Outcomes.{verdict_line, verdict_word};
 
 use cp_digits::decimal::push_natural;
 use cp_outcome::verdict::Verdict;
@@ -41,7 +41,7 @@ pub fn outcome(
     reasons: &[u8],
 ) -> Result<Vec<u8>, AllocError>
     ensures { IfOk result
-        (λ bytes. BeginsWithVerdict verdict machine.now.rounds bytes.items) }
+        (λ bytes. bytes.items ≡ verdict_line verdict machine.now.rounds ++ reasons.now) }
 {
     let mut bytes = Vec::new(alloc);
     push_verdict(&mut bytes, verdict, machine.rounds())?;

@@ -5,9 +5,7 @@ use Rattle.cp_report.proofs.outcome.outcome.Goals as goal
 
 pub returns : goal.returns
 returns c =
-    let rounds : c.rounds.result ≡ c.args.machine.now.rounds = c.rounds.ensures in (
-      c.args.reasons.now,
-      c.in_ok-extend_from_slice.ensures.items
-          ∙ ap (λ (t : Text). t ++ c.args.reasons.now)
-          (c.in_ok-push_verdict.ensures ∙ (λ i. c.new-bytes.ensures.items i ++ verdict_line c.args.verdict (rounds i))),
-    )
+    let rounds : c.rounds.result ≡ c.args.machine.now.rounds = c.rounds.ensures in
+    c.in_ok-extend_from_slice.ensures.items
+    ∙ ap (λ (t : Text). t ++ c.args.reasons.now)
+    (c.in_ok-push_verdict.ensures ∙ (λ i. c.new-bytes.ensures.items i ++ verdict_line c.args.verdict (rounds i)))
