@@ -4,8 +4,8 @@
     trials/unproved.py PROGRAM [--bare]      then CPM=PROGRAM python3 trials/answers.py
 
 `rt try` compiles the sources, and hands a module to clang. A copy of the kit, of links but for that clang and the prover, keeps the module and ends there. The
-module is then compiled and linked as `rt run` does it. It has tests of all that is proved of a built program; --bare leaves them out and inlines what the sources say. So its
-steps take some 5 percent more instructions than those of the proved program: compare two such builds with each other.
+module is then compiled and linked as `rt run` does it. It has tests of all that is proved of a built program; --bare leaves them out, and inlines what the compiler of a proved
+program inlines. So its steps take as many instructions as those of the proved program, to one in a hundred.
 """
 import pathlib
 import re
@@ -28,6 +28,12 @@ done
 exec {clang} "$@"
 '''
 INLINED = {'always': 'alwaysinline', 'never': 'noinline'}
+# What `rt` hands to clang for a proved program, besides names of files.
+FLAGS = ('-march=x86-64', '-O3', '-fPIE', '-ffunction-sections', '-fdata-sections', *(word for flag in (
+    '-no-trap-after-noreturn', '-trap-unreachable', '-no-x86-call-frame-opt', '-disable-machine-licm', '-disable-postra-machine-licm', '-sink-common-insts=false',
+) for word in ('-mllvm', flag)))
+# The compiler drops `inline(always)` from functions that would grow very large: these have a body of their own in the module of the proved program.
+DROPPED = {('Application', 'flat_value_after'), ('Private', 'call_here'), ('Private', 'take_quick_step')}
 
 
 def copy_kit(folder, module):
@@ -69,7 +75,8 @@ def inline_marks():
 def bare_line(line, marks):
     """A line of a module without tests, with the mark of the function that it defines."""
     name = re.match(r'define internal .*@"(cp[^"<]*)', line)
-    mark = name and marks.get(tuple(name[1].rstrip(':').split('::')[-2:]))
+    place = name and tuple(name[1].rstrip(':').split('::')[-2:])
+    mark = place not in DROPPED and marks.get(place)
     if mark:
         line = line.replace(') #', f') {mark} #', 1)
     return line.replace(' sanitize_address', '').replace('"frame-pointer"="all"', '"frame-pointer"="none"')
@@ -95,7 +102,7 @@ def main(program, *words):
             raise SystemExit(tried.stdout + tried.stderr)
         if '--bare' in words:
             strip(module, bare)
-        subprocess.run([CLANG, '-O3', '-c', bare if '--bare' in words else module, '-o', objects], check=True)
+        subprocess.run([CLANG, *FLAGS, '-c', '-x', 'ir', bare if '--bare' in words else module, '-o', objects], check=True)
         archives = [KIT / 'c' / archive for archive in ('libos_c.a', 'liblibc_c.a')]
         subprocess.run([KIT / 'bin' / 'rattle-link', '--target', 'x86_64-unknown-linux-gnu', '--toolchain', KIT / 'toolchain', '-o', program, objects, *archives], check=True)
 
