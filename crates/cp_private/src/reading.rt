@@ -1,19 +1,19 @@
 //! What evaluation reads of a private state, and the values and addresses that it finds.
 
-ghost use Rattle.std.specs.Prelude.{◌≡◌, ℕ, List, IfSome, Ok};
+ghost use Rattle.std.specs.Prelude.{◌≡◌, ℕ, List};
 ghost use Rattle.cp_program_model.specs.Starts.{word};
 ghost use Rattle.cp_private.specs.Keeping.{IsAddressable};
 ghost use Rattle.cp_private.specs.States.{join, outside_of};
 ghost use Rattle.cp_machine_model.specs.PrivateStates as plain;
 ghost use Rattle.cp_machine_model.specs.Values.{place_of, value_of};
-ghost use Rattle.cp_program.specs.Reaches.{cap_place, capped_result, view_of, view_with};
+ghost use Rattle.cp_program.specs.Reaches.{cap_place, capped_result, view_of};
 ghost use Rattle.cp_program.specs.View as view;
 
 use crate::outside::Outside;
 use crate::private::Private;
 use crate::words;
 use cp_model::state::Fault;
-use cp_program::reach::{AllWords, OwnWords, Reach};
+use cp_program::reach::{OwnWords, Reach};
 use cp_program::term::{Spot, Term};
 
 impl Private {
@@ -62,30 +62,6 @@ impl Private {
         spot.place(&self.reach(shared, outside))
     }
 
-    // The value of a term, if it is near. A private step has no shared words, and its functions are
-    // compiled without them.
-    #[inline(always)]
-    fn near_value(&self, shared: &[i32], term: &Term) -> Option<i32>
-        ensures { (clock : ℕ) → IfSome result (λ n. value_of
-            (view_with self.now.memory shared.now clock) (view.term term.now) ≡ Ok n) }
-    {
-        if shared.is_empty() {
-            return term.near_value::<OwnWords>(&self.memory, shared);
-        }
-        term.near_value::<AllWords>(&self.memory, shared)
-    }
-
-    #[inline(always)]
-    fn near_place(&self, shared: &[i32], spot: &Spot) -> Option<usize>
-        ensures { (clock : ℕ) → IfSome result (λ at. place_of
-            (view_with self.now.memory shared.now clock) (view.spot spot.now) ≡ Ok at) }
-    {
-        if shared.is_empty() {
-            return spot.near_place::<OwnWords>(&self.memory, shared);
-        }
-        spot.near_place::<AllWords>(&self.memory, shared)
-    }
-
     /// Returns the value of a term.
     #[inline(always)]
     pub(crate) fn evaluate(
@@ -99,7 +75,12 @@ impl Private {
             (plain.view_of (outside_of outside.now own) (join self.now input shared.now))
             (view.term term.now) }
     {
-        match self.near_value(shared, term) {
+        // In a step of the kernel most words are shared. To look for them in registers too would make
+        // a private call so large that the compiler doesn't inline it.
+        if !shared.is_empty() {
+            return term.value_here(&self.reach(shared, outside));
+        }
+        match term.near_value::<OwnWords>(&self.memory, shared) {
             Some(n) => Ok(n),
             None => self.deep_value(shared, outside, term),
         }
@@ -119,7 +100,10 @@ impl Private {
             (plain.view_of (outside_of outside.now own) (join self.now input shared.now))
             (view.spot spot.now)) }
     {
-        match self.near_place(shared, spot) {
+        if !shared.is_empty() {
+            return spot.place(&self.reach(shared, outside));
+        }
+        match spot.near_place::<OwnWords>(&self.memory, shared) {
             Some(at) => Ok(at),
             None => self.deep_place(shared, outside, spot),
         }
