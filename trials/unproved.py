@@ -32,8 +32,9 @@ INLINED = {'always': 'alwaysinline', 'never': 'noinline'}
 FLAGS = ('-march=x86-64', '-O3', '-fPIE', '-ffunction-sections', '-fdata-sections', *(word for flag in (
     '-no-trap-after-noreturn', '-trap-unreachable', '-no-x86-call-frame-opt', '-disable-machine-licm', '-disable-postra-machine-licm', '-sink-common-insts=false',
 ) for word in ('-mllvm', flag)))
-# The compiler drops `inline(always)` from functions that would grow very large: these have a body of their own in the module of the proved program.
-DROPPED = {('Application', 'flat_value_after'), ('Private', 'call_here'), ('Private', 'take_quick_step')}
+# The compiler drops `inline(always)` from functions that would grow very large: these have a body of their own in the module of the proved program, as
+# `define` lines of that module show.
+DROPPED = {('Application', 'flat_value_after'), ('Private', 'take_quick_step')}
 
 
 def copy_kit(folder, module):
