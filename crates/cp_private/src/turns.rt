@@ -35,10 +35,9 @@ fn take_steps(program: &Program, private: &mut Private, outside: &Outside, count
     if !private.is_ready() {
         return;
     }
-    for _i in 0..count {
-        if !private.take_step(program, outside) {
-            return;
-        }
+    let mut left = count;
+    while left > 0 && private.take_step(program, outside) {
+        left -= 1;
     }
 }
 

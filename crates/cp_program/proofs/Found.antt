@@ -103,23 +103,17 @@ member_before o at =
 abbrev pub kept : ℤ → ℤ
 kept n = to_z w32 (of_z w32 n)
 
--- The value of an operator with an operand whose value was found.
-pub after_found : (v : View) (x y m : ℤ) (o : operator.Operator) (right : plain.Term) (p : PlainApplication)
-    → p ≡ After o right → value_of v right ≡ Ok y → kept x ≡ x → kept y ≡ y → kept m ≡ m → apply o (kept x) (kept y) ≡ Ok m
-    → apply_operation v x p ≡ Ok (kept m)
-after_found v x y m o right p is known rx ry rm applied =
-    ap (apply_operation v x) is
-    ∙ (ap (λ r. bind r (λ z. apply o x z)) known
-    ∙ ((λ i. apply o (sym rx i) (sym ry i)) ∙ (applied ∙ ap (λ k. Ok k) (sym rm))))
+-- An operator with an operand whose value is known.
+pub after_known : (v : View) (x y : ℤ) (o : operator.Operator) (right : plain.Term) (p : PlainApplication)
+    → p ≡ After o right → value_of v right ≡ Ok y → kept x ≡ x → kept y ≡ y → apply_operation v x p ≡ apply o (kept x) (kept y)
+after_known v x y o right p is known rx ry =
+    ap (apply_operation v x) is ∙ (ap (λ r. bind r (λ z. apply o x z)) known ∙ (λ i. apply o (sym rx i) (sym ry i)))
 
 -- The same of a word before the chain.
-pub before_found : (v : View) (x y m : ℤ) (o : operator.Operator) (left : plain.Root) (p : PlainApplication)
-    → p ≡ Before o left → value_of v (plain.Item (plain.Rooted left)) ≡ Ok y → kept x ≡ x → kept y ≡ y → kept m ≡ m → apply o (kept y) (kept x) ≡ Ok m
-    → apply_operation v x p ≡ Ok (kept m)
-before_found v x y m o left p is known rx ry rm applied =
-    ap (apply_operation v x) is
-    ∙ (ap (λ r. bind r (λ z. apply o z x)) known
-    ∙ ((λ i. apply o (sym ry i) (sym rx i)) ∙ (applied ∙ ap (λ k. Ok k) (sym rm))))
+pub before_known : (v : View) (x y : ℤ) (o : operator.Operator) (left : plain.Root) (p : PlainApplication)
+    → p ≡ Before o left → value_of v (plain.Item (plain.Rooted left)) ≡ Ok y → kept x ≡ x → kept y ≡ y → apply_operation v x p ≡ apply o (kept y) (kept x)
+before_known v x y o left p is known rx ry =
+    ap (apply_operation v x) is ∙ (ap (λ r. bind r (λ z. apply o z x)) known ∙ (λ i. apply o (sym ry i) (sym rx i)))
 
 -- ---- Operands as plain data
 

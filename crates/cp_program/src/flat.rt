@@ -15,7 +15,6 @@ ghost use Rattle.cp_program.specs.Reaches.{apply_operation, chain_value, element
 ghost use Rattle.cp_program.specs.View as view;
 
 use crate::arithmetic::truth;
-use crate::exact::{apply, difference, product, sum};
 use crate::reach::{Memory, Words};
 use crate::term::{Application, Index, Operand, Root, Spot, Term};
 
@@ -48,8 +47,9 @@ impl Operand {
         }
     }
 
+    // The value of a near operand that isn't flat.
     #[inline(always)]
-    fn further_value<W: Words>(&self, memory: &Memory, shared: &[i32]) -> Option<i32>
+    pub(crate) fn further_value<W: Words>(&self, memory: &Memory, shared: &[i32]) -> Option<i32>
         ensures { (clock : ℕ) → IfSome result (λ n. values.value_of
             (view_with memory.now shared.now clock) (view.operand self.now) ≡ Ok n) }
     {
@@ -57,6 +57,17 @@ impl Operand {
             Operand::Item(s) => s.flat_word::<W>(memory, shared),
             Operand::Nested(t) => t.flat_value::<W>(memory, shared),
             Operand::Made(temp) => Some(memory.made(*temp)),
+            _ => self.rarer_value::<W>(memory, shared),
+        }
+    }
+
+    // The same of the rarer ones. It isn't inlined, so that `near_value` of terms is small enough to be.
+    #[inline(never)]
+    fn rarer_value<W: Words>(&self, memory: &Memory, shared: &[i32]) -> Option<i32>
+        ensures { (clock : ℕ) → IfSome result (λ n. values.value_of
+            (view_with memory.now shared.now clock) (view.operand self.now) ≡ Ok n) }
+    {
+        match self {
             Operand::Through { parameter, plus } => {
                 let (parameter, plus) = (*parameter, *plus);
                 let at = memory.near_root_place::<W>(shared, Root::Through { parameter, plus })?;
@@ -64,74 +75,6 @@ impl Operand {
             }
             Operand::Not(t) => Some(truth(t.flat_value::<W>(memory, shared)? == 0)),
             _ => None,
-        }
-    }
-}
-
-impl Application {
-    // The value of the operator, if the value so far is `left` and the operand is flat. Each arm
-    // tests its own result, so that the machine code has no test that all share.
-    #[inline(always)]
-    fn flat_value_after<W: Words>(&self, left: i32, memory: &Memory, shared: &[i32]) -> Option<i32>
-        ensures { (clock : ℕ) → IfSome result (λ n. apply_operation
-            (view_with memory.now shared.now clock) left (view.application self.now) ≡ Ok n) }
-    {
-        match self {
-            Application::AddNumber(n) => Some(sum(left, *n)?),
-            Application::SubtractNumber(n) => Some(difference(left, *n)?),
-            Application::MultiplyNumber(n) => Some(product(left, *n)?),
-            Application::DivideNumber(divisor) => Some(divisor.quotient(left)?),
-            Application::ModuloNumber(divisor) => Some(divisor.remainder(left)),
-            Application::WithNumber(operator, n) => Some(apply(*operator, left, *n)?),
-            Application::AddLocal(at) => Some(sum(left, memory.near_local::<W>(shared, *at)?)?),
-            Application::AddMember(at) => Some(sum(left, memory.near_member::<W>(shared, *at)?)?),
-            Application::SubtractLocal(at) => Some(difference(
-                left,
-                memory.near_local::<W>(shared, *at)?,
-            )?),
-            Application::SubtractMember(at) => Some(difference(
-                left,
-                memory.near_member::<W>(shared, *at)?,
-            )?),
-            Application::MultiplyLocal(at) => Some(product(
-                left,
-                memory.near_local::<W>(shared, *at)?,
-            )?),
-            Application::MultiplyMember(at) => Some(product(
-                left,
-                memory.near_member::<W>(shared, *at)?,
-            )?),
-            Application::WithLocal(operator, at) => {
-                Some(apply(*operator, left, memory.near_local::<W>(shared, *at)?)?)
-            }
-            Application::WithMember(operator, at) => {
-                Some(apply(*operator, left, memory.near_member::<W>(shared, *at)?)?)
-            }
-            Application::WithMade(operator, temp) => {
-                Some(apply(*operator, left, memory.made(*temp))?)
-            }
-            Application::LocalBefore(operator, at) => {
-                Some(apply(*operator, memory.near_local::<W>(shared, *at)?, left)?)
-            }
-            Application::MemberBefore(operator, at) => {
-                Some(apply(*operator, memory.near_member::<W>(shared, *at)?, left)?)
-            }
-            Application::WithOperand(_, _) => None,
-        }
-    }
-
-    // The same, if the operand is near.
-    #[inline(always)]
-    fn near_value_after<W: Words>(&self, left: i32, memory: &Memory, shared: &[i32]) -> Option<i32>
-        ensures { (clock : ℕ) → IfSome result (λ n. apply_operation
-            (view_with memory.now shared.now clock) left (view.application self.now) ≡ Ok n) }
-    {
-        match self {
-            Application::WithOperand(operator, operand) => {
-                let right = operand.further_value::<W>(memory, shared)?;
-                Some(apply(*operator, left, right)?)
-            }
-            _ => self.flat_value_after::<W>(left, memory, shared),
         }
     }
 }

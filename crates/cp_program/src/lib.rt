@@ -8,8 +8,8 @@
 //! - `program`: units of code, the words of components, and the program. What components of one
 //!   type share is kept once.
 //! - `evaluation`: the values of terms and the places of spots, over the words that `reach` has.
-//! - `flat`: the same for the commonest terms and spots, in registers. `memory`: the words that both
-//!   read. `arithmetic`, `exact`: the operators, with their faults and without.
+//! - `flat`, `operators`: the same for the commonest terms and spots, in registers. `memory`: the
+//!   words that both read. `arithmetic`, `exact`: the operators, with their faults and without.
 //!
 //! `specs/View.antt` defines these forms as plain data of `cp_program_model`, which the definitions of steps
 //! are about.
@@ -24,6 +24,7 @@ mod exact;
 pub mod flat;
 mod memory;
 pub mod operation;
+mod operators;
 pub mod program;
 pub mod reach;
 pub mod search;

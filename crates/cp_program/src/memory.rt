@@ -37,10 +37,7 @@ impl Memory {
         ensures { IfSome result
             (λ n. starts.word (self.now.words.items ++ shared.now) at ≡ n) }
     {
-        match self.words.get(at) {
-            Some(n) => Some(*n),
-            None => W::shared_word(shared, at.saturating_sub(self.words.len())),
-        }
+        W::word(&self.words, shared, at)
     }
 
     /// The place of a word of the activation.

@@ -1,6 +1,6 @@
 //! What the evaluation of terms reads.
 
-ghost use Rattle.std.specs.Prelude.{◌≡◌, ◌+◌, ◌<◌, ◌^◌, IfSome, length};
+ghost use Rattle.std.specs.Prelude.{◌≡◌, ◌+◌, ◌<◌, ◌^◌, ◌++◌, IfSome, length};
 ghost use Rattle.cp_program_model.specs.Starts as starts;
 
 /// The memory of a process: its words and temps, and where those of the running activation and
@@ -28,11 +28,11 @@ pub struct Reach<'a> {
     ghost fits: { length memory.now.words.items + length shared.now < 2 ^ 64 },
 }
 
-/// Which words the evaluation in registers finds. Shared words follow a process's own.
+/// Which words the evaluation in registers finds.
 pub trait Words {
-    /// The shared word at an index, if it is found.
-    fn shared_word(shared: &[i32], at: usize) -> Option<i32>
-        ensures { IfSome result (λ n. starts.word shared.now at ≡ n) };
+    /// The word at a place, if it is found. Shared words follow a process's own.
+    fn word(own: &[i32], shared: &[i32], at: usize) -> Option<i32>
+        ensures { IfSome result (λ n. starts.word (own.now ++ shared.now) at ≡ n) };
 }
 
 /// A process's own words alone. A private step has no others.
@@ -41,8 +41,8 @@ pub struct OwnWords;
 
 impl Words for OwnWords {
     #[inline(always)]
-    fn shared_word(_shared: &[i32], _at: usize) -> Option<i32> {
-        None
+    fn word(own: &[i32], _shared: &[i32], at: usize) -> Option<i32> {
+        own.get(at).copied()
     }
 }
 
@@ -52,7 +52,10 @@ pub struct AllWords;
 
 impl Words for AllWords {
     #[inline(always)]
-    fn shared_word(shared: &[i32], at: usize) -> Option<i32> {
-        shared.get(at).copied()
+    fn word(own: &[i32], shared: &[i32], at: usize) -> Option<i32> {
+        match own.get(at) {
+            Some(n) => Some(*n),
+            None => shared.get(at.saturating_sub(own.len())).copied(),
+        }
     }
 }

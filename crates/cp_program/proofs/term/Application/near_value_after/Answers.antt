@@ -1,10 +1,21 @@
-use Rattle.std.proofs.Common.{rules, ◌≡◌, subst, Ok, IfSome, to_z, of_z, w32}
+use Rattle.std.proofs.Common.{rules, ◌≡◌, ap, sym, Ok, ◌∙◌}
 use Rattle.cp_program.specs.Reaches.{apply_operation, view_with}
 use Rattle.cp_program.specs.View as view
+use Rattle.cp_program.proofs.Found.{found, kept}
 use Rattle.cp_program.proofs.term.Application.near_value_after.Goals as goal
 
-pub returns-in_default : goal.returns-in_default
-returns-in_default g c clock =
+pub returns-in-Some : goal.returns-in-Some
+returns-in-Some g c clock =
     let v = view_with c.args.memory.now c.args.shared.now clock in
-    let same : to_z w32 (of_z w32 c.args.left) ≡ c.args.left = search rules in
-    subst (λ y. IfSome c.flat_value_after.result (λ n. apply_operation v y (view.application c.args.self.now) ≡ Ok n)) same (c.flat_value_after.ensures clock)
+    let left : kept c.args.left ≡ c.args.left = search rules in
+    let result : kept c.in-Some.n ≡ c.in-Some.n = search rules in
+    ap (λ x. apply_operation v x (view.application c.args.self.now)) (sym left)
+    ∙ (c.in-Some.ensures clock ∙ ap (λ n. Ok n) (sym result))
+
+pub returns-in_ok-near_operands-in-None : goal.returns-in_ok-near_operands-in-None
+returns-in_ok-near_operands-in-None g c clock =
+    let v = view_with c.args.memory.now c.args.shared.now clock in
+    let left : kept c.args.left ≡ c.args.left = search rules in
+    found _ _ _
+    (sym (c.in_ok-near_operands-in-None.ensures clock) ∙ ap (λ x. apply_operation v x (view.application c.args.self.now)) left)
+    c.apply.ensures

@@ -7,7 +7,7 @@ use Rattle.cp_machine_model.specs.Values.{bind, value_of}
 use Rattle.cp_program.specs.Reaches.{view_with}
 use Rattle.cp_program.specs.View as view
 use Rattle.cp_program.proofs.Found.{found_as, operand_not, operand_through}
-use Rattle.cp_program.proofs.term.Operand.further_value.Goals as goal
+use Rattle.cp_program.proofs.term.Operand.rarer_value.Goals as goal
 
 pub returns-in_ok-at-in-Through : goal.returns-in_ok-at-in-Through
 returns-in_ok-at-in-Through g c clock =
@@ -26,7 +26,7 @@ returns-in_ok-flat_value-in-Not g c clock =
     let n = c.in_ok-flat_value-in-Not.field-0 in
     let parted : view.operand c.args.self.now ≡ terms.Not (view.term t.value) = ap view.operand c.in-Not.is ∙ operand_not t in
     let known : value_of v (view.term t.value) ≡ Ok n =
-    ap (λ x. value_of v (view.term x)) (sym c.deref-in-Not.ensures) ∙ c.in_ok-flat_value-in-Not.ensures clock in
+    ap (λ x. value_of v (view.term x)) (sym c.deref.ensures) ∙ c.in_ok-flat_value-in-Not.ensures clock in
     let test : c.truth.result ≡ values.truth (same_integer n (pos 0)) = search rules in
     let whole : to_z w32 (of_z w32 c.truth.result) ≡ c.truth.result = search rules in
     ap (value_of v) parted ∙ (ap (λ r. bind r (λ m. Ok (values.truth (same_integer m (pos 0))))) known ∙ ap (λ m. Ok m) (sym (whole ∙ test)))

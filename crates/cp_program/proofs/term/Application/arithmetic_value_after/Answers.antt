@@ -1,0 +1,66 @@
+use Rattle.std.proofs.Common.{rules, ◌≡◌, ap, sym, ◌∙◌}
+use Rattle.cp_model.specs.Abstract as operator
+use Rattle.cp_program.specs.Reaches.{view_with}
+use Rattle.cp_program.specs.View as view
+use Rattle.cp_program.proofs.Found.{add_local, add_member, after_known, found, kept, multiply_local, multiply_member, subtract_local, subtract_member, told}
+use Rattle.cp_program.proofs.term.Application.arithmetic_value_after.Goals as goal
+
+pub returns-in_ok-near_local-in-AddLocal : goal.returns-in_ok-near_local-in-AddLocal
+returns-in_ok-near_local-in-AddLocal g c clock =
+    let v = view_with c.args.memory.now c.args.shared.now clock in
+    let n = c.in_ok-near_local-in-AddLocal.field-0 in
+    let known = told _ n _ c.in_ok-near_local-in-AddLocal.was (c.near_local.ensures clock) in
+    let left : kept c.args.left ≡ c.args.left = search rules in
+    let right : kept n ≡ n = search rules in
+    let whole = ap view.application c.in-AddLocal.is ∙ add_local c.in-AddLocal.at in
+    found _ _ _ (sym (after_known v c.args.left n operator.Add (view.local c.in-AddLocal.at) _ whole known left right)) c.sum-in-AddLocal.ensures
+
+pub returns-in_ok-near_member-in-AddMember : goal.returns-in_ok-near_member-in-AddMember
+returns-in_ok-near_member-in-AddMember g c clock =
+    let v = view_with c.args.memory.now c.args.shared.now clock in
+    let n = c.in_ok-near_member-in-AddMember.field-0 in
+    let known = told _ n _ c.in_ok-near_member-in-AddMember.was (c.near_member.ensures clock) in
+    let left : kept c.args.left ≡ c.args.left = search rules in
+    let right : kept n ≡ n = search rules in
+    let whole = ap view.application c.in-AddMember.is ∙ add_member c.in-AddMember.at in
+    found _ _ _ (sym (after_known v c.args.left n operator.Add (view.member c.in-AddMember.at) _ whole known left right)) c.sum-in-AddMember.ensures
+
+pub returns-in_ok-near_local-in-SubtractLocal : goal.returns-in_ok-near_local-in-SubtractLocal
+returns-in_ok-near_local-in-SubtractLocal g c clock =
+    let v = view_with c.args.memory.now c.args.shared.now clock in
+    let n = c.in_ok-near_local-in-SubtractLocal.field-0 in
+    let known = told _ n _ c.in_ok-near_local-in-SubtractLocal.was (c.near_local-in-SubtractLocal.ensures clock) in
+    let left : kept c.args.left ≡ c.args.left = search rules in
+    let right : kept n ≡ n = search rules in
+    let whole = ap view.application c.in-SubtractLocal.is ∙ subtract_local c.in-SubtractLocal.at in
+    found _ _ _ (sym (after_known v c.args.left n operator.Subtract (view.local c.in-SubtractLocal.at) _ whole known left right)) c.difference-in-SubtractLocal.ensures
+
+pub returns-in_ok-near_member-in-SubtractMember : goal.returns-in_ok-near_member-in-SubtractMember
+returns-in_ok-near_member-in-SubtractMember g c clock =
+    let v = view_with c.args.memory.now c.args.shared.now clock in
+    let n = c.in_ok-near_member-in-SubtractMember.field-0 in
+    let known = told _ n _ c.in_ok-near_member-in-SubtractMember.was (c.near_member-in-SubtractMember.ensures clock) in
+    let left : kept c.args.left ≡ c.args.left = search rules in
+    let right : kept n ≡ n = search rules in
+    let whole = ap view.application c.in-SubtractMember.is ∙ subtract_member c.in-SubtractMember.at in
+    found _ _ _ (sym (after_known v c.args.left n operator.Subtract (view.member c.in-SubtractMember.at) _ whole known left right)) c.difference-in-SubtractMember.ensures
+
+pub returns-in_ok-near_local-in-MultiplyLocal : goal.returns-in_ok-near_local-in-MultiplyLocal
+returns-in_ok-near_local-in-MultiplyLocal g c clock =
+    let v = view_with c.args.memory.now c.args.shared.now clock in
+    let n = c.in_ok-near_local-in-MultiplyLocal.field-0 in
+    let known = told _ n _ c.in_ok-near_local-in-MultiplyLocal.was (c.near_local-in-MultiplyLocal.ensures clock) in
+    let left : kept c.args.left ≡ c.args.left = search rules in
+    let right : kept n ≡ n = search rules in
+    let whole = ap view.application c.in-MultiplyLocal.is ∙ multiply_local c.in-MultiplyLocal.at in
+    found _ _ _ (sym (after_known v c.args.left n operator.Multiply (view.local c.in-MultiplyLocal.at) _ whole known left right)) c.product-in-MultiplyLocal.ensures
+
+pub returns-in_ok-near_member-in-MultiplyMember : goal.returns-in_ok-near_member-in-MultiplyMember
+returns-in_ok-near_member-in-MultiplyMember g c clock =
+    let v = view_with c.args.memory.now c.args.shared.now clock in
+    let n = c.in_ok-near_member-in-MultiplyMember.field-0 in
+    let known = told _ n _ c.in_ok-near_member-in-MultiplyMember.was (c.near_member-in-MultiplyMember.ensures clock) in
+    let left : kept c.args.left ≡ c.args.left = search rules in
+    let right : kept n ≡ n = search rules in
+    let whole = ap view.application c.in-MultiplyMember.is ∙ multiply_member c.in-MultiplyMember.at in
+    found _ _ _ (sym (after_known v c.args.left n operator.Multiply (view.member c.in-MultiplyMember.at) _ whole known left right)) c.product-in-MultiplyMember.ensures
