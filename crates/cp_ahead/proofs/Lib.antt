@@ -1,0 +1,6 @@
+pub mod Quiet
+pub mod Numbers
+pub mod Stages
+pub mod Turns
+pub mod Rounds
+mod Example

@@ -1,0 +1,2 @@
+//! Private turns made ahead of their rounds.
+#![tactic(auto)]
