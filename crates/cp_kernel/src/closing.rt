@@ -22,6 +22,7 @@ fn begin(program: &Program, kernel: &Kernel, private: &mut Private)
     ensures begun { (input : List ℕ) → private_of private.new input ≡ plain.begin_one
         (view.program program.now) (kernel_of kernel.now) (private_of private.old input) }
     ensures number { private.new.number ≡ private.old.number }
+    ensures output { private.new.output ≡ private.old.output }
 {
     match kernel.stage(private.number() as u32) {
         Stage::Fresh => private.begin(program, &kernel.shared),
@@ -35,6 +36,8 @@ fn begin_all(program: &Program, kernel: &Kernel, privates: &mut [Resident])
         (parts_of inputs 1 privates.old) }
     ensures numbers { map (λ (x : Private). x.number) privates.new
         ≡ map (λ (x : Private). x.number) privates.old }
+    ensures outputs { map (λ (x : Private). x.output) privates.new
+        ≡ map (λ (x : Private). x.output) privates.old }
 {
     for private in privates.iter_mut() {
         begin(program, kernel, private.private_mut());
@@ -81,6 +84,8 @@ fn close_started(program: &Program, kernel: &mut Kernel, privates: &mut [Residen
         (parts_of inputs 1 privates.old) }
     ensures numbers { map (λ (x : Private). x.number) privates.new
         ≡ map (λ (x : Private). x.number) privates.old }
+    ensures outputs { map (λ (x : Private). x.output) privates.new
+        ≡ map (λ (x : Private). x.output) privates.old }
 {
     if !has_fresh(&kernel.stages) {
         kernel.may_have_fresh = false;
@@ -103,6 +108,8 @@ fn close(program: &Program, kernel: &mut Kernel, privates: &mut [Resident])
         (parts_of inputs 1 privates.old) }
     ensures numbers { map (λ (x : Private). x.number) privates.new
         ≡ map (λ (x : Private). x.number) privates.old }
+    ensures outputs { map (λ (x : Private). x.output) privates.new
+        ≡ map (λ (x : Private). x.output) privates.old }
 {
     if !kernel.may_have_fresh {
         return;
@@ -123,6 +130,8 @@ pub fn end_round(program: &Program, kernel: &mut Kernel, privates: &mut [Residen
     ensures meaning { EndsRound program.now kernel.old privates.old kernel.new privates.new }
     ensures numbers { map (λ (x : Private). x.number) privates.new
         ≡ map (λ (x : Private). x.number) privates.old }
+    ensures outputs { map (λ (x : Private). x.output) privates.new
+        ≡ map (λ (x : Private). x.output) privates.old }
 {
     law::rounds();
     close(program, kernel, privates);

@@ -125,8 +125,8 @@ fn take_due_steps(
     }
 }
 
-// Makes at most `count` steps, as long as the next one is due. The first test is inlined, so that the
-// turn of a process that can't move costs no call.
+// Makes at most `count` steps, as long as the next one is due. The first test is inlined, so that
+// the turn of a process that can't move costs no call.
 #[inline(always)]
 fn take_steps(
     program: &Program,
@@ -159,6 +159,8 @@ impl Kernel {
         ensures kernel { kernel_of self.new ≡ kernel_of self.old }
         ensures gates { self.new.gates ≡ self.old.gates }
         ensures moves { Moves self.old self.new p bytes.now }
+        ensures left { (n : ℕ) → HasRoomForBytes self.old p (length bytes.now + n)
+            → HasRoomForBytes self.new p n }
     {
         let Some(transcript) = self.transcripts.get_mut(p.saturating_sub(1)) else {
             return;
@@ -176,6 +178,9 @@ fn move_output(kernel: &mut Kernel, private: &mut Private)
     ensures private { (input : List ℕ) → private_of private.new input
         ≡ record (private_of private.old input) { output = [] } }
     ensures moves { Moves kernel.old kernel.new private.old.number private.old.output.items }
+    ensures left { (n : ℕ)
+        → HasRoomForBytes kernel.old private.old.number (vec_len private.old.output + n)
+        → HasRoomForBytes kernel.new private.old.number n }
     ensures number { private.new.number ≡ private.old.number }
     ensures empty { vec_len private.new.output ≡ 0 }
     ensures capacity { vec_capacity private.old.output ≤ vec_capacity private.new.output }
@@ -226,6 +231,9 @@ fn take_turn(
     ensures turn { IsTurned (view.program program.now) clock turn.steps kernel.old kernel.new
         private.old private.new input.now }
     ensures asking { (n : ℕ) → HasRoomForAskers kernel.old (n + 1) → HasRoomForAskers kernel.new n }
+    ensures left { (n : ℕ) → HasRoomForBytes kernel.old private.old.number
+        (vec_len private.old.output + 11 * turn.steps + n)
+        → HasRoomForBytes kernel.new private.old.number n }
     ensures number { private.new.number ≡ private.old.number }
     ensures empty { vec_len private.new.output ≡ 0 }
     ensures capacity { vec_capacity private.old.output ≤ vec_capacity private.new.output }
@@ -237,7 +245,8 @@ fn take_turn(
 /// Makes the kernel turn of a process: at most as many steps as the turn has, as long as the next
 /// one is the kernel's. Then the output of the process, including that of its private turn, moves
 /// to its transcript. It takes no memory: `reserve_askers` and `reserve_bytes` reserve the room. A
-/// step writes at most 11 bytes, and the turn asks for at most one gate.
+/// step writes at most 11 bytes, and the turn asks for at most one gate. Room for more bytes than
+/// that is left in the transcript.
 #[inline(always)]
 pub fn kernel_turn(
     program: &Program,
@@ -257,6 +266,9 @@ pub fn kernel_turn(
     ensures meaning { MakesKernelTurn program.now turn.steps kernel.old private.old kernel.new
         private.new input.now clock }
     ensures asking { (n : ℕ) → HasRoomForAskers kernel.old (n + 1) → HasRoomForAskers kernel.new n }
+    ensures left { (n : ℕ) → HasRoomForBytes kernel.old private.old.number
+        (vec_len private.old.output + 11 * turn.steps + n)
+        → HasRoomForBytes kernel.new private.old.number n }
     ensures number { private.new.number ≡ private.old.number }
     ensures empty { vec_len private.new.output ≡ 0 }
     ensures capacity { vec_capacity private.old.output ≤ vec_capacity private.new.output }

@@ -284,6 +284,7 @@ impl Private {
             → private_of self.new input
             ≡ plain.begin_from (view.program program.now) k (private_of self.old input) }
         ensures pause { self.new.pause ≡ self.old.pause }
+        ensures output { self.new.output ≡ self.old.output }
     {
         if let Some(process) = program.process(self.number) {
             let from = process.parameters as usize + 1;

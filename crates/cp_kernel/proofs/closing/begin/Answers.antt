@@ -32,4 +32,5 @@ returns-in_default c = record {
       let stage = c.stage.ensures ∙ ap (stage_of k.stages) (c.number.ensures.number input) in
       sym (ap (plain.begin_if program k o) (sym stage) ∙ not_fresh program k o c.stage.result c.in_default.not-Fresh);
   number = refl;
+  output = refl;
 }

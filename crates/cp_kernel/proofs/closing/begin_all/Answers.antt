@@ -15,6 +15,9 @@ loop-private-preserved c = record {
   numbers = same_at (λ (x : Private). x.number) c.loop-private.privates c.loop-private.private-index c.private-item.result c.begin.new.private
       (c.begin.ensures.number ∙ ap (λ (x : Private). x.number) c.private_mut.ensures.value)
       ∙ c.loop-private.invariant.numbers;
+  outputs = same_at (λ (x : Private). x.output) c.loop-private.privates c.loop-private.private-index c.private-item.result c.begin.new.private
+      (c.begin.ensures.output ∙ ap (λ (x : Private). x.output) c.private_mut.ensures.value)
+      ∙ c.loop-private.invariant.outputs;
   begun = λ inputs.
       let f = plain.begin_one (view.program c.args.program.now) (kernel_of c.args.kernel.now) in
       let i = c.loop-private.private-index in
@@ -43,4 +46,5 @@ returns c = record {
       let end : c.loop-private.private-index ≡ length all = omega (arith, c.loop-private-test.false, c.loop-private.auto.private-index-end, parts_count inputs 1 c.args.privates.now) in
       c.loop-private.invariant.begun inputs ∙ (ap (λ n. changed_below f n all) end ∙ all_changed f all);
   numbers = c.loop-private.invariant.numbers;
+  outputs = c.loop-private.invariant.outputs;
 }

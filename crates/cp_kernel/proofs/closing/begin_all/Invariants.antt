@@ -12,4 +12,5 @@ invariant-loop-private l = record {
   begun : (inputs : ℕ → List ℕ) → parts_of inputs 1 l.privates
       ≡ changed_below (plain.begin_one (view.program l.program) (kernel_of l.kernel)) l.private-index (parts_of inputs 1 l.fn.privates);
   numbers : map (λ (x : Private). x.number) l.privates ≡ map (λ (x : Private). x.number) l.fn.privates;
+  outputs : map (λ (x : Private). x.output) l.privates ≡ map (λ (x : Private). x.output) l.fn.privates;
 }

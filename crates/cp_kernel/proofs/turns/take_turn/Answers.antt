@@ -1,7 +1,9 @@
-use Rattle.std.proofs.Common.{ℕ, [], ap, subst, ◌∙◌}
+use Rattle.std.proofs.Common.{◌≡◌, ◌≤◌, ◌+◌, ◌-◌, ◌*◌, ℕ, [], Some, slice_get, vec_len, vec_capacity, ap, sym, subst, ◌∙◌, arith}
+use Rattle.std.specs.Prelude.{Vec}
+use Rattle.std.specs.Global.{Global}
 use Rattle.cp_machine_model.specs.KernelSteps as plain
 use Rattle.cp_program.specs.View as view
-use Rattle.cp_kernel.specs.KernelOf.{turning}
+use Rattle.cp_kernel.specs.KernelOf.{Bytes, HasRoomForBytes, turning}
 use Rattle.cp_kernel.specs.Turns.{Moves}
 use Rattle.cp_kernel.proofs.Asking.{room_kept}
 use Rattle.cp_kernel.proofs.Transcripts.{moved_from}
@@ -26,3 +28,22 @@ returns-clause-turn c =
 
 pub returns-clause-asking : goal.returns-clause-asking
 returns-clause-asking c = λ n h. room_kept c.take_steps.new.kernel c.move_output.new.kernel n c.move_output.ensures.gates (c.take_steps.ensures.asking n h)
+
+pub returns-clause-left : goal.returns-clause-left
+returns-clause-left c = λ n h.
+    let k = c.args.kernel.now in
+    let mid = c.take_steps.new.kernel in
+    let after = c.move_output.new.kernel in
+    let p = c.args.private.now.number in
+    let number = c.take_steps.ensures.number in
+    let t = c.args.turn.steps in
+    let same = c.steps.ensures.steps in
+    let long = c.take_steps.ensures.length in
+    let written = vec_len c.take_steps.new.private.output in
+    let all : HasRoomForBytes mid p (vec_len c.args.private.now.output + 11 * t + n) =
+    subst (λ (ts : Vec Bytes Global). (v : Bytes) → slice_get ts.items (p - 1) ≡ Some v → vec_len v + (vec_len c.args.private.now.output + 11 * t + n) ≤ vec_capacity v)
+    (sym c.take_steps.ensures.transcripts) h in
+    subst (λ q. HasRoomForBytes after q n) number
+    (c.move_output.ensures.left n
+    (subst (λ q. HasRoomForBytes mid q (written + n)) (sym number)
+    (λ v there. let room = all v there in omega (arith, room, long, same))))
