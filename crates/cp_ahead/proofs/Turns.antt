@@ -1,4 +1,4 @@
--- Processes stay ahead through kernel turns, the end of a round and the private turns of the next_ahead one.
+-- Processes stay ahead through kernel turns, the end of a round and the private turns of the next one.
 use Rattle.std.specs.Prelude.{◌≡◌, ◌≢◌, ◌+◌, ◌-◌, ◌%◌, refl, ℕ, zero, suc, Bool, true, false, if◌then◌else◌, List, [], ◌∷◌, Option, Some, None, length, map, nat_eq, slice_get, slice_set}
 use Rattle.std.proofs.Common.{sym, ◌∙◌, ap, subst, arith}
 use Rattle.std.proofs.lemmas.Bool.{eqb-true, eq-eqb, true≢false}
@@ -60,7 +60,7 @@ module _ {X : Type 0} where
   none_is : (x : X) → None ≡ Some x → ⊥
   none_is x e = true≢false (sym (ap (λ (r : Option X). elim r [ None ↦ false | Some v ↦ true ]) e))
 
-  set_length : (xs : List X) (i : ℕ) (z : X) → length (slice_set xs i z) ≡ length xs
+  pub set_length : (xs : List X) (i : ℕ) (z : X) → length (slice_set xs i z) ≡ length xs
   set_length [] i z = refl
   set_length (x ∷ xs) zero z = refl
   set_length (x ∷ xs) (suc i) z = ap suc (set_length xs i z)

@@ -1,5 +1,5 @@
 -- The items of a list that has grown by one, or that has another item in one place.
-use Rattle.std.specs.Prelude.{◌≡◌, ◌≢◌, refl, ℕ, zero, suc, ◌<◌, List, [], ◌∷◌, ◌++◌, length, Some, None, slice_get}
+use Rattle.std.specs.Prelude.{◌≡◌, ◌≢◌, refl, ℕ, zero, suc, ◌<◌, ◌≤◌, List, [], ◌∷◌, ◌++◌, length, Some, None, slice_get}
 use Rattle.std.proofs.Common.{sym, ap, subst, arith, ◌⊎◌, inl, inr, ⊎_elim, set, get_or}
 
 module _ {X : Type 0} where
@@ -55,3 +55,21 @@ module _ {X : Type 0} where
   got_left [] ys i x e = absurd (none_some x e)
   got_left (z ∷ xs) ys zero x e = e
   got_left (z ∷ xs) ys (suc i) x e = got_left xs ys i x e
+
+-- ---- Indexes
+
+pub below_or : (j i : ℕ) → j ≤ i → (j < i) ⊎ (j ≡ i)
+below_or zero zero le = inr refl
+below_or zero (suc i) le = inl (Prim.omega arith)
+below_or (suc j) zero le = absurd (Prim.omega (arith, le))
+below_or (suc j) (suc i) le =
+    ⊎_elim (λ (h : j < i). inl (Prim.omega (arith, h))) (λ (h : j ≡ i). inr (ap suc h)) (below_or j i (Prim.omega (arith, le)))
+
+pub below_or_from : (j i : ℕ) → (j < i) ⊎ (i ≤ j)
+below_or_from j zero = inr (Prim.omega arith)
+below_or_from zero (suc i) = inl (Prim.omega arith)
+below_or_from (suc j) (suc i) = ⊎_elim (λ (h : j < i). inl (Prim.omega (arith, h))) (λ (h : i ≤ j). inr (Prim.omega (arith, h))) (below_or_from j i)
+
+pub zero_or : (n : ℕ) → (n ≡ 0) ⊎ (n ≢ 0)
+zero_or zero = inl refl
+zero_or (suc n) = inr (λ e. Prim.omega (arith, e))

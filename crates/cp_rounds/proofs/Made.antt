@@ -20,7 +20,8 @@ use Rattle.cp_rounds.specs.Runs.{AreSame, RoundsMade, TurnsTaken}
 use Rattle.cp_rounds.specs.Turned.{moment_of, take_turn, with_turn_taken}
 use Rattle.cp_rounds.specs.declared.setting.Setting.{Setting}
 use Rattle.cp_rounds.proofs.Lists.{got_below, got_left, got_snoc, none_some, some_is}
-use Rattle.cp_rounds.proofs.Rounds.{Remains, kernel_turn_is, longer, rounds_after, private_turns_made, set_apart, set_here, turned_count, turns_apart, turns_next, turns_remain}
+use Rattle.cp_ahead.proofs.Turns.{set_apart}
+use Rattle.cp_rounds.proofs.Rounds.{Remains, kernel_turn_is, longer, rounds_after, private_turns_made, set_here, turned_count, turns_apart, turns_next, turns_remain}
 
 -- ---- Private states with their inputs
 
@@ -51,7 +52,7 @@ module _ (inputs : ℕ → List ℕ) where
   parts_count p [] = refl
   parts_count p (x ∷ xs) = ap suc (parts_count (suc p) xs)
 
-input_there : (inputs : List Bytes) (i : ℕ) → input_of inputs (1 + i) ≡ input_at inputs i
+pub input_there : (inputs : List Bytes) (i : ℕ) → input_of inputs (1 + i) ≡ input_at inputs i
 input_there inputs i = let at : (1 + i) - 1 ≡ i = Prim.omega arith in ap (input_at inputs) at
 
 -- The item at an index of the parts of a machine.

@@ -1,5 +1,5 @@
 -- Both turns of one more process of a round are made.
-use Rattle.std.specs.Prelude.{◌≡◌, ◌<◌, ◌+◌, ◌-◌, ◌++◌, ◌∷◌, [], ℕ, suc, List, Some, length, slice_get, take, vec_len}
+use Rattle.std.specs.Prelude.{Bool, ◌≡◌, ◌<◌, ◌+◌, ◌-◌, ◌++◌, ◌∷◌, [], ℕ, suc, List, Some, length, slice_get, take, vec_len}
 use Rattle.std.proofs.Common.{sym, ap, subst, ◌∙◌, arith}
 use Rattle.std.proofs.lemmas.List.{length-take-le}
 use Rattle.cp_kernel.specs.KernelOf.{HasRoomForAskers}
@@ -23,13 +23,13 @@ use Rattle.cp_rounds.proofs.Rooms.{fewer_askers, moved_stages, numbered_more}
 
 -- The private state of the process at index i is y after its private turn and z after its kernel
 -- turn.
-pub taken_more : (turned : Moment → PrivateState → PrivateState) (input : ℕ → List ℕ) (most : ℕ) (setting : Setting) (t : ℕ)
-    → IsCourseOf turned input most setting t → (rounds : ℕ) (moment : Moment) (xs ys : List Private) (k k1 k2 : Kernel) (i : ℕ) (y z : Private)
+pub taken_more : (quiet : PrivateState → Bool) (turned : Moment → PrivateState → PrivateState) (input : ℕ → List ℕ) (most : ℕ) (setting : Setting) (t : ℕ)
+    → IsCourseOf quiet turned input most setting t → (rounds : ℕ) (moment : Moment) (xs ys : List Private) (k k1 k2 : Kernel) (i : ℕ) (y z : Private)
     → i < length ys → length ys ≡ length xs → moment ≡ moment_of setting.tick.rounds rounds
     → IsTaken (turned moment) (input ((i + 1) - 1)) most xs (i + 1) y
     → IsTurned (view.program setting.program) moment.clock t k1 k2 y z (input_at setting.inputs.items ((i + 1) - 1))
     → TurnsTaken setting t rounds xs k (take i ys) k1 → TurnsTaken setting t rounds xs k (take i ys ++ z ∷ []) k2
-taken_more turned input most setting t course rounds moment xs ys k k1 k2 i y z within count time taken turn was =
+taken_more quiet turned input most setting t course rounds moment xs ys k k1 k2 i y z within count time taken turn was =
     let program = view.program setting.program in
     let inputs = setting.inputs.items in
     let back : (i + 1) - 1 ≡ i = Prim.omega arith in

@@ -28,7 +28,8 @@ use Rattle.cp_rounds.specs.declared.setting.Setting.{Setting}
 use Rattle.cp_rounds.proofs.Lists.{each_more, got_at, got_below, some_is}
 use Rattle.cp_rounds.proofs.Made.{part_at, same_machine}
 use Rattle.cp_rounds.proofs.Rooms.{moved_stages, numbered_set, same_stages}
-use Rattle.cp_rounds.proofs.Rounds.{kernel_turn_is, private_turn_is, set_length}
+use Rattle.cp_ahead.proofs.Turns.{set_length}
+use Rattle.cp_rounds.proofs.Rounds.{kernel_turn_is, private_turn_is}
 
 -- ---- Waking
 

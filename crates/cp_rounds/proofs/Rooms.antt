@@ -13,7 +13,8 @@ use Rattle.cp_machine_model.specs.Machines.{next_stage}
 use Rattle.cp_machine_model.specs.PrivateStates.{PrivateState}
 use Rattle.cp_rounds.specs.Runs.{AreSame, IsSame}
 use Rattle.cp_rounds.proofs.Lists.{got_at, got_below, got_set, got_snoc, none_some, some_is}
-use Rattle.cp_rounds.proofs.Rounds.{mapped_length, set_length}
+use Rattle.cp_ahead.proofs.Turns.{set_length}
+use Rattle.cp_rounds.proofs.Rounds.{mapped_length}
 
 pub fewer_askers : (k : Kernel) (n m : ℕ) → m ≤ n → HasRoomForAskers k n → HasRoomForAskers k m
 fewer_askers k n m le h = λ i d below. let room = h i d below in Prim.omega (arith, room, le)
@@ -81,7 +82,7 @@ same_more xs k ys k' i y z k2 here same e f was = record {
 
 -- ---- Numbers in a list
 
-mapped_get : {X Y : Type 0} (f : X → Y) (xs : List X) (i : ℕ) (x : X) → slice_get xs i ≡ Some x → slice_get (map f xs) i ≡ Some (f x)
+pub mapped_get : {X Y : Type 0} (f : X → Y) (xs : List X) (i : ℕ) (x : X) → slice_get xs i ≡ Some x → slice_get (map f xs) i ≡ Some (f x)
 mapped_get f [] i x e = absurd (none_some x e)
 mapped_get f (z ∷ xs) zero x e = ap (λ y. Some (f y)) (some_is z x e)
 mapped_get f (z ∷ xs) (suc i) x e = mapped_get f xs i x e

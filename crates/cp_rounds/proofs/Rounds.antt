@@ -2,6 +2,7 @@
 -- the kernel turn of a process touches only the kernel and the process's own part.
 use Rattle.std.specs.Prelude.{◌≡◌, ◌≢◌, ◌≤◌, ◌<◌, refl, ℕ, zero, suc, ◌+◌, ◌-◌, ◌%◌, Bool, true, false, if◌then◌else◌, List, [], ◌∷◌, ◌++◌, length, map, nat_eq, Option, Some, None, slice_get, slice_set}
 use Rattle.std.proofs.Common.{sym, ◌∙◌, ap, subst, arith}
+use Rattle.cp_ahead.proofs.Turns.{set_apart, set_length}
 use Rattle.cp_model.specs.States.{numbers_from}
 use Rattle.cp_machine_model.specs.KernelSteps.{kernel_steps}
 use Rattle.cp_machine_model.specs.Machines.{Machine, after_kernel_turn, clock, kernel_turn, kernel_turns, phased_round, phased_rounds, private_turn, private_turns, wake, wake_one}
@@ -104,18 +105,6 @@ remains_then a b c x y = record {
   rounds = y.rounds ∙ x.rounds;
   count = y.count ∙ x.count;
 }
-
-pub set_length : {X : Type 0} (xs : List X) (i : ℕ) (y : X) → length (slice_set xs i y) ≡ length xs
-set_length [] i y = refl
-set_length (x ∷ xs) zero y = refl
-set_length (x ∷ xs) (suc i) y = ap suc (set_length xs i y)
-
-pub set_apart : {X : Type 0} (xs : List X) (i j : ℕ) (y : X) → j ≢ i → slice_get (slice_set xs i y) j ≡ slice_get xs j
-set_apart [] i j y ne = refl
-set_apart (x ∷ xs) zero zero y ne = absurd (ne refl)
-set_apart (x ∷ xs) zero (suc j) y ne = refl
-set_apart (x ∷ xs) (suc i) zero y ne = refl
-set_apart (x ∷ xs) (suc i) (suc j) y ne = set_apart xs i j y (λ e. ne (ap suc e))
 
 pub set_here : {X : Type 0} (xs : List X) (i : ℕ) (y : X) → i < length xs → slice_get (slice_set xs i y) i ≡ Some y
 set_here [] i y h = absurd (Prim.omega arith)

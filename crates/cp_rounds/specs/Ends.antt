@@ -9,6 +9,12 @@ use Rattle.cp_program.specs.View as view
 use Rattle.cp_rounds.specs.Numbers.{AreNumbered}
 use Rattle.cp_rounds.specs.declared.setting.Setting.{Setting}
 
+-- What is reserved stays.
+pub record KeepsRoom (xs : List Private) (k : Kernel) (ys : List Private) (k' : Kernel) : Type 0 where
+  pub outputs : map (λ (x : Private). x.output) ys ≡ map (λ (x : Private). x.output) xs
+  pub gates : k'.gates ≡ k.gates
+  pub transcripts : k'.transcripts ≡ k.transcripts
+
 pub record RoundEnds (g : Setting) (xs : List Private) (k : Kernel) (ys : List Private) (k' : Kernel) : Type 0 where
   pub kernel : kernel_of k' ≡ record (kernel_of k) { stages = map next_stage (kernel_of k).stages }
   pub transcripts : transcripts_of k' ≡ transcripts_of k
@@ -16,3 +22,4 @@ pub record RoundEnds (g : Setting) (xs : List Private) (k : Kernel) (ys : List P
   pub numbers : AreNumbered xs → AreNumbered ys
   pub count : length ys ≡ length xs
   pub stages : length k'.stages.items ≡ length k.stages.items
+  pub room : KeepsRoom xs k ys k'

@@ -1,5 +1,5 @@
 -- How many turns of a round are made.
-use Rattle.std.specs.Prelude.{◌≡◌, ◌≤◌, ◌+◌, ◌-◌, ℕ, suc, List, Some, length, slice_get, vec_len}
+use Rattle.std.specs.Prelude.{◌≡◌, ◌≤◌, ◌+◌, ◌-◌, ◌*◌, ℕ, suc, List, Some, length, slice_get, vec_len}
 use Rattle.cp_kernel.specs.KernelOf.{Bytes, HasRoomForAskers, HasRoomForBytes, kernel_of, transcripts_of}
 use Rattle.cp_kernel.specs.declared.kernel.Kernel.{Kernel}
 use Rattle.cp_model.specs.States.{numbers_from}
@@ -18,6 +18,13 @@ pub record Stands (m : Machine) (inputs : List Bytes) (ys : List Private) (k : K
 -- `from`.
 abbrev pub TurnsMade : ℕ → Machine → List Bytes → ℕ → List Private → Kernel → Type 0
 TurnsMade t m inputs from ys k = Stands (kernel_turns t m (numbers_from 1 from)) inputs ys k
+
+-- The kernel has room for what processes write and for the askers, in so many rounds. A turn of either
+-- kind writes at most `most` bytes.
+pub record IsReadyFor (most rounds : ℕ) (xs : List Private) (k : Kernel) : Type 0 where
+  pub stages : length k.stages.items ≡ length xs
+  pub asking : HasRoomForAskers k (rounds * length xs)
+  pub transcripts : (i : ℕ) (x : Private) → slice_get xs i ≡ Some x → HasRoomForBytes k (suc i) (vec_len x.output + rounds * (most + most))
 
 -- The kernel has room for what processes write and for the askers, in the turns of a round from
 -- index `from` on. A turn of either kind writes at most `most` bytes. The private states are those

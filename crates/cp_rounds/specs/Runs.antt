@@ -1,5 +1,5 @@
 -- The rounds of a run, as far as they change the private states and the kernel.
-use Rattle.std.specs.Prelude.{◌≡◌, ◌+◌, ℕ, List, Option, None, Some, length, slice_get}
+use Rattle.std.specs.Prelude.{◌≡◌, ◌+◌, ℕ, Bool, List, Option, None, Some, length, slice_get}
 use Rattle.std.specs.Sync.OnceLock.{Named}
 use Rattle.cp_kernel.specs.KernelOf.{kernel_of, transcripts_of}
 use Rattle.cp_kernel.specs.Turns.{parts_of}
@@ -8,9 +8,10 @@ use Rattle.cp_model.specs.States.{numbers_from}
 use Rattle.cp_private.specs.States.{private_of}
 use Rattle.cp_private.specs.declared.private.Private.{Private}
 use Rattle.cp_machine_model.specs.Machines.{phased_rounds}
-use Rattle.cp_rounds.specs.Made.{TurnsMade}
+use Rattle.cp_rounds.specs.Made.{IsReadyFor, TurnsMade}
 use Rattle.cp_rounds.specs.MachineOf.{machine_with}
 use Rattle.cp_rounds.specs.Numbers.{AreNumbered}
+use Rattle.cp_rounds.specs.Tasks.{AllFree, AreHere, AreLeft}
 use Rattle.cp_rounds.specs.Turned.{moment_of, with_turn_taken}
 use Rattle.cp_rounds.specs.declared.moment.Moment.{Moment}
 use Rattle.cp_rounds.specs.declared.parts.Parts.{Parts}
@@ -30,6 +31,16 @@ pub record AreSame (xs : List Private) (k : Kernel) (ys : List Private) (k' : Ke
   pub transcripts : transcripts_of k' ≡ transcripts_of k
   pub numbers : AreNumbered xs → AreNumbered ys
   pub count : length ys ≡ length xs
+
+-- Room for so many rounds is reserved, and the private turns of the first one are laid at the desk,
+-- unless the calling thread makes them alone. `start` has the private states at its start.
+pub record IsOpened (most : ℕ) (wakes alone : Bool) (rounds : ℕ) (xs : List Private) (k : Kernel) (start ys : List Private) (k' : Kernel) : Type 0 where
+  pub same : AreSame xs k start k'
+  pub free : AllFree most start
+  pub ready : IsReadyFor most rounds start k'
+  pub left : AreLeft wakes 0 start ys
+  pub here : AreHere alone 0 start ys
+  pub count : length ys ≡ length start
 
 -- ---- Rounds
 

@@ -133,6 +133,7 @@ impl<'a, C: Course> Desk<'a, C> {
         round: usize,
         process: usize,
         moment: Moment,
+        most: u32,
         private: &mut Resident,
         tasks: &mut Tasks<'a, C>,
     ) -> Cursor
@@ -144,7 +145,7 @@ impl<'a, C: Course> Desk<'a, C> {
         ensures left { rests moment.wakes private.new ≡ true → private.new ≡ private.old }
     {
         if let Some(slot) = tasks.get_mut(place.slot) {
-            slot.lay(start, round, process, moment, private);
+            slot.lay(start, round, process, moment, most, private);
         }
         let next = place.next(plan);
         if next.chunk != place.chunk {
@@ -157,8 +158,8 @@ impl<'a, C: Course> Desk<'a, C> {
     }
 
     /// Lays the turns of a round, of which there are `turns`, in order of process: those of all
-    /// processes, or else of those that don't rest. The others stay where they are. `tasks` is room
-    /// for those of a chunk.
+    /// processes, or else of those that don't rest, each with those of at most `most` rounds in all.
+    /// The others stay where they are. `tasks` is room for those of a chunk.
     pub fn put_all<R: Wait>(
         &self,
         rt: &R,
@@ -166,6 +167,7 @@ impl<'a, C: Course> Desk<'a, C> {
         start: &OnceToken<'a, Start>,
         round: usize,
         moment: Moment,
+        most: u32,
         of_all: bool,
         turns: usize,
         privates: &mut Vec<Resident>,
@@ -195,6 +197,7 @@ impl<'a, C: Course> Desk<'a, C> {
                 round,
                 i + 1,
                 moment,
+                most,
                 &mut privates[i],
                 tasks,
             );

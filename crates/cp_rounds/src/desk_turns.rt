@@ -1,6 +1,7 @@
 //! The private turns at a desk, which a crew makes chunk by chunk.
 
 ghost use Rattle.std.specs.Prelude.{⊤};
+ghost use Rattle.cp_rounds.specs.Runs.{AreTimes};
 ghost use Rattle.cp_rounds.specs.Tasks.{IsCourseOf};
 
 use crate::desk::{Content, Desk};
@@ -18,11 +19,14 @@ pub struct DeskTurns<'a, C: Course, G: TurnGate> {
     pub(crate) setting: &'a Setting,
     pub(crate) plan: Plan,
     pub(crate) gate: &'a G,
+    /// The number of rounds that were made before the run.
+    pub(crate) done: u64,
     /// The number of waves in a round.
     pub(crate) waves: usize,
     /// The number of chunks in the first wave of a round of all processes. No other wave has more.
     pub(crate) chunks: usize,
-    ghost course: { IsCourseOf C.turned C.input C.most setting.now plan.turn.steps },
+    ghost course: { IsCourseOf C.quiet C.turned C.input C.most setting.now plan.turn.steps },
+    ghost times: { AreTimes C.moment setting.now done },
 }
 
 impl<'a, C: Course, G: TurnGate> Work for DeskTurns<'a, C, G> {
@@ -46,7 +50,7 @@ impl<'a, C: Course, G: TurnGate> Work for DeskTurns<'a, C, G> {
             if let Some(task) = &mut slot.task {
                 if !task.is_made() {
                     self.gate.begin(task.process());
-                    task.make(self.setting, self.plan.turn);
+                    task.make(self.setting, self.done, self.plan.turn);
                 }
             }
         }

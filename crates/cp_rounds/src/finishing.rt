@@ -1,12 +1,15 @@
-//! How the calling thread finishes the turns of a round: it takes private states back from the desk,
-//! or makes the private turns itself if nobody else does, and makes the kernel turns, in order of
-//! process. A process that has nothing to do costs a few comparisons.
+//! How the calling thread finishes the turns of a round: it takes private states back from the
+//! desk, or makes the private turns itself if nobody else does, and makes the kernel turns, in
+//! order of process. A process that has nothing to do costs a few comparisons.
 
-ghost use Rattle.std.specs.Prelude.{◌≡◌, ◌<◌, ◌+◌, ◌-◌, ℕ, List, true, Some, length, slice_get, take};
+ghost use Rattle.std.specs.Prelude.{◌≡◌, ◌≤◌, ◌<◌, ◌+◌, ◌-◌, ◌*◌, ℕ, List, true, Some, length, slice_get, take, vec_capacity, vec_len};
+ghost use Rattle.cp_kernel.specs.KernelOf.{HasRoomForAskers, HasRoomForBytes, IsAmong};
 ghost use Rattle.cp_kernel.specs.Turns.{IsTurned};
 ghost use Rattle.cp_kernel.specs.declared.kernel.Kernel.{Kernel};
 ghost use Rattle.cp_private.specs.Resting.{rests};
+ghost use Rattle.cp_private.specs.Rooms.{HasRoomFor};
 ghost use Rattle.cp_program.specs.View as view;
+ghost use Rattle.cp_rounds.specs.MachineOf.{input_at};
 ghost use Rattle.cp_rounds.specs.Made.{IsReady};
 ghost use Rattle.cp_rounds.specs.Numbers.{AreNumbered};
 ghost use Rattle.cp_rounds.specs.Runs.{TurnsTaken};
@@ -40,11 +43,11 @@ fn take_from_desk<'a, C: Course, R: Wait, G: TurnGate>(
     ensures { IsTaken (C.turned (C.moment round)) (C.input (process - 1)) C.most
         start.now.value.value.items process private.new }
 {
-    hand.take(rt, run, start, round, process, private);
+    hand.take(rt, run, start, round, process, 1, private);
 }
 
-// Makes the private turn of a process where its private state is. It is kept out of the loop over all
-// processes.
+// Makes the private turn of a process where its private state is. It is kept out of the loop over
+// all processes.
 #[inline(never)]
 fn turn_here<'a, C: Course, G: TurnGate>(
     run: &Run<'a, C, G>,
@@ -100,8 +103,45 @@ fn bring_back<'a, C: Course, R: Wait, G: TurnGate>(
     }
 }
 
-// Brings back the private state at an index after its private turn, and makes its kernel turn. It is
-// kept out of the loop over all processes.
+/// Makes the kernel turn of a process, and calls the gate before it.
+#[inline(always)]
+pub(crate) fn kernel_turn_of<'a, C: Course, G: TurnGate>(
+    run: &Run<'a, C, G>,
+    moment: Moment,
+    process: usize,
+    private: &mut Resident,
+    kernel: &mut Kernel,
+)
+    requires among { IsAmong kernel.old private.old.number }
+    requires asking { HasRoomForAskers kernel.old 1 }
+    requires output { HasRoomFor private.old run.now.turns.plan.turn.steps }
+    requires transcript { HasRoomForBytes kernel.old private.old.number
+        (vec_len private.old.output + 11 * run.now.turns.plan.turn.steps) }
+    ensures turn { IsTurned (view.program run.now.turns.setting.now.program) moment.clock
+        run.now.turns.plan.turn.steps kernel.old kernel.new private.old private.new
+        (input_at run.now.turns.setting.now.inputs.items (process - 1)) }
+    ensures asking { (n : ℕ) → HasRoomForAskers kernel.old (n + 1) → HasRoomForAskers kernel.new n }
+    ensures left { (n : ℕ) → HasRoomForBytes kernel.old private.old.number
+        (vec_len private.old.output + 11 * run.now.turns.plan.turn.steps + n)
+        → HasRoomForBytes kernel.new private.old.number n }
+    ensures number { private.new.number ≡ private.old.number }
+    ensures empty { vec_len private.new.output ≡ 0 }
+    ensures capacity { vec_capacity private.old.output ≤ vec_capacity private.new.output }
+{
+    run.turns.gate.kernel(process);
+    let input = run.turns.setting.input(process);
+    kernel_turn(
+        &run.turns.setting.program,
+        kernel,
+        private.private_mut(),
+        input,
+        moment.clock,
+        run.turns.plan.turn,
+    );
+}
+
+// Brings back the private state at an index after its private turn, and makes its kernel turn. It
+// is kept out of the loop over all processes.
 #[inline(never)]
 fn finish_moving<'a, C: Course, R: Wait, G: TurnGate>(
     rt: &R,
@@ -142,16 +182,7 @@ fn finish_moving<'a, C: Course, R: Wait, G: TurnGate>(
     hand.moved = true;
     let private = &mut privates[index];
     bring_back(rt, run, hand, start, round, moment, alone, process, private);
-    run.turns.gate.kernel(process);
-    let input = run.turns.setting.input(process);
-    kernel_turn(
-        &run.turns.setting.program,
-        kernel,
-        private.private_mut(),
-        input,
-        moment.clock,
-        run.turns.plan.turn,
-    );
+    kernel_turn_of(run, moment, process, private, kernel);
 }
 
 // Returns whether a process has no step to make in the round, nor output to move: then both of its
@@ -234,9 +265,9 @@ fn finish_next<'a, C: Course, R: Wait, G: TurnGate>(
     );
 }
 
-// Makes all turns of a round: kernel turns alongside the private turns that are left at the desk, or
-// each after the private turn of its process, if the calling thread is alone. It isn't inlined, so that its loop keeps in registers what a process costs that
-// can't move.
+// Makes all turns of a round: kernel turns alongside the private turns that are left at the desk,
+// or each after the private turn of its process, if the calling thread is alone. It isn't inlined,
+// so that its loop keeps in registers what a process costs that can't move.
 #[inline(never)]
 pub(crate) fn finish_all<'a, C: Course, R: Wait, G: TurnGate>(
     rt: &R,

@@ -1,12 +1,13 @@
 //! What the calling thread holds in a round.
 
-ghost use Rattle.std.specs.Prelude.{◌≡◌, ◌-◌};
-ghost use Rattle.cp_rounds.specs.Tasks.{IsTaken};
+ghost use Rattle.std.specs.Prelude.{◌≡◌, ◌<◌, ◌≤◌, ◌-◌};
+ghost use Rattle.cp_rounds.specs.Tasks.{AreMade, AreTaken};
 
 use crate::cursor::Cursor;
 use crate::desk::{Tasks, room_for_tasks};
 use crate::desk_turns::DeskTurns;
 use crate::gate::TurnGate;
+use crate::pace::Pace;
 use crate::run::Run;
 use crate::task::{Course, Start};
 use cp_crew::{Rack, Wave};
@@ -22,9 +23,11 @@ pub(crate) struct Hand<'a, C: Course> {
     pub(crate) tasks: Tasks<'a, C>,
     /// The next place from which a private state is taken.
     pub(crate) place: Cursor,
-    /// Whether a process has moved since the clock last woke those that wait. If none has, none has a
-    /// private step.
+    /// Whether a process has moved since the clock last woke those that wait. If none has, none has
+    /// a private step.
     pub(crate) moved: bool,
+    /// How many rounds are worth making at once.
+    pub(crate) pace: Pace,
 }
 
 // Makes the turns of a wave that nobody has made yet, begins the next wave, and closes the board of
@@ -43,17 +46,23 @@ fn finish_wave<'a, C: Course, R: Wait, G: TurnGate>(
 }
 
 impl<'a, C: Course> Hand<'a, C> {
-    /// Returns a hand with room for the tasks of a chunk of this many processes.
+    /// Returns a hand with room for the tasks of a chunk of this many processes, for rounds that begin
+    /// at a pace.
     ///
     /// # Errors
     ///
     /// `AllocError` if memory runs out.
-    pub(crate) fn new(alloc: Global, processes: usize) -> Result<Hand<'a, C>, AllocError> {
+    pub(crate) fn new(
+        alloc: Global,
+        processes: usize,
+        pace: Pace,
+    ) -> Result<Hand<'a, C>, AllocError> {
         Ok(Hand {
             waves: Vec::new(alloc),
             tasks: room_for_tasks(alloc, processes)?,
             place: Cursor::first(),
             moved: true,
+            pace,
         })
     }
 
@@ -121,7 +130,8 @@ impl<'a, C: Course> Hand<'a, C> {
         self.fetch(rt, run);
     }
 
-    /// Takes the private state of a process after its private turn in a round into its place.
+    /// Takes the private state of a process after its private turns, of at most `most` rounds from
+    /// this one on, into its place. Returns the number of turns.
     pub(crate) fn take<R: Wait, G: TurnGate>(
         &mut self,
         rt: &R,
@@ -129,11 +139,14 @@ impl<'a, C: Course> Hand<'a, C> {
         start: &OnceToken<'a, Start>,
         round: usize,
         process: usize,
+        most: u32,
         private: &mut Resident,
-    )
+    ) -> u32
         requires cell { start.now.of ≡ C.cell round }
-        ensures { IsTaken (C.turned (C.moment round)) (C.input (process - 1)) C.most
-            start.now.value.value.items process private.new }
+        ensures some { 0 < result }
+        ensures few { result ≤ most }
+        ensures taken { AreTaken (AreMade C.quiet C.turned C.moment round result)
+            (C.input (process - 1)) C.most start.now.value.value.items process private.new }
     {
         if self.place.slot == 0 {
             self.next_chunk(rt, run);
@@ -144,8 +157,9 @@ impl<'a, C: Course> Hand<'a, C> {
             let Some(slot) = self.tasks.get_mut(index) else {
                 continue;
             };
-            if slot.take(start, round, process, private) {
-                return;
+            let turns = slot.take(start, round, process, most, private);
+            if turns > 0 {
+                return turns;
             }
         }
         unreachable!()

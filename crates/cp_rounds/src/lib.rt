@@ -15,11 +15,14 @@
 //!   from its board, and how the turns are shared out.
 //! - `desk`, `slot`, `task`, `desk_turns`, `cursor`: private turns on their way between threads, and
 //!   how the threads make them.
+//! - `ahead`, `ahead_turns`, `quiet`, `pace`: several rounds at once, while processes only compute.
 //! - `hand`, `finishing`: what the calling thread holds in a round, how it takes private states back,
 //!   and how it finishes their turns.
 //! - `replay`, `copies`, `events`: one round in any order of events, on the calling thread.
 #![tactic(auto)]
 
+mod ahead;
+mod ahead_turns;
 mod chain;
 mod closing;
 mod copies;
@@ -34,8 +37,10 @@ mod hand;
 mod law;
 pub mod machine;
 mod moment;
+mod pace;
 mod parts;
 pub mod place;
+mod quiet;
 pub mod reading;
 pub mod replay;
 mod round;

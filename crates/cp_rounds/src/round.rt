@@ -5,12 +5,12 @@
 //! of a round is that of what happens in it, and no state is copied. A private state whose private
 //! turn has no step to make isn't even put at the desk, unless the gate has to be called for it.
 
-ghost use Rattle.std.specs.Prelude.{◌≡◌, ◌≢◌, ◌<◌, ◌+◌, ◌-◌, ◌*◌, ℕ, false, IfErr, IfOk, length, vec_len};
+ghost use Rattle.std.specs.Prelude.{◌≡◌, ◌≢◌, ◌≤◌, ◌<◌, ◌+◌, ◌-◌, ◌*◌, ℕ, false, IfErr, IfOk, length, vec_len};
 ghost use Rattle.cp_kernel.specs.KernelOf.{HasRoomForBytes, kernel_of, transcripts_of};
 ghost use Rattle.cp_kernel.specs.declared.kernel.Kernel.{Kernel};
-ghost use Rattle.cp_rounds.specs.Made.{IsReady};
+ghost use Rattle.cp_rounds.specs.Made.{IsReadyFor};
 ghost use Rattle.cp_rounds.specs.Numbers.{AreNumbered};
-ghost use Rattle.cp_rounds.specs.Runs.{AreSame, IsSame, PartsAfter};
+ghost use Rattle.cp_rounds.specs.Runs.{AreSame, IsOpened, IsSame, PartsAfter};
 ghost use Rattle.cp_rounds.specs.Tasks.{AllFree, AreHere, AreLeft, HasRoomLeft};
 
 use crate::closing::close_round;
@@ -19,9 +19,10 @@ use crate::finishing::finish_all;
 use crate::gate::TurnGate;
 use crate::hand::Hand;
 use crate::moment::Moment;
+use crate::pace::Pace;
 use crate::parts::Parts;
 use crate::run::{Run, cell_at};
-use crate::sharing::helpers;
+use crate::sharing::{Shares, helpers};
 use crate::task::{Course, Start};
 use cp_crew::Wave;
 use cp_kernel::kernel::Kernel;
@@ -32,12 +33,14 @@ use std::alloc::AllocError;
 use std::snapshot::Snapshot;
 use std::sync::{OnceToken, Wait};
 
-// Reserves room for what a process writes in a round, in its private state and in its transcript.
+// Reserves room for what a process writes in so many rounds, in its transcript, and for what it
+// writes in one, in its private state.
 fn reserve_output(
     private: &mut Private,
     kernel: &mut Kernel,
     p: usize,
     turn: Turn,
+    rounds: u32,
 ) -> Result<(), AllocError>
     ensures private { IsSame private.old private.new }
     ensures kernel { kernel_of kernel.new ≡ kernel_of kernel.old }
@@ -47,39 +50,43 @@ fn reserve_output(
         → HasRoomForBytes kernel.new q n }
     ensures free { IfOk result (λ _. HasRoomLeft (11 * turn.steps) false private.new) }
     ensures room { IfOk result (λ _. HasRoomForBytes kernel.new p
-        (vec_len private.new.output + (11 * turn.steps + 11 * turn.steps))) }
+        (vec_len private.new.output + rounds * (11 * turn.steps + 11 * turn.steps))) }
 {
     private.reserve_round(turn)?;
-    let bytes = private.output().len() + 22 * turn.steps() as usize;
+    let bytes = private.output().len() + rounds as usize * (22 * turn.steps() as usize);
     kernel.reserve_bytes(p, bytes)?;
     Ok(())
 }
 
-// Reserves room for what all processes write in a round, and for all of them as askers of each
-// gate.
+// Reserves room for what all processes write in so many rounds, and for all of them as askers of
+// each gate in each round.
 fn reserve_room(
     privates: &mut Vec<Resident>,
     kernel: &mut Kernel,
     turn: Turn,
+    rounds: u32,
 ) -> Result<(), AllocError>
     requires numbers { AreNumbered privates.old.items }
     requires stages { length kernel.old.stages.items ≡ length privates.old.items }
     ensures same { AreSame privates.old.items kernel.old privates.new.items kernel.new }
     ensures free { IfOk result (λ _. AllFree (11 * turn.steps) privates.new.items) }
     ensures ready { IfOk result
-        (λ _. IsReady (11 * turn.steps) 0 privates.new.items kernel.new) }
+        (λ _. IsReadyFor (11 * turn.steps) rounds privates.new.items kernel.new) }
 {
-    kernel.reserve_askers(privates.len())?;
+    let Some(askers) = (rounds as usize).checked_mul(privates.len()) else {
+        return Err(AllocError);
+    };
+    kernel.reserve_askers(askers)?;
     for i in 0..privates.len() {
         let private = privates[i].private_mut();
-        reserve_output(private, kernel, i + 1, turn)?;
+        reserve_output(private, kernel, i + 1, turn, rounds)?;
     }
     Ok(())
 }
 
 // Returns how many private turns of a round are worth sharing: those of all processes if the gate
-// has to be called for them, and otherwise of those that don't rest, if there are threads to help. If
-// that is told wrongly, the calling thread makes the turns alone.
+// has to be called for them, and otherwise of those that don't rest, if there are threads to help.
+// If that is told wrongly, the calling thread makes the turns alone.
 fn turns_to_share<'a, C: Course, G: TurnGate>(
     run: &Run<'a, C, G>,
     hand: &Hand<'a, C>,
@@ -100,6 +107,28 @@ fn turns_to_share<'a, C: Course, G: TurnGate>(
         }
     }
     turns
+}
+
+// Returns how the private turns of so many rounds are shared out.
+pub(crate) fn shares_of<'a, C: Course, G: TurnGate>(
+    run: &Run<'a, C, G>,
+    hand: &Hand<'a, C>,
+    privates: &[Resident],
+    moment: Moment,
+    rounds: u32,
+) -> Shares
+    ensures { result.rounds ≡ rounds }
+{
+    let of_all = !run.turns.gate.does_nothing();
+    let turns = turns_to_share(run, hand, privates, of_all, moment.wakes);
+    let helpers = helpers(turns, of_all, run.turns.plan.turn, rounds).min(run.rack.places());
+    let alone = helpers == 0 && !of_all;
+    Shares {
+        rounds,
+        turns: if alone { 0 } else { turns },
+        helpers,
+        alone,
+    }
 }
 
 // Returns the waves of a round of so many private turns, the first one last, for this many workers.
@@ -141,9 +170,7 @@ fn lay_turns<'a, C: Course, R: Wait, G: TurnGate>(
     start: &OnceToken<'a, Start>,
     round: usize,
     moment: Moment,
-    of_all: bool,
-    turns: usize,
-    alone: bool,
+    shares: Shares,
     privates: &mut Vec<Resident>,
 )
     requires cell { start.now.of ≡ C.cell round }
@@ -152,17 +179,82 @@ fn lay_turns<'a, C: Course, R: Wait, G: TurnGate>(
     requires start { start.now.value.value.items ≡ privates.old.items }
     requires free { AllFree C.most privates.old.items }
     ensures left { AreLeft moment.wakes 0 privates.old.items privates.new.items }
-    ensures here { AreHere alone 0 privates.old.items privates.new.items }
+    ensures here { AreHere shares.alone 0 privates.old.items privates.new.items }
     ensures count { length privates.new.items ≡ length privates.old.items }
 {
-    if alone {
+    if shares.alone {
         return;
     }
-    let DeskTurns { desk, plan, .. } = &run.turns;
+    let DeskTurns {
+        desk,
+        plan,
+        gate,
+        ..
+    } = &run.turns;
+    let of_all = !gate.does_nothing();
+    let Shares { rounds, turns, .. } = shares;
     let tasks = &mut hand.tasks;
     desk.put_all(
-        rt, plan, start, round, moment, of_all, turns, privates, tasks,
+        rt, plan, start, round, moment, rounds, of_all, turns, privates, tasks,
     );
+}
+
+// Returns for how many rounds room is reserved. Where several are made at once, it is the largest
+// number of them from the beginning on: room that grows little by little is copied each time.
+fn rounds_of_room(pace: &Pace, rounds: u32) -> u32
+    ensures { rounds ≤ result }
+{
+    if rounds == 1 {
+        return 1;
+    }
+    pace.most().max(rounds)
+}
+
+/// Opens the round of a run at this index, and with it as many as are made at once: reserves room
+/// for them, and lets the threads draw the private turns. Returns the start of the round.
+///
+/// # Errors
+///
+/// `AllocError` if memory runs out. Nothing but reserved room has then changed.
+pub(crate) fn open_round<'a, C: Course, R: Wait, G: TurnGate>(
+    rt: &R,
+    run: &Run<'a, C, G>,
+    hand: &mut Hand<'a, C>,
+    round: usize,
+    moment: Moment,
+    shares: Shares,
+    privates: &mut Vec<Resident>,
+    kernel: &mut Kernel,
+) -> Result<OnceToken<'a, Start>, AllocError>
+    requires round { round < length run.now.cells.now }
+    requires time { moment ≡ C.moment round }
+    requires numbers { AreNumbered privates.old.items }
+    requires stages { length kernel.old.stages.items ≡ length privates.old.items }
+    ensures kept { IfErr result
+        (λ _. AreSame privates.old.items kernel.old privates.new.items kernel.new) }
+    ensures cell { IfOk result (λ start. start.of ≡ C.cell round) }
+    ensures opened { IfOk result (λ start. IsOpened C.most moment.wakes shares.alone shares.rounds
+        privates.old.items kernel.old start.value.value.items privates.new.items kernel.new) }
+{
+    let rounds = rounds_of_room(&hand.pace, shares.rounds);
+    reserve_room(privates, kernel, run.turns.plan.turn, rounds)?;
+    let waves = waves_of(
+        rt,
+        run,
+        round,
+        shares.turns,
+        shares.helpers.saturating_add(1),
+    )?;
+    // Only this round writes its cell, but no contract says so.
+    let Ok(start) = cell_at(run.cells, round).set(rt, Snapshot::of(privates)) else {
+        return Err(AllocError);
+    };
+    if moment.wakes {
+        hand.moved = false;
+    }
+    hand.begin(rt, run, waves);
+    lay_turns(rt, run, hand, &start, round, moment, shares, privates);
+    Ok(start)
 }
 
 /// Makes the round of a run at this index: room for all output, the waves, the private turns by
@@ -180,45 +272,16 @@ pub fn make_round<'a, C: Course, R: Wait, G: TurnGate>(
 ) -> Result<(), AllocError>
     requires round { round < length run.now.cells.now }
     ensures made { IfOk result (λ _. PartsAfter run.now.turns.setting.now
-        run.now.turns.plan.turn.steps (run.now.done + round) 1 parts.old parts.new) }
+        run.now.turns.plan.turn.steps (run.now.turns.done + round) 1 parts.old parts.new) }
     ensures kept { IfErr result (λ _. PartsAfter run.now.turns.setting.now
-        run.now.turns.plan.turn.steps (run.now.done + round) 0 parts.old parts.new) }
+        run.now.turns.plan.turn.steps (run.now.turns.done + round) 0 parts.old parts.new) }
     ensures count { length parts.new.privates.items ≡ length parts.old.privates.items }
 {
-    let DeskTurns {
-        setting,
-        plan,
-        gate,
-        ..
-    } = &run.turns;
-    let moment = setting.moment(run.done + round as u64);
-    let of_all = !gate.does_nothing();
-    reserve_room(&mut parts.privates, &mut parts.kernel, plan.turn)?;
-    let turns = turns_to_share(run, hand, &parts.privates, of_all, moment.wakes);
-    if moment.wakes {
-        hand.moved = false;
-    }
-    let helpers = helpers(turns, of_all, plan.turn).min(run.rack.places());
-    let alone = helpers == 0 && !of_all;
-    let turns = if alone { 0 } else { turns };
-    let waves = waves_of(rt, run, round, turns, helpers + 1)?;
-    // Only this round writes its cell, but no contract says so.
-    let Ok(start) = cell_at(run.cells, round).set(rt, Snapshot::of(&parts.privates)) else {
-        return Err(AllocError);
-    };
-    hand.begin(rt, run, waves);
-    lay_turns(
-        rt,
-        run,
-        hand,
-        &start,
-        round,
-        moment,
-        of_all,
-        turns,
-        alone,
-        &mut parts.privates,
-    );
+    let setting = run.turns.setting;
+    let moment = setting.moment(run.turns.done + round as u64);
+    let Parts { privates, kernel } = parts;
+    let shares = shares_of(run, hand, privates, moment, 1);
+    let start = open_round(rt, run, hand, round, moment, shares, privates, kernel)?;
     finish_all(
         rt,
         run,
@@ -226,10 +289,10 @@ pub fn make_round<'a, C: Course, R: Wait, G: TurnGate>(
         &start,
         round,
         moment,
-        alone,
-        &mut parts.privates,
-        &mut parts.kernel,
+        shares.alone,
+        privates,
+        kernel,
     );
-    close_round(setting, &mut parts.privates, &mut parts.kernel);
+    close_round(setting, privates, kernel);
     Ok(())
 }

@@ -1,15 +1,17 @@
 //! Rounds by threads that are kept from one round to the next. The module `round` makes each round.
 
-ghost use Rattle.std.specs.Prelude.{◌≡◌, ◌<◌, ◌+◌, ◌-◌, ◌*◌, ◌^◌, IfErr, IfOk, length, slice_get};
+ghost use Rattle.std.specs.Prelude.{◌≡◌, ◌<◌, ◌≤◌, ◌+◌, ◌-◌, ◌*◌, ◌^◌, IfErr, IfOk, length, slice_get};
 ghost use Rattle.cp_rounds.specs.Runs.{AreNamed, AreTimes, PartsAfter, name_of};
 ghost use Rattle.cp_rounds.specs.Tasks.{IsCourseOf};
 ghost use Rattle.cp_rounds.specs.declared.parts.Parts.{Parts};
 
+use crate::ahead::make_ahead;
 use crate::desk::Desk;
 use crate::desk_turns::DeskTurns;
 use crate::gate::TurnGate;
 use crate::hand::Hand;
 use crate::law::settings_are_shared;
+use crate::pace::Pace;
 use crate::parts::Parts;
 use crate::round::make_round;
 use crate::setting::Setting;
@@ -38,16 +40,13 @@ pub struct Run<'a, C: Course, G: TurnGate> {
     pub(crate) alloc: Global,
     pub(crate) turns: DeskTurns<'a, C, G>,
     pub(crate) rack: Rack<'a, C>,
-    /// The number of rounds that were made before the run.
-    pub(crate) done: u64,
     /// The cells of the starts of its rounds.
     pub(crate) cells: &'a [OnceLock<Start>],
     /// The cells of the sheets of its waves, and of one more, which ends the threads.
     pub(crate) sheets: &'a [OnceLock<Sheet>],
     ghost cell_names: { AreNamed C.cell cells.now },
     ghost sheet_names: { AreNamed C.sheet sheets.now },
-    ghost times: { AreTimes C.moment turns.setting.now done },
-    ghost few: { done + length cells.now < 2 ^ 64 },
+    ghost few: { turns.done + length cells.now < 2 ^ 64 },
     ghost room: { length cells.now * turns.waves < length sheets.now },
 }
 
@@ -64,6 +63,32 @@ impl<'a, C: Course, G: TurnGate> Run<'a, C, G> {
         round * self.turns.waves + wave
     }
 
+    // Makes the round at an index, and perhaps some of those after it. Returns how many were made.
+    fn make_next<R: Wait>(
+        &self,
+        rt: &R,
+        round: usize,
+        hand: &mut Hand<'a, C>,
+        parts: &mut Parts,
+    ) -> Result<usize, AllocError>
+        requires round { round < length self.now.cells.now }
+        ensures some { IfOk result (λ n. 0 < n) }
+        ensures few { IfOk result (λ n. round + n ≤ length self.now.cells.now) }
+        ensures made { IfOk result (λ n. PartsAfter self.now.turns.setting.now
+            self.now.turns.plan.turn.steps (self.now.turns.done + round) n parts.old parts.new) }
+        ensures kept { IfErr result (λ _. PartsAfter self.now.turns.setting.now
+            self.now.turns.plan.turn.steps (self.now.turns.done + round) 0 parts.old parts.new) }
+        ensures count { length parts.new.privates.items ≡ length parts.old.privates.items }
+    {
+        let left = self.cells.len() - round;
+        let count = (hand.pace.rounds() as usize).min(left) as u32;
+        if count > 1 && make_ahead(rt, self, round, count, hand, parts) {
+            return Ok(count as usize);
+        }
+        make_round(rt, self, round, hand, parts)?;
+        Ok(1)
+    }
+
     // Makes a round for each cell. `Err` has the number of rounds made.
     fn make_rounds<R: Wait>(
         &self,
@@ -72,16 +97,18 @@ impl<'a, C: Course, G: TurnGate> Run<'a, C, G> {
         parts: &mut Parts,
     ) -> Result<(), usize>
         ensures made { IfOk result (λ _. PartsAfter self.now.turns.setting.now
-            self.now.turns.plan.turn.steps self.now.done (length self.now.cells.now) parts.old
+            self.now.turns.plan.turn.steps self.now.turns.done (length self.now.cells.now) parts.old
             parts.new) }
         ensures partly { IfErr result (λ n. (n < length self.now.cells.now)
-            × PartsAfter self.now.turns.setting.now self.now.turns.plan.turn.steps self.now.done n
-            parts.old parts.new) }
+            × PartsAfter self.now.turns.setting.now self.now.turns.plan.turn.steps
+            self.now.turns.done n parts.old parts.new) }
         ensures count { length parts.new.privates.items ≡ length parts.old.privates.items }
     {
-        for round in 0..self.cells.len() {
-            if make_round(rt, self, round, hand, parts).is_err() {
-                return Err(round);
+        let mut round = 0;
+        'rounds: while round < self.cells.len() {
+            match self.make_next(rt, round, hand, parts) {
+                Ok(count) => round += count,
+                Err(_) => return Err(round),
             }
         }
         Ok(())
@@ -113,9 +140,9 @@ fn make_rounds_at<'s, 'a, E, C: Course + Send + Sync, R: Threads + Wait + Sync, 
 ) -> (Parts, Result<(), usize>)
     requires some { 0 < length run.now.cells.now }
     ensures made { IfOk result.1 (λ _. PartsAfter run.now.turns.setting.now
-        run.now.turns.plan.turn.steps run.now.done (length run.now.cells.now) parts result.0) }
+        run.now.turns.plan.turn.steps run.now.turns.done (length run.now.cells.now) parts result.0) }
     ensures partly { IfErr result.1 (λ n. (n < length run.now.cells.now)
-        × PartsAfter run.now.turns.setting.now run.now.turns.plan.turn.steps run.now.done n parts
+        × PartsAfter run.now.turns.setting.now run.now.turns.plan.turn.steps run.now.turns.done n parts
         result.0) }
     ensures count { length result.0.privates.items ≡ length parts.privates.items }
 {
@@ -123,7 +150,9 @@ fn make_rounds_at<'s, 'a, E, C: Course + Send + Sync, R: Threads + Wait + Sync, 
     let Ok(ending) = ending(rt, run) else {
         return (parts, Err(0));
     };
-    let Ok(mut hand) = Hand::new(run.alloc, slots_of(&run.turns.plan)) else {
+    let DeskTurns { setting, plan, .. } = &run.turns;
+    let pace = Pace::first(&setting.program, plan.turn);
+    let Ok(mut hand) = Hand::new(run.alloc, slots_of(plan), pace) else {
         return (parts, Err(0));
     };
     let made = match start(rt, scope, &run.rack, &run.turns) {
@@ -171,10 +200,10 @@ fn make_rounds_kept<
 >(rt: &'s R, run: &'s Run<'a, C, G>, held: H) -> (H, Result<(), usize>)
     requires some { 0 < length run.now.cells.now }
     ensures made { IfOk result.1 (λ _. PartsAfter run.now.turns.setting.now
-        run.now.turns.plan.turn.steps run.now.done (length run.now.cells.now) (H.holds held)
+        run.now.turns.plan.turn.steps run.now.turns.done (length run.now.cells.now) (H.holds held)
         (H.holds result.0)) }
     ensures partly { IfErr result.1 (λ n. (n < length run.now.cells.now)
-        × PartsAfter run.now.turns.setting.now run.now.turns.plan.turn.steps run.now.done n
+        × PartsAfter run.now.turns.setting.now run.now.turns.plan.turn.steps run.now.turns.done n
         (H.holds held) (H.holds result.0)) }
     ensures count { length (H.holds result.0).privates.items ≡ length
         (H.holds held).privates.items }
@@ -185,11 +214,11 @@ fn make_rounds_kept<
         move |scope| -> (H, Result<(), usize>)
             requires { 0 < length run.now.cells.now }
             ensures made { IfOk result.1 (λ _. PartsAfter run.entry.now.turns.setting.now
-                run.entry.now.turns.plan.turn.steps run.entry.now.done
+                run.entry.now.turns.plan.turn.steps run.entry.now.turns.done
                 (length run.entry.now.cells.now) (H.holds held) (H.holds result.0)) }
             ensures partly { IfErr result.1 (λ n. (n < length run.entry.now.cells.now)
                 × PartsAfter run.entry.now.turns.setting.now run.entry.now.turns.plan.turn.steps
-                run.entry.now.done n (H.holds held) (H.holds result.0)) }
+                run.entry.now.turns.done n (H.holds held) (H.holds result.0)) }
             ensures count { length (H.holds result.0).privates.items ≡ length
                 (H.holds held).privates.items }
         {
@@ -219,7 +248,7 @@ fn make_rounds_by_threads<C: Course + Send + Sync, R: Threads + Wait + Sync, G: 
     requires room { length cells.now * waves < length sheets.now }
     requires times { AreTimes C.moment setting.now done }
     requires few { done + length cells.now < 2 ^ 64 }
-    requires course { IsCourseOf C.turned C.input C.most setting.now plan.now.turn.steps }
+    requires course { IsCourseOf C.quiet C.turned C.input C.most setting.now plan.now.turn.steps }
     ensures made { IfOk result.1
         (λ _. PartsAfter setting.now plan.now.turn.steps done (length cells.now) parts result.0) }
     ensures partly { IfErr result.1
@@ -245,11 +274,11 @@ fn make_rounds_by_threads<C: Course + Send + Sync, R: Threads + Wait + Sync, G: 
             setting,
             plan,
             gate,
+            done,
             waves,
             chunks,
         },
         rack,
-        done,
         cells,
         sheets,
     };

@@ -1,6 +1,6 @@
 //! What no round changes.
 
-ghost use Rattle.std.specs.Prelude.{◌≡◌, ◌<◌, ◌-◌, ◌^◌};
+ghost use Rattle.std.specs.Prelude.{◌≡◌, ◌<◌, ◌+◌, ◌-◌, ◌^◌, IfSome};
 ghost use Rattle.cp_rounds.specs.MachineOf.{input_at};
 ghost use Rattle.cp_rounds.specs.Turned.{moment_of};
 
@@ -37,5 +37,19 @@ impl Setting {
             clock: (rounds + 1) / tick,
             wakes: (rounds + 1) % tick == 0,
         }
+    }
+
+    /// Returns the time of a round of a run that began after `done` rounds: of the one that comes
+    /// `later` rounds after the one at an index. `None` if no machine makes so many rounds.
+    pub(crate) fn moment_of(&self, done: u64, index: usize, later: u32) -> Option<Moment>
+        ensures { IfSome result
+            (λ moment. moment ≡ moment_of self.now.tick.rounds (done + (index + later))) }
+    {
+        let rounds = index.checked_add(later as usize)?;
+        let rounds = done.checked_add(rounds as u64)?;
+        if rounds == u64::MAX {
+            return None;
+        }
+        Some(self.moment(rounds))
     }
 }

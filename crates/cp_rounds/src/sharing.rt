@@ -16,18 +16,31 @@ const STEPS_A_DRAW: usize = 800;
 // How often each worker draws in a round, at least, so that all end at about the same time.
 const DRAWS_A_WORKER: usize = 8;
 
-/// Returns how many threads, besides the calling one, are worth waking for so many private turns:
-/// all of them if the gate has to be called for each process, none if there is one turn at most, and
-/// otherwise at least one.
-pub(crate) fn helpers(turns: usize, of_all: bool, turn: Turn) -> usize {
+/// Returns how many threads, besides the calling one, are worth waking for so many private turns in
+/// each of so many rounds: all of them if the gate has to be called for each process, none if there
+/// is one turn at most, and otherwise at least one.
+pub(crate) fn helpers(turns: usize, of_all: bool, turn: Turn, rounds: u32) -> usize {
     if of_all {
         return usize::MAX;
     }
     if turns <= 1 {
         return 0;
     }
-    let steps = (turns as u64).saturating_mul(u64::from(turn.steps()));
-    (steps / STEPS_A_THREAD).max(1) as usize
+    let steps = u64::from(turn.steps()) * u64::from(rounds);
+    ((turns as u64).saturating_mul(steps) / STEPS_A_THREAD).max(1) as usize
+}
+
+/// How the private turns of a round are shared out.
+#[derive(Clone, Copy, Debug)]
+pub(crate) struct Shares {
+    /// Of how many rounds, at most, turns are made at once.
+    pub(crate) rounds: u32,
+    /// How many turns lie at the desk.
+    pub(crate) turns: usize,
+    /// How many threads are worth waking besides the calling one.
+    pub(crate) helpers: usize,
+    /// Whether the calling thread makes them alone, each where its private state is.
+    pub(crate) alone: bool,
 }
 
 // Returns how many chunks of a plan are drawn at once in rounds of so many processes.
@@ -41,8 +54,8 @@ fn chunks_at_once(plan: &Plan, processes: usize) -> usize {
 }
 
 /// Returns the plan by which threads draw in rounds of so many processes. Where the gate does
-/// nothing, nobody can tell which thread makes a turn: chunks of few steps are then drawn several at
-/// once, as larger ones.
+/// nothing, nobody can tell which thread makes a turn: chunks of few steps are then drawn several
+/// at once, as larger ones.
 pub(crate) fn drawn_plan(plan: &Plan, processes: usize, does_nothing: bool) -> Plan
     ensures turn { result.turn ≡ plan.now.turn }
 {

@@ -1,8 +1,8 @@
 //! Slots for private turns, and the exchange of private states with them.
 
-ghost use Rattle.std.specs.Prelude.{◌≡◌, ◌-◌, false, true, Some, slice_get};
+ghost use Rattle.std.specs.Prelude.{◌≡◌, ◌<◌, ◌≤◌, ◌-◌, false, true, Some, slice_get};
 ghost use Rattle.cp_private.specs.Resting.{rests};
-ghost use Rattle.cp_rounds.specs.Tasks.{HasRoomLeft, IsTaken};
+ghost use Rattle.cp_rounds.specs.Tasks.{AreMade, AreTaken, HasRoomLeft};
 
 use crate::moment::Moment;
 use crate::task::{Course, Start, Task};
@@ -34,8 +34,8 @@ impl<'a, C: Course> Slot<'a, C> {
         })
     }
 
-    /// Lays the turn of a process, which is still to be made, and leaves the spare private state in
-    /// the place of its own, where it doesn't rest.
+    /// Lays the turn of a process, which is still to be made, with those of at most `most` rounds
+    /// in all, and leaves the spare private state in the place of its own, where it doesn't rest.
     #[inline(always)]
     pub fn lay(
         &mut self,
@@ -43,6 +43,7 @@ impl<'a, C: Course> Slot<'a, C> {
         round: usize,
         process: usize,
         moment: Moment,
+        most: u32,
         private: &mut Resident,
     )
         requires cell { start.now.of ≡ C.cell round }
@@ -60,31 +61,34 @@ impl<'a, C: Course> Slot<'a, C> {
             return;
         }
         let private = mem::replace(private, spare);
-        self.task = Some(Task::new(start, round, process, moment, private));
+        self.task = Some(Task::new(start, round, process, moment, most, private));
     }
 
-    /// Takes the private state of a process after its private turn into its place, which the spare
-    /// one leaves. Returns false if this isn't the turn of this process in this round, or if it isn't
-    /// made.
+    /// Takes the private state of a process after its private turns, of rounds from this one on,
+    /// into its place, which the spare one leaves. Returns the number of turns. It is 0 if they
+    /// aren't made, if they are more than `most`, or if these aren't turns of this process in this
+    /// round.
     #[inline(always)]
     pub fn take(
         &mut self,
         start: &OnceToken<'a, Start>,
         round: usize,
         process: usize,
+        most: u32,
         private: &mut Resident,
-    ) -> bool
+    ) -> u32
         requires cell { start.now.of ≡ C.cell round }
-        ensures { result ≡ true → IsTaken (C.turned (C.moment round)) (C.input (process - 1))
-            C.most start.now.value.value.items process private.new }
+        ensures few { result ≤ most }
+        ensures taken { 0 < result → AreTaken (AreMade C.quiet C.turned C.moment round result)
+            (C.input (process - 1)) C.most start.now.value.value.items process private.new }
     {
         let Some(task) = self.task.take() else {
-            return false;
+            return 0;
         };
-        let Some(found) = task.finish(start, round, process) else {
-            return false;
+        let Some((turns, found)) = task.finish(start, round, process, most) else {
+            return 0;
         };
         self.spare = Some(mem::replace(private, found));
-        true
+        turns
     }
 }

@@ -4,12 +4,18 @@
 //! its private state comes from: the private state at its index at the start of its round. The cell
 //! of the round, which is written once, says which start that was.
 
-ghost use Rattle.std.specs.Prelude.{◌≡◌, ◌-◌, ℕ, List, [], IfSome, Some, false, true, slice_get};
+ghost use Rattle.std.specs.Prelude.{◌≡◌, ◌≢◌, ◌<◌, ◌≤◌, ◌+◌, ◌-◌, ◌^◌, ℕ, Bool, List, [], IfSome, Some, false, true, slice_get};
+ghost use Rattle.std.proofs.Props.{props};
 ghost use Rattle.cp_machine_model.specs.PrivateStates.{PrivateState};
-ghost use Rattle.cp_rounds.specs.Tasks.{ComesOf, HasRoomLeft, IsCourseOf, IsShort};
+ghost use Rattle.cp_private.specs.States.{private_of};
+ghost use Rattle.cp_program.specs.View as view;
+ghost use Rattle.cp_rounds.specs.Quiet.{is_quiet};
+ghost use Rattle.cp_rounds.specs.Runs.{AreTimes};
+ghost use Rattle.cp_rounds.specs.Tasks.{AreMade, AreMade-prop, AreTaken, ComesOf, HasRoomLeft, IsCourseOf, IsShort, IsWide, is_some};
 ghost use Rattle.cp_rounds.specs.declared.moment.Moment as declared;
 
 use crate::moment::Moment;
+use crate::quiet::is_quiet;
 use crate::setting::Setting;
 use crate::turns::turn_in_place;
 use cp_crew::Sheets;
@@ -24,6 +30,9 @@ pub type Start = Snapshot<Vec<Resident>>;
 
 /// What is the same in all rounds of a run. Whoever begins the run chooses it.
 pub trait Course: Sheets {
+    /// Whether a process has no kernel turn to make, whatever the kernel is.
+    ghost quiet: { PrivateState → Bool };
+
     /// What a turn makes of the content of a private state, at the time of a round.
     ghost turned: { declared.Moment → PrivateState → PrivateState };
 
@@ -41,6 +50,8 @@ pub trait Course: Sheets {
 }
 
 impl Course for Brand {
+    ghost quiet = { λ _. false };
+
     ghost turned = { λ w o. o };
 
     ghost moment = { λ _. record { clock = 0; wakes = false } };
@@ -52,32 +63,39 @@ impl Course for Brand {
     ghost cell = { λ _. 0 };
 }
 
-/// The private turn of a process in a round, made or still to be made.
+/// The private turn of a process in a round, made or still to be made, and perhaps those of the
+/// rounds after it.
 #[derive(Drop)]
 pub struct Task<'a, C: Course> {
     round: usize,
     process: usize,
     moment: Moment,
-    pub(crate) made: bool,
+    /// How many turns there are to make at most.
+    most: u32,
+    /// How many turns are made.
+    pub(crate) made: u32,
     private: Resident,
     start: OnceToken<'a, Start>,
     of: PhantomData<C>,
     ghost cell: { start.of ≡ C.cell round },
     ghost time: { moment ≡ C.moment round },
     ghost number: { private.number ≡ process },
-    ghost comes: { ComesOf (C.turned moment) (C.input (process - 1)) start.value.value.items
-        (process - 1) made private },
-    ghost short: { IsShort C.most start.value.value.items (process - 1) made private },
-    ghost room: { HasRoomLeft C.most made private },
+    ghost comes: { ComesOf (AreMade C.quiet C.turned C.moment round made) (C.input (process - 1))
+        start.value.value.items (process - 1) private } by { Prim.hlevel (AreMade-prop, props) },
+    ghost short: { IsShort C.most start.value.value.items (process - 1) (is_some made) private },
+    ghost room: { HasRoomLeft C.most (is_some made) private },
+    ghost wide: { IsWide C.most private },
 }
 
 impl<'a, C: Course> Task<'a, C> {
-    /// Returns the turn of a process, which is still to be made.
+    /// Returns the turn of a process, which is still to be made, with those of at most so many
+    /// rounds in all.
     pub fn new(
         start: &OnceToken<'a, Start>,
         round: usize,
         process: usize,
         moment: Moment,
+        most: u32,
         private: Resident,
     ) -> Task<'a, C>
         requires cell { start.now.of ≡ C.cell round }
@@ -90,7 +108,8 @@ impl<'a, C: Course> Task<'a, C> {
             round,
             process,
             moment,
-            made: false,
+            most,
+            made: 0,
             private,
             start: start.again(),
             of: PhantomData,
@@ -104,44 +123,80 @@ impl<'a, C: Course> Task<'a, C> {
         self.process
     }
 
-    /// Returns whether the turn has been made.
+    /// Returns whether the turn of the round has been made.
     pub fn is_made(&self) -> bool
-        ensures { result ≡ self.now.made }
+        ensures { result ≡ is_some self.now.made }
     {
-        self.made
+        self.made > 0
     }
 
-    /// Makes the turn.
-    pub fn make(&mut self, setting: &Setting, turn: Turn)
-        requires turn { IsCourseOf C.turned C.input C.most setting.now turn.steps }
-        requires first { self.old.made ≡ false }
-        ensures made { self.new.made ≡ true }
+    // Makes the next turn, of a round at this time. Before any but the first one the process is
+    // quiet.
+    fn make_turn(&mut self, setting: &Setting, turn: Turn, moment: Moment)
+        requires course { IsCourseOf C.quiet C.turned C.input C.most setting.now turn.steps }
+        requires time { moment ≡ C.moment (self.old.round + self.old.made) }
+        requires quiet { self.old.made ≢ 0 → (input : List ℕ)
+            → is_quiet (view.program setting.now.program) (private_of self.old.private input) ≡ true }
+        requires few { self.old.made < 2 ^ 32 - 1 }
+        ensures made { self.new.made ≡ self.old.made + 1 }
     {
         let private = self.private.private_mut();
-        turn_in_place(setting, private, self.process, self.moment, turn);
-        self.made = true;
+        turn_in_place(setting, private, self.process, moment, turn);
+        self.made += 1;
     }
 
-    /// Returns the private state, if the turn has been made and is the turn of this process in this
-    /// round.
+    // Makes the turn of the next round, if there is one to make and the process is quiet. Returns
+    // whether it did.
+    fn make_next(&mut self, setting: &Setting, done: u64, turn: Turn) -> bool
+        requires course { IsCourseOf C.quiet C.turned C.input C.most setting.now turn.steps }
+        requires times { AreTimes C.moment setting.now done }
+        ensures made { self.old.made ≤ self.new.made }
+    {
+        if self.made >= self.most || !is_quiet(&setting.program, self.private.private()) {
+            return false;
+        }
+        let Some(moment) = setting.moment_of(done, self.round, self.made) else {
+            return false;
+        };
+        self.make_turn(setting, turn, moment);
+        true
+    }
+
+    /// Makes the turn, and those of later rounds while the process is quiet, of a run that began
+    /// after `done` rounds.
+    pub fn make(&mut self, setting: &Setting, done: u64, turn: Turn)
+        requires course { IsCourseOf C.quiet C.turned C.input C.most setting.now turn.steps }
+        requires times { AreTimes C.moment setting.now done }
+        requires first { self.old.made ≡ 0 }
+        ensures made { 0 < self.new.made }
+    {
+        self.make_turn(setting, turn, self.moment);
+        for _turn in 1..self.most {
+            if !self.make_next(setting, done, turn) {
+                return;
+            }
+        }
+    }
+
+    /// Returns the private state and the number of turns made, if that is at least 1 and at most
+    /// `most`, and they are the turns of this process from this round on.
     pub fn finish(
         self,
         start: &OnceToken<'a, Start>,
         round: usize,
         process: usize,
-    ) -> Option<Resident>
+        most: u32,
+    ) -> Option<(u32, Resident)>
         requires cell { start.now.of ≡ C.cell round }
-        ensures number { IfSome result (λ x. x.number ≡ process) }
-        ensures comes { IfSome result (ComesOf (C.turned (C.moment round)) (C.input (process - 1))
-            start.now.value.value.items (process - 1) true) }
-        ensures short { IfSome result
-            (IsShort C.most start.now.value.value.items (process - 1) true) }
-        ensures room { IfSome result (HasRoomLeft C.most true) }
+        ensures some { IfSome result (λ r. 0 < r.0) }
+        ensures few { IfSome result (λ r. r.0 ≤ most) }
+        ensures taken { IfSome result (λ r. AreTaken (AreMade C.quiet C.turned C.moment round r.0)
+            (C.input (process - 1)) C.most start.now.value.value.items process r.1) }
     {
-        if !self.made || self.round != round || self.process != process {
+        if self.made == 0 || self.made > most || self.round != round || self.process != process {
             return None;
         }
         start.agrees(&self.start);
-        Some(self.private)
+        Some((self.made, self.private))
     }
 }

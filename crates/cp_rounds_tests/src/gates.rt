@@ -209,3 +209,19 @@ impl TurnGate for Counting {
         }
     }
 }
+
+// Counts kernel turns, and says that nobody waits for its calls.
+#[derive(Drop)]
+pub(crate) struct CountingKernelTurns(pub(crate) Counting);
+
+impl TurnGate for CountingKernelTurns {
+    fn begin(&self, _p: usize) {}
+
+    fn kernel(&self, p: usize) {
+        self.0.kernel(p);
+    }
+
+    fn does_nothing(&self) -> bool {
+        true
+    }
+}

@@ -76,6 +76,53 @@ fn a_run_has_more_rounds_than_share_their_threads(rt: HostRuntime) -> Result<(),
     Ok(())
 }
 
+// Two processes compute, and call a monitor every ten iterations: 4 times and 9 times. Several
+// rounds are made at once in between, and the calls and the output fall into the middle of them. Word
+// 0 of a monitor is its mark.
+#[test]
+fn processes_that_compute_meet_a_monitor_now_and_then(rt: HostRuntime) -> Result<(), Fail> {
+    let text = "type m = monitor; var n: integer;
+          procedure entry add; begin n := n + 1 end;
+          begin n := 0 end;
+        type p = process(c: m; most: integer); var x: integer;
+          begin
+            x := 0;
+            while x < most do begin
+              x := x + 1;
+              if x mod 10 = 0 then c.add
+            end;
+            display(x)
+          end;
+        var c: m; a, b: p; begin init c, a(c, 40), b(c, 90) end.";
+    let ended = "activity 2: Ended
+        activity 3: Ended
+        out 2: '40' ''
+        out 3: '90' ''
+        holder 1: Free
+        shared 1: 13";
+    expect(&rt, rt.alloc(), text, &[(1_000, 1, ended)])?;
+    expect(&rt, rt.alloc(), text, &[(1_000, 3, ended)])
+}
+
+// Two counters and what they count at the end of each tenth round: a round has two iterations of
+// two steps.
+#[test]
+fn a_run_stops_between_any_two_rounds(rt: HostRuntime) -> Result<(), Fail> {
+    let text = "type p = process; var x: integer; begin cycle x := x + 1 end end;
+        var a, b: p; begin init a, b end.";
+    let stops = [
+        (9, 4, "word 2 1: 16"),
+        (10, 4, "word 2 1: 36"),
+        (
+            100,
+            4,
+            "word 2 1: 236
+            word 3 1: 236",
+        ),
+    ];
+    expect(&rt, rt.alloc(), text, &stops)
+}
+
 // Makes a round. Returns whether process 0 has ended, with the word and the transcript of process 1.
 fn reads_0_as_1<R: Threads + Wait + Sync>(rt: &R, machine: &mut Machine) -> Result<bool, Fail> {
     Way::new(true, 1, 1, 1).make(rt, machine, 1, 10, &Open)?;

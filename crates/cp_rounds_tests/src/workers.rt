@@ -1,6 +1,8 @@
 //! Rounds by several threads: which turns are made at the same time, and when the gate is called.
 
-use crate::gates::{Counting, EachWaits, Meeting, PrivateTurnsMeet, WavesMeet};
+use crate::gates::{
+    Counting, CountingKernelTurns, EachWaits, Meeting, PrivateTurnsMeet, WavesMeet,
+};
 use crate::machines::on_machine;
 use crate::rounds::SEVENS;
 use crate::ways::Way;
@@ -15,6 +17,10 @@ const TWO: &str = "type p = process; begin display(7) end; var a, b: p; begin in
 
 const FOUR: &str =
     "type p = process; begin display(7) end; var a, b, c, d: p; begin init a, b, c, d end.";
+
+// Two processes that compute for ever.
+const COUNTERS: &str = "type p = process; var x: integer; begin cycle x := (x + 1) mod 100 end end;
+    var a, b: p; begin init a, b end.";
 
 // Makes rounds of the machine of a text.
 fn make<R: Threads + Wait + Sync, G: TurnGate>(
@@ -79,5 +85,22 @@ fn the_gate_is_called_once_for_each_turn(rt: HostRuntime) -> Result<(), Fail> {
             );
         }
     }
+    Ok(())
+}
+
+// Private turns are made ahead of their rounds, and each kernel turn is still announced.
+#[test]
+fn a_gate_hears_of_each_kernel_turn_of_rounds_made_at_once(rt: HostRuntime) -> Result<(), Fail> {
+    let gate = CountingKernelTurns(Counting::new());
+    make(
+        &rt,
+        rt.alloc(),
+        COUNTERS,
+        Way::new(true, 2, 1, 255),
+        300,
+        100,
+        &gate,
+    )?;
+    assert!(rt; gate.0.calls() == [(0, 0), (0, 300), (0, 300), (0, 300)]);
     Ok(())
 }

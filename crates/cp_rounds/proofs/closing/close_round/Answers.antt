@@ -19,6 +19,7 @@ returns c =
     let lw : length W ≡ length zs = search rules in
     let parts = rw ez at c.end_round.ensures.parts in
     let numbers = rw ez at c.end_round.ensures.numbers in
+    let outputs = rw ez at c.end_round.ensures.outputs in
     let kernel = c.end_round.ensures.kernel in
     subst (λ (ws : List Private). RoundEnds c.args.setting.now zs k ws k3) (sym ew)
     (record {
@@ -28,4 +29,5 @@ returns c =
       numbers = numbers_kept zs W numbers;
       count = lw;
       stages = ended_stages k k3 kernel;
+      room = record { outputs = outputs; gates = c.end_round.ensures.gates; transcripts = c.end_round.ensures.transcripts };
     })

@@ -1,14 +1,12 @@
-use Rattle.std.proofs.Common.{◌+◌, ◌-◌, List, sym, ap, ◌∙◌, subst, arith}
+use Rattle.std.proofs.Common.{◌+◌, ◌-◌, List, sym, ◌∙◌, subst, arith}
 use Rattle.std.proofs.lemmas.List.{take_more_set}
-use Rattle.cp_kernel.specs.Turns.{IsTurned}
 use Rattle.cp_private.specs.declared.private.Private.{Private}
-use Rattle.cp_program.specs.View as view
 use Rattle.cp_rounds.specs.Numbers.{AreNumbered}
 use Rattle.cp_rounds.specs.Runs.{TurnsTaken}
 use Rattle.cp_rounds.specs.Tasks.{IsTaken}
 use Rattle.cp_rounds.specs.declared.moment.Moment.{Moment}
 use Rattle.cp_rounds.proofs.MoreTurns.{numbers_more, ready_more, taken_more}
-use Rattle.cp_rounds.proofs.Rounds.{set_apart}
+use Rattle.cp_ahead.proofs.Turns.{set_apart}
 use Rattle.cp_rounds.proofs.finishing.finish_moving.Goals as goal
 
 pub returns-clause-taken : goal.returns-clause-taken
@@ -19,46 +17,44 @@ returns-clause-taken g c = λ rounds k time was.
     let i = c.args.index in
     let ys = c.args.privates.now.items in
     let xs = c.args.start.now.value.value.items in
-    let k2 = c.kernel_turn.new.kernel in
-    let y = c.private_mut.result.now in
-    let z = c.kernel_turn.new.private in
+    let k2 = c.kernel_turn_of.new.kernel in
+    let y = c.bring_back.new.private in
+    let z = c.kernel_turn_of.new.private in
     let taken : IsTaken (g.C.Course.turned c.args.moment) (g.C.Course.input ((i + 1) - 1)) g.C.Course.most xs (i + 1) y =
     subst (λ (m : Moment). IsTaken (g.C.Course.turned m) (g.C.Course.input ((i + 1) - 1)) g.C.Course.most xs (i + 1) y) (sym c.requires.time)
-    (subst (λ (w : Private). IsTaken (g.C.Course.turned (g.C.Course.moment c.args.round)) (g.C.Course.input ((i + 1) - 1)) g.C.Course.most xs (i + 1) w)
-    (sym c.private_mut.ensures.value) c.bring_back.ensures.taken) in
-    let turn = subst (λ l. IsTurned (view.program setting.program) c.args.moment.clock t c.args.kernel.now k2 y z l) c.input-input.ensures
-    c.kernel_turn.ensures.turn in
+    c.bring_back.ensures.taken in
+    let turn = c.kernel_turn_of.ensures.turn in
     subst (λ (l : List Private). TurnsTaken setting t rounds xs k l k2) (sym (take_more_set ys i z c.requires.within))
-    (taken_more g.C.Course.turned g.C.Course.input g.C.Course.most setting t run.turns.course rounds c.args.moment xs ys k c.args.kernel.now k2 i y z
+    (taken_more g.C.Course.quiet g.C.Course.turned g.C.Course.input g.C.Course.most setting t run.turns.course rounds c.args.moment xs ys k c.args.kernel.now k2 i y z
     c.requires.within c.requires.count time taken turn was)
 
 pub returns-clause-numbers : goal.returns-clause-numbers
 returns-clause-numbers g c = λ h.
     let i = c.args.index in
     let ys = c.args.privates.now.items in
-    let z = c.kernel_turn.new.private in
+    let z = c.kernel_turn_of.new.private in
     subst (λ (l : List Private). AreNumbered l) (sym (take_more_set ys i z c.requires.within))
     (numbers_more ys i z c.requires.within
-    (c.kernel_turn.ensures.number ∙ (ap (λ (w : Private). w.number) c.private_mut.ensures.value ∙ c.bring_back.ensures.taken.number)) h)
+    (c.kernel_turn_of.ensures.number ∙ c.bring_back.ensures.taken.number) h)
 
 pub returns-clause-left : goal.returns-clause-left
 returns-clause-left g c = λ j y from e is.
     let i = c.args.index in
     let ys = c.args.privates.now.items in
-    let z = c.kernel_turn.new.private in
+    let z = c.kernel_turn_of.new.private in
     c.requires.left j y (omega (arith, from)) (sym (set_apart ys i j z (λ f. omega (arith, f, from))) ∙ e) is
 
 pub returns-clause-here : goal.returns-clause-here
 returns-clause-here g c = λ h j y from e.
     let i = c.args.index in
     let ys = c.args.privates.now.items in
-    let z = c.kernel_turn.new.private in
+    let z = c.kernel_turn_of.new.private in
     c.requires.here h j y (omega (arith, from)) (sym (set_apart ys i j z (λ f. omega (arith, f, from))) ∙ e)
 
 pub returns-clause-ready : goal.returns-clause-ready
 returns-clause-ready g c =
     let within = c.requires.within in
     let count = c.requires.count in
-    let number = ap (λ (w : Private). w.number) c.private_mut.ensures.value ∙ c.bring_back.ensures.taken.number in
-    ready_more g.C.Course.most c.args.index c.args.start.now.value.value.items c.args.kernel.now c.kernel_turn.new.kernel c.private_mut.result.now.number _
-    (omega (arith, within, count)) number c.kernel_turn.ensures.turn.moves c.kernel_turn.ensures.asking c.requires.ready
+    let number = c.bring_back.ensures.taken.number in
+    ready_more g.C.Course.most c.args.index c.args.start.now.value.value.items c.args.kernel.now c.kernel_turn_of.new.kernel c.bring_back.new.private.number _
+    (omega (arith, within, count)) number c.kernel_turn_of.ensures.turn.moves c.kernel_turn_of.ensures.asking c.requires.ready

@@ -27,7 +27,7 @@ returns-then-stands_still-clause-taken g c = λ rounds k time was.
     let one : take (i + 1) ys ≡ take i ys ++ y ∷ [] =
     take_more ys i y c.requires.within ∙ ap (λ (w : Private). take i ys ++ w ∷ []) (sym c.index.ensures) in
     subst (λ (l : List Private). TurnsTaken setting t rounds xs k l k1) (sym one)
-    (taken_more g.C.Course.turned g.C.Course.input g.C.Course.most setting t run.turns.course rounds c.args.moment xs ys k k1 k1 i y y c.requires.within
+    (taken_more g.C.Course.quiet g.C.Course.turned g.C.Course.input g.C.Course.most setting t run.turns.course rounds c.args.moment xs ys k k1 k1 i y y c.requires.within
     c.requires.count time taken turn was)
 
 pub returns-then-stands_still-clause-numbers : goal.returns-then-stands_still-clause-numbers

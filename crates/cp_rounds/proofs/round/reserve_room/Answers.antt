@@ -27,6 +27,7 @@ loop-i-preserved c =
     let y = c.reserve_output.new.private in
     let k2 = c.reserve_output.new.kernel in
     let t = c.args.turn.steps in
+    let n = c.args.rounds in
     let made = c.reserve_output.ensures in
     let was = c.loop-i.invariant in
     let below = c.loop-i-test.true in
@@ -35,18 +36,18 @@ loop-i-preserved c =
     let here : slice_get xs i ≡ Some x = got_or xs i c.index_mut.result.now (omega (arith, below)) ∙ ap (λ (z : Private). Some z) (sym (c.private_mut-private.ensures.value ∙ c.index_mut.ensures.value)) in
     record {
       same = same_more c.args.privates.now.items c.args.kernel.now xs c.loop-i.kernel i x y k2 here made.private made.kernel made.transcripts was.same;
-      asking = subst (λ (n : ℕ). HasRoomForAskers k2 n) (sym (length-set xs i y)) (room_kept c.loop-i.kernel k2 (length xs) made.gates was.asking);
+      asking = subst (λ (l : ℕ). HasRoomForAskers k2 (n * l)) (sym (length-set xs i y)) (room_kept c.loop-i.kernel k2 (n * length xs) made.gates was.asking);
       free = λ j z b e. ⊎_elim
           (λ (h : (j ≡ i) × (y ≡ z)). subst (λ (w : Private). HasRoomLeft (11 * t) false w) h.1 c.in_ok-reserve_output.ensures.free)
           (λ (h : (j ≢ i) × (slice_get xs j ≡ Some z)). let apart = h.0 in was.free j z (omega (arith, b, apart)) h.1)
           (got_set xs i j y z e);
       room = λ j z b e. ⊎_elim
           (λ (h : (j ≡ i) × (y ≡ z)).
-          subst (λ (p : ℕ). HasRoomForBytes k2 p (vec_len z.output + (11 * t + 11 * t))) (sym (ap suc h.0 ∙ next))
-          (subst (λ (w : Private). HasRoomForBytes k2 (i + 1) (vec_len w.output + (11 * t + 11 * t))) h.1 c.in_ok-reserve_output.ensures.room))
+          subst (λ (p : ℕ). HasRoomForBytes k2 p (vec_len z.output + n * (11 * t + 11 * t))) (sym (ap suc h.0 ∙ next))
+          (subst (λ (w : Private). HasRoomForBytes k2 (i + 1) (vec_len w.output + n * (11 * t + 11 * t))) h.1 c.in_ok-reserve_output.ensures.room))
           (λ (h : (j ≢ i) × (slice_get xs j ≡ Some z)).
           let apart = h.0 in
-          made.others (suc j) (vec_len z.output + (11 * t + 11 * t)) (λ f. apart (omega (arith, f))) (was.room j z (omega (arith, b, apart)) h.1))
+          made.others (suc j) (vec_len z.output + n * (11 * t + 11 * t)) (λ f. apart (omega (arith, f))) (was.room j z (omega (arith, b, apart)) h.1))
           (got_set xs i j y z e);
     }
 
@@ -66,11 +67,10 @@ returns-clause-ready c =
     let len = c.len-i-end.ensures in
     let stages = c.requires.stages in
     let kept = same_stages c.args.kernel.now c.loop-i.kernel was.same.kernel in
-    let none : length c.loop-i.privates.items ≡ length c.loop-i.privates.items - 0 = omega arith in
     record {
       stages = omega (arith, stages, kept, count);
-      asking = subst (λ (n : ℕ). HasRoomForAskers c.loop-i.kernel n) none was.asking;
-      transcripts = λ j x from e.
+      asking = was.asking;
+      transcripts = λ j x e.
           let within = got_below c.loop-i.privates.items j x e in
           was.room j x (omega (arith, past, within, count, len)) e;
     }

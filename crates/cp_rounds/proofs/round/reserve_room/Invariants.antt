@@ -8,8 +8,8 @@ use Rattle.cp_rounds.proofs.round.reserve_room.Given as goal
 abbrev pub invariant-loop-i : goal.invariant-loop-i
 invariant-loop-i l = record {
   same : AreSame l.fn.privates.items l.fn.kernel l.privates.items l.kernel;
-  asking : HasRoomForAskers l.kernel (length l.privates.items);
+  asking : HasRoomForAskers l.kernel (l.rounds * length l.privates.items);
   free : (j : ℕ) (x : Private) → j < l.i → slice_get l.privates.items j ≡ Some x → HasRoomLeft (11 * l.turn.steps) false x;
   room : (j : ℕ) (x : Private) → j < l.i → slice_get l.privates.items j ≡ Some x
-      → HasRoomForBytes l.kernel (suc j) (vec_len x.output + (11 * l.turn.steps + 11 * l.turn.steps));
+      → HasRoomForBytes l.kernel (suc j) (vec_len x.output + l.rounds * (11 * l.turn.steps + 11 * l.turn.steps));
 }

@@ -21,7 +21,7 @@ start-requires-sync-W g c κs within =
         search (sendable, crosses, c.settings_are_shared.ensures) depth 40 fits 4000,
         (
           search (sendable, crosses, plan.the_field_sync) depth 40 fits 4000,
-          (search (sendable, crosses, c.type_bounds.sync-G) depth 40 fits 4000, (search (sendable, crosses) depth 40 fits 4000, (search (sendable, crosses) depth 40 fits 4000, tt))),
+          (search (sendable, crosses, c.type_bounds.sync-G) depth 40 fits 4000, (search (sendable, crosses) depth 40 fits 4000, (search (sendable, crosses) depth 40 fits 4000, (search (sendable, crosses) depth 40 fits 4000, tt)))),
         ),
       ),
     ) in

@@ -1,12 +1,14 @@
 use Rattle.std.proofs.Common.{◌+◌, ◌*◌, slice_get}
 use Rattle.cp_program.specs.View as view
 use Rattle.cp_rounds.specs.MachineOf.{input_at}
+use Rattle.cp_rounds.specs.Quiet.{is_quiet}
 use Rattle.cp_rounds.specs.Runs.{name_of}
 use Rattle.cp_rounds.specs.Turned as plain
 use Rattle.cp_rounds.proofs.run.make_rounds_of.Given as goal
 
 abbrev pub ghosts-make_rounds_by_threads-C-Course : goal.ghosts-make_rounds_by_threads-C-Course
 ghosts-make_rounds_by_threads-C-Course g a = record {
+  quiet = is_quiet (view.program a.setting.now.program);
   turned = plain.take_turn (view.program a.setting.now.program) a.plan.now.turn.steps;
   moment = λ i. plain.moment_of a.setting.now.tick.rounds (a.done + i);
   input = input_at a.setting.now.inputs.items;

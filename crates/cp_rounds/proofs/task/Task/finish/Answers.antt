@@ -1,23 +1,31 @@
-use Rattle.std.proofs.Common.{◌≡◌, ◌-◌, ℕ, Bool, true, Some, slice_get, sym, ap, ◌∙◌, subst}
+use Rattle.std.proofs.Common.{◌≡◌, ◌-◌, ℕ, Bool, true, Some, slice_get, sym, ◌∙◌, subst, arith}
 use Rattle.cp_private.specs.States.{private_of}
-use Rattle.cp_rounds.specs.Tasks.{after_turn}
-use Rattle.cp_rounds.specs.declared.moment.Moment.{Moment}
+use Rattle.cp_private.specs.declared.private.Private.{Private}
+use Rattle.cp_rounds.specs.Tasks.{AreMade, HasRoomLeft, IsShort, is_some}
+use Rattle.cp_rounds.proofs.AheadTurns.{is_some_of}
 use Rattle.cp_rounds.proofs.task.Task.finish.Goals as goal
 
-pub returns-clause-comes : goal.returns-clause-comes
-returns-clause-comes g c = λ x e.
+pub returns-clause-taken : goal.returns-clause-taken
+returns-clause-taken g c =
     let task = c.args.self in
-    let x' = task.private in
-    let turned = g.C.Course.turned in
-    let moment = g.C.Course.moment in
-    let input = g.C.Course.input in
-    let made : task.made ≡ true = c.if-not-self.false in
-    let process : task.process ≡ c.args.process = c.if-self-process.false in
-    let time : task.moment ≡ moment c.args.round = task.time ∙ ap moment c.if-self-round.false in
-    let here : slice_get task.start.value.value.items (task.process - 1) ≡ Some x =
-    subst (λ (p : ℕ). slice_get task.start.value.value.items (p - 1) ≡ Some x) (sym process)
-    (subst (λ v. slice_get v.value.items (c.args.process - 1) ≡ Some x) c.agrees.ensures e) in
-    subst (λ (p : ℕ). private_of x' (input (p - 1)) ≡ turned (moment c.args.round) (private_of x (input (p - 1)))) process
-    (subst (λ (w : Moment). private_of x' (input (task.process - 1)) ≡ turned w (private_of x (input (task.process - 1)))) time
-    (subst (λ (b : Bool). private_of x' (input (task.process - 1)) ≡ after_turn (turned task.moment) b (private_of x (input (task.process - 1)))) made
-    (task.comes x here)))
+    let y = task.private in
+    let most = g.C.Course.most in
+    let xs = c.args.start.now.value.value.items in
+    let p = c.args.process in
+    let leads = λ (r : ℕ). AreMade g.C.Course.quiet g.C.Course.turned g.C.Course.moment r task.made in
+    let made : is_some task.made ≡ true = is_some_of task.made (λ e. omega (arith, e, c.if-self-eq0.false)) in
+    let process : task.process ≡ p = c.if-self-process.false in
+    let round : task.round ≡ c.args.round = c.if-self-round.false in
+    let back : (x : Private) → slice_get xs (p - 1) ≡ Some x → slice_get task.start.value.value.items (task.process - 1) ≡ Some x =
+    λ x e. subst (λ (q : ℕ). slice_get task.start.value.value.items (q - 1) ≡ Some x) (sym process)
+    (subst (λ v. slice_get v.value.items (p - 1) ≡ Some x) c.agrees.ensures e) in
+    record {
+      number = task.number ∙ process;
+      comes = λ x e.
+          subst (λ (q : ℕ). leads c.args.round (private_of x (g.C.Course.input (q - 1))) (private_of y (g.C.Course.input (q - 1)))) process
+          (subst (λ (r : ℕ). leads r (private_of x (g.C.Course.input (task.process - 1))) (private_of y (g.C.Course.input (task.process - 1)))) round
+          (task.comes x (back x e)));
+      room = subst (λ (b : Bool). HasRoomLeft most b y) made task.room;
+      short = λ x e. subst (λ (b : Bool). IsShort most task.start.value.value.items (task.process - 1) b y) made task.short x (back x e);
+      wide = task.wide;
+    }

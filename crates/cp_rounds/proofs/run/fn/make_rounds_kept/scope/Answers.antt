@@ -8,7 +8,7 @@ pub returns : goal.returns
 returns g c =
     let setting = c.captures.run.now.turns.setting.now in
     let t = c.captures.run.now.turns.plan.turn.steps in
-    let done = c.captures.run.now.done in
+    let done = c.captures.run.now.turns.done in
     let n = length c.captures.run.now.cells.now in
     let held = g.H.Holder.holds c.captures.held in
     let parts = c.into_parts-parts.result in

@@ -1,0 +1,227 @@
+-- What the tasks of several rounds made says of a machine some of whose processes are ahead.
+use Rattle.std.specs.Prelude.{◌≡◌, ◌≢◌, ◌≤◌, ◌+◌, ◌-◌, ◌*◌, refl, ℕ, zero, suc, Bool, true, false, if◌then◌else◌, List, [], ◌∷◌, Some, get_or, length, map, slice_get, vec_len}
+use Rattle.std.proofs.Common.{sym, ◌∙◌, ap, subst, arith}
+use Rattle.std.proofs.lemmas.Bool.{true≢false}
+use native.Mathlib.Nat.{mul-le-mul_right, suc-mul}
+use Rattle.cp_ahead.specs.Ahead.{HasBegun, IsAhead, IsQuiet, turn_at}
+use Rattle.cp_ahead.proofs.Stages.{stage_is}
+use Rattle.cp_ahead.proofs.Turns.{map_got, turn_number}
+use Rattle.cp_kernel.specs.KernelOf.{Bytes, HasRoomForAskers, HasRoomForBytes, kernel_of}
+use Rattle.cp_kernel.specs.Turns.{parts_of}
+use Rattle.cp_kernel.specs.declared.kernel.Kernel.{Kernel}
+use Rattle.cp_program_model.specs.Programs.{Program}
+use Rattle.cp_machine_model.specs.PrivateStates.{PrivateState, is_running}
+use Rattle.cp_machine_model.specs.KernelSteps.{Asking, Begun, Delayed, Fresh, Stage, Unstarted, is_begun, needs_kernel, stage_of}
+use Rattle.cp_machine_model.specs.Steps.{is_private, operation_of}
+use Rattle.cp_private.specs.States.{private_of}
+use Rattle.cp_private.specs.Kinds.{kind_of}
+use Rattle.cp_private.specs.declared.kind.Kind.{Kind}
+use Rattle.cp_private.specs.declared.kind.Kind.TheVariants as kind
+use Rattle.cp_private.specs.declared.private.Private.{Private}
+use Rattle.cp_program.specs.View as view
+use Rattle.cp_rounds.specs.Ahead.{AreBack, IsReadyAhead, PartsAhead, turns_ahead}
+use Rattle.cp_rounds.specs.MachineOf.{input_at, input_of, machine_with}
+use Rattle.cp_rounds.specs.Made.{IsReadyFor}
+use Rattle.cp_rounds.specs.Numbers.{AreNumbered}
+use Rattle.cp_rounds.specs.Quiet.{is_quiet, is_quiet_by}
+use Rattle.cp_rounds.specs.Runs.{AreTimes}
+use Rattle.cp_rounds.specs.Tasks.{AreMade, IsCourseOf, StaysQuiet, is_some}
+use Rattle.cp_rounds.specs.Turned.{moment_of, take_turn, with_turn_taken}
+use Rattle.cp_rounds.specs.declared.moment.Moment.{Moment}
+use Rattle.cp_rounds.specs.declared.setting.Setting.{Setting}
+use Rattle.cp_rounds.proofs.Lists.{got_at, got_below, some_is}
+use Rattle.cp_rounds.proofs.Made.{part_at, parts_count}
+use Rattle.cp_rounds.proofs.Rooms.{fewer_askers}
+use Rattle.cp_rounds.proofs.Rounds.{mapped_length}
+
+-- ---- Quiet processes
+
+quiet_by : (k : Kind) (written : List ℕ) → is_quiet_by k written ≡ true → (k ≡ kind.Private) × (written ≡ [])
+quiet_by kind.Private [] h = (refl, refl)
+quiet_by kind.Private (b ∷ written) h = absurd (true≢false (sym h))
+quiet_by kind.Kernel written h = absurd (true≢false (sym h))
+quiet_by kind.None written h = absurd (true≢false (sym h))
+
+abbrev is_private_kind : Kind → Bool
+is_private_kind kind.Private = true
+is_private_kind kind.Kernel = false
+is_private_kind kind.None = false
+
+pub quiet_is : (program : Program) (o : PrivateState) → is_quiet program o ≡ true → IsQuiet program o
+quiet_is program o h =
+    let both = quiet_by (kind_of program o) o.output h in
+    let found = by (is_running o.activity) (is_private o (operation_of program o)) (needs_kernel o (operation_of program o)) (ap is_private_kind both.0) in
+    record { running = found.0; next = found.1; silent = both.1 }
+  where
+    by : (a b c : Bool) → is_private_kind (if a then (if b then kind.Private else (if c then kind.Kernel else kind.None)) else kind.None) ≡ true
+        → (a ≡ true) × (b ≡ true)
+    by true true c e = (refl, refl)
+    by true false true e = absurd (true≢false (sym e))
+    by true false false e = absurd (true≢false (sym e))
+    by false b c e = absurd (true≢false (sym e))
+
+-- The private state at an index of the parts of a machine.
+pub part_of : (inputs : List Bytes) (zs : List Private) (i : ℕ) (o : PrivateState) → slice_get (parts_of (input_of inputs) 1 zs) i ≡ Some o
+    → (z : Private) × ((slice_get zs i ≡ Some z) × (o ≡ private_of z (input_at inputs i)))
+part_of inputs zs i o e =
+    let below = got_below (parts_of (input_of inputs) 1 zs) i o e in
+    let z = got_at zs i (omega (arith, below, parts_count (input_of inputs) 1 zs)) in
+    (z.0, (z.1, some_is o (private_of z.0 (input_at inputs i)) (sym e ∙ part_at inputs i zs z.0 z.1)))
+
+-- A process whose stage is that it has begun.
+pub begun_is : (k : Kernel) (i : ℕ) → is_begun (stage_of (kernel_of k).stages (suc i)) ≡ true → HasBegun i (kernel_of k)
+begun_is k i h = record { stage = by (get_or (kernel_of k).stages i Begun) (sym (ap is_begun (stage_is (kernel_of k).stages i)) ∙ h) }
+  where
+    by : (s : Stage) → is_begun s ≡ true → s ≡ Begun
+    by Begun e = refl
+    by Unstarted e = absurd (true≢false (sym e))
+    by Fresh e = absurd (true≢false (sym e))
+    by (Asking q) e = absurd (true≢false (sym e))
+    by (Delayed q w) e = absurd (true≢false (sym e))
+
+-- ---- One turn more
+
+module _ (quiet : PrivateState → Bool) (turned : Moment → PrivateState → PrivateState) (moment : ℕ → Moment) where
+  stays_more : (round n : ℕ) (o y : PrivateState) → StaysQuiet quiet turned moment round n o y → quiet y ≡ true
+      → StaysQuiet quiet turned moment round (suc n) o (turned (moment (round + n)) y)
+  stays_more round zero o y is now =
+      let same : round + zero ≡ round = omega arith in
+      (ap quiet (sym is) ∙ now, (λ i. turned (moment (same i)) (is i)))
+  stays_more round (suc n) o y (first, rest) now =
+      let same : suc round + n ≡ round + suc n = omega arith in (
+        first,
+        subst (λ (r : ℕ). StaysQuiet quiet turned moment (suc round) (suc n) (turned (moment round) o) (turned (moment r) y)) same
+            (stays_more (suc round) n (turned (moment round) o) y rest now),
+      )
+
+  made_suc : (round n : ℕ) (o y : PrivateState) → AreMade quiet turned moment round n o y → (n ≢ 0 → quiet y ≡ true)
+      → AreMade quiet turned moment round (suc n) o (turned (moment (round + n)) y)
+  made_suc round zero o y is now =
+      let same : round + zero ≡ round = omega arith in
+      λ i. turned (moment (same i)) (is i)
+  made_suc round (suc n) o y was now =
+      let same : suc round + n ≡ round + suc n = omega arith in
+      let some : suc n ≢ 0 = λ e. omega (arith, e) in
+      subst (λ (r : ℕ). StaysQuiet quiet turned moment (suc round) (suc n) (turned (moment round) o) (turned (moment r) y)) same
+      (stays_more (suc round) n (turned (moment round) o) y was (now some))
+
+  pub made_more : (round n : ℕ) (o y : PrivateState) → AreMade quiet turned moment round n o y → (n ≢ 0 → quiet y ≡ true)
+      → AreMade quiet turned moment round (n + 1) o (turned (moment (round + n)) y)
+  made_more round n o y was now =
+      let next : suc n ≡ n + 1 = omega arith in
+      subst (λ (k : ℕ). AreMade quiet turned moment round k o (turned (moment (round + n)) y)) next (made_suc round n o y was now)
+
+pub is_some_next : (n : ℕ) → is_some (n + 1) ≡ true
+is_some_next zero = refl
+is_some_next (suc n) = let next : suc (n + 1) ≡ suc n + 1 = omega arith in sym (ap is_some next)
+
+pub is_some_of : (n : ℕ) → n ≢ 0 → is_some n ≡ true
+is_some_of zero some = absurd (some refl)
+is_some_of (suc n) some = refl
+
+-- ---- All processes
+
+module _ (quiet : PrivateState → Bool) (turned : Moment → PrivateState → PrivateState) (moment : ℕ → Moment) (input : ℕ → List ℕ) (most : ℕ) (g : Setting)
+    (t done : ℕ) (course : IsCourseOf quiet turned input most g t) (times : AreTimes moment g done) where
+  abbrev program : Program
+  program = view.program g.program
+
+  turn_is : (round : ℕ) (o : PrivateState) → turned (moment round) o ≡ turn_at program g.tick.rounds t (done + round) o
+  turn_is round o = course.steps (moment round) o ∙ ap (λ (w : Moment). take_turn program t w o) (times round)
+
+  stays_ahead : (round n : ℕ) (o y : PrivateState) → StaysQuiet quiet turned moment round n o y → IsAhead program g.tick.rounds t (done + round) n o y
+  stays_ahead round zero o y is = is
+  stays_ahead round (suc n) o y (now, rest) =
+      let next : done + suc round ≡ suc (done + round) = omega arith in (
+        quiet_is program o (sym (course.tells o) ∙ now),
+        subst (λ (r : ℕ). IsAhead program g.tick.rounds t r n (turn_at program g.tick.rounds t (done + round) o) y) next
+            (subst (λ (x : PrivateState). IsAhead program g.tick.rounds t (done + suc round) n x y) (turn_is round o)
+            (stays_ahead (suc round) n (turned (moment round) o) y rest)),
+      )
+
+  -- After the turns that were taken back, the machine is the one after the private turns of the first round.
+  pub back_ahead : (round count : ℕ) (xs : List Private) (ns : List ℕ) (ys : List Private) (k : Kernel) → AreNumbered xs
+      → AreBack quiet turned moment input most round count xs ns ys k
+      → PartsAhead g t (suc (done + round)) (with_turn_taken t (machine_with g (done + round) xs k)) ns ys k
+  back_ahead round count xs ns ys k numbered back = record {
+    kernel = refl;
+    transcripts = refl;
+    ahead = record {
+      count = parts_count (input_of g.inputs.items) 1 ys
+          ∙ (back.count ∙ sym (mapped_length turn (parts_of (input_of g.inputs.items) 1 xs) ∙ parts_count (input_of g.inputs.items) 1 xs));
+      each = each;
+    };
+    numbers = numbers;
+    begun = back.begun;
+  }
+    where
+      turn : PrivateState → PrivateState
+      turn = take_turn program t (moment_of g.tick.rounds (done + round))
+
+      numbers : (i : ℕ) (o : PrivateState) → slice_get (map turn (parts_of (input_of g.inputs.items) 1 xs)) i ≡ Some o → o.number ≡ suc i
+      numbers i o e =
+          let was = map_got turn (parts_of (input_of g.inputs.items) 1 xs) i o e in
+          let x = part_of g.inputs.items xs i was.0 was.1 in
+          ap (λ (w : PrivateState). w.number) was.2
+          ∙ (turn_number program g.tick.rounds t (done + round) was.0 ∙ (ap (λ (w : PrivateState). w.number) x.1.1 ∙ numbered i x.0 x.1.0))
+
+      each : (i : ℕ) (o y : PrivateState) → slice_get (map turn (parts_of (input_of g.inputs.items) 1 xs)) i ≡ Some o
+          → slice_get (parts_of (input_of g.inputs.items) 1 ys) i ≡ Some y
+          → IsAhead program g.tick.rounds t (suc (done + round)) (turns_ahead ns i) o y
+      each i o y e f =
+          let was = map_got turn (parts_of (input_of g.inputs.items) 1 xs) i o e in
+          let x = part_of g.inputs.items xs i was.0 was.1 in
+          let z = part_of g.inputs.items ys i y f in
+          let at : suc i - 1 ≡ i = omega arith in
+          let next : done + suc round ≡ suc (done + round) = omega arith in
+          let first : turned (moment round) (private_of x.0 (input i)) ≡ o =
+          turn_is round (private_of x.0 (input i))
+          ∙ (ap (λ (l : List ℕ). turn (private_of x.0 l)) (course.inputs i) ∙ (ap turn (sym x.1.1) ∙ sym was.2)) in
+          let last : private_of z.0 (input i) ≡ y = ap (private_of z.0) (course.inputs i) ∙ sym z.1.1 in
+          let made : StaysQuiet quiet turned moment (suc round) (turns_ahead ns i) (turned (moment round) (private_of x.0 (input i))) (private_of z.0 (input i)) =
+          (back.taken i z.0 z.1.0).comes x.0 (ap (slice_get xs) at ∙ x.1.0) in
+          subst (λ (r : ℕ). IsAhead program g.tick.rounds t r (turns_ahead ns i) o y) next
+          (stays_ahead (suc round) (turns_ahead ns i) o y
+          (subst (λ (u : PrivateState). StaysQuiet quiet turned moment (suc round) (turns_ahead ns i) u y) first
+          (subst (λ (v : PrivateState). StaysQuiet quiet turned moment (suc round) (turns_ahead ns i) (turned (moment round) (private_of x.0 (input i))) v) last made)))
+
+-- ---- Room
+
+pub fewer_bytes : (k : Kernel) (p n m : ℕ) → m ≤ n → HasRoomForBytes k p n → HasRoomForBytes k p m
+fewer_bytes k p n m le h = λ v e. let room = h v e in omega (arith, room, le)
+
+-- With room for more rounds there is room for fewer.
+pub ready_fewer : (most n m : ℕ) (xs : List Private) (k : Kernel) → n ≤ m → IsReadyFor most m xs k → IsReadyFor most n xs k
+ready_fewer most n m xs k le ready = record {
+  stages = ready.stages;
+  asking = fewer_askers k (m * length xs) (n * length xs) (mul-le-mul_right (length xs) le) ready.asking;
+  transcripts = λ i x e.
+      let less = mul-le-mul_right (most + most) le in
+      fewer_bytes k (suc i) (vec_len x.output + m * (most + most)) (vec_len x.output + n * (most + most)) (omega (arith, less)) (ready.transcripts i x e);
+}
+
+pub back_ready : (quiet : PrivateState → Bool) (turned : Moment → PrivateState → PrivateState) (moment : ℕ → Moment) (input : ℕ → List ℕ) (most round later : ℕ)
+    (xs : List Private) (ns : List ℕ) (ys : List Private) (k : Kernel) → IsReadyFor most (suc later) xs k
+    → AreBack quiet turned moment input most round (suc later) xs ns ys k → IsReadyAhead most later 0 ns ys k
+back_ready quiet turned moment input most round later xs ns ys k ready back = record {
+  stages = ready.stages ∙ sym back.count;
+  turns = back.turns;
+  numbers = λ i y e. (back.taken i y e).number;
+  few = λ i. let below = back.few i in omega (arith, below);
+  asking = subst (HasRoomForAskers k) askers ready.asking;
+  room = λ i y e. (back.taken i y e).room;
+  wide = λ i y e. (back.taken i y e).wide;
+  before = λ i y from e.
+      let below = got_below ys i y e in
+      let x = got_at xs i (omega (arith, below, back.count)) in
+      let at : suc i - 1 ≡ i = omega arith in
+      let short = (back.taken i y e).short x.0 (ap (slice_get xs) at ∙ x.1) in
+      let times = suc-mul later (most + most) in
+      fewer_bytes k (suc i) (vec_len x.0.output + suc later * (most + most)) ((vec_len y.output + most) + later * (most + most)) (omega (arith, short, times))
+      (ready.transcripts i x.0 x.1);
+  after = λ i y below e. absurd (omega (arith, below));
+  empty = λ i y below none e. absurd (omega (arith, below));
+}
+  where
+    askers : suc later * length xs ≡ (length ys - 0) + later * length ys
+    askers = ap (λ (n : ℕ). suc later * n) (sym back.count) ∙ (suc-mul later (length ys) ∙ omega arith)

@@ -1,0 +1,55 @@
+-- A machine some of whose processes are ahead: private turns of later rounds are made already.
+use Rattle.std.specs.Prelude.{◌≡◌, ◌≢◌, ◌≤◌, ◌<◌, ◌+◌, ◌-◌, ◌*◌, ℕ, suc, Bool, true, List, Some, get_or, length, slice_get, vec_len}
+use Rattle.cp_ahead.specs.Ahead.{HasBegun, StandAhead}
+use Rattle.cp_kernel.specs.KernelOf.{HasRoomForAskers, HasRoomForBytes, kernel_of, transcripts_of}
+use Rattle.cp_kernel.specs.Turns.{parts_of}
+use Rattle.cp_kernel.specs.declared.kernel.Kernel.{Kernel}
+use Rattle.cp_machine_model.specs.Machines.{Machine}
+use Rattle.cp_machine_model.specs.PrivateStates.{PrivateState}
+use Rattle.cp_private.specs.declared.private.Private.{Private}
+use Rattle.cp_program.specs.View as view
+use Rattle.cp_rounds.specs.MachineOf.{input_of}
+use Rattle.cp_rounds.specs.Numbers.{AreNumbered}
+use Rattle.cp_rounds.specs.Tasks.{AreMade, AreTaken, HasRoomLeft, IsWide}
+use Rattle.cp_rounds.specs.Turned.{moment_of}
+use Rattle.cp_rounds.specs.declared.moment.Moment.{Moment}
+use Rattle.cp_rounds.specs.declared.setting.Setting.{Setting}
+
+-- How many turns the process at an index is ahead.
+abbrev pub turns_ahead : List ℕ → ℕ → ℕ
+turns_ahead ns i = get_or ns i 0
+
+-- Private states and a kernel are those of a machine, but for the turns that processes are ahead. The next
+-- private turns are those of the round after the first `rounds` rounds.
+abbrev pub PartsAhead : Setting → (t rounds : ℕ) → Machine → List ℕ → List Private → Kernel → Type 0
+PartsAhead g t rounds m ns ys k =
+    StandAhead t rounds m (turns_ahead ns) (kernel_of k) (transcripts_of k) (parts_of (input_of g.inputs.items) 1 ys)
+
+-- The machine has this program, and its next round is made at this time.
+pub record IsTime (g : Setting) (m : Machine) (moment : Moment) : Type 0 where
+  pub program : m.program ≡ view.program g.program
+  pub time : moment ≡ moment_of m.tick m.rounds
+
+-- All private states are taken back, after so many turns ahead, fewer than `rounds`.
+pub record AreBack (quiet : PrivateState → Bool) (turned : Moment → PrivateState → PrivateState) (moment : ℕ → Moment)
+    (input : ℕ → List ℕ) (most round rounds : ℕ) (xs : List Private) (ns : List ℕ) (ys : List Private) (k : Kernel) : Type 0 where
+  pub count : length ys ≡ length xs
+  pub turns : length ns ≡ length ys
+  pub taken : (i : ℕ) (y : Private) → slice_get ys i ≡ Some y
+      → AreTaken (AreMade quiet turned moment round (suc (turns_ahead ns i))) (input i) most xs (suc i) y
+  pub few : (i : ℕ) → turns_ahead ns i < rounds
+  pub begun : (i : ℕ) → turns_ahead ns i ≢ 0 → HasBegun i (kernel_of k)
+
+-- There is room for the kernel turns of a round from index `from` on, and for all turns of so many
+-- rounds after it, and nobody is ahead by more turns than that. A turn writes at most `most` bytes.
+pub record IsReadyAhead (most later from : ℕ) (ns : List ℕ) (ys : List Private) (k : Kernel) : Type 0 where
+  pub stages : length k.stages.items ≡ length ys
+  pub turns : length ns ≡ length ys
+  pub numbers : AreNumbered ys
+  pub few : (i : ℕ) → turns_ahead ns i ≤ later
+  pub asking : HasRoomForAskers k ((length ys - from) + later * length ys)
+  pub room : (i : ℕ) (y : Private) → slice_get ys i ≡ Some y → HasRoomLeft most true y
+  pub wide : (i : ℕ) (y : Private) → slice_get ys i ≡ Some y → IsWide most y
+  pub before : (i : ℕ) (y : Private) → from ≤ i → slice_get ys i ≡ Some y → HasRoomForBytes k (suc i) ((vec_len y.output + most) + later * (most + most))
+  pub after : (i : ℕ) (y : Private) → i < from → slice_get ys i ≡ Some y → HasRoomForBytes k (suc i) (vec_len y.output + later * (most + most))
+  pub empty : (i : ℕ) (y : Private) → i < from → turns_ahead ns i ≡ 0 → slice_get ys i ≡ Some y → vec_len y.output ≡ 0

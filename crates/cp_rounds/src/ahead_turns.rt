@@ -1,0 +1,182 @@
+//! The rounds of several that are made at once, one by one, while some processes are ahead.
+
+ghost use Rattle.std.specs.Prelude.{◌≡◌, ◌≢◌, ◌≤◌, ◌<◌, ◌+◌, ◌-◌, ◌*◌, ℕ, IfOk, length, vec_capacity, vec_len};
+ghost use Rattle.cp_model.specs.States.{numbers_from};
+ghost use Rattle.cp_machine_model.specs.Machines as plain;
+ghost use Rattle.cp_private.specs.Rooms.{HasRoomFor};
+ghost use Rattle.cp_private.specs.States.{private_of};
+ghost use Rattle.cp_program.specs.View as view;
+ghost use Rattle.cp_rounds.specs.Ahead.{IsReadyAhead, IsTime, PartsAhead};
+ghost use Rattle.cp_rounds.specs.MachineOf.{input_at};
+ghost use Rattle.cp_rounds.specs.Turned.{take_turn, with_turn_taken};
+
+use crate::closing::close_round;
+use crate::finishing::kernel_turn_of;
+use crate::gate::TurnGate;
+use crate::moment::Moment;
+use crate::run::Run;
+use crate::task::Course;
+use crate::turns::turn_in_place;
+use cp_kernel::kernel::Kernel;
+use cp_private::resident::Resident;
+use std::alloc::{AllocError, Global};
+
+/// How many turns processes are ahead of the round that is being made.
+#[derive(Drop)]
+pub(crate) struct Ahead {
+    /// The turns by index of process.
+    pub(crate) turns: Vec<u32>,
+    /// How many of the rounds come after this one.
+    pub(crate) later: u32,
+}
+
+impl Ahead {
+    /// Returns that none of so many processes is ahead, in the first of several rounds.
+    ///
+    /// # Errors
+    ///
+    /// `AllocError` if memory runs out.
+    pub(crate) fn none(alloc: Global, processes: usize, later: u32) -> Result<Ahead, AllocError>
+        ensures turns { IfOk result (λ ahead. length ahead.turns.items ≡ processes) }
+        ensures later { IfOk result (λ ahead. ahead.later ≡ later) }
+    {
+        let mut turns = Vec::with_capacity(alloc, processes)?;
+        for _process in 0..processes {
+            turns.push(0)?;
+        }
+        Ok(Ahead { turns, later })
+    }
+}
+
+// Makes the kernel turn of the process at an index, unless it is ahead: then it has nothing to do
+// in it.
+fn finish_at<'a, C: Course, G: TurnGate>(
+    run: &Run<'a, C, G>,
+    moment: Moment,
+    ahead: &Ahead,
+    index: usize,
+    privates: &mut Vec<Resident>,
+    kernel: &mut Kernel,
+)
+    requires within { index < length privates.old.items }
+    requires room { IsReadyAhead C.most ahead.now.later index ahead.now.turns.items
+        privates.old.items kernel.old }
+    ensures parts { (rounds : ℕ) (m : plain.Machine)
+        → IsTime run.now.turns.setting.now m moment
+        → PartsAhead run.now.turns.setting.now run.now.turns.plan.turn.steps rounds
+        (plain.kernel_turns run.now.turns.plan.turn.steps m (numbers_from 1 index))
+        ahead.now.turns.items privates.old.items kernel.old
+        → PartsAhead run.now.turns.setting.now run.now.turns.plan.turn.steps rounds
+        (plain.kernel_turns run.now.turns.plan.turn.steps m (numbers_from 1 (index + 1)))
+        ahead.now.turns.items privates.new.items kernel.new }
+    ensures room { IsReadyAhead C.most ahead.now.later (index + 1) ahead.now.turns.items
+        privates.new.items kernel.new }
+    ensures count { length privates.new.items ≡ length privates.old.items }
+{
+    if ahead.turns[index] > 0 {
+        run.turns.gate.kernel(index + 1);
+        return;
+    }
+    kernel_turn_of(run, moment, index + 1, &mut privates[index], kernel);
+}
+
+/// Makes the kernel turns of a round, and ends it.
+pub(crate) fn finish_round<'a, C: Course, G: TurnGate>(
+    run: &Run<'a, C, G>,
+    moment: Moment,
+    ahead: &Ahead,
+    privates: &mut Vec<Resident>,
+    kernel: &mut Kernel,
+)
+    requires room { IsReadyAhead C.most ahead.now.later 0 ahead.now.turns.items privates.old.items
+        kernel.old }
+    ensures parts { (rounds : ℕ) (m : plain.Machine)
+        → IsTime run.now.turns.setting.now m moment
+        → PartsAhead run.now.turns.setting.now run.now.turns.plan.turn.steps rounds m
+        ahead.now.turns.items privates.old.items kernel.old
+        → PartsAhead run.now.turns.setting.now run.now.turns.plan.turn.steps rounds
+        (plain.end_round (plain.kernel_turns run.now.turns.plan.turn.steps m
+        (numbers_from 1 (length privates.old.items)))) ahead.now.turns.items privates.new.items
+        kernel.new }
+    ensures room { IsReadyAhead C.most ahead.now.later (length privates.new.items)
+        ahead.now.turns.items privates.new.items kernel.new }
+    ensures count { length privates.new.items ≡ length privates.old.items }
+{
+    for i in 0..privates.len() {
+        finish_at(run, moment, ahead, i, privates, kernel);
+    }
+    close_round(run.turns.setting, privates, kernel);
+}
+
+// Makes the private turn of a process, unless it is ahead. Returns whether it had a step to make.
+#[inline(always)]
+fn turn_unless_ahead<'a, C: Course, G: TurnGate>(
+    run: &Run<'a, C, G>,
+    moment: Moment,
+    process: usize,
+    turns: &mut u32,
+    private: &mut Resident,
+) -> bool
+    requires room { turns.old ≡ 0 → HasRoomFor private.old run.now.turns.plan.turn.steps }
+    ensures ahead { turns.new ≡ turns.old - 1 }
+    ensures still { turns.old ≢ 0 → private.new ≡ private.old }
+    ensures turned { turns.old ≡ 0
+        → let input = input_at run.now.turns.setting.now.inputs.items (process - 1) in
+        private_of private.new input ≡ take_turn (view.program run.now.turns.setting.now.program)
+        run.now.turns.plan.turn.steps moment (private_of private.old input) }
+    ensures number { private.new.number ≡ private.old.number }
+    ensures length { vec_len private.new.output ≤ vec_len private.old.output
+        + 11 * run.now.turns.plan.turn.steps }
+    ensures capacity { vec_capacity private.old.output ≤ vec_capacity private.new.output }
+{
+    if *turns > 0 {
+        *turns -= 1;
+        return false;
+    }
+    if private.private().rests(moment.wakes) {
+        return false;
+    }
+    let private = private.private_mut();
+    turn_in_place(
+        run.turns.setting,
+        private,
+        process,
+        moment,
+        run.turns.plan.turn,
+    );
+    true
+}
+
+/// Makes the private turns of the next round, of the processes that aren't ahead. Returns whether
+/// one of them had a step to make.
+pub(crate) fn make_turns<'a, C: Course, G: TurnGate>(
+    run: &Run<'a, C, G>,
+    moment: Moment,
+    ahead: &mut Ahead,
+    privates: &mut Vec<Resident>,
+    kernel: &Kernel,
+) -> bool
+    requires later { 0 < ahead.old.later }
+    requires room { IsReadyAhead C.most ahead.old.later (length privates.old.items)
+        ahead.old.turns.items privates.old.items kernel.now }
+    ensures parts { (m : plain.Machine) → IsTime run.now.turns.setting.now m moment
+        → PartsAhead run.now.turns.setting.now run.now.turns.plan.turn.steps m.rounds m
+        ahead.old.turns.items privates.old.items kernel.now
+        → PartsAhead run.now.turns.setting.now run.now.turns.plan.turn.steps (m.rounds + 1)
+        (with_turn_taken run.now.turns.plan.turn.steps m) ahead.new.turns.items privates.new.items
+        kernel.now }
+    ensures room { IsReadyAhead C.most ahead.new.later 0 ahead.new.turns.items privates.new.items
+        kernel.now }
+    ensures later { ahead.new.later ≡ ahead.old.later - 1 }
+    ensures count { length privates.new.items ≡ length privates.old.items }
+{
+    ahead.later -= 1;
+    let mut made = false;
+    for i in 0..privates.len() {
+        let turns = &mut ahead.turns[i];
+        if turn_unless_ahead(run, moment, i + 1, turns, &mut privates[i]) {
+            made = true;
+        }
+    }
+    made
+}
