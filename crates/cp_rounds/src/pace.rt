@@ -12,6 +12,9 @@ const MOST_ROUNDS: u64 = 64;
 // How many bytes are reserved for rounds made at once, at most.
 const MOST_BYTES: u64 = 32 * 1024 * 1024;
 
+// How many rounds of a run are made one by one first: many processes end soon.
+const FIRST_ALONE: u32 = 8;
+
 // After how many rounds one by one, at most, two are tried at once again.
 const MOST_ALONE: u32 = 64;
 
@@ -44,7 +47,7 @@ impl Pace {
         Pace {
             most: worth.min(room).min(MOST_ROUNDS).max(1) as u32,
             rounds: 2,
-            alone: 1,
+            alone: FIRST_ALONE,
             next_alone: 1,
         }
     }

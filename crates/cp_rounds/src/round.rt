@@ -33,6 +33,10 @@ use std::alloc::AllocError;
 use std::snapshot::Snapshot;
 use std::sync::{OnceToken, Wait};
 
+// How many rounds at once are many. Few take little room, and are made by programs that seldom
+// compute for long.
+const MANY_ROUNDS: u32 = 8;
+
 // Reserves room for what a process writes in so many rounds, in its transcript, and for what it
 // writes in one, in its private state.
 fn reserve_output(
@@ -199,13 +203,13 @@ fn lay_turns<'a, C: Course, R: Wait, G: TurnGate>(
     );
 }
 
-// Returns for how many rounds room is reserved. Where several are made at once, it is the largest
-// number of them from the beginning on: room that grows little by little is copied each time.
+// Returns for how many rounds room is reserved: for the largest number that is ever made at once, as
+// soon as many are, since room that grows little by little is copied each time.
 fn rounds_of_room(pace: &Pace, rounds: u32) -> u32
     ensures { rounds ≤ result }
 {
-    if rounds == 1 {
-        return 1;
+    if rounds < MANY_ROUNDS {
+        return rounds;
     }
     pace.most().max(rounds)
 }
