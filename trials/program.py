@@ -13,7 +13,7 @@ import subprocess
 import sys
 import tempfile
 
-from generated import try_beginnings, try_lawful_orders, try_long_chain, try_squarers
+from generated import text_of_counters, try_beginnings, try_counters, try_lawful_orders, try_long_chain, try_squarers
 from hurting import try_to_hurt
 from refusals import refuse_in_turn
 from running import EXAMPLES, ROOT, expect, expect_at_least, run, wrong
@@ -146,7 +146,8 @@ def main():
     expect_at_least('lawful orders', lawful, 190)
     try_long_chain()
     try_squarers(PLANS)
-    refused = refuse_in_turn(resumed['text'])
+    try_counters(PLANS)
+    refused = refuse_in_turn(resumed['text'], text_of_counters())
     hurt = try_to_hurt()
     for line in wrong:
         print(line)

@@ -19,6 +19,7 @@ LEAST_OF_REPLAY = {'ALLOCATION': 495, 'THREAD': 0, 'READ': 610, 'WRITE': 165}
 LEAST_OF_OUTCOME = {'ALLOCATION': 460, 'THREAD': 1, 'READ': 300, 'WRITE': 170}
 LEAST_OF_NAMED = {'ALLOCATION': 380, 'THREAD': 1, 'READ': 350, 'WRITE': 80}
 LEAST_OF_EXPLANATION = {'ALLOCATION': 150, 'THREAD': 0, 'READ': 190, 'WRITE': 385}
+LEAST_AT_ONCE = 470
 LEAST_OF_TRACE = {'READ': 300, 'WRITE': 255}
 
 # The tests of cp_rounds_tests that look at a machine after a refusal, and the fewest times that they have to see one.
@@ -107,8 +108,9 @@ def told(what, counts):
             f'and {counts["WRITE"]} writes')
 
 
-def refuse_in_turn(resumed):
-    """Refuses the calls of two runs, a replay, an outcome, a trace and an explanation. `resumed` is a text in which a process resumes another. Returns what was tried."""
+def refuse_in_turn(resumed, counters):
+    """Refuses the calls of three runs, a replay, an outcome, a trace and an explanation. `resumed` is a text in which a process resumes another, `counters` one of
+    whose rounds several are made at once. Returns what was tried."""
     with tempfile.TemporaryDirectory() as name:
         folder = pathlib.Path(name)
         refusing = Refusing(folder)
@@ -118,6 +120,10 @@ def refuse_in_turn(resumed):
         given.write_bytes(b'a\x1cb')
         plan = ['--workers', '2', '--chunk', '1', '--wave', '2']
         ran = refuse_all(refusing, 'run', ['run', text, '--rounds', '5', '--turn', '2', *plan, '--input', given], LEAST_OF_RUN)
+        counting = folder / 'counters.cp'
+        counting.write_text(counters)
+        at_once = refuse_each(refusing, 'ALLOCATION', ['run', counting, '--rounds', '40', '--turn', '2'], 0)
+        expect_at_least('rounds made at once: ALLOCATION', at_once, LEAST_AT_ONCE)
         made = refuse_all(refusing, 'replay', ['replay', text, order, '--turn', '2', '--input', given], LEAST_OF_REPLAY)
         given.write_bytes(b'hello')
         by_name = ['run', ROOT / 'docs' / 'tutorial' / 'capitals.cp', '--rounds', '2', '--in', f't={given}']
@@ -130,5 +136,5 @@ def refuse_in_turn(resumed):
         waves = [refuse_each(refusing, 'THREAD', ['run', 'squarers.cp', '--rounds', '5', '--workers', '4', '--wave', wave], 0) for wave in '12']
         expect_at_least('thread starts of 4 workers', sum(waves), 3)
         met = sum(refuse_rounds(refusing, test) for test in TESTS)
-    return '; '.join([told('a run', ran), told('a replay', made), told('a run with a named input', named), told('an outcome', decided),
+    return '; '.join([told('a run', ran), f'of one that makes rounds at once {at_once} allocations', told('a replay', made), told('a run with a named input', named), told('an outcome', decided),
                       f'of a trace {traced["READ"]} reads and {traced["WRITE"]} writes', told('an explanation', explained), f'of machines in tests {met} calls'])
