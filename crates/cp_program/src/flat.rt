@@ -127,10 +127,8 @@ fn near_value_of_chain<W: Words>(
         (view_with memory.now shared.now clock) first (map view.application rest.now) ≡ Ok n) }
 {
     let mut n = first;
-    let mut left = rest;
-    while let Some((x, after)) = left.split_first() {
+    for x in rest {
         n = x.near_value_after::<W>(n, memory, shared)?;
-        left = after;
     }
     Some(n)
 }

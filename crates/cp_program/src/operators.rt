@@ -33,6 +33,18 @@ impl Operands {
     }
 }
 
+// The difference of `left` and `right`, if the operator is that of differences.
+#[inline(always)]
+fn difference_of(operator: Operator, left: i32, right: i32) -> Option<i32>
+    ensures { IfSome result
+        (λ n. values.apply (operator_of operator) left right ≡ Ok n) }
+{
+    match operator {
+        Operator::Subtract => difference(left, right),
+        _ => None,
+    }
+}
+
 impl Application {
     // The value of a sum, difference, product, quotient or remainder of `left`, the value so far, and
     // a flat operand.
@@ -63,6 +75,12 @@ impl Application {
             }
             Application::MultiplyLocal(at) => product(left, memory.near_local::<W>(shared, *at)?),
             Application::MultiplyMember(at) => product(left, memory.near_member::<W>(shared, *at)?),
+            Application::LocalBefore(operator, at) => {
+                difference_of(*operator, memory.near_local::<W>(shared, *at)?, left)
+            }
+            Application::MemberBefore(operator, at) => {
+                difference_of(*operator, memory.near_member::<W>(shared, *at)?, left)
+            }
             _ => None,
         }
     }

@@ -1,13 +1,10 @@
-use Rattle.std.proofs.Common.{◌≡◌, ℕ, length, map}
+use Rattle.std.proofs.Common.{◌≡◌, ℕ, drop, map}
 use Rattle.cp_program.specs.Reaches.{chain_value, view_with}
 use Rattle.cp_program.specs.View as view
 use Rattle.cp_program.proofs.flat.near_value_of_chain.Given as goal
 
--- The operands that are left lead from the value so far to the value of the chain.
+-- The remaining operands lead from the value so far to the value of the chain.
 abbrev pub invariant-loop-x : goal.invariant-loop-x
 invariant-loop-x g l =
-    (clock : ℕ) → chain_value (view_with l.memory l.shared clock) l.n (map view.application l.left)
+    (clock : ℕ) → chain_value (view_with l.memory l.shared clock) l.n (map view.application (drop l.x-index l.rest))
     ≡ chain_value (view_with l.fn.memory l.fn.shared clock) l.fn.first (map view.application l.fn.rest)
-
-abbrev pub decreases-loop-x : goal.decreases-loop-x
-decreases-loop-x g l = length l.left
