@@ -11,7 +11,7 @@ use Rattle.cp_machine_model.specs.Machines.{phased_rounds}
 use Rattle.cp_rounds.specs.Made.{IsReadyFor, TurnsMade}
 use Rattle.cp_rounds.specs.MachineOf.{machine_with}
 use Rattle.cp_rounds.specs.Numbers.{AreNumbered}
-use Rattle.cp_rounds.specs.Tasks.{AllFree, AreHere, AreLeft}
+use Rattle.cp_rounds.specs.Tasks.{AreHere, AreLeft}
 use Rattle.cp_rounds.specs.Turned.{moment_of, with_turn_taken}
 use Rattle.cp_rounds.specs.declared.moment.Moment.{Moment}
 use Rattle.cp_rounds.specs.declared.parts.Parts.{Parts}
@@ -36,7 +36,6 @@ pub record AreSame (xs : List Private) (k : Kernel) (ys : List Private) (k' : Ke
 -- unless the calling thread makes them alone. `start` has the private states at its start.
 pub record IsOpened (most : ℕ) (wakes alone : Bool) (rounds : ℕ) (xs : List Private) (k : Kernel) (start ys : List Private) (k' : Kernel) : Type 0 where
   pub same : AreSame xs k start k'
-  pub free : AllFree most start
   pub ready : IsReadyFor most rounds start k'
   pub left : AreLeft wakes 0 start ys
   pub here : AreHere alone 0 start ys

@@ -2,20 +2,19 @@
 
 ghost use Rattle.std.specs.Prelude.{◌≡◌, ◌-◌, false, true, Some, length, slice_get};
 ghost use Rattle.cp_private.specs.Resting.{rests};
-ghost use Rattle.cp_rounds.specs.Numbers.{AreNumbered};
-ghost use Rattle.cp_rounds.specs.Tasks.{AllFree, AreLeft, HasRoomLeft};
+ghost use Rattle.cp_rounds.specs.Tasks.{AreLeft, HasRoomLeft};
 
 use crate::cursor::Cursor;
-use crate::moment::Moment;
+use crate::open_round::OpenRound;
 use crate::slot::Slot;
-use crate::task::{Course, Start};
+use crate::task::Course;
 use cp_crew::Signal;
 use cp_plan::plan::Plan;
 use cp_private::resident::Resident;
 use crossbeam_utils::CachePadded;
 use std::alloc::{AllocError, Global};
 use std::mem;
-use std::sync::{Mutex, OnceToken, Wait};
+use std::sync::{Mutex, Wait};
 
 // Of which chunks the threads hear, if each has so many processes: of those before a number that has
 // none of these bits, so that some eight processes are laid before they hear of them. Each time they
@@ -129,23 +128,20 @@ impl<'a, C: Course> Desk<'a, C> {
         rt: &R,
         plan: &Plan,
         place: Cursor,
-        start: &OnceToken<'a, Start>,
-        round: usize,
+        round: &OpenRound<'a, C>,
         process: usize,
-        moment: Moment,
-        most: u32,
         private: &mut Resident,
         tasks: &mut Tasks<'a, C>,
     ) -> Cursor
-        requires cell { start.now.of ≡ C.cell round }
-        requires time { moment ≡ C.moment round }
         requires number { private.old.number ≡ process }
-        requires at { slice_get start.now.value.value.items (process - 1) ≡ Some private.old }
+        requires at { slice_get round.now.start.value.value.items (process - 1)
+            ≡ Some private.old }
         requires room { HasRoomLeft C.most false private.old }
-        ensures left { rests moment.wakes private.new ≡ true → private.new ≡ private.old }
+        ensures left { rests round.now.moment.wakes private.new ≡ true
+            → private.new ≡ private.old }
     {
         if let Some(slot) = tasks.get_mut(place.slot) {
-            slot.lay(start, round, process, moment, most, private);
+            slot.lay(round, process, private);
         }
         let next = place.next(plan);
         if next.chunk != place.chunk {
@@ -157,50 +153,27 @@ impl<'a, C: Course> Desk<'a, C> {
         next
     }
 
-    /// Lays the turns of a round, of which there are `turns`, in order of process: those of all
-    /// processes, or else of those that don't rest, each with those of at most `most` rounds in all.
-    /// The others stay where they are. `tasks` is room for those of a chunk.
+    /// Lays the turns of a round in order of process: those of all processes, or else of those that
+    /// don't rest. The others stay where they are. `tasks` is room for those of a chunk.
     pub fn put_all<R: Wait>(
         &self,
         rt: &R,
         plan: &Plan,
-        start: &OnceToken<'a, Start>,
-        round: usize,
-        moment: Moment,
-        most: u32,
+        round: &OpenRound<'a, C>,
         of_all: bool,
-        turns: usize,
         privates: &mut Vec<Resident>,
         tasks: &mut Tasks<'a, C>,
     )
-        requires cell { start.now.of ≡ C.cell round }
-        requires time { moment ≡ C.moment round }
-        requires numbers { AreNumbered privates.old.items }
-        requires start { start.now.value.value.items ≡ privates.old.items }
-        requires free { AllFree C.most privates.old.items }
-        ensures left { AreLeft moment.wakes 0 privates.old.items privates.new.items }
+        requires start { round.now.start.value.value.items ≡ privates.old.items }
+        ensures left { AreLeft round.now.moment.wakes 0 privates.old.items privates.new.items }
         ensures count { length privates.new.items ≡ length privates.old.items }
     {
-        if turns == 0 {
-            return;
-        }
         let mut place = Cursor::first();
         for i in 0..privates.len() {
-            if !of_all && privates[i].private().rests(moment.wakes) {
+            if !of_all && privates[i].private().rests(round.moment.wakes) {
                 continue;
             }
-            place = self.put(
-                rt,
-                plan,
-                place,
-                start,
-                round,
-                i + 1,
-                moment,
-                most,
-                &mut privates[i],
-                tasks,
-            );
+            place = self.put(rt, plan, place, round, i + 1, &mut privates[i], tasks);
         }
         self.lay_last(rt, place, tasks);
     }

@@ -13,19 +13,20 @@ ghost use Rattle.cp_rounds.specs.MachineOf.{input_at};
 ghost use Rattle.cp_rounds.specs.Made.{IsReady};
 ghost use Rattle.cp_rounds.specs.Numbers.{AreNumbered};
 ghost use Rattle.cp_rounds.specs.Runs.{TurnsTaken};
-ghost use Rattle.cp_rounds.specs.Tasks.{AllFree, AreHere, AreLeft, IsTaken};
+ghost use Rattle.cp_rounds.specs.Tasks.{AreHere, AreLeft, IsTaken};
 ghost use Rattle.cp_rounds.specs.Turned.{moment_of};
 
 use crate::gate::TurnGate;
 use crate::hand::Hand;
 use crate::moment::Moment;
+use crate::open_round::OpenRound;
 use crate::run::Run;
-use crate::task::{Course, Start};
+use crate::task::Course;
 use crate::turns::turn_in_place;
 use cp_kernel::kernel::Kernel;
 use cp_kernel::turns::{has_no_kernel_turn, kernel_turn};
 use cp_private::resident::Resident;
-use std::sync::{OnceToken, Wait};
+use std::sync::Wait;
 
 // Takes the private state of a process from the desk, after its private turn. It is kept out of the
 // loop over all processes.
@@ -34,16 +35,14 @@ fn take_from_desk<'a, C: Course, R: Wait, G: TurnGate>(
     rt: &R,
     run: &Run<'a, C, G>,
     hand: &mut Hand<'a, C>,
-    start: &OnceToken<'a, Start>,
-    round: usize,
+    round: &OpenRound<'a, C>,
     process: usize,
     private: &mut Resident,
 )
-    requires cell { start.now.of ≡ C.cell round }
-    ensures { IsTaken (C.turned (C.moment round)) (C.input (process - 1)) C.most
-        start.now.value.value.items process private.new }
+    ensures { IsTaken (C.turned round.now.moment) (C.input (process - 1)) C.most
+        round.now.start.value.value.items process private.new }
 {
-    hand.take(rt, run, start, round, process, 1, private);
+    hand.take(rt, run, round, process, 1, private);
 }
 
 // Makes the private turn of a process where its private state is. It is kept out of the loop over
@@ -51,21 +50,18 @@ fn take_from_desk<'a, C: Course, R: Wait, G: TurnGate>(
 #[inline(never)]
 fn turn_here<'a, C: Course, G: TurnGate>(
     run: &Run<'a, C, G>,
-    start: &OnceToken<'a, Start>,
-    moment: Moment,
+    round: &OpenRound<'a, C>,
     process: usize,
     private: &mut Resident,
 )
     requires some { 0 < process }
-    requires numbers { AreNumbered start.now.value.value.items }
-    requires free { AllFree C.most start.now.value.value.items }
-    requires here { slice_get start.now.value.value.items (process - 1) ≡ Some private.old }
-    ensures { IsTaken (C.turned moment) (C.input (process - 1)) C.most
-        start.now.value.value.items process private.new }
+    requires here { slice_get round.now.start.value.value.items (process - 1) ≡ Some private.old }
+    ensures { IsTaken (C.turned round.now.moment) (C.input (process - 1)) C.most
+        round.now.start.value.value.items process private.new }
 {
     let private = private.private_mut();
     let turn = run.turns.plan.turn;
-    turn_in_place(run.turns.setting, private, process, moment, turn);
+    turn_in_place(run.turns.setting, private, process, round.moment, turn);
 }
 
 // Brings back a private state after its private turn, which it has made where it is if it rests.
@@ -74,32 +70,25 @@ fn bring_back<'a, C: Course, R: Wait, G: TurnGate>(
     rt: &R,
     run: &Run<'a, C, G>,
     hand: &mut Hand<'a, C>,
-    start: &OnceToken<'a, Start>,
-    round: usize,
-    moment: Moment,
-    alone: bool,
+    round: &OpenRound<'a, C>,
     process: usize,
     private: &mut Resident,
 )
     requires some { 0 < process }
-    requires cell { start.now.of ≡ C.cell round }
-    requires time { moment ≡ C.moment round }
-    requires numbers { AreNumbered start.now.value.value.items }
-    requires free { AllFree C.most start.now.value.value.items }
-    requires left { rests moment.wakes private.old ≡ true
-        → slice_get start.now.value.value.items (process - 1) ≡ Some private.old }
-    requires here { alone ≡ true
-        → slice_get start.now.value.value.items (process - 1) ≡ Some private.old }
-    ensures taken { IsTaken (C.turned (C.moment round)) (C.input (process - 1)) C.most
-        start.now.value.value.items process private.new }
+    requires left { rests round.now.moment.wakes private.old ≡ true
+        → slice_get round.now.start.value.value.items (process - 1) ≡ Some private.old }
+    requires here { round.now.alone ≡ true
+        → slice_get round.now.start.value.value.items (process - 1) ≡ Some private.old }
+    ensures taken { IsTaken (C.turned round.now.moment) (C.input (process - 1)) C.most
+        round.now.start.value.value.items process private.new }
 {
-    if private.private().rests(moment.wakes) {
+    if private.private().rests(round.moment.wakes) {
         return;
     }
-    if alone {
-        turn_here(run, start, moment, process, private);
+    if round.alone {
+        turn_here(run, round, process, private);
     } else {
-        take_from_desk(rt, run, hand, start, round, process, private);
+        take_from_desk(rt, run, hand, round, process, private);
     }
 }
 
@@ -147,42 +136,38 @@ fn finish_moving<'a, C: Course, R: Wait, G: TurnGate>(
     rt: &R,
     run: &Run<'a, C, G>,
     hand: &mut Hand<'a, C>,
-    start: &OnceToken<'a, Start>,
-    round: usize,
-    moment: Moment,
-    alone: bool,
+    round: &OpenRound<'a, C>,
     index: usize,
     privates: &mut Vec<Resident>,
     kernel: &mut Kernel,
 )
     requires within { index < length privates.old.items }
-    requires count { length privates.old.items ≡ length start.now.value.value.items }
-    requires cell { start.now.of ≡ C.cell round }
-    requires time { moment ≡ C.moment round }
-    requires numbers { AreNumbered start.now.value.value.items }
-    requires free { AllFree C.most start.now.value.value.items }
-    requires left { AreLeft moment.wakes index start.now.value.value.items privates.old.items }
-    requires here { AreHere alone index start.now.value.value.items privates.old.items }
-    requires ready { IsReady C.most index start.now.value.value.items kernel.old }
+    requires count { length privates.old.items ≡ length round.now.start.value.value.items }
+    requires left { AreLeft round.now.moment.wakes index round.now.start.value.value.items
+        privates.old.items }
+    requires here { AreHere round.now.alone index round.now.start.value.value.items
+        privates.old.items }
+    requires ready { IsReady C.most index round.now.start.value.value.items kernel.old }
     ensures taken { (rounds : ℕ) (k : Kernel)
-        → moment ≡ moment_of run.now.turns.setting.now.tick.rounds rounds
+        → round.now.moment ≡ moment_of run.now.turns.setting.now.tick.rounds rounds
         → TurnsTaken run.now.turns.setting.now run.now.turns.plan.turn.steps rounds
-        start.now.value.value.items k (take index privates.old.items) kernel.old
+        round.now.start.value.value.items k (take index privates.old.items) kernel.old
         → TurnsTaken run.now.turns.setting.now run.now.turns.plan.turn.steps rounds
-        start.now.value.value.items k (take (index + 1) privates.new.items) kernel.new }
+        round.now.start.value.value.items k (take (index + 1) privates.new.items) kernel.new }
     ensures numbers { AreNumbered (take index privates.old.items)
         → AreNumbered (take (index + 1) privates.new.items) }
-    ensures left { AreLeft moment.wakes (index + 1) start.now.value.value.items
+    ensures left { AreLeft round.now.moment.wakes (index + 1)
+        round.now.start.value.value.items privates.new.items }
+    ensures here { AreHere round.now.alone (index + 1) round.now.start.value.value.items
         privates.new.items }
-    ensures here { AreHere alone (index + 1) start.now.value.value.items privates.new.items }
     ensures count { length privates.new.items ≡ length privates.old.items }
-    ensures ready { IsReady C.most (index + 1) start.now.value.value.items kernel.new }
+    ensures ready { IsReady C.most (index + 1) round.now.start.value.value.items kernel.new }
 {
     let process = index + 1;
     hand.moved = true;
     let private = &mut privates[index];
-    bring_back(rt, run, hand, start, round, moment, alone, process, private);
-    kernel_turn_of(run, moment, process, private, kernel);
+    bring_back(rt, run, hand, round, process, private);
+    kernel_turn_of(run, round.moment, process, private, kernel);
 }
 
 // Returns whether a process has no step to make in the round, nor output to move: then both of its
@@ -190,22 +175,16 @@ fn finish_moving<'a, C: Course, R: Wait, G: TurnGate>(
 #[inline(always)]
 fn stands_still<'a, C: Course, G: TurnGate>(
     run: &Run<'a, C, G>,
-    start: &OnceToken<'a, Start>,
-    round: usize,
-    moment: Moment,
+    round: &OpenRound<'a, C>,
     process: usize,
     private: &Resident,
     kernel: &Kernel,
 ) -> bool
     requires some { 0 < process }
-    requires cell { start.now.of ≡ C.cell round }
-    requires time { moment ≡ C.moment round }
-    requires numbers { AreNumbered start.now.value.value.items }
-    requires free { AllFree C.most start.now.value.value.items }
-    requires left { rests moment.wakes private.now ≡ true
-        → slice_get start.now.value.value.items (process - 1) ≡ Some private.now }
-    ensures taken { result ≡ true → IsTaken (C.turned (C.moment round)) (C.input (process - 1))
-        C.most start.now.value.value.items process private.now }
+    requires left { rests round.now.moment.wakes private.now ≡ true
+        → slice_get round.now.start.value.value.items (process - 1) ≡ Some private.now }
+    ensures taken { result ≡ true → IsTaken (C.turned round.now.moment) (C.input (process - 1))
+        C.most round.now.start.value.value.items process private.now }
     ensures turned { result ≡ true → (clock n : ℕ) (input : List ℕ)
         → IsTurned (view.program run.now.turns.setting.now.program) clock n kernel.now kernel.now
         private.now private.now input }
@@ -214,7 +193,7 @@ fn stands_still<'a, C: Course, G: TurnGate>(
     // The output is asked for first, so that what `rests` finds is known where the kernel turn is
     // asked for.
     private.output().is_empty()
-        && private.rests(moment.wakes)
+        && private.rests(round.moment.wakes)
         && has_no_kernel_turn(&run.turns.setting.program, kernel, private)
 }
 
@@ -224,45 +203,39 @@ fn finish_next<'a, C: Course, R: Wait, G: TurnGate>(
     rt: &R,
     run: &Run<'a, C, G>,
     hand: &mut Hand<'a, C>,
-    start: &OnceToken<'a, Start>,
-    round: usize,
-    moment: Moment,
-    alone: bool,
+    round: &OpenRound<'a, C>,
     index: usize,
     privates: &mut Vec<Resident>,
     kernel: &mut Kernel,
 )
     requires within { index < length privates.old.items }
-    requires count { length privates.old.items ≡ length start.now.value.value.items }
-    requires cell { start.now.of ≡ C.cell round }
-    requires time { moment ≡ C.moment round }
-    requires numbers { AreNumbered start.now.value.value.items }
-    requires free { AllFree C.most start.now.value.value.items }
-    requires left { AreLeft moment.wakes index start.now.value.value.items privates.old.items }
-    requires here { AreHere alone index start.now.value.value.items privates.old.items }
-    requires ready { IsReady C.most index start.now.value.value.items kernel.old }
+    requires count { length privates.old.items ≡ length round.now.start.value.value.items }
+    requires left { AreLeft round.now.moment.wakes index round.now.start.value.value.items
+        privates.old.items }
+    requires here { AreHere round.now.alone index round.now.start.value.value.items
+        privates.old.items }
+    requires ready { IsReady C.most index round.now.start.value.value.items kernel.old }
     ensures taken { (rounds : ℕ) (k : Kernel)
-        → moment ≡ moment_of run.now.turns.setting.now.tick.rounds rounds
+        → round.now.moment ≡ moment_of run.now.turns.setting.now.tick.rounds rounds
         → TurnsTaken run.now.turns.setting.now run.now.turns.plan.turn.steps rounds
-        start.now.value.value.items k (take index privates.old.items) kernel.old
+        round.now.start.value.value.items k (take index privates.old.items) kernel.old
         → TurnsTaken run.now.turns.setting.now run.now.turns.plan.turn.steps rounds
-        start.now.value.value.items k (take (index + 1) privates.new.items) kernel.new }
+        round.now.start.value.value.items k (take (index + 1) privates.new.items) kernel.new }
     ensures numbers { AreNumbered (take index privates.old.items)
         → AreNumbered (take (index + 1) privates.new.items) }
-    ensures left { AreLeft moment.wakes (index + 1) start.now.value.value.items
+    ensures left { AreLeft round.now.moment.wakes (index + 1)
+        round.now.start.value.value.items privates.new.items }
+    ensures here { AreHere round.now.alone (index + 1) round.now.start.value.value.items
         privates.new.items }
-    ensures here { AreHere alone (index + 1) start.now.value.value.items privates.new.items }
     ensures count { length privates.new.items ≡ length privates.old.items }
-    ensures ready { IsReady C.most (index + 1) start.now.value.value.items kernel.new }
+    ensures ready { IsReady C.most (index + 1) round.now.start.value.value.items kernel.new }
 {
     let process = index + 1;
-    if stands_still(run, start, round, moment, process, &privates[index], kernel) {
+    if stands_still(run, round, process, &privates[index], kernel) {
         run.turns.gate.kernel(process);
         return;
     }
-    finish_moving(
-        rt, run, hand, start, round, moment, alone, index, privates, kernel,
-    );
+    finish_moving(rt, run, hand, round, index, privates, kernel);
 }
 
 // Makes all turns of a round: kernel turns alongside the private turns that are left at the desk,
@@ -273,33 +246,26 @@ pub(crate) fn finish_all<'a, C: Course, R: Wait, G: TurnGate>(
     rt: &R,
     run: &Run<'a, C, G>,
     hand: &mut Hand<'a, C>,
-    start: &OnceToken<'a, Start>,
-    round: usize,
-    moment: Moment,
-    alone: bool,
+    round: &OpenRound<'a, C>,
     privates: &mut Vec<Resident>,
     kernel: &mut Kernel,
 )
-    requires count { length privates.old.items ≡ length start.now.value.value.items }
-    requires cell { start.now.of ≡ C.cell round }
-    requires time { moment ≡ C.moment round }
-    requires numbers { AreNumbered start.now.value.value.items }
-    requires free { AllFree C.most start.now.value.value.items }
-    requires left { AreLeft moment.wakes 0 start.now.value.value.items privates.old.items }
-    requires here { AreHere alone 0 start.now.value.value.items privates.old.items }
-    requires ready { IsReady C.most 0 start.now.value.value.items kernel.old }
+    requires count { length privates.old.items ≡ length round.now.start.value.value.items }
+    requires left { AreLeft round.now.moment.wakes 0 round.now.start.value.value.items
+        privates.old.items }
+    requires here { AreHere round.now.alone 0 round.now.start.value.value.items
+        privates.old.items }
+    requires ready { IsReady C.most 0 round.now.start.value.value.items kernel.old }
     ensures taken { (rounds : ℕ)
-        → moment ≡ moment_of run.now.turns.setting.now.tick.rounds rounds
+        → round.now.moment ≡ moment_of run.now.turns.setting.now.tick.rounds rounds
         → TurnsTaken run.now.turns.setting.now run.now.turns.plan.turn.steps rounds
-        start.now.value.value.items kernel.old privates.new.items kernel.new }
+        round.now.start.value.value.items kernel.old privates.new.items kernel.new }
     ensures numbers { AreNumbered privates.new.items }
     ensures count { length privates.new.items ≡ length privates.old.items }
     ensures stages { length kernel.new.stages.items ≡ length privates.new.items }
 {
     for i in 0..privates.len() {
-        finish_next(
-            rt, run, hand, start, round, moment, alone, i, privates, kernel,
-        );
+        finish_next(rt, run, hand, round, i, privates, kernel);
     }
     hand.end_wave(rt, run);
 }

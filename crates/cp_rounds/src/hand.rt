@@ -7,13 +7,14 @@ use crate::cursor::Cursor;
 use crate::desk::{Tasks, room_for_tasks};
 use crate::desk_turns::DeskTurns;
 use crate::gate::TurnGate;
+use crate::open_round::OpenRound;
 use crate::pace::Pace;
 use crate::run::Run;
-use crate::task::{Course, Start};
+use crate::task::Course;
 use cp_crew::{Rack, Wave};
 use cp_private::resident::Resident;
 use std::alloc::{AllocError, Global};
-use std::sync::{OnceToken, Wait};
+use std::sync::Wait;
 
 /// The waves that are left of a round, the first one last, and the chunk from which the calling
 /// thread takes private states.
@@ -136,17 +137,15 @@ impl<'a, C: Course> Hand<'a, C> {
         &mut self,
         rt: &R,
         run: &Run<'a, C, G>,
-        start: &OnceToken<'a, Start>,
-        round: usize,
+        round: &OpenRound<'a, C>,
         process: usize,
         most: u32,
         private: &mut Resident,
     ) -> u32
-        requires cell { start.now.of ≡ C.cell round }
         ensures some { 0 < result }
         ensures few { result ≤ most }
-        ensures taken { AreTaken (AreMade C.quiet C.turned C.moment round result)
-            (C.input (process - 1)) C.most start.now.value.value.items process private.new }
+        ensures taken { AreTaken (AreMade C.quiet C.turned C.moment round.now.index result)
+            (C.input (process - 1)) C.most round.now.start.value.value.items process private.new }
     {
         if self.place.slot == 0 {
             self.next_chunk(rt, run);
@@ -157,7 +156,7 @@ impl<'a, C: Course> Hand<'a, C> {
             let Some(slot) = self.tasks.get_mut(index) else {
                 continue;
             };
-            let turns = slot.take(start, round, process, most, private);
+            let turns = slot.take(round, process, most, private);
             if turns > 0 {
                 return turns;
             }

@@ -11,8 +11,8 @@
 //!   round.
 //! - `gate`: what is called before each turn.
 //! - `turns`, `closing`: a private turn, and the end of a round.
-//! - `run`, `round`, `sharing`: rounds by threads that are kept, which draw the chunks of each wave
-//!   from its board, and how the turns are shared out.
+//! - `run`, `round`, `open_round`, `sharing`: rounds by threads that are kept, which draw the chunks
+//!   of each wave from its board, and how the turns are shared out.
 //! - `desk`, `slot`, `task`, `desk_turns`, `cursor`: private turns on their way between threads, and
 //!   how the threads make them.
 //! - `ahead`, `ahead_turns`, `quiet`, `pace`: several rounds at once, while processes only compute.
@@ -37,6 +37,7 @@ mod hand;
 mod law;
 pub mod machine;
 mod moment;
+mod open_round;
 mod pace;
 mod parts;
 pub mod place;

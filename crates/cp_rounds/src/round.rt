@@ -19,19 +19,21 @@ use crate::finishing::finish_all;
 use crate::gate::TurnGate;
 use crate::hand::Hand;
 use crate::moment::Moment;
+use crate::open_round::OpenRound;
 use crate::pace::Pace;
 use crate::parts::Parts;
 use crate::run::{Run, cell_at};
 use crate::sharing::{Shares, helpers};
-use crate::task::{Course, Start};
+use crate::task::Course;
 use cp_crew::Wave;
 use cp_kernel::kernel::Kernel;
 use cp_plan::turn::Turn;
 use cp_private::private::Private;
 use cp_private::resident::Resident;
 use std::alloc::AllocError;
+use std::marker::PhantomData;
 use std::snapshot::Snapshot;
-use std::sync::{OnceToken, Wait};
+use std::sync::Wait;
 
 // How many rounds at once are many. Few take little room, and are made by programs that seldom
 // compute for long.
@@ -171,22 +173,15 @@ fn lay_turns<'a, C: Course, R: Wait, G: TurnGate>(
     rt: &R,
     run: &Run<'a, C, G>,
     hand: &mut Hand<'a, C>,
-    start: &OnceToken<'a, Start>,
-    round: usize,
-    moment: Moment,
-    shares: Shares,
+    round: &OpenRound<'a, C>,
     privates: &mut Vec<Resident>,
 )
-    requires cell { start.now.of ≡ C.cell round }
-    requires time { moment ≡ C.moment round }
-    requires numbers { AreNumbered privates.old.items }
-    requires start { start.now.value.value.items ≡ privates.old.items }
-    requires free { AllFree C.most privates.old.items }
-    ensures left { AreLeft moment.wakes 0 privates.old.items privates.new.items }
-    ensures here { AreHere shares.alone 0 privates.old.items privates.new.items }
+    requires start { round.now.start.value.value.items ≡ privates.old.items }
+    ensures left { AreLeft round.now.moment.wakes 0 privates.old.items privates.new.items }
+    ensures here { AreHere round.now.alone 0 privates.old.items privates.new.items }
     ensures count { length privates.new.items ≡ length privates.old.items }
 {
-    if shares.alone {
+    if round.alone {
         return;
     }
     let DeskTurns {
@@ -196,11 +191,7 @@ fn lay_turns<'a, C: Course, R: Wait, G: TurnGate>(
         ..
     } = &run.turns;
     let of_all = !gate.does_nothing();
-    let Shares { rounds, turns, .. } = shares;
-    let tasks = &mut hand.tasks;
-    desk.put_all(
-        rt, plan, start, round, moment, rounds, of_all, turns, privates, tasks,
-    );
+    desk.put_all(rt, plan, round, of_all, privates, &mut hand.tasks);
 }
 
 // Returns for how many rounds room is reserved: for the largest number that is ever made at once, as
@@ -215,7 +206,7 @@ fn rounds_of_room(pace: &Pace, rounds: u32) -> u32
 }
 
 /// Opens the round of a run at this index, and with it as many as are made at once: reserves room
-/// for them, and lets the threads draw the private turns. Returns the start of the round.
+/// for them, and lets the threads draw the private turns.
 ///
 /// # Errors
 ///
@@ -224,41 +215,51 @@ pub(crate) fn open_round<'a, C: Course, R: Wait, G: TurnGate>(
     rt: &R,
     run: &Run<'a, C, G>,
     hand: &mut Hand<'a, C>,
-    round: usize,
+    index: usize,
     moment: Moment,
     shares: Shares,
     privates: &mut Vec<Resident>,
     kernel: &mut Kernel,
-) -> Result<OnceToken<'a, Start>, AllocError>
-    requires round { round < length run.now.cells.now }
-    requires time { moment ≡ C.moment round }
+) -> Result<OpenRound<'a, C>, AllocError>
+    requires index { index < length run.now.cells.now }
+    requires time { moment ≡ C.moment index }
     requires numbers { AreNumbered privates.old.items }
     requires stages { length kernel.old.stages.items ≡ length privates.old.items }
     ensures kept { IfErr result
         (λ _. AreSame privates.old.items kernel.old privates.new.items kernel.new) }
-    ensures cell { IfOk result (λ start. start.of ≡ C.cell round) }
-    ensures opened { IfOk result (λ start. IsOpened C.most moment.wakes shares.alone shares.rounds
-        privates.old.items kernel.old start.value.value.items privates.new.items kernel.new) }
+    ensures index { IfOk result (λ round. round.index ≡ index) }
+    ensures rounds { IfOk result (λ round. round.rounds ≡ shares.rounds) }
+    ensures opened { IfOk result (λ round. IsOpened C.most round.moment.wakes round.alone
+        round.rounds privates.old.items kernel.old round.start.value.value.items privates.new.items
+        kernel.new) }
 {
-    let rounds = rounds_of_room(&hand.pace, shares.rounds);
-    reserve_room(privates, kernel, run.turns.plan.turn, rounds)?;
-    let waves = waves_of(
-        rt,
-        run,
-        round,
-        shares.turns,
-        shares.helpers.saturating_add(1),
-    )?;
+    let Shares {
+        rounds,
+        turns,
+        helpers,
+        alone,
+    } = shares;
+    let room = rounds_of_room(&hand.pace, rounds);
+    reserve_room(privates, kernel, run.turns.plan.turn, room)?;
+    let waves = waves_of(rt, run, index, turns, helpers.saturating_add(1))?;
     // Only this round writes its cell, but no contract says so.
-    let Ok(start) = cell_at(run.cells, round).set(rt, Snapshot::of(privates)) else {
+    let Ok(start) = cell_at(run.cells, index).set(rt, Snapshot::of(privates)) else {
         return Err(AllocError);
     };
     if moment.wakes {
         hand.moved = false;
     }
     hand.begin(rt, run, waves);
-    lay_turns(rt, run, hand, &start, round, moment, shares, privates);
-    Ok(start)
+    let round = OpenRound {
+        start,
+        index,
+        moment,
+        rounds,
+        alone,
+        of: PhantomData,
+    };
+    lay_turns(rt, run, hand, &round, privates);
+    Ok(round)
 }
 
 /// Makes the round of a run at this index: room for all output, the waves, the private turns by
@@ -270,33 +271,23 @@ pub(crate) fn open_round<'a, C: Course, R: Wait, G: TurnGate>(
 pub fn make_round<'a, C: Course, R: Wait, G: TurnGate>(
     rt: &R,
     run: &Run<'a, C, G>,
-    round: usize,
+    index: usize,
     hand: &mut Hand<'a, C>,
     parts: &mut Parts,
 ) -> Result<(), AllocError>
-    requires round { round < length run.now.cells.now }
+    requires index { index < length run.now.cells.now }
     ensures made { IfOk result (λ _. PartsAfter run.now.turns.setting.now
-        run.now.turns.plan.turn.steps (run.now.turns.done + round) 1 parts.old parts.new) }
+        run.now.turns.plan.turn.steps (run.now.turns.done + index) 1 parts.old parts.new) }
     ensures kept { IfErr result (λ _. PartsAfter run.now.turns.setting.now
-        run.now.turns.plan.turn.steps (run.now.turns.done + round) 0 parts.old parts.new) }
+        run.now.turns.plan.turn.steps (run.now.turns.done + index) 0 parts.old parts.new) }
     ensures count { length parts.new.privates.items ≡ length parts.old.privates.items }
 {
     let setting = run.turns.setting;
-    let moment = setting.moment(run.turns.done + round as u64);
+    let moment = setting.moment(run.turns.done + index as u64);
     let Parts { privates, kernel } = parts;
     let shares = shares_of(run, hand, privates, moment, 1);
-    let start = open_round(rt, run, hand, round, moment, shares, privates, kernel)?;
-    finish_all(
-        rt,
-        run,
-        hand,
-        &start,
-        round,
-        moment,
-        shares.alone,
-        privates,
-        kernel,
-    );
+    let round = open_round(rt, run, hand, index, moment, shares, privates, kernel)?;
+    finish_all(rt, run, hand, &round, privates, kernel);
     close_round(setting, privates, kernel);
     Ok(())
 }

@@ -4,13 +4,12 @@ ghost use Rattle.std.specs.Prelude.{◌≡◌, ◌<◌, ◌≤◌, ◌-◌, fals
 ghost use Rattle.cp_private.specs.Resting.{rests};
 ghost use Rattle.cp_rounds.specs.Tasks.{AreMade, AreTaken, HasRoomLeft};
 
-use crate::moment::Moment;
-use crate::task::{Course, Start, Task};
+use crate::open_round::OpenRound;
+use crate::task::{Course, Task};
 use cp_private::private::Private;
 use cp_private::resident::Resident;
 use std::alloc::{AllocError, Global};
 use std::mem;
-use std::sync::OnceToken;
 
 /// A slot of the desk. It holds the task of a process, or else a spare private state, which takes
 /// the place of the process's own while that is here.
@@ -34,34 +33,26 @@ impl<'a, C: Course> Slot<'a, C> {
         })
     }
 
-    /// Lays the turn of a process, which is still to be made, with those of at most `most` rounds
-    /// in all, and leaves the spare private state in the place of its own, where it doesn't rest.
+    /// Lays the turn of a process in a round, which is still to be made, and leaves the spare private
+    /// state in the place of its own, where it doesn't rest.
     #[inline(always)]
-    pub fn lay(
-        &mut self,
-        start: &OnceToken<'a, Start>,
-        round: usize,
-        process: usize,
-        moment: Moment,
-        most: u32,
-        private: &mut Resident,
-    )
-        requires cell { start.now.of ≡ C.cell round }
-        requires time { moment ≡ C.moment round }
+    pub fn lay(&mut self, round: &OpenRound<'a, C>, process: usize, private: &mut Resident)
         requires number { private.old.number ≡ process }
-        requires at { slice_get start.now.value.value.items (process - 1) ≡ Some private.old }
+        requires at { slice_get round.now.start.value.value.items (process - 1)
+            ≡ Some private.old }
         requires room { HasRoomLeft C.most false private.old }
-        ensures left { rests moment.wakes private.new ≡ true → private.new ≡ private.old }
+        ensures left { rests round.now.moment.wakes private.new ≡ true
+            → private.new ≡ private.old }
     {
         let Some(spare) = self.spare.take() else {
             return;
         };
         // No spare private state rests, but no contract says so.
-        if spare.private().rests(moment.wakes) {
+        if spare.private().rests(round.moment.wakes) {
             return;
         }
         let private = mem::replace(private, spare);
-        self.task = Some(Task::new(start, round, process, moment, most, private));
+        self.task = Some(Task::new(round, process, private));
     }
 
     /// Takes the private state of a process after its private turns, of rounds from this one on,
@@ -71,21 +62,20 @@ impl<'a, C: Course> Slot<'a, C> {
     #[inline(always)]
     pub fn take(
         &mut self,
-        start: &OnceToken<'a, Start>,
-        round: usize,
+        round: &OpenRound<'a, C>,
         process: usize,
         most: u32,
         private: &mut Resident,
     ) -> u32
-        requires cell { start.now.of ≡ C.cell round }
         ensures few { result ≤ most }
-        ensures taken { 0 < result → AreTaken (AreMade C.quiet C.turned C.moment round result)
-            (C.input (process - 1)) C.most start.now.value.value.items process private.new }
+        ensures taken { 0 < result
+            → AreTaken (AreMade C.quiet C.turned C.moment round.now.index result)
+            (C.input (process - 1)) C.most round.now.start.value.value.items process private.new }
     {
         let Some(task) = self.task.take() else {
             return 0;
         };
-        let Some((turns, found)) = task.finish(start, round, process, most) else {
+        let Some((turns, found)) = task.finish(round, process, most) else {
             return 0;
         };
         self.spare = Some(mem::replace(private, found));

@@ -15,6 +15,7 @@ ghost use Rattle.cp_rounds.specs.Tasks.{AreMade, AreMade-prop, AreTaken, ComesOf
 ghost use Rattle.cp_rounds.specs.declared.moment.Moment as declared;
 
 use crate::moment::Moment;
+use crate::open_round::OpenRound;
 use crate::quiet::is_quiet;
 use crate::setting::Setting;
 use crate::turns::turn_in_place;
@@ -88,30 +89,21 @@ pub struct Task<'a, C: Course> {
 }
 
 impl<'a, C: Course> Task<'a, C> {
-    /// Returns the turn of a process, which is still to be made, with those of at most so many
-    /// rounds in all.
-    pub fn new(
-        start: &OnceToken<'a, Start>,
-        round: usize,
-        process: usize,
-        moment: Moment,
-        most: u32,
-        private: Resident,
-    ) -> Task<'a, C>
-        requires cell { start.now.of ≡ C.cell round }
-        requires time { moment ≡ C.moment round }
+    /// Returns the turn of a process in a round, which is still to be made, with those of the rounds
+    /// that are made at once.
+    pub fn new(round: &OpenRound<'a, C>, process: usize, private: Resident) -> Task<'a, C>
         requires number { private.number ≡ process }
-        requires at { slice_get start.now.value.value.items (process - 1) ≡ Some private }
+        requires at { slice_get round.now.start.value.value.items (process - 1) ≡ Some private }
         requires room { HasRoomLeft C.most false private }
     {
         Task {
-            round,
+            round: round.index,
             process,
-            moment,
-            most,
+            moment: round.moment,
+            most: round.rounds,
             made: 0,
             private,
-            start: start.again(),
+            start: round.start.again(),
             of: PhantomData,
         }
     }
@@ -182,21 +174,23 @@ impl<'a, C: Course> Task<'a, C> {
     /// `most`, and they are the turns of this process from this round on.
     pub fn finish(
         self,
-        start: &OnceToken<'a, Start>,
-        round: usize,
+        round: &OpenRound<'a, C>,
         process: usize,
         most: u32,
     ) -> Option<(u32, Resident)>
-        requires cell { start.now.of ≡ C.cell round }
         ensures some { IfSome result (λ r. 0 < r.0) }
         ensures few { IfSome result (λ r. r.0 ≤ most) }
-        ensures taken { IfSome result (λ r. AreTaken (AreMade C.quiet C.turned C.moment round r.0)
-            (C.input (process - 1)) C.most start.now.value.value.items process r.1) }
+        ensures taken { IfSome result (λ r. AreTaken
+            (AreMade C.quiet C.turned C.moment round.now.index r.0) (C.input (process - 1)) C.most
+            round.now.start.value.value.items process r.1) }
     {
-        if self.made == 0 || self.made > most || self.round != round || self.process != process {
+        if self.made == 0 || self.made > most {
             return None;
         }
-        start.agrees(&self.start);
+        if self.round != round.index || self.process != process {
+            return None;
+        }
+        round.start.agrees(&self.start);
         Some((self.made, self.private))
     }
 }

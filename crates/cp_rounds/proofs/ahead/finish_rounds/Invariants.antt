@@ -10,7 +10,7 @@ invariant-loop-next g l = record {
   count : length l.privates.items ≡ length l.fn.privates.items;
   later : l.ahead.later + l.next ≡ l.fn.ahead.later;
   ready : IsReadyAhead g.C.Course.most l.ahead.later (length l.privates.items) l.ahead.turns.items l.privates.items l.kernel;
-  made : (m : Machine) → IsTime l.run.turns.setting.now m l.fn.moment → m.tick ≡ l.run.turns.setting.now.tick.rounds → m.rounds ≡ l.run.turns.done + l.round
+  made : (m : Machine) → IsTime l.run.turns.setting.now m l.fn.moment → m.tick ≡ l.run.turns.setting.now.tick.rounds → m.rounds ≡ l.run.turns.done + l.index
       → PartsAhead l.run.turns.setting.now l.run.turns.plan.turn.steps (m.rounds + 1) (with_turn_taken l.run.turns.plan.turn.steps m) l.fn.ahead.turns.items
       l.fn.privates.items l.fn.kernel
       → PartsAhead l.run.turns.setting.now l.run.turns.plan.turn.steps (m.rounds + (l.next + 1))

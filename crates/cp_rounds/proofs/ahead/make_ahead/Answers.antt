@@ -12,19 +12,21 @@ use Rattle.cp_rounds.proofs.ahead.make_ahead.Goals as goal
 pub finish_rounds-computed-requires-clause-ready : goal.finish_rounds-computed-requires-clause-ready
 finish_rounds-computed-requires-clause-ready g c κs within =
     let most = g.C.Course.most in
-    let xs = c.in-Ok-open_round.start.value.value.items in
+    let round = c.in-Ok-open_round.round in
+    let xs = round.start.value.value.items in
     let ns = c.take_all_back.new.ahead.turns.items in
     let ys = c.take_all_back.new.privates.items in
     let k = c.open_round.new.kernel in
     let later = c.take_all_back.new.ahead.later in
     let some = c.requires.some in
-    let count : c.args.count ≡ suc later = omega (arith, c.take_all_back.ensures.later, c.in-Ok.ensures.later, some) in
+    let rounds = c.in-Ok-open_round.ensures.rounds ∙ c.shares_of-shares.ensures in
+    let count : round.rounds ≡ suc later = omega (arith, rounds, c.take_all_back.ensures.later, c.in-Ok.ensures.later, some) in
     let ready : IsReadyFor most (suc later) xs k =
-    subst (λ (n : ℕ). IsReadyFor most n xs k) (c.shares_of-shares.ensures ∙ count) c.in-Ok-open_round.ensures.opened.ready in
+    subst (λ (n : ℕ). IsReadyFor most n xs k) count c.in-Ok-open_round.ensures.opened.ready in
     let back =
-    subst (λ (n : ℕ). AreBack g.C.Course.quiet g.C.Course.turned g.C.Course.moment g.C.Course.input most c.args.round n xs ns ys k) count
+    subst (λ (n : ℕ). AreBack g.C.Course.quiet g.C.Course.turned g.C.Course.moment g.C.Course.input most round.index n xs ns ys k) count
     c.take_all_back.ensures.back in
-    back_ready g.C.Course.quiet g.C.Course.turned g.C.Course.moment g.C.Course.input most c.args.round later xs ns ys k ready back
+    back_ready g.C.Course.quiet g.C.Course.turned g.C.Course.moment g.C.Course.input most round.index later xs ns ys k ready back
 
 pub returns-clause-made : goal.returns-clause-made
 returns-clause-made g c = λ yes.
@@ -32,10 +34,11 @@ returns-clause-made g c = λ yes.
     let setting = run.turns.setting.now in
     let t = run.turns.plan.turn.steps in
     let most = g.C.Course.most in
-    let round = c.args.round in
-    let rounds = run.turns.done + round in
+    let index = c.args.index in
+    let rounds = run.turns.done + index in
     let before = c.args.parts.now in
-    let xs = c.in-Ok-open_round.start.value.value.items in
+    let round = c.in-Ok-open_round.round in
+    let xs = round.start.value.value.items in
     let ns = c.take_all_back.new.ahead.turns.items in
     let ys = c.take_all_back.new.privates.items in
     let k = c.open_round.new.kernel in
@@ -44,14 +47,18 @@ returns-clause-made g c = λ yes.
     let ms = c.finish_rounds-computed.new.ahead.turns.items in
     let k2 = c.finish_rounds-computed.new.kernel in
     let opened = c.in-Ok-open_round.ensures.opened in
-    let back = c.take_all_back.ensures.back in
+    let back =
+    subst (λ (i : ℕ). AreBack g.C.Course.quiet g.C.Course.turned g.C.Course.moment g.C.Course.input most i c.args.count xs ns ys k)
+    c.in-Ok-open_round.ensures.index
+    (subst (λ (n : ℕ). AreBack g.C.Course.quiet g.C.Course.turned g.C.Course.moment g.C.Course.input most round.index n xs ns ys k)
+    (c.in-Ok-open_round.ensures.rounds ∙ c.shares_of-shares.ensures) c.take_all_back.ensures.back) in
     let some = c.requires.some in
     let count : later + 1 ≡ c.args.count = omega (arith, c.take_all_back.ensures.later, c.in-Ok.ensures.later, some) in
     let m : Machine = machine_with setting rounds xs k in
     let next : suc rounds ≡ rounds + 1 = omega arith in
     let first : PartsAhead setting t (rounds + 1) (with_turn_taken t m) ns ys k =
     subst (λ (r : ℕ). PartsAhead setting t r (with_turn_taken t m) ns ys k) next
-    (back_ahead g.C.Course.quiet g.C.Course.turned g.C.Course.moment g.C.Course.input most setting t run.turns.done run.turns.course run.turns.times round
+    (back_ahead g.C.Course.quiet g.C.Course.turned g.C.Course.moment g.C.Course.input most setting t run.turns.done run.turns.course run.turns.times index
     c.args.count xs ns ys k (opened.same.numbers before.numbers) back) in
     let time : IsTime setting m c.moment-moment.result = record { program = refl; time = c.moment-moment.ensures } in
     let made = c.finish_rounds-computed.ensures.made m time refl refl first in

@@ -26,7 +26,7 @@ pub loop-i-preserved : goal.loop-i-preserved
 loop-i-preserved g c =
     let i = c.loop-i.i in
     let was = c.loop-i.invariant in
-    let xs = c.args.start.now.value.value.items in
+    let xs = c.args.round.now.start.value.value.items in
     let ys = c.loop-i.privates.items in
     let ns = c.loop-i.ahead.turns.items in
     let y = c.index_mut.result.now in
@@ -36,7 +36,7 @@ loop-i-preserved g c =
     let turned = g.C.Course.turned in
     let moment = g.C.Course.moment in
     let most = g.C.Course.most in
-    let round = c.args.round in
+    let round = c.args.round.now.index in
     let below = c.loop-i-test.true in
     let len = c.len-i-end.ensures in
     let first = c.requires.count in

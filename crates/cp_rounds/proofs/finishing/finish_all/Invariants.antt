@@ -8,11 +8,11 @@ use Rattle.cp_rounds.proofs.finishing.finish_all.Given as goal
 
 abbrev pub invariant-loop-i : goal.invariant-loop-i
 invariant-loop-i g l = record {
-  count : length l.privates.items ≡ length l.start.value.value.items;
-  left : AreLeft l.moment.wakes l.i l.start.value.value.items l.privates.items;
-  here : AreHere l.alone l.i l.start.value.value.items l.privates.items;
-  ready : IsReady g.C.Course.most l.i l.start.value.value.items l.kernel;
+  count : length l.privates.items ≡ length l.round.start.value.value.items;
+  left : AreLeft l.round.moment.wakes l.i l.round.start.value.value.items l.privates.items;
+  here : AreHere l.round.alone l.i l.round.start.value.value.items l.privates.items;
+  ready : IsReady g.C.Course.most l.i l.round.start.value.value.items l.kernel;
   numbers : AreNumbered (take l.i l.privates.items);
-  taken : (rounds : ℕ) → l.moment ≡ moment_of l.run.turns.setting.now.tick.rounds rounds
-      → TurnsTaken l.run.turns.setting.now l.run.turns.plan.turn.steps rounds l.start.value.value.items l.fn.kernel (take l.i l.privates.items) l.kernel;
+  taken : (rounds : ℕ) → l.round.moment ≡ moment_of l.run.turns.setting.now.tick.rounds rounds
+      → TurnsTaken l.run.turns.setting.now l.run.turns.plan.turn.steps rounds l.round.start.value.value.items l.fn.kernel (take l.i l.privates.items) l.kernel;
 }

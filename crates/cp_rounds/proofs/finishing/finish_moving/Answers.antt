@@ -1,10 +1,8 @@
-use Rattle.std.proofs.Common.{◌+◌, ◌-◌, List, sym, ◌∙◌, subst, arith}
+use Rattle.std.proofs.Common.{List, sym, ◌∙◌, subst, arith}
 use Rattle.std.proofs.lemmas.List.{take_more_set}
 use Rattle.cp_private.specs.declared.private.Private.{Private}
 use Rattle.cp_rounds.specs.Numbers.{AreNumbered}
 use Rattle.cp_rounds.specs.Runs.{TurnsTaken}
-use Rattle.cp_rounds.specs.Tasks.{IsTaken}
-use Rattle.cp_rounds.specs.declared.moment.Moment.{Moment}
 use Rattle.cp_rounds.proofs.MoreTurns.{numbers_more, ready_more, taken_more}
 use Rattle.cp_ahead.proofs.Turns.{set_apart}
 use Rattle.cp_rounds.proofs.finishing.finish_moving.Goals as goal
@@ -16,16 +14,14 @@ returns-clause-taken g c = λ rounds k time was.
     let t = run.turns.plan.turn.steps in
     let i = c.args.index in
     let ys = c.args.privates.now.items in
-    let xs = c.args.start.now.value.value.items in
+    let xs = c.args.round.now.start.value.value.items in
     let k2 = c.kernel_turn_of.new.kernel in
     let y = c.bring_back.new.private in
     let z = c.kernel_turn_of.new.private in
-    let taken : IsTaken (g.C.Course.turned c.args.moment) (g.C.Course.input ((i + 1) - 1)) g.C.Course.most xs (i + 1) y =
-    subst (λ (m : Moment). IsTaken (g.C.Course.turned m) (g.C.Course.input ((i + 1) - 1)) g.C.Course.most xs (i + 1) y) (sym c.requires.time)
-    c.bring_back.ensures.taken in
+    let taken = c.bring_back.ensures.taken in
     let turn = c.kernel_turn_of.ensures.turn in
     subst (λ (l : List Private). TurnsTaken setting t rounds xs k l k2) (sym (take_more_set ys i z c.requires.within))
-    (taken_more g.C.Course.quiet g.C.Course.turned g.C.Course.input g.C.Course.most setting t run.turns.course rounds c.args.moment xs ys k c.args.kernel.now k2 i y z
+    (taken_more g.C.Course.quiet g.C.Course.turned g.C.Course.input g.C.Course.most setting t run.turns.course rounds c.args.round.now.moment xs ys k c.args.kernel.now k2 i y z
     c.requires.within c.requires.count time taken turn was)
 
 pub returns-clause-numbers : goal.returns-clause-numbers
@@ -56,5 +52,5 @@ returns-clause-ready g c =
     let within = c.requires.within in
     let count = c.requires.count in
     let number = c.bring_back.ensures.taken.number in
-    ready_more g.C.Course.most c.args.index c.args.start.now.value.value.items c.args.kernel.now c.kernel_turn_of.new.kernel c.bring_back.new.private.number _
+    ready_more g.C.Course.most c.args.index c.args.round.now.start.value.value.items c.args.kernel.now c.kernel_turn_of.new.kernel c.bring_back.new.private.number _
     (omega (arith, within, count)) number c.kernel_turn_of.ensures.turn.moves c.kernel_turn_of.ensures.asking c.requires.ready

@@ -3,8 +3,6 @@ use Rattle.std.proofs.lemmas.List.{take_more}
 use Rattle.cp_private.specs.declared.private.Private.{Private}
 use Rattle.cp_rounds.specs.Numbers.{AreNumbered}
 use Rattle.cp_rounds.specs.Runs.{TurnsTaken}
-use Rattle.cp_rounds.specs.Tasks.{IsTaken}
-use Rattle.cp_rounds.specs.declared.moment.Moment.{Moment}
 use Rattle.cp_rounds.specs.MachineOf.{input_at}
 use Rattle.cp_rounds.proofs.MoreTurns.{numbers_more, ready_still, taken_more}
 use Rattle.cp_rounds.proofs.finishing.finish_next.Goals as goal
@@ -16,18 +14,16 @@ returns-then-stands_still-clause-taken g c = λ rounds k time was.
     let t = run.turns.plan.turn.steps in
     let i = c.args.index in
     let ys = c.args.privates.now.items in
-    let xs = c.args.start.now.value.value.items in
+    let xs = c.args.round.now.start.value.value.items in
     let k1 = c.args.kernel.now in
     let y = c.index.result.now in
     let still = c.if-stands_still.true in
-    let taken : IsTaken (g.C.Course.turned c.args.moment) (g.C.Course.input ((i + 1) - 1)) g.C.Course.most xs (i + 1) y =
-    subst (λ (m : Moment). IsTaken (g.C.Course.turned m) (g.C.Course.input ((i + 1) - 1)) g.C.Course.most xs (i + 1) y) (sym c.requires.time)
-    (c.stands_still.ensures.taken still) in
-    let turn = c.stands_still.ensures.turned still c.args.moment.clock t (input_at setting.inputs.items ((i + 1) - 1)) in
+    let taken = c.stands_still.ensures.taken still in
+    let turn = c.stands_still.ensures.turned still c.args.round.now.moment.clock t (input_at setting.inputs.items ((i + 1) - 1)) in
     let one : take (i + 1) ys ≡ take i ys ++ y ∷ [] =
     take_more ys i y c.requires.within ∙ ap (λ (w : Private). take i ys ++ w ∷ []) (sym c.index.ensures) in
     subst (λ (l : List Private). TurnsTaken setting t rounds xs k l k1) (sym one)
-    (taken_more g.C.Course.quiet g.C.Course.turned g.C.Course.input g.C.Course.most setting t run.turns.course rounds c.args.moment xs ys k k1 k1 i y y c.requires.within
+    (taken_more g.C.Course.quiet g.C.Course.turned g.C.Course.input g.C.Course.most setting t run.turns.course rounds c.args.round.now.moment xs ys k k1 k1 i y y c.requires.within
     c.requires.count time taken turn was)
 
 pub returns-then-stands_still-clause-numbers : goal.returns-then-stands_still-clause-numbers
@@ -48,4 +44,4 @@ returns-then-stands_still-clause-here g c = λ h j y from e. c.requires.here h j
 
 pub returns-then-stands_still-clause-ready : goal.returns-then-stands_still-clause-ready
 returns-then-stands_still-clause-ready g c =
-    ready_still g.C.Course.most c.args.index c.args.start.now.value.value.items c.args.kernel.now c.requires.ready
+    ready_still g.C.Course.most c.args.index c.args.round.now.start.value.value.items c.args.kernel.now c.requires.ready

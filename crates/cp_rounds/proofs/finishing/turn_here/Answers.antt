@@ -12,10 +12,10 @@ returns g c =
     let setting = c.args.run.now.turns.setting.now in
     let steps = c.args.run.now.turns.plan.turn.steps in
     let course = c.args.run.now.turns.course in
-    let moment = c.args.moment in
+    let moment = c.args.round.now.moment in
     let process = c.args.process in
     let at = process - 1 in
-    let xs = c.args.start.now.value.value.items in
+    let xs = c.args.round.now.start.value.value.items in
     let old = c.args.private.now in
     let new = c.turn_in_place.new.private in
     let turned = g.C.Course.turned moment in
@@ -29,10 +29,10 @@ returns g c =
     ∙ sym (course.steps moment (private_of old input)) in
     let grown = subst (λ (x : Private). vec_len new.output ≤ vec_len x.output + 11 * steps) lent c.turn_in_place.ensures.length in
     let kept = subst (λ (x : Private). vec_capacity x.output ≤ vec_capacity new.output) lent c.turn_in_place.ensures.capacity in
-    let free = c.requires.free at old c.requires.here in
+    let free = c.args.round.now.free at old c.requires.here in
     let same : (x : Private) → slice_get xs at ≡ Some x → old ≡ x = λ x e. same_Some old x (sym c.requires.here ∙ e) in
     record {
-      number = c.turn_in_place.ensures.number ∙ (ap (λ (x : Private). x.number) lent ∙ (c.requires.numbers at old c.requires.here ∙ omega (arith, c.requires.some)));
+      number = c.turn_in_place.ensures.number ∙ (ap (λ (x : Private). x.number) lent ∙ (c.args.round.now.numbers at old c.requires.here ∙ omega (arith, c.requires.some)));
       comes = λ x e. subst (λ (w : Private). private_of new input ≡ turned (private_of w input)) (same x e) made;
       room = omega (arith, free, grown, kept, bytes);
       short = λ x e. subst (λ (w : Private). vec_len new.output ≤ vec_len w.output + g.C.Course.most) (same x e) (omega (arith, grown, bytes));

@@ -25,14 +25,11 @@ put-place-requires-clause-number g c =
     let x = c.index_mut.result.now in
     let back : i ≡ i + 1 - 1 = omega arith in
     let next : suc i ≡ i + 1 = omega arith in
-    let was = subst (λ (l : List Private). slice_get l (i + 1 - 1) ≡ Some x) c.requires.start (put-place-requires-clause-at g c) in
-    c.requires.numbers i x (ap (λ (j : ℕ). slice_get c.args.privates.now.items j) back ∙ was) ∙ next
+    c.args.round.now.numbers i x (ap (λ (j : ℕ). slice_get c.args.round.now.start.value.value.items j) back ∙ put-place-requires-clause-at g c) ∙ next
 
 pub put-place-requires-clause-room : goal.put-place-requires-clause-room
 put-place-requires-clause-room g c =
-    let x = c.index_mut.result.now in
-    let was = subst (λ (l : List Private). slice_get l (c.loop-i.i + 1 - 1) ≡ Some x) c.requires.start (put-place-requires-clause-at g c) in
-    c.requires.free (c.loop-i.i + 1 - 1) x was
+    c.args.round.now.free (c.loop-i.i + 1 - 1) c.index_mut.result.now (put-place-requires-clause-at g c)
 
 pub loop-i-preserved : goal.loop-i-preserved
 loop-i-preserved g c =
@@ -40,7 +37,7 @@ loop-i-preserved g c =
     let xs = c.loop-i.privates.items in
     let x = c.index_mut.result.now in
     let spare = c.put-place.new.private in
-    let wakes = c.args.moment.wakes in
+    let wakes = c.args.round.now.moment.wakes in
     let was = c.loop-i.invariant in
     let below = c.loop-i-test.true in
     let len = c.len-i-end.ensures in

@@ -6,6 +6,6 @@ use Rattle.cp_rounds.proofs.desk.Desk.put_all.Given as goal
 abbrev pub invariant-loop-i : goal.invariant-loop-i
 invariant-loop-i g l = record {
   count : length l.privates.items ≡ length l.fn.privates.items;
-  left : (j : ℕ) (y : Private) → j < l.i → slice_get l.privates.items j ≡ Some y → rests l.moment.wakes y ≡ true → slice_get l.fn.privates.items j ≡ Some y;
+  left : (j : ℕ) (y : Private) → j < l.i → slice_get l.privates.items j ≡ Some y → rests l.round.moment.wakes y ≡ true → slice_get l.fn.privates.items j ≡ Some y;
   rest : (j : ℕ) (y : Private) → l.i ≤ j → slice_get l.privates.items j ≡ Some y → slice_get l.fn.privates.items j ≡ Some y;
 }
