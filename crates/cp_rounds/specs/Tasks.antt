@@ -1,5 +1,5 @@
 -- What a private state comes from, while any thread may make its private turn.
-use Rattle.std.specs.Prelude.{◌≡◌, ◌≤◌, ◌+◌, ◌-◌, ◌*◌, ℕ, zero, suc, Bool, true, false, List, Some, slice_get, vec_len, vec_capacity}
+use Rattle.std.specs.Prelude.{◌≡◌, ◌≤◌, ◌+◌, ◌-◌, ◌*◌, ℕ, zero, suc, Bool, true, false, List, Option, None, Some, slice_get, vec_len, vec_capacity}
 use mathlib.Core.Bool.{Bool-set}
 use mathlib.Core.HLevel.{×_prop}
 use Rattle.cp_private.specs.Resting.{rests}
@@ -41,6 +41,11 @@ AreMade-prop set quiet turned moment round (suc n) o y = StaysQuiet-prop set qui
 abbrev pub is_some : ℕ → Bool
 is_some zero = false
 is_some (suc n) = true
+
+-- Whether there is no such thing.
+abbrev pub is_none : {A : Type 0} → Option A → Bool
+is_none None = true
+is_none (Some a) = false
 
 -- ---- Room
 

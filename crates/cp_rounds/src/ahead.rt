@@ -58,9 +58,9 @@ fn take_back<'a, C: Course, R: Wait, G: TurnGate>(
     requires count { 0 < round.now.rounds }
     requires some { 0 < process }
     requires left { rests round.now.moment.wakes private.old ≡ true
-        → slice_get round.now.start.value.value.items (process - 1) ≡ Some private.old }
+        → slice_get round.now.start.value.items (process - 1) ≡ Some private.old }
     ensures taken { AreTaken (AreMade C.quiet C.turned C.moment round.now.index (result + 1))
-        (C.input (process - 1)) C.most round.now.start.value.value.items process private.new }
+        (C.input (process - 1)) C.most round.now.start.value.items process private.new }
     ensures few { result < round.now.rounds }
     ensures begun { 0 < result
         → plain.is_begun (plain.stage_of (kernel_of kernel.now).stages process) ≡ true }
@@ -84,12 +84,12 @@ fn take_all_back<'a, C: Course, R: Wait, G: TurnGate>(
     kernel: &Kernel,
 )
     requires some { 0 < round.now.rounds }
-    requires left { AreLeft round.now.moment.wakes 0 round.now.start.value.value.items
+    requires left { AreLeft round.now.moment.wakes 0 round.now.start.value.items
         privates.old.items }
-    requires count { length privates.old.items ≡ length round.now.start.value.value.items }
+    requires count { length privates.old.items ≡ length round.now.start.value.items }
     requires turns { length ahead.old.turns.items ≡ length privates.old.items }
     ensures back { AreBack C.quiet C.turned C.moment C.input C.most round.now.index
-        round.now.rounds round.now.start.value.value.items ahead.new.turns.items privates.new.items
+        round.now.rounds round.now.start.value.items ahead.new.turns.items privates.new.items
         kernel.now }
     ensures later { ahead.new.later ≡ ahead.old.later }
 {

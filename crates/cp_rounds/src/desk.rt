@@ -134,7 +134,7 @@ impl<'a, C: Course> Desk<'a, C> {
         tasks: &mut Tasks<'a, C>,
     ) -> Cursor
         requires number { private.old.number ≡ process }
-        requires at { slice_get round.now.start.value.value.items (process - 1)
+        requires at { slice_get round.now.start.value.items (process - 1)
             ≡ Some private.old }
         requires room { HasRoomLeft C.most false private.old }
         ensures left { rests round.now.moment.wakes private.new ≡ true
@@ -164,7 +164,7 @@ impl<'a, C: Course> Desk<'a, C> {
         privates: &mut Vec<Resident>,
         tasks: &mut Tasks<'a, C>,
     )
-        requires start { round.now.start.value.value.items ≡ privates.old.items }
+        requires start { round.now.start.value.items ≡ privates.old.items }
         ensures left { AreLeft round.now.moment.wakes 0 privates.old.items privates.new.items }
         ensures count { length privates.new.items ≡ length privates.old.items }
     {

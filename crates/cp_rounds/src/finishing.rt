@@ -13,7 +13,7 @@ ghost use Rattle.cp_rounds.specs.MachineOf.{input_at};
 ghost use Rattle.cp_rounds.specs.Made.{IsReady};
 ghost use Rattle.cp_rounds.specs.Numbers.{AreNumbered};
 ghost use Rattle.cp_rounds.specs.Runs.{TurnsTaken};
-ghost use Rattle.cp_rounds.specs.Tasks.{AreHere, AreLeft, IsTaken};
+ghost use Rattle.cp_rounds.specs.Tasks.{AreHere, AreLeft, IsTaken, is_none};
 ghost use Rattle.cp_rounds.specs.Turned.{moment_of};
 
 use crate::gate::TurnGate;
@@ -40,7 +40,7 @@ fn take_from_desk<'a, C: Course, R: Wait, G: TurnGate>(
     private: &mut Resident,
 )
     ensures { IsTaken (C.turned round.now.moment) (C.input (process - 1)) C.most
-        round.now.start.value.value.items process private.new }
+        round.now.start.value.items process private.new }
 {
     hand.take(rt, run, round, process, 1, private);
 }
@@ -55,9 +55,9 @@ fn turn_here<'a, C: Course, G: TurnGate>(
     private: &mut Resident,
 )
     requires some { 0 < process }
-    requires here { slice_get round.now.start.value.value.items (process - 1) ≡ Some private.old }
+    requires here { slice_get round.now.start.value.items (process - 1) ≡ Some private.old }
     ensures { IsTaken (C.turned round.now.moment) (C.input (process - 1)) C.most
-        round.now.start.value.value.items process private.new }
+        round.now.start.value.items process private.new }
 {
     let private = private.private_mut();
     let turn = run.turns.plan.turn;
@@ -76,16 +76,16 @@ fn bring_back<'a, C: Course, R: Wait, G: TurnGate>(
 )
     requires some { 0 < process }
     requires left { rests round.now.moment.wakes private.old ≡ true
-        → slice_get round.now.start.value.value.items (process - 1) ≡ Some private.old }
-    requires here { round.now.alone ≡ true
-        → slice_get round.now.start.value.value.items (process - 1) ≡ Some private.old }
+        → slice_get round.now.start.value.items (process - 1) ≡ Some private.old }
+    requires here { is_none round.now.token ≡ true
+        → slice_get round.now.start.value.items (process - 1) ≡ Some private.old }
     ensures taken { IsTaken (C.turned round.now.moment) (C.input (process - 1)) C.most
-        round.now.start.value.value.items process private.new }
+        round.now.start.value.items process private.new }
 {
     if private.private().rests(round.moment.wakes) {
         return;
     }
-    if round.alone {
+    if round.is_alone() {
         turn_here(run, round, process, private);
     } else {
         take_from_desk(rt, run, hand, round, process, private);
@@ -142,26 +142,26 @@ fn finish_moving<'a, C: Course, R: Wait, G: TurnGate>(
     kernel: &mut Kernel,
 )
     requires within { index < length privates.old.items }
-    requires count { length privates.old.items ≡ length round.now.start.value.value.items }
-    requires left { AreLeft round.now.moment.wakes index round.now.start.value.value.items
+    requires count { length privates.old.items ≡ length round.now.start.value.items }
+    requires left { AreLeft round.now.moment.wakes index round.now.start.value.items
         privates.old.items }
-    requires here { AreHere round.now.alone index round.now.start.value.value.items
+    requires here { AreHere (is_none round.now.token) index round.now.start.value.items
         privates.old.items }
-    requires ready { IsReady C.most index round.now.start.value.value.items kernel.old }
+    requires ready { IsReady C.most index round.now.start.value.items kernel.old }
     ensures taken { (rounds : ℕ) (k : Kernel)
         → round.now.moment ≡ moment_of run.now.turns.setting.now.tick.rounds rounds
         → TurnsTaken run.now.turns.setting.now run.now.turns.plan.turn.steps rounds
-        round.now.start.value.value.items k (take index privates.old.items) kernel.old
+        round.now.start.value.items k (take index privates.old.items) kernel.old
         → TurnsTaken run.now.turns.setting.now run.now.turns.plan.turn.steps rounds
-        round.now.start.value.value.items k (take (index + 1) privates.new.items) kernel.new }
+        round.now.start.value.items k (take (index + 1) privates.new.items) kernel.new }
     ensures numbers { AreNumbered (take index privates.old.items)
         → AreNumbered (take (index + 1) privates.new.items) }
     ensures left { AreLeft round.now.moment.wakes (index + 1)
-        round.now.start.value.value.items privates.new.items }
-    ensures here { AreHere round.now.alone (index + 1) round.now.start.value.value.items
+        round.now.start.value.items privates.new.items }
+    ensures here { AreHere (is_none round.now.token) (index + 1) round.now.start.value.items
         privates.new.items }
     ensures count { length privates.new.items ≡ length privates.old.items }
-    ensures ready { IsReady C.most (index + 1) round.now.start.value.value.items kernel.new }
+    ensures ready { IsReady C.most (index + 1) round.now.start.value.items kernel.new }
 {
     let process = index + 1;
     hand.moved = true;
@@ -182,9 +182,9 @@ fn stands_still<'a, C: Course, G: TurnGate>(
 ) -> bool
     requires some { 0 < process }
     requires left { rests round.now.moment.wakes private.now ≡ true
-        → slice_get round.now.start.value.value.items (process - 1) ≡ Some private.now }
+        → slice_get round.now.start.value.items (process - 1) ≡ Some private.now }
     ensures taken { result ≡ true → IsTaken (C.turned round.now.moment) (C.input (process - 1))
-        C.most round.now.start.value.value.items process private.now }
+        C.most round.now.start.value.items process private.now }
     ensures turned { result ≡ true → (clock n : ℕ) (input : List ℕ)
         → IsTurned (view.program run.now.turns.setting.now.program) clock n kernel.now kernel.now
         private.now private.now input }
@@ -209,26 +209,26 @@ fn finish_next<'a, C: Course, R: Wait, G: TurnGate>(
     kernel: &mut Kernel,
 )
     requires within { index < length privates.old.items }
-    requires count { length privates.old.items ≡ length round.now.start.value.value.items }
-    requires left { AreLeft round.now.moment.wakes index round.now.start.value.value.items
+    requires count { length privates.old.items ≡ length round.now.start.value.items }
+    requires left { AreLeft round.now.moment.wakes index round.now.start.value.items
         privates.old.items }
-    requires here { AreHere round.now.alone index round.now.start.value.value.items
+    requires here { AreHere (is_none round.now.token) index round.now.start.value.items
         privates.old.items }
-    requires ready { IsReady C.most index round.now.start.value.value.items kernel.old }
+    requires ready { IsReady C.most index round.now.start.value.items kernel.old }
     ensures taken { (rounds : ℕ) (k : Kernel)
         → round.now.moment ≡ moment_of run.now.turns.setting.now.tick.rounds rounds
         → TurnsTaken run.now.turns.setting.now run.now.turns.plan.turn.steps rounds
-        round.now.start.value.value.items k (take index privates.old.items) kernel.old
+        round.now.start.value.items k (take index privates.old.items) kernel.old
         → TurnsTaken run.now.turns.setting.now run.now.turns.plan.turn.steps rounds
-        round.now.start.value.value.items k (take (index + 1) privates.new.items) kernel.new }
+        round.now.start.value.items k (take (index + 1) privates.new.items) kernel.new }
     ensures numbers { AreNumbered (take index privates.old.items)
         → AreNumbered (take (index + 1) privates.new.items) }
     ensures left { AreLeft round.now.moment.wakes (index + 1)
-        round.now.start.value.value.items privates.new.items }
-    ensures here { AreHere round.now.alone (index + 1) round.now.start.value.value.items
+        round.now.start.value.items privates.new.items }
+    ensures here { AreHere (is_none round.now.token) (index + 1) round.now.start.value.items
         privates.new.items }
     ensures count { length privates.new.items ≡ length privates.old.items }
-    ensures ready { IsReady C.most (index + 1) round.now.start.value.value.items kernel.new }
+    ensures ready { IsReady C.most (index + 1) round.now.start.value.items kernel.new }
 {
     let process = index + 1;
     if stands_still(run, round, process, &privates[index], kernel) {
@@ -250,16 +250,16 @@ pub(crate) fn finish_all<'a, C: Course, R: Wait, G: TurnGate>(
     privates: &mut Vec<Resident>,
     kernel: &mut Kernel,
 )
-    requires count { length privates.old.items ≡ length round.now.start.value.value.items }
-    requires left { AreLeft round.now.moment.wakes 0 round.now.start.value.value.items
+    requires count { length privates.old.items ≡ length round.now.start.value.items }
+    requires left { AreLeft round.now.moment.wakes 0 round.now.start.value.items
         privates.old.items }
-    requires here { AreHere round.now.alone 0 round.now.start.value.value.items
+    requires here { AreHere (is_none round.now.token) 0 round.now.start.value.items
         privates.old.items }
-    requires ready { IsReady C.most 0 round.now.start.value.value.items kernel.old }
+    requires ready { IsReady C.most 0 round.now.start.value.items kernel.old }
     ensures taken { (rounds : ℕ)
         → round.now.moment ≡ moment_of run.now.turns.setting.now.tick.rounds rounds
         → TurnsTaken run.now.turns.setting.now run.now.turns.plan.turn.steps rounds
-        round.now.start.value.value.items kernel.old privates.new.items kernel.new }
+        round.now.start.value.items kernel.old privates.new.items kernel.new }
     ensures numbers { AreNumbered privates.new.items }
     ensures count { length privates.new.items ≡ length privates.old.items }
     ensures stages { length kernel.new.stages.items ≡ length privates.new.items }

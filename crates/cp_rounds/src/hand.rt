@@ -145,7 +145,7 @@ impl<'a, C: Course> Hand<'a, C> {
         ensures some { 0 < result }
         ensures few { result ≤ most }
         ensures taken { AreTaken (AreMade C.quiet C.turned C.moment round.now.index result)
-            (C.input (process - 1)) C.most round.now.start.value.value.items process private.new }
+            (C.input (process - 1)) C.most round.now.start.value.items process private.new }
     {
         if self.place.slot == 0 {
             self.next_chunk(rt, run);

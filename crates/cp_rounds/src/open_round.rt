@@ -1,8 +1,9 @@
 //! A round while its turns are made.
 
-ghost use Rattle.std.specs.Prelude.{◌≡◌};
+ghost use Rattle.std.specs.Prelude.{◌≡◌, IfSome};
+ghost use Rattle.std.proofs.Props.{props};
 ghost use Rattle.cp_rounds.specs.Numbers.{AreNumbered};
-ghost use Rattle.cp_rounds.specs.Tasks.{AllFree};
+ghost use Rattle.cp_rounds.specs.Tasks.{AllFree, is_none};
 
 use crate::moment::Moment;
 use crate::task::{Course, Start};
@@ -14,17 +15,29 @@ use std::sync::OnceToken;
 #[derive(Drop)]
 pub struct OpenRound<'a, C: Course> {
     /// The private states at its start, for proofs only.
-    pub(crate) start: OnceToken<'a, Start>,
+    pub(crate) start: Start,
+    /// Shows threads that this is its start. There is none if the calling thread makes all private
+    /// turns, since to write the cell of a round wakes all who wait for it, by a call of the system.
+    pub(crate) token: Option<OnceToken<'a, Start>>,
     /// Its index in the run.
     pub(crate) index: usize,
     pub(crate) moment: Moment,
     /// How many rounds from this one on are made at once.
     pub(crate) rounds: u32,
-    /// Whether the calling thread makes all private turns.
-    pub(crate) alone: bool,
     pub(crate) of: PhantomData<C>,
-    ghost cell: { start.of ≡ C.cell index },
+    ghost cell: { IfSome token (λ t. t.of ≡ C.cell index) } by { Prim.hlevel props },
+    ghost same: { IfSome token (λ t. t.value.value ≡ start.value) } by { Prim.hlevel props },
     ghost time: { moment ≡ C.moment index },
-    ghost numbers: { AreNumbered start.value.value.items },
-    ghost free: { AllFree C.most start.value.value.items },
+    ghost numbers: { AreNumbered start.value.items },
+    ghost free: { AllFree C.most start.value.items },
+}
+
+impl<'a, C: Course> OpenRound<'a, C> {
+    /// Returns whether the calling thread makes all private turns.
+    #[inline(always)]
+    pub(crate) fn is_alone(&self) -> bool
+        ensures { result ≡ is_none self.now.token }
+    {
+        self.token.is_none()
+    }
 }

@@ -5,13 +5,13 @@
 //! of a round is that of what happens in it, and no state is copied. A private state whose private
 //! turn has no step to make isn't even put at the desk, unless the gate has to be called for it.
 
-ghost use Rattle.std.specs.Prelude.{◌≡◌, ◌≢◌, ◌≤◌, ◌<◌, ◌+◌, ◌-◌, ◌*◌, ℕ, false, IfErr, IfOk, length, vec_len};
+ghost use Rattle.std.specs.Prelude.{◌≡◌, ◌≢◌, ◌≤◌, ◌<◌, ◌+◌, ◌-◌, ◌*◌, ℕ, false, IfErr, IfOk, IfSome, length, vec_len};
 ghost use Rattle.cp_kernel.specs.KernelOf.{HasRoomForBytes, kernel_of, transcripts_of};
 ghost use Rattle.cp_kernel.specs.declared.kernel.Kernel.{Kernel};
 ghost use Rattle.cp_rounds.specs.Made.{IsReadyFor};
 ghost use Rattle.cp_rounds.specs.Numbers.{AreNumbered};
 ghost use Rattle.cp_rounds.specs.Runs.{AreSame, IsOpened, IsSame, PartsAfter};
-ghost use Rattle.cp_rounds.specs.Tasks.{AllFree, AreHere, AreLeft, HasRoomLeft};
+ghost use Rattle.cp_rounds.specs.Tasks.{AllFree, AreHere, AreLeft, HasRoomLeft, is_none};
 
 use crate::closing::close_round;
 use crate::desk_turns::DeskTurns;
@@ -24,7 +24,7 @@ use crate::pace::Pace;
 use crate::parts::Parts;
 use crate::run::{Run, cell_at};
 use crate::sharing::{Shares, helpers};
-use crate::task::Course;
+use crate::task::{Course, Start};
 use cp_crew::Wave;
 use cp_kernel::kernel::Kernel;
 use cp_plan::turn::Turn;
@@ -33,7 +33,7 @@ use cp_private::resident::Resident;
 use std::alloc::AllocError;
 use std::marker::PhantomData;
 use std::snapshot::Snapshot;
-use std::sync::Wait;
+use std::sync::{OnceToken, Wait};
 
 // How many rounds at once are many. Few take little room, and are made by programs that seldom
 // compute for long.
@@ -176,12 +176,12 @@ fn lay_turns<'a, C: Course, R: Wait, G: TurnGate>(
     round: &OpenRound<'a, C>,
     privates: &mut Vec<Resident>,
 )
-    requires start { round.now.start.value.value.items ≡ privates.old.items }
+    requires start { round.now.start.value.items ≡ privates.old.items }
     ensures left { AreLeft round.now.moment.wakes 0 privates.old.items privates.new.items }
-    ensures here { AreHere round.now.alone 0 privates.old.items privates.new.items }
+    ensures here { AreHere (is_none round.now.token) 0 privates.old.items privates.new.items }
     ensures count { length privates.new.items ≡ length privates.old.items }
 {
-    if round.alone {
+    if round.is_alone() {
         return;
     }
     let DeskTurns {
@@ -192,6 +192,33 @@ fn lay_turns<'a, C: Course, R: Wait, G: TurnGate>(
     } = &run.turns;
     let of_all = !gate.does_nothing();
     desk.put_all(rt, plan, round, of_all, privates, &mut hand.tasks);
+}
+
+// Lets the threads draw the private turns of the round at this index, wave by wave, and returns what
+// shows them its start, unless the calling thread makes them alone.
+fn let_draw<'a, C: Course, R: Wait, G: TurnGate>(
+    rt: &R,
+    run: &Run<'a, C, G>,
+    hand: &mut Hand<'a, C>,
+    index: usize,
+    shares: Shares,
+    privates: &Vec<Resident>,
+) -> Result<Option<OnceToken<'a, Start>>, AllocError>
+    requires index { index < length run.now.cells.now }
+    ensures cell { IfOk result (λ token. IfSome token (λ t. t.of ≡ C.cell index)) }
+    ensures start { IfOk result (λ token. IfSome token (λ t. t.value.value ≡ privates.now)) }
+{
+    let Shares { turns, helpers, .. } = shares;
+    if shares.alone {
+        return Ok(None);
+    }
+    let waves = waves_of(rt, run, index, turns, helpers.saturating_add(1))?;
+    // Only this round writes its cell, but no contract says so.
+    let Ok(token) = cell_at(run.cells, index).set(rt, Snapshot::of(privates)) else {
+        return Err(AllocError);
+    };
+    hand.begin(rt, run, waves);
+    Ok(Some(token))
 }
 
 // Returns for how many rounds room is reserved: for the largest number that is ever made at once, as
@@ -229,33 +256,22 @@ pub(crate) fn open_round<'a, C: Course, R: Wait, G: TurnGate>(
         (λ _. AreSame privates.old.items kernel.old privates.new.items kernel.new) }
     ensures index { IfOk result (λ round. round.index ≡ index) }
     ensures rounds { IfOk result (λ round. round.rounds ≡ shares.rounds) }
-    ensures opened { IfOk result (λ round. IsOpened C.most round.moment.wakes round.alone
-        round.rounds privates.old.items kernel.old round.start.value.value.items privates.new.items
+    ensures opened { IfOk result (λ round. IsOpened C.most round.moment.wakes (is_none round.token)
+        round.rounds privates.old.items kernel.old round.start.value.items privates.new.items
         kernel.new) }
 {
-    let Shares {
-        rounds,
-        turns,
-        helpers,
-        alone,
-    } = shares;
-    let room = rounds_of_room(&hand.pace, rounds);
+    let room = rounds_of_room(&hand.pace, shares.rounds);
     reserve_room(privates, kernel, run.turns.plan.turn, room)?;
-    let waves = waves_of(rt, run, index, turns, helpers.saturating_add(1))?;
-    // Only this round writes its cell, but no contract says so.
-    let Ok(start) = cell_at(run.cells, index).set(rt, Snapshot::of(privates)) else {
-        return Err(AllocError);
-    };
+    let token = let_draw(rt, run, hand, index, shares, privates)?;
     if moment.wakes {
         hand.moved = false;
     }
-    hand.begin(rt, run, waves);
     let round = OpenRound {
-        start,
+        start: Snapshot::of(privates),
+        token,
         index,
         moment,
-        rounds,
-        alone,
+        rounds: shares.rounds,
         of: PhantomData,
     };
     lay_turns(rt, run, hand, &round, privates);

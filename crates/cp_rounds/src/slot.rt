@@ -38,12 +38,15 @@ impl<'a, C: Course> Slot<'a, C> {
     #[inline(always)]
     pub fn lay(&mut self, round: &OpenRound<'a, C>, process: usize, private: &mut Resident)
         requires number { private.old.number ≡ process }
-        requires at { slice_get round.now.start.value.value.items (process - 1)
+        requires at { slice_get round.now.start.value.items (process - 1)
             ≡ Some private.old }
         requires room { HasRoomLeft C.most false private.old }
         ensures left { rests round.now.moment.wakes private.new ≡ true
             → private.new ≡ private.old }
     {
+        let Some(start) = &round.token else {
+            return;
+        };
         let Some(spare) = self.spare.take() else {
             return;
         };
@@ -52,7 +55,7 @@ impl<'a, C: Course> Slot<'a, C> {
             return;
         }
         let private = mem::replace(private, spare);
-        self.task = Some(Task::new(round, process, private));
+        self.task = Some(Task::new(round, start, process, private));
     }
 
     /// Takes the private state of a process after its private turns, of rounds from this one on,
@@ -70,7 +73,7 @@ impl<'a, C: Course> Slot<'a, C> {
         ensures few { result ≤ most }
         ensures taken { 0 < result
             → AreTaken (AreMade C.quiet C.turned C.moment round.now.index result)
-            (C.input (process - 1)) C.most round.now.start.value.value.items process private.new }
+            (C.input (process - 1)) C.most round.now.start.value.items process private.new }
     {
         let Some(task) = self.task.take() else {
             return 0;

@@ -90,10 +90,16 @@ pub struct Task<'a, C: Course> {
 
 impl<'a, C: Course> Task<'a, C> {
     /// Returns the turn of a process in a round, which is still to be made, with those of the rounds
-    /// that are made at once.
-    pub fn new(round: &OpenRound<'a, C>, process: usize, private: Resident) -> Task<'a, C>
+    /// that are made at once. `start` shows that this is the start of the round.
+    pub fn new(
+        round: &OpenRound<'a, C>,
+        start: &OnceToken<'a, Start>,
+        process: usize,
+        private: Resident,
+    ) -> Task<'a, C>
+        requires cell { start.now.of ≡ C.cell round.now.index }
         requires number { private.number ≡ process }
-        requires at { slice_get round.now.start.value.value.items (process - 1) ≡ Some private }
+        requires at { slice_get start.now.value.value.items (process - 1) ≡ Some private }
         requires room { HasRoomLeft C.most false private }
     {
         Task {
@@ -103,7 +109,7 @@ impl<'a, C: Course> Task<'a, C> {
             most: round.rounds,
             made: 0,
             private,
-            start: round.start.again(),
+            start: start.again(),
             of: PhantomData,
         }
     }
@@ -182,15 +188,18 @@ impl<'a, C: Course> Task<'a, C> {
         ensures few { IfSome result (λ r. r.0 ≤ most) }
         ensures taken { IfSome result (λ r. AreTaken
             (AreMade C.quiet C.turned C.moment round.now.index r.0) (C.input (process - 1)) C.most
-            round.now.start.value.value.items process r.1) }
+            round.now.start.value.items process r.1) }
     {
+        let Some(start) = &round.token else {
+            return None;
+        };
         if self.made == 0 || self.made > most {
             return None;
         }
         if self.round != round.index || self.process != process {
             return None;
         }
-        round.start.agrees(&self.start);
+        start.agrees(&self.start);
         Some((self.made, self.private))
     }
 }

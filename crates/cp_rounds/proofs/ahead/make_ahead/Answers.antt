@@ -13,7 +13,7 @@ pub finish_rounds-computed-requires-clause-ready : goal.finish_rounds-computed-r
 finish_rounds-computed-requires-clause-ready g c κs within =
     let most = g.C.Course.most in
     let round = c.in-Ok-open_round.round in
-    let xs = round.start.value.value.items in
+    let xs = round.start.value.items in
     let ns = c.take_all_back.new.ahead.turns.items in
     let ys = c.take_all_back.new.privates.items in
     let k = c.open_round.new.kernel in
@@ -38,7 +38,7 @@ returns-clause-made g c = λ yes.
     let rounds = run.turns.done + index in
     let before = c.args.parts.now in
     let round = c.in-Ok-open_round.round in
-    let xs = round.start.value.value.items in
+    let xs = round.start.value.items in
     let ns = c.take_all_back.new.ahead.turns.items in
     let ys = c.take_all_back.new.privates.items in
     let k = c.open_round.new.kernel in

@@ -26,7 +26,7 @@ pub loop-i-preserved : goal.loop-i-preserved
 loop-i-preserved g c =
     let i = c.loop-i.i in
     let was = c.loop-i.invariant in
-    let xs = c.args.round.now.start.value.value.items in
+    let xs = c.args.round.now.start.value.items in
     let ys = c.loop-i.privates.items in
     let ns = c.loop-i.ahead.turns.items in
     let y = c.index_mut.result.now in

@@ -15,7 +15,7 @@ loop-i-init g c = record {
   ready = c.requires.ready;
   numbers = λ j x e. absurd (none_some x e);
   taken = λ rounds time.
-      none_taken c.args.run.now.turns.setting.now c.args.run.now.turns.plan.turn.steps rounds c.args.round.now.start.value.value.items
+      none_taken c.args.run.now.turns.setting.now c.args.run.now.turns.plan.turn.steps rounds c.args.round.now.start.value.items
       (take 0 c.args.privates.now.items) c.args.kernel.now refl;
 }
 
@@ -35,7 +35,7 @@ loop-i-preserved g c =
 pub returns : goal.returns
 returns g c =
     let was = c.loop-i.invariant in
-    let xs = c.args.round.now.start.value.value.items in
+    let xs = c.args.round.now.start.value.items in
     let ys = c.loop-i.privates.items in
     let past = c.loop-i-test.false in
     let len = c.len-i-end.ensures in

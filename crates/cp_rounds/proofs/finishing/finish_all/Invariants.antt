@@ -2,17 +2,17 @@ use Rattle.std.proofs.Common.{◌≡◌, ℕ, length, take}
 use Rattle.cp_rounds.specs.Made.{IsReady}
 use Rattle.cp_rounds.specs.Numbers.{AreNumbered}
 use Rattle.cp_rounds.specs.Runs.{TurnsTaken}
-use Rattle.cp_rounds.specs.Tasks.{AreHere, AreLeft}
+use Rattle.cp_rounds.specs.Tasks.{AreHere, AreLeft, is_none}
 use Rattle.cp_rounds.specs.Turned.{moment_of}
 use Rattle.cp_rounds.proofs.finishing.finish_all.Given as goal
 
 abbrev pub invariant-loop-i : goal.invariant-loop-i
 invariant-loop-i g l = record {
-  count : length l.privates.items ≡ length l.round.start.value.value.items;
-  left : AreLeft l.round.moment.wakes l.i l.round.start.value.value.items l.privates.items;
-  here : AreHere l.round.alone l.i l.round.start.value.value.items l.privates.items;
-  ready : IsReady g.C.Course.most l.i l.round.start.value.value.items l.kernel;
+  count : length l.privates.items ≡ length l.round.start.value.items;
+  left : AreLeft l.round.moment.wakes l.i l.round.start.value.items l.privates.items;
+  here : AreHere (is_none l.round.token) l.i l.round.start.value.items l.privates.items;
+  ready : IsReady g.C.Course.most l.i l.round.start.value.items l.kernel;
   numbers : AreNumbered (take l.i l.privates.items);
   taken : (rounds : ℕ) → l.round.moment ≡ moment_of l.run.turns.setting.now.tick.rounds rounds
-      → TurnsTaken l.run.turns.setting.now l.run.turns.plan.turn.steps rounds l.round.start.value.value.items l.fn.kernel (take l.i l.privates.items) l.kernel;
+      → TurnsTaken l.run.turns.setting.now l.run.turns.plan.turn.steps rounds l.round.start.value.items l.fn.kernel (take l.i l.privates.items) l.kernel;
 }

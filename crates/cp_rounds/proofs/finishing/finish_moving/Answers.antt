@@ -14,7 +14,7 @@ returns-clause-taken g c = λ rounds k time was.
     let t = run.turns.plan.turn.steps in
     let i = c.args.index in
     let ys = c.args.privates.now.items in
-    let xs = c.args.round.now.start.value.value.items in
+    let xs = c.args.round.now.start.value.items in
     let k2 = c.kernel_turn_of.new.kernel in
     let y = c.bring_back.new.private in
     let z = c.kernel_turn_of.new.private in
@@ -52,5 +52,5 @@ returns-clause-ready g c =
     let within = c.requires.within in
     let count = c.requires.count in
     let number = c.bring_back.ensures.taken.number in
-    ready_more g.C.Course.most c.args.index c.args.round.now.start.value.value.items c.args.kernel.now c.kernel_turn_of.new.kernel c.bring_back.new.private.number _
+    ready_more g.C.Course.most c.args.index c.args.round.now.start.value.items c.args.kernel.now c.kernel_turn_of.new.kernel c.bring_back.new.private.number _
     (omega (arith, within, count)) number c.kernel_turn_of.ensures.turn.moves c.kernel_turn_of.ensures.asking c.requires.ready

@@ -14,7 +14,7 @@ returns-then-stands_still-clause-taken g c = λ rounds k time was.
     let t = run.turns.plan.turn.steps in
     let i = c.args.index in
     let ys = c.args.privates.now.items in
-    let xs = c.args.round.now.start.value.value.items in
+    let xs = c.args.round.now.start.value.items in
     let k1 = c.args.kernel.now in
     let y = c.index.result.now in
     let still = c.if-stands_still.true in
@@ -44,4 +44,4 @@ returns-then-stands_still-clause-here g c = λ h j y from e. c.requires.here h j
 
 pub returns-then-stands_still-clause-ready : goal.returns-then-stands_still-clause-ready
 returns-then-stands_still-clause-ready g c =
-    ready_still g.C.Course.most c.args.index c.args.round.now.start.value.value.items c.args.kernel.now c.requires.ready
+    ready_still g.C.Course.most c.args.index c.args.round.now.start.value.items c.args.kernel.now c.requires.ready

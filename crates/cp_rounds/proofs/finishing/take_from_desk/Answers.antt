@@ -11,7 +11,7 @@ returns g c =
     let all =
     subst (λ (n : ℕ).
     AreTaken (AreMade g.C.Course.quiet g.C.Course.turned g.C.Course.moment c.args.round.now.index n) (g.C.Course.input (c.args.process - 1)) g.C.Course.most
-    c.args.round.now.start.value.value.items c.args.process c.take.new.private) one taken.taken in
+    c.args.round.now.start.value.items c.args.process c.take.new.private) one taken.taken in
     let input = g.C.Course.input (c.args.process - 1) in
     let y = c.take.new.private in
     record {

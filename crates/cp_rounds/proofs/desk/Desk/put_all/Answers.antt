@@ -25,7 +25,7 @@ put-place-requires-clause-number g c =
     let x = c.index_mut.result.now in
     let back : i ≡ i + 1 - 1 = omega arith in
     let next : suc i ≡ i + 1 = omega arith in
-    c.args.round.now.numbers i x (ap (λ (j : ℕ). slice_get c.args.round.now.start.value.value.items j) back ∙ put-place-requires-clause-at g c) ∙ next
+    c.args.round.now.numbers i x (ap (λ (j : ℕ). slice_get c.args.round.now.start.value.items j) back ∙ put-place-requires-clause-at g c) ∙ next
 
 pub put-place-requires-clause-room : goal.put-place-requires-clause-room
 put-place-requires-clause-room g c =
