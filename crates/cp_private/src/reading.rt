@@ -80,7 +80,7 @@ impl Private {
         if !shared.is_empty() {
             return term.value_here(&self.reach(shared, outside));
         }
-        match term.near_value::<OwnWords>(&self.memory, shared) {
+        match term.near_argument::<OwnWords>(&self.memory, shared) {
             Some(n) => Ok(n),
             None => self.deep_value(shared, outside, term),
         }

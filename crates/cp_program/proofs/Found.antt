@@ -117,6 +117,11 @@ before_known v x y o left p is known rx ry =
 
 -- ---- Operands as plain data
 
+pub operand_number : (n : ℤ) → view.operand (operand_case.Number n) ≡ plain.Number n
+operand_number n =
+    ap view.operand (sym (operand_case.rolls-Number n))
+    ∙ fold-roll-Operand PlainApplication plain.Term PlainIndex plain.Spot plain.Term application_layer operand_layer index_layer spot_layer term_layer _
+
 pub operand_local : (at : ℕ) → view.operand (operand_case.Local at) ≡ plain.Item (plain.Rooted (plain.Local at))
 operand_local at =
     ap view.operand (sym (operand_case.rolls-Local at))

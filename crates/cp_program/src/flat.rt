@@ -150,8 +150,37 @@ impl Term {
         ensures { (clock : ℕ) → IfSome result (λ n. values.value_of
             (view_with memory.now shared.now clock) (view.term self.now) ≡ Ok n) }
     {
-        let first = self.first.near_value::<W>(memory, shared)?;
+        // Each way to find the first operand leaves by itself if nothing is found, so that there is no
+        // option to look into afterwards.
+        let first = match &self.first {
+            Operand::Number(n) => *n,
+            Operand::Local(at) => memory.near_local::<W>(shared, *at)?,
+            Operand::Member(at) => memory.near_member::<W>(shared, *at)?,
+            _ => self.first.further_value::<W>(memory, shared)?,
+        };
         near_value_of_chain::<W>(first, &self.rest, memory, shared)
+    }
+
+    // The value of a term whose operands are near, found by a call.
+    #[inline(never)]
+    fn near_value_apart<W: Words>(&self, memory: &Memory, shared: &[i32]) -> Option<i32>
+        ensures { (clock : ℕ) → IfSome result (λ n. values.value_of
+            (view_with memory.now shared.now clock) (view.term self.now) ≡ Ok n) }
+    {
+        self.near_value::<W>(memory, shared)
+    }
+
+    /// Does the same as `near_value`. It takes less room where it is inlined, and a call if there are
+    /// operators.
+    #[inline(always)]
+    pub fn near_argument<W: Words>(&self, memory: &Memory, shared: &[i32]) -> Option<i32>
+        ensures { (clock : ℕ) → IfSome result (λ n. values.value_of
+            (view_with memory.now shared.now clock) (view.term self.now) ≡ Ok n) }
+    {
+        if !self.rest.is_empty() {
+            return self.near_value_apart::<W>(memory, shared);
+        }
+        self.first.near_value::<W>(memory, shared)
     }
 }
 
