@@ -164,32 +164,6 @@ impl Private {
         }
     }
 
-    #[inline(always)]
-    fn pass_one(
-        &mut self,
-        shared: &mut [i32],
-        outside: &Outside,
-        destination: Destination,
-        argument: &Argument,
-    ) -> Result<(), Fault>
-        requires { IsAddressable shared.old }
-        ensures step { (own : ℕ)
-            → passing_of (join self.new outside.now.input.now shared.new) result
-            ≡ plain.pass_one (outside_of outside.now own) destination.to destination.home
-            (join self.old outside.now.input.now shared.old) (view.argument argument.now) }
-        ensures kept { ChangesOnlyWords self.old shared.old self.new shared.new }
-    {
-        match argument {
-            Argument::Value {
-                at,
-                low,
-                high,
-                term,
-            } => self.pass_value(shared, outside, destination.to, at, low, high, term),
-            _ => self.pass_any(shared, outside, destination, argument),
-        }
-    }
-
     /// Passes arguments from the first one on. A fault ends the passing, and the words passed
     /// before it stay.
     #[inline(always)]
@@ -210,7 +184,15 @@ impl Private {
     {
         let mut left = arguments;
         while let Some((argument, after)) = left.split_first() {
-            self.pass_one(shared, outside, destination, argument)?;
+            match argument {
+                Argument::Value {
+                    at,
+                    low,
+                    high,
+                    term,
+                } => self.pass_value(shared, outside, destination.to, at, low, high, term)?,
+                _ => self.pass_any(shared, outside, destination, argument)?,
+            }
             left = after;
         }
         Ok(())

@@ -1,4 +1,4 @@
-use Rattle.std.proofs.Common.{rules, ◌≡◌, ℤ, ap, sym, subst, ◌∙◌, Ok, IfSome, map, to_z, w32}
+use Rattle.std.proofs.Common.{rules, ◌≡◌, ℤ, ap, sym, subst, ◌∙◌, Ok, IfSome, map}
 use Rattle.cp_machine_model.specs.Values.{bind, value_of}
 use Rattle.cp_program.specs.declared.term.Term.{out-Term}
 use Rattle.cp_program.specs.Reaches.{chain_value, view_with}
