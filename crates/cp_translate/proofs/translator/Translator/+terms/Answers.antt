@@ -6,7 +6,6 @@ use Rattle.std.specs.Int.{w32}
 use Rattle.std.proofs.lemmas.Int.{to_z-of_z}
 use Rattle.std.proofs.lemmas.List.{at_drop_more, drop_all}
 use Rattle.cp_model.specs.Abstract as a
-use Rattle.cp_model.specs.Abstract.{MoreExpressions, NoExpression}
 use Rattle.cp_model.specs.Calls.{callee}
 use Rattle.cp_model.specs.Erase as erase
 use Rattle.cp_model.specs.Types.{base_of_type}
@@ -15,10 +14,8 @@ use Rattle.cp_program_model.specs.Scopes.{environment}
 use Rattle.cp_program_model.specs.Sites.{first_parameter}
 use Rattle.cp_scope.specs.Standing.{simple_of}
 use Rattle.cp_model.specs.Syntax as syntax
-use Rattle.cp_model.specs.Syntax.{chain_of}
 use Rattle.cp_model.specs.View as tree
 use Rattle.cp_model.specs.declared.tree.Expression.{Expression}
-use Rattle.cp_model.specs.declared.tree.Expression.TheVariants as written
 use Rattle.cp_program_model.specs.CodedTerms.{CodedArguments, argument_of, coded_arguments, coded_spot, coded_standard, coded_term, coded_variable, lone_term, name_or_item, no_arguments, parameters_of, term_of_name, with_argument}
 use Rattle.cp_program_model.specs.Terms.{Number}
 use Rattle.cp_emit.specs.Emission.{coded_call}
@@ -42,10 +39,10 @@ chain-loop-o-preserved t c = λ s low before e scope first.
     let i = c.loop-o.o-index in
     let rest = c.args.rest.now in
     let operand = tree.expression o.operand in
-    let step : chain_of f (map tree.operation (drop i rest)) ≡ chain_of f (map tree.operation (o ∷ drop (i + 1) rest)) =
-    at_drop_more (λ os. chain_of f (map tree.operation os)) rest i o c.loop-o-test.true
-    ∙ ap (λ p. chain_of f (map tree.operation (p ∷ drop (i + 1) rest))) (sym c.o-item.is) in
-    let view = ap (λ p. chain_of f (p ∷ map tree.operation (drop (i + 1) rest))) (view_operation o) in
+    let step : syntax.chain_of f (map tree.operation (drop i rest)) ≡ syntax.chain_of f (map tree.operation (o ∷ drop (i + 1) rest)) =
+    at_drop_more (λ os. syntax.chain_of f (map tree.operation os)) rest i o c.loop-o-test.true
+    ∙ ap (λ p. syntax.chain_of f (map tree.operation (p ∷ drop (i + 1) rest))) (sym c.o-item.is) in
+    let view = ap (λ p. syntax.chain_of f (p ∷ map tree.operation (drop (i + 1) rest))) (view_operation o) in
     let right =
     subst (λ n. IsTerm (map coded_call c.loop-o.calls.items) c.term.new.calls.items c.in_ok-right.right (coded_term s (erase.expression operand) n))
     so_far.1.temps (c.in_ok-right.ensures s scope) in (
@@ -59,8 +56,8 @@ pub chain-returns : goal.chain-returns
 chain-returns t c = λ s low before e scope first.
     let so_far = c.loop-o.invariant s low before e scope first in
     let all = c.args.rest.now in
-    let end : so_far.0 ≡ chain_of e (map tree.operation all) =
-    sym (ap (λ os. chain_of so_far.0 (map tree.operation os)) (drop_all c.loop-o.o-index all c.loop-o-test.false)) ∙ so_far.2 in
+    let end : so_far.0 ≡ syntax.chain_of e (map tree.operation all) =
+    sym (ap (λ os. syntax.chain_of so_far.0 (map tree.operation os)) (drop_all c.loop-o.o-index all c.loop-o-test.false)) ∙ so_far.2 in
     subst (λ x. IsTerm before c.loop-o.calls.items c.loop-o.left (coded_term s (erase.expression x) low)) end so_far.1
 
 pub select_elements-loop-i-preserved : goal.select_elements-loop-i-preserved
@@ -186,29 +183,24 @@ term-returns-in_ok-made-in-Not t c =
     let e = tree.expression c.in-Not.operand.value in
     let v : tree.expression c.args.e.now ≡ syntax.Not c.in-Not.at e = rw c.in-Not.is (view_not c.in-Not.at c.in-Not.operand) in
     if_ok c.not.result (λ made h s scope.
-    seen_as before after made s c.args.low (tree.expression c.args.e.now) (syntax.Not c.in-Not.at e) v
-    (h before after (coded_term s (erase.expression e) c.args.low) (rw c.deref-in-Not.ensures at (c.in_ok-made-in-Not.ensures s scope)))) c.not.ensures
+    seen_as before after made s _ _ _ v (h before after _ (rw c.deref-in-Not.ensures at (c.in_ok-made-in-Not.ensures s scope)))) c.not.ensures
 
 pub term-returns-in_ok-made-in-Signed : goal.term-returns-in_ok-made-in-Signed
 term-returns-in_ok-made-in-Signed t c =
     let before = map coded_call c.args.calls.now.items in
     let after = c.term-in-Signed.new.calls.items in
-    let sign = c.in-Signed.sign in
     let e = tree.expression c.in-Signed.operand.value in
-    let v : tree.expression c.args.e.now ≡ syntax.Signed sign c.in-Signed.at e = rw c.in-Signed.is (view_signed sign c.in-Signed.at c.in-Signed.operand) in
+    let v : tree.expression c.args.e.now ≡ syntax.Signed c.in-Signed.sign c.in-Signed.at e = rw c.in-Signed.is (view_signed _ c.in-Signed.at c.in-Signed.operand) in
     if_ok c.with_sign.result (λ made h s scope.
-    seen_as before after made s c.args.low (tree.expression c.args.e.now) (syntax.Signed sign c.in-Signed.at e) v
-    (h before after s (erase.expression e) c.args.low (rw c.deref-in-Signed.ensures at (c.in_ok-made-in-Signed.ensures s scope)))) c.with_sign.ensures
+    seen_as before after made s _ _ _ v (h before after s _ c.args.low (rw c.deref-in-Signed.ensures at (c.in_ok-made-in-Signed.ensures s scope)))) c.with_sign.ensures
 
 pub term-returns-in_ok-made-in-Chain : goal.term-returns-in_ok-made-in-Chain
 term-returns-in_ok-made-in-Chain t c =
     let before = map coded_call c.args.calls.now.items in
-    let after = c.chain.new.calls.items in
     let e = tree.expression c.in-Chain.first.value in
-    let os = map tree.operation c.in-Chain.rest.items in
-    let v : tree.expression c.args.e.now ≡ chain_of e os = rw c.in-Chain.is (view_chain c.in-Chain.first c.in-Chain.rest) in
+    let v : tree.expression c.args.e.now ≡ syntax.chain_of e (map tree.operation c.in-Chain.rest.items) = rw c.in-Chain.is (view_chain c.in-Chain.first c.in-Chain.rest) in
     if_ok c.chain.result (λ made h s scope.
-    seen_as before after made s c.args.low (tree.expression c.args.e.now) (chain_of e os) v
+    seen_as before _ made s _ _ _ v
     ((rw c.deref-in-Chain-2.ensures.value at h) s c.args.low before e scope (rw c.deref-in-Chain.ensures at (c.in_ok-made-in-Chain.ensures s scope))))
     c.chain.ensures
 
@@ -302,7 +294,7 @@ use_term-returns-in-Some t c =
     if_ok c.function_call.result
     (λ made h s scope.
     let found = called_by c.args.self.now.scope s c.in-Some.callee (callee (environment s) d) (rw c.in-Some.is at (c.callee.ensures s scope)) in
-    subst (IsTerm (map coded_call calls) after made) (sym (called_as s d NoExpression low found.callee found.is))
+    subst (IsTerm (map coded_call calls) after made) (sym (called_as s d a.NoExpression low found.callee found.is))
     (h s found.callee (map coded_call calls) (no_arguments low) scope found.stands
     (nothing_passed calls c.no_arguments-none.result low c.no_arguments-none.ensures.arguments c.no_arguments-none.ensures.temps)))
     c.function_call.ensures.term
@@ -367,58 +359,41 @@ term-returns-in-None t c =
     seen_as before after made s low (tree.expression c.args.e.now) (syntax.Call d es) v
     (subst (λ xs. IsTerm before after made (coded_term s (erase.call_or_name x (erase.expressions (tree.expressions_of (map tree.expression xs)))) low)) (sym split)
     (subst (IsTerm before after made) (sym (standard_as s x e rest low none))
-    (subst (λ n. IsTerm before after made (coded_standard s n (MoreExpressions e rest) low)) c.lone_name.ensures (h s rest scope)))))
+    (subst (λ n. IsTerm before after made (coded_standard s n (a.MoreExpressions e rest) low)) c.lone_name.ensures (h s rest scope)))))
     c.standard_call.ensures
 
 pub term-returns-in-empty : goal.term-returns-in-empty
 term-returns-in-empty t c =
-    let before = map coded_call c.args.calls.now.items in
-    let after = c.use_term-in-empty.new.calls.items in
+    let made_of = IsTerm (map coded_call c.args.calls.now.items) c.use_term-in-empty.new.calls.items in
     let is = ap meant c.in-Call.is ∙ bare_call c.in-Call.d c.in-Call.es (rw c.as_slice.ensures.value at c.in-empty.len_below) in
     if_ok c.use_term-in-empty.result
-    (λ made h s scope. subst (λ x. IsTerm before after made (coded_term s x c.args.low)) (sym is) (h s scope)) c.use_term-in-empty.ensures
+    (λ made h s scope. subst (λ x. made_of made (coded_term s x c.args.low)) (sym is) (h s scope)) c.use_term-in-empty.ensures
 
 pub argument_spot-returns-in-len1-up : goal.argument_spot-returns-in-len1-up
 argument_spot-returns-in-len1-up t c = λ s scope.
-    let calls = c.args.calls.now.items in
-    other_spot calls c.first_word.result s c.args.e.now (written.Call c.in-Call.d c.in-Call.es) c.args.low c.in-Call.is
-    (no_bare_call c.in-Call.d c.in-Call.es (rw c.as_slice.ensures.value at c.in-len1-up.len_at_least)) (c.first_word.ensures calls)
+    other_spot _ _ s _ _ _ c.in-Call.is (no_bare_call _ _ (rw c.as_slice.ensures.value at c.in-len1-up.len_at_least)) (c.first_word.ensures _)
 
 pub argument_spot-returns-in-empty-as_slice : goal.argument_spot-returns-in-empty-as_slice
 argument_spot-returns-in-empty-as_slice t c =
-    let before = map coded_call c.args.calls.now.items in
-    let after = c.argument_spot-in-empty-as_slice.new.calls.items in
+    let made_of = IsSpot (map coded_call c.args.calls.now.items) c.argument_spot-in-empty-as_slice.new.calls.items in
     let is = ap meant c.in-Chain.is ∙ bare_chain c.in-Chain.first c.in-Chain.rest (rw c.as_slice-in-Chain.ensures.value at c.in-empty-as_slice.len_below) in
     if_ok c.argument_spot-in-empty-as_slice.result
-    (λ made h s scope.
-    subst (λ x. IsSpot before after made (coded_variable s x c.args.low)) (sym is) ((rw c.deref-in-empty-as_slice.ensures at h) s scope)) c.argument_spot-in-empty-as_slice.ensures
+    (λ made h s scope. subst (λ x. made_of made (coded_variable s x c.args.low)) (sym is) ((rw c.deref-in-empty-as_slice.ensures at h) s scope))
+    c.argument_spot-in-empty-as_slice.ensures
 
 pub argument_spot-returns-in-len1-up-as_slice : goal.argument_spot-returns-in-len1-up-as_slice
 argument_spot-returns-in-len1-up-as_slice t c = λ s scope.
-    let calls = c.args.calls.now.items in
-    other_spot calls c.first_word-in-len1-up-as_slice.result s c.args.e.now (written.Chain c.in-Chain.first c.in-Chain.rest) c.args.low c.in-Chain.is
-    (no_bare_chain c.in-Chain.first c.in-Chain.rest (rw c.as_slice-in-Chain.ensures.value at c.in-len1-up-as_slice.len_at_least)) (c.first_word-in-len1-up-as_slice.ensures calls)
+    other_spot _ _ s _ _ _ c.in-Chain.is (no_bare_chain _ _ (rw c.as_slice-in-Chain.ensures.value at c.in-len1-up-as_slice.len_at_least))
+    (c.first_word-in-len1-up-as_slice.ensures _)
 
 pub argument_spot-returns-in-Number : goal.argument_spot-returns-in-Number
-argument_spot-returns-in-Number t c = λ s scope.
-    let calls = c.args.calls.now.items in
-    other_spot calls c.first_word-in-Number.result s c.args.e.now (written.Number c.in-Number.at c.in-Number.value) c.args.low c.in-Number.is
-    (no_number c.in-Number.at c.in-Number.value) (c.first_word-in-Number.ensures calls)
+argument_spot-returns-in-Number t c = λ s scope. other_spot _ _ s _ _ _ c.in-Number.is (no_number _ _) (c.first_word-in-Number.ensures _)
 
 pub argument_spot-returns-in-Character : goal.argument_spot-returns-in-Character
-argument_spot-returns-in-Character t c = λ s scope.
-    let calls = c.args.calls.now.items in
-    other_spot calls c.first_word-in-Character.result s c.args.e.now (written.Character c.in-Character.at c.in-Character.ordinal) c.args.low c.in-Character.is
-    (no_character c.in-Character.at c.in-Character.ordinal) (c.first_word-in-Character.ensures calls)
+argument_spot-returns-in-Character t c = λ s scope. other_spot _ _ s _ _ _ c.in-Character.is (no_character _ _) (c.first_word-in-Character.ensures _)
 
 pub argument_spot-returns-in-Not : goal.argument_spot-returns-in-Not
-argument_spot-returns-in-Not t c = λ s scope.
-    let calls = c.args.calls.now.items in
-    other_spot calls c.first_word-in-Not.result s c.args.e.now (written.Not c.in-Not.at c.in-Not.operand) c.args.low c.in-Not.is
-    (no_not c.in-Not.at c.in-Not.operand) (c.first_word-in-Not.ensures calls)
+argument_spot-returns-in-Not t c = λ s scope. other_spot _ _ s _ _ _ c.in-Not.is (no_not _ _) (c.first_word-in-Not.ensures _)
 
 pub argument_spot-returns-in-Signed : goal.argument_spot-returns-in-Signed
-argument_spot-returns-in-Signed t c = λ s scope.
-    let calls = c.args.calls.now.items in
-    other_spot calls c.first_word-in-Signed.result s c.args.e.now (written.Signed c.in-Signed.sign c.in-Signed.at c.in-Signed.operand) c.args.low c.in-Signed.is
-    (no_signed c.in-Signed.sign c.in-Signed.at c.in-Signed.operand) (c.first_word-in-Signed.ensures calls)
+argument_spot-returns-in-Signed t c = λ s scope. other_spot _ _ s _ _ _ c.in-Signed.is (no_signed _ _ _) (c.first_word-in-Signed.ensures _)
