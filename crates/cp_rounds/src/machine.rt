@@ -25,7 +25,7 @@ use std::sync::Wait;
 use std::thread::Threads;
 
 // How many rounds share their threads. Each of these rounds takes a cell.
-const ROUNDS_AT_ONCE: usize = 4_096;
+const ROUNDS_AT_ONCE: usize = 16_384;
 
 // How many waves share their threads, if a round has no more. Each of these waves takes a cell.
 const WAVES_AT_ONCE: usize = 65_536;
