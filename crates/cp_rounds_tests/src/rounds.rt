@@ -63,15 +63,15 @@ fn a_run_of_no_rounds_changes_nothing(rt: HostRuntime) -> Result<(), Fail> {
     expect(&rt, rt.alloc(), SEVENS, &[(0, 10, unchanged)])
 }
 
-// A run shares its threads for 4,096 rounds at a time.
+// A run shares its threads for 16,384 rounds at a time.
 #[test]
 fn a_run_has_more_rounds_than_share_their_threads(rt: HostRuntime) -> Result<(), Fail> {
     let text = "var x: integer; begin cycle x := x + 1 end end.";
-    let made = "rounds 10000
-        word 1 1: 10000";
+    let made = "rounds 20000
+        word 1 1: 20000";
     for (workers, wave) in [(1, 255), (3, 255), (3, 1)] {
         let way = Way::new(true, workers, 1, wave);
-        expect_by(&rt, rt.alloc(), way, text, &[(10_000, 2, made)])?;
+        expect_by(&rt, rt.alloc(), way, text, &[(20_000, 2, made)])?;
     }
     Ok(())
 }
