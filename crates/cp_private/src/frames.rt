@@ -92,7 +92,7 @@ impl Private {
     {
         let frame = Frame {
             counter: link.counter,
-            base: self.memory.base as u32,
+            base: self.memory.base,
             temp: self.memory.temp as u32,
             component: self.memory.component as u32,
             into: link.into,
@@ -141,7 +141,7 @@ impl Private {
     {
         self.depth -= 1;
         self.counter = caller.counter;
-        self.memory.base = caller.base as usize;
+        self.memory.base = caller.base;
         self.memory.temp = caller.temp as usize;
         self.memory.component = caller.component as usize;
         self.gate = caller.held;

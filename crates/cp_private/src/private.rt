@@ -18,11 +18,12 @@ pub enum Activity {
 }
 
 /// What a call keeps for its caller.
-#[derive(Clone, Copy, Debug, Default)]
+#[derive(Clone, Copy, Debug)]
 pub(crate) struct Frame {
+    /// Not cut to 32 bits, so that a frame takes 32 bytes and is found by a shift.
+    pub(crate) base: usize,
     /// The number of the operation at which the caller continues.
     pub(crate) counter: u32,
-    pub(crate) base: u32,
     pub(crate) temp: u32,
     pub(crate) component: u32,
     /// The temp of the caller that receives the value.
@@ -31,6 +32,21 @@ pub(crate) struct Frame {
     pub(crate) gate: u32,
     /// The gate that was held before the call, or 0.
     pub(crate) held: u32,
+    ghost small: { base < 2 ^ 32 },
+}
+
+impl Default for Frame {
+    fn default() -> Frame {
+        Frame {
+            base: 0,
+            counter: 0,
+            temp: 0,
+            component: 0,
+            into: 0,
+            gate: 0,
+            held: 0,
+        }
+    }
 }
 
 /// The private state of a process.

@@ -132,6 +132,11 @@ operand_member at =
     ap view.operand (sym (operand_case.rolls-Member at))
     ∙ fold-roll-Operand PlainApplication plain.Term PlainIndex plain.Spot plain.Term application_layer operand_layer index_layer spot_layer term_layer _
 
+pub operand_made : (temp : ℕ) → view.operand (operand_case.Made temp) ≡ plain.Made temp
+operand_made temp =
+    ap view.operand (sym (operand_case.rolls-Made temp))
+    ∙ fold-roll-Operand PlainApplication plain.Term PlainIndex plain.Spot plain.Term application_layer operand_layer index_layer spot_layer term_layer _
+
 pub operand_through : (parameter plus : ℕ)
     → view.operand (operand_case.Through parameter plus) ≡ plain.Item (plain.Rooted (plain.Through parameter plus))
 operand_through parameter plus =

@@ -135,13 +135,22 @@ fn near_value_of_chain<W: Words>(
 
 impl Term {
     // The value of a term whose operands are flat.
-    #[inline(never)]
-    fn flat_value<W: Words>(&self, memory: &Memory, shared: &[i32]) -> Option<i32>
+    #[inline(always)]
+    fn flat_value_here<W: Words>(&self, memory: &Memory, shared: &[i32]) -> Option<i32>
         ensures { (clock : ℕ) → IfSome result (λ n. values.value_of
             (view_with memory.now shared.now clock) (view.term self.now) ≡ Ok n) }
     {
         let first = self.first.flat_value::<W>(memory, shared)?;
         flat_value_of_chain::<W>(first, &self.rest, memory, shared)
+    }
+
+    // The same, found by a call.
+    #[inline(never)]
+    fn flat_value<W: Words>(&self, memory: &Memory, shared: &[i32]) -> Option<i32>
+        ensures { (clock : ℕ) → IfSome result (λ n. values.value_of
+            (view_with memory.now shared.now clock) (view.term self.now) ≡ Ok n) }
+    {
+        self.flat_value_here::<W>(memory, shared)
     }
 
     /// Evaluates a term, if its operands are near.
@@ -156,6 +165,7 @@ impl Term {
             Operand::Number(n) => *n,
             Operand::Local(at) => memory.near_local::<W>(shared, *at)?,
             Operand::Member(at) => memory.near_member::<W>(shared, *at)?,
+            Operand::Made(temp) => memory.made(*temp),
             _ => self.first.further_value::<W>(memory, shared)?,
         };
         near_value_of_chain::<W>(first, &self.rest, memory, shared)
@@ -170,6 +180,19 @@ impl Term {
         self.near_value::<W>(memory, shared)
     }
 
+    // The same. Most such terms are flat and have one operator: these need no loop, and save no
+    // registers.
+    #[inline(never)]
+    fn value_apart<W: Words>(&self, memory: &Memory, shared: &[i32]) -> Option<i32>
+        ensures { (clock : ℕ) → IfSome result (λ n. values.value_of
+            (view_with memory.now shared.now clock) (view.term self.now) ≡ Ok n) }
+    {
+        match self.flat_value_here::<W>(memory, shared) {
+            Some(n) => Some(n),
+            None => self.near_value_apart::<W>(memory, shared),
+        }
+    }
+
     /// Does the same as `near_value`. It takes less room where it is inlined, and a call if there are
     /// operators.
     #[inline(always)]
@@ -178,7 +201,7 @@ impl Term {
             (view_with memory.now shared.now clock) (view.term self.now) ≡ Ok n) }
     {
         if !self.rest.is_empty() {
-            return self.near_value_apart::<W>(memory, shared);
+            return self.value_apart::<W>(memory, shared);
         }
         self.first.near_value::<W>(memory, shared)
     }

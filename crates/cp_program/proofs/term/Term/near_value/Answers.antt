@@ -4,9 +4,9 @@ use Rattle.cp_program.specs.declared.term.Term.{out-Term}
 use Rattle.cp_program.specs.Reaches.{chain_value, view_with}
 use Rattle.cp_program.specs.View as view
 use Rattle.cp_program.proofs.Chains.{term_is, value_chain}
-use Rattle.cp_program.proofs.Found.{found, kept, operand_local, operand_member, operand_number, told}
+use Rattle.cp_program.proofs.Found.{found, kept, operand_local, operand_made, operand_member, operand_number, told}
 use Rattle.cp_program.proofs.term.Term.near_value.Goals as goal
-use Rattle.cp_program.proofs.term.Term.near_value.Goals.{in-Number, in-Local+in_ok-first-in-Local, in-Member+in_ok-first-in-Member, in_default+in_ok-first-in_default}
+use Rattle.cp_program.proofs.term.Term.near_value.Goals.{in-Number, in-Local+in_ok-first-in-Local, in-Member+in_ok-first-in-Member, in-Made, in_default+in_ok-first-in_default}
 
 pub returns : goal.returns
 returns g c clock =
@@ -33,6 +33,12 @@ returns g c clock =
           ap (λ x. value_of v (view.operand x)) w.in-Member.is
           ∙ (ap (value_of v) (operand_member w.in-Member.at)
           ∙ (told _ n _ w.in_ok-first-in-Member.was (w.near_member.ensures clock) ∙ ap (λ (z : ℤ). Ok z) (sym same ∙ (sym w.first-is ∙ c.match-self.first-is))))
+      | in-Made w ↦
+          let n = w.made-first.result in
+          let same : kept n ≡ n = search rules in
+          ap (λ x. value_of v (view.operand x)) w.in-Made.is
+          ∙ (ap (value_of v) (operand_made w.in-Made.temp)
+          ∙ ap (λ (z : ℤ). Ok z) (sym w.made-first.ensures ∙ (sym same ∙ (sym w.first-is ∙ c.match-self.first-is))))
       | in_default+in_ok-first-in_default w ↦
           let n = w.in_ok-first-in_default.first in
           let same : kept n ≡ n = search rules in

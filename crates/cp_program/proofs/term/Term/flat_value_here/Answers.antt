@@ -5,7 +5,7 @@ use Rattle.cp_program.specs.Reaches.{chain_value, view_with}
 use Rattle.cp_program.specs.View as view
 use Rattle.cp_program.proofs.Chains.{term_is, value_chain}
 use Rattle.cp_program.proofs.Found.{found, told}
-use Rattle.cp_program.proofs.term.Term.flat_value.Goals as goal
+use Rattle.cp_program.proofs.term.Term.flat_value_here.Goals as goal
 
 pub returns : goal.returns
 returns g c clock =
