@@ -207,6 +207,7 @@ fn let_draw<'a, C: Course, R: Wait, G: TurnGate>(
     requires index { index < length run.now.cells.now }
     ensures cell { IfOk result (λ token. IfSome token (λ t. t.of ≡ C.cell index)) }
     ensures start { IfOk result (λ token. IfSome token (λ t. t.value.value ≡ privates.now)) }
+    ensures alone { IfOk result (λ token. is_none token ≡ shares.alone) }
 {
     let Shares { turns, helpers, .. } = shares;
     if shares.alone {
