@@ -8,15 +8,11 @@ use Rattle.cp_program_model.specs.Programs.{Program}
 use Rattle.cp_machine_model.specs.KernelSteps.{Asking, Begun, Delayed, Fresh, Kernel, Stage, Turning, Unstarted, apply_effect, enter_gate, gate_of, is_begun, is_due, join_words, kernel_step, kernel_steps, make_ready, outside, part_words, pass_to, resume, resume_stage, set_gate, set_stage, stage_of, start_process}
 use Rattle.cp_machine_model.specs.PrivateStates.{Continues, Delays, Effect, Enters, Leaves, NoEffect, Opens, Starts}
 use Rattle.cp_machine_model.specs.Steps.{step_with}
+use Rattle.cp_machine_model.proofs.StagesKept.{stage_is}
 use Rattle.cp_ahead.specs.Ahead.{HasBegun}
 use Rattle.cp_ahead.proofs.Numbers.{step_keeps_number}
 
 -- ---- Lists of stages
-
-pub stage_is : (gs : List Stage) (p : ℕ) → stage_of gs (suc p) ≡ get_or gs p Begun
-stage_is [] p = refl
-stage_is (g ∷ gs) zero = refl
-stage_is (g ∷ gs) (suc p) = stage_is gs p
 
 begun_here : (gs : List Stage) (i n : ℕ) → get_or gs n Begun ≡ Begun → get_or (slice_set gs i Begun) n Begun ≡ Begun
 begun_here [] i n h = h

@@ -7,9 +7,9 @@ use Rattle.cp_machine_model.specs.KernelSteps.{Kernel, stage_of}
 use Rattle.cp_machine_model.specs.Machines.{begin_if, begin_one, wake_one}
 use Rattle.cp_machine_model.specs.PrivateStates.{PrivateState, is_running}
 use Rattle.cp_machine_model.specs.Steps.{act_on, alone, is_private, operation_of, private_step, private_steps}
+use Rattle.cp_machine_model.proofs.StagesKept.{stage_is}
 use Rattle.cp_ahead.specs.Ahead.{AreAhead, AreNumbered, HasBegun, HaveTurned, IsAhead, IsQuiet, turn_at}
 use Rattle.cp_ahead.proofs.Numbers.{step_keeps_number}
-use Rattle.cp_ahead.proofs.Stages.{stage_is}
 
 -- ---- One process
 

@@ -16,7 +16,7 @@ use Rattle.cp_machine_model.proofs.Tables.{one_less}
 abbrev pub StagesMean : Ground → List Stage → (ℕ → Status) → Type 0
 StagesMean G gs f = (p : ℕ) → 1 ≤ p → p ≤ length gs → StageMeans G (f p) (stage_of gs p)
 
-stage_is : (gs : List Stage) (p : ℕ) → stage_of gs (suc p) ≡ get_or gs p Begun
+pub stage_is : (gs : List Stage) (p : ℕ) → stage_of gs (suc p) ≡ get_or gs p Begun
 stage_is [] p = refl
 stage_is (g ∷ gs) zero = refl
 stage_is (g ∷ gs) (suc p) = stage_is gs p

@@ -4,7 +4,6 @@ use Rattle.std.proofs.Common.{sym, ◌∙◌, ap, subst, arith}
 use Rattle.std.proofs.lemmas.Bool.{true≢false}
 use native.Mathlib.Nat.{mul-le-mul_right, suc-mul}
 use Rattle.cp_ahead.specs.Ahead.{HasBegun, IsAhead, IsQuiet, turn_at}
-use Rattle.cp_ahead.proofs.Stages.{stage_is}
 use Rattle.cp_ahead.proofs.Turns.{map_got, turn_number}
 use Rattle.cp_kernel.specs.KernelOf.{Bytes, HasRoomForAskers, HasRoomForBytes, kernel_of}
 use Rattle.cp_kernel.specs.Turns.{parts_of}
@@ -13,6 +12,7 @@ use Rattle.cp_program_model.specs.Programs.{Program}
 use Rattle.cp_machine_model.specs.PrivateStates.{PrivateState, is_running}
 use Rattle.cp_machine_model.specs.KernelSteps.{Asking, Begun, Delayed, Fresh, Stage, Unstarted, is_begun, needs_kernel, stage_of}
 use Rattle.cp_machine_model.specs.Steps.{is_private, operation_of}
+use Rattle.cp_machine_model.proofs.StagesKept.{stage_is}
 use Rattle.cp_private.specs.States.{private_of}
 use Rattle.cp_private.specs.Kinds.{kind_of}
 use Rattle.cp_private.specs.declared.kind.Kind.{Kind}
