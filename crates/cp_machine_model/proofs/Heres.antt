@@ -5,7 +5,7 @@
 -- hides.
 use Rattle.std.proofs.Common.{◌≡◌, ℕ, suc, ◌+◌, ◌<◌, ℤ, List, [], ◌∷◌, length, Bool, true, false, Option, Some, None, refl, ap, sym, subst, ◌∙◌, arith}
 use Rattle.std.specs.Prelude.{if◌then◌else◌, nat_eq}
-use Rattle.std.proofs.lemmas.Bool.{eq-eqb, eqb-true}
+use Rattle.std.proofs.lemmas.Bool.{eq-eqb, eqb-true, ne_eqb}
 use Rattle.cp_model.specs.Abstract.{Name, System}
 use Rattle.cp_model.specs.Declarations as declared
 use Rattle.cp_model.specs.Declarations.{reported_members}
@@ -15,7 +15,6 @@ use Rattle.cp_model.specs.Locations.{ByIndex, ByName, Location, OfActivation, Of
 use Rattle.cp_model.specs.Operators.{Clock, realtime}
 use Rattle.cp_model.specs.Stores.{Reference, Store}
 use Rattle.cp_model.specs.Types.{ComponentOf, ResolvedType}
-use Rattle.cp_model.proofs.StateMaps.{differ}
 use Rattle.cp_program_model.specs.Layout.{Part, farther, head_words, local, member_part, of_class, part}
 use Rattle.cp_program_model.specs.TermsFor.{Knowns, nothing_known}
 use Rattle.cp_machine_model.specs.Means.{Here}
@@ -107,7 +106,7 @@ found_below d (y ∷ xs) x h = by (nat_eq d (length xs)) refl (found_below d xs 
 pub found_behind : (d : ℕ) (y : Activation) (xs : List Activation) (x : Activation) → activation_at d xs ≡ Some x → activation_at d (y ∷ xs) ≡ Some x
 found_behind d y xs x h =
     let low = found_below d xs x h in
-    ap (λ b. if b then Some y else activation_at d xs) (differ d (length xs) (λ e. absurd (omega (arith, e)))) ∙ h
+    ap (λ b. if b then Some y else activation_at d xs) (ne_eqb d (length xs) (λ e. absurd (omega (arith, e)))) ∙ h
 
 pub lies_behind : (G : Ground) (y : Activation) (xs : List Activation) (l : Location) (v : Part) → lies G xs l ≡ Some v → lies G (y ∷ xs) l ≡ Some v
 lies_behind G y xs l v h = path l.owner l.path h

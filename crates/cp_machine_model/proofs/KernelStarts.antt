@@ -5,7 +5,7 @@
 -- sides.
 use Rattle.std.proofs.Common.{◌≡◌, inl, inr, ℕ, zero, suc, ◌+◌, ◌≤◌, ◌<◌, ℤ, pos, true, false, List, [], ◌∷◌, ◌++◌, length, map, Some, None, refl, ap, sym, subst, ◌∙◌, arith}
 use Rattle.std.specs.Prelude.{not, replicate}
-use Rattle.std.proofs.lemmas.Bool.{true≢false}
+use Rattle.std.proofs.lemmas.Bool.{ne_eqb, true≢false}
 use Rattle.std.proofs.lemmas.List.{length-map}
 use Rattle.cp_model.specs.Abstract.{Class, Name, Sort, System}
 use Rattle.cp_model.specs.CallSteps.{is_initialised}
@@ -17,7 +17,7 @@ use Rattle.cp_model.specs.Start.{start}
 use Rattle.cp_model.specs.States.{Setup, Unset}
 use Rattle.cp_model.specs.Stores.{Absent, Initialised, Ordinal, QueueHolds}
 use Rattle.cp_model.specs.Types.{ArrayOf, ComponentOf, GlobalScope, NoType, Queue, RecordOf, ResolvedType, Simple}
-use Rattle.cp_model.proofs.StateMaps.{differ, with_at_there}
+use Rattle.cp_model.proofs.StateMaps.{with_at_there}
 use Rattle.cp_typing.specs.WellTyped.{WellTyped}
 use Rattle.cp_program_model.specs.Layout.{farther, head_words, member, member_part, right, rights}
 use Rattle.cp_program_model.specs.Programs as code
@@ -195,7 +195,7 @@ stages_start H setup xs zero low high = absurd (omega (arith, low))
 stages_start H setup [] (suc p) low high = absurd (omega (arith, high))
 stages_start H setup (x ∷ xs) (suc zero) low high = tt
 stages_start H setup (x ∷ xs) (suc (suc p)) low high =
-    subst (λ z. StageMeans H z (stage_of (first_stages (x ∷ xs)) (suc (suc p)))) (sym (with_at_there 1 (suc (suc p)) status.Ready (λ q. status.Unstarted) (differ 1 (suc (suc p)) (λ e. absurd (omega (arith, e))))))
+    subst (λ z. StageMeans H z (stage_of (first_stages (x ∷ xs)) (suc (suc p)))) (sym (with_at_there 1 (suc (suc p)) status.Ready (λ q. status.Unstarted) (ne_eqb 1 (suc (suc p)) (λ e. absurd (omega (arith, e))))))
     (subst (StageMeans H status.Unstarted) (sym (unstarted xs p (omega (arith, high, length-map xs (λ y. Unstarted))))) tt)
 
 -- ---- the kernel

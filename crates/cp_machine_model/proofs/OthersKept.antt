@@ -1,7 +1,7 @@
 -- A kernel step leaves another process that hasn't begun as it was, unless it starts that process.
 use Rattle.std.proofs.Common.{◌≡◌, ℕ, List, [], ◌∷◌, Bool, true, false, Some, None, refl, ap, sym, subst, ◌∙◌}
 use Rattle.std.specs.Prelude.{◌≢◌, if◌then◌else◌, nat_eq, not}
-use Rattle.std.proofs.lemmas.Bool.{eqb-true, true≢false}
+use Rattle.std.proofs.lemmas.Bool.{eqb-true, ne_eqb, true≢false}
 use Rattle.cp_model.specs.Actions.{action}
 use Rattle.cp_model.specs.Configurations.{Asking, Configuration, Context, Continues, Delayed, Delays, Effect, Ended, Ends, Enters, Faulted, Fresh, Leaves, Opens, Own, Ready, Starts, Status, StepResult, Unstarted, Waiting, Waits}
 use Rattle.cp_model.specs.Continuations.{Task}
@@ -18,7 +18,7 @@ use Rattle.cp_model.proofs.ActionReach.{ContinuationIn}
 use Rattle.cp_model.proofs.MixedStores.{IsClosed, mix_same}
 use Rattle.cp_model.proofs.OutsideReach.{may_commute}
 use Rattle.cp_model.proofs.ReturnReach.{result_mixed}
-use Rattle.cp_model.proofs.StateMaps.{differ, is_foreign, with_at_there}
+use Rattle.cp_model.proofs.StateMaps.{is_foreign, with_at_there}
 use Rattle.cp_model.proofs.StepOrder.{foreign_activation}
 use Rattle.cp_model.proofs.StepReach.{step_same}
 use Rattle.cp_machine_model.proofs.StartedUnread.{started_unread}
@@ -45,7 +45,7 @@ same_started : (q : ℕ) (s u : State) → u.status q ≡ s.status q → u.conti
 same_started q s u status left = record { unstarted = λ e. sym status ∙ e; fresh = λ e. sym status ∙ e; continuation = left }
 
 status_started : (p q : ℕ) (x : Status) (v : State) → p ≢ q → NotStarted q v (set_status p x v)
-status_started p q x v d = same_started q v (set_status p x v) (with_at_there p q x v.status (differ p q d)) refl
+status_started p q x v d = same_started q v (set_status p x v) (with_at_there p q x v.status (ne_eqb p q d)) refl
 
 -- A process that is made ready has begun.
 abbrev IsReady : Status → Type 0
@@ -91,7 +91,7 @@ pass_started q m (r ∷ rs) v =
 enter_started : (p q m : ℕ) (x : Holder) (v : State) → p ≢ q → NotStarted q v (enter p m x v)
 enter_started p q m Unset v d = same_started q v _ refl refl
 enter_started p q m Free v d = same_started q v _ refl refl
-enter_started p q m (HeldBy r) v d = same_started q v _ (with_at_there p q (Asking m) v.status (differ p q d)) refl
+enter_started p q m (HeldBy r) v d = same_started q v _ (with_at_there p q (Asking m) v.status (ne_eqb p q d)) refl
 
 effect_started : (p q : ℕ) (e : Effect) (v : State) → p ≢ q → StartsNobody e → NotStarted q v (apply_effect p e v)
 effect_started p q Own v d h = same_started q v v refl refl
@@ -139,18 +139,18 @@ module _ (s : State) (p q : ℕ) (d : p ≢ q) where
   pub after_started : (o : StepResult) → Nobody o → NotStarted q s (after_step s p o)
   after_started (Fault n) h = status_started p q (Faulted n) s d
   after_started (Gives x) h =
-      started_trans q s (with_configuration s p x.0) _ (same_started q s (with_configuration s p x.0) refl (with_at_there p q x.0.continuation s.continuation (differ p q d)))
+      started_trans q s (with_configuration s p x.0) _ (same_started q s (with_configuration s p x.0) refl (with_at_there p q x.0.continuation s.continuation (ne_eqb p q d)))
       (effect_started p q x.1 (with_configuration s p x.0) d h)
 
   -- If the step starts a process other than `q`.
   pub after_other_start : (config : Configuration) (r : ℕ) (k : List Task) → r ≢ q → NotStarted q s (after_step s p (Gives (config, Starts r k)))
-  after_other_start config r k other = started_trans q s v _ (same_started q s v refl (with_at_there p q config.continuation s.continuation (differ p q d))) (by (v.status r))
+  after_other_start config r k other = started_trans q s v _ (same_started q s v refl (with_at_there p q config.continuation s.continuation (ne_eqb p q d))) (by (v.status r))
     where
       v : State
       v = with_configuration s p config
 
       by : (x : Status) → NotStarted q v (start_process r k x v)
-      by Unstarted = same_started q v _ (with_at_there r q Fresh v.status (differ r q other)) (with_at_there r q k v.continuation (differ r q other))
+      by Unstarted = same_started q v _ (with_at_there r q Fresh v.status (ne_eqb r q other)) (with_at_there r q k v.continuation (ne_eqb r q other))
       by _ = same_started q v v refl refl
 
   pub after_start_stored : (config : Configuration) (r : ℕ) (k : List Task) → ((l : Location) → is_own q l.owner ≡ true → config.store l ≡ s.store l) → KeepsOwned q s (after_step s p (Gives (config, Starts r k)))

@@ -1,7 +1,7 @@
 -- A process that starts another one runs on, or stops at the same fault as the meaning.
 use Rattle.std.proofs.Common.{List, ap, arith, false, inl, inr, length, refl, subst, sym, ℕ, ℤ, ◌+◌, ◌<◌, ◌∙◌, ◌∷◌, ◌≡◌, ◌≤◌, ◌⊎◌}
 use Rattle.std.specs.Prelude.{if◌then◌else◌, nat_eq}
-use Rattle.std.proofs.lemmas.Bool.{true≢false}
+use Rattle.std.proofs.lemmas.Bool.{ne_eqb, true≢false}
 use Rattle.cp_model.specs.Abstract as a
 use Rattle.cp_model.specs.Configurations as stage
 use Rattle.cp_model.specs.Configurations.{Status, StepResult}
@@ -15,7 +15,7 @@ use Rattle.cp_model.specs.States.{State, configuration, context, is_started}
 use Rattle.cp_model.specs.StatementSteps.{execute}
 use Rattle.cp_model.specs.Stores.{Writes, put_all}
 use Rattle.cp_model.specs.Turns.{after_step}
-use Rattle.cp_model.proofs.StateMaps.{differ, with_at_there}
+use Rattle.cp_model.proofs.StateMaps.{with_at_there}
 use Rattle.cp_program_model.specs.Programs as op
 use Rattle.cp_program_model.specs.Starts.{word}
 use Rattle.cp_machine_model.specs.PrivateStates.{Acting, Outside, PrivateState, go_to}
@@ -47,10 +47,10 @@ started_part G before after r j stage.Unstarted u other P = record {
 }
   where
     same : (if nat_eq r G.p then stage.Fresh else u.status G.p) ≡ u.status G.p
-    same = with_at_there r G.p stage.Fresh u.status (differ r G.p other)
+    same = with_at_there r G.p stage.Fresh u.status (ne_eqb r G.p other)
 
     left : (if nat_eq r G.p then j else u.continuation G.p) ≡ u.continuation G.p
-    left = with_at_there r G.p j u.continuation (differ r G.p other)
+    left = with_at_there r G.p j u.continuation (ne_eqb r G.p other)
 started_part G before after r j _ u other P = P
 
 module _ {G : Ground} {s : State} {w : Outside} {before : List ℕ} {o : PrivateState} (Z : InitOfProcess G s w before o) where

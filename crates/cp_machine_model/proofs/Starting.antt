@@ -4,7 +4,7 @@
 -- has the start value of each leaf, as the store has; no right is set on either side.
 use Rattle.std.proofs.Common.{◌≡◌, ◌⊎◌, inl, inr, ℕ, zero, suc, ◌+◌, ◌≤◌, ◌<◌, ℤ, pos, Bool, true, false, List, [], ◌∷◌, ◌++◌, length, Option, Some, None, refl, ap, sym, subst, ◌∙◌, arith}
 use Rattle.std.specs.Prelude.{if◌then◌else◌, nat_eq, not, replicate}
-use Rattle.std.proofs.lemmas.Bool.{eq-eqb, true≢false}
+use Rattle.std.proofs.lemmas.Bool.{eq-eqb, ne_eqb, true≢false}
 use Rattle.cp_model.specs.Abstract.{Class, Name, Process, Sort, System}
 use Rattle.cp_model.specs.CallSteps.{is_initialised}
 use Rattle.cp_model.specs.Components.{process_location}
@@ -19,7 +19,7 @@ use Rattle.cp_model.specs.Start.{start}
 use Rattle.cp_model.specs.States.{Setup}
 use Rattle.cp_model.specs.Stores.{Absent, Initialised, Ordinal, QueueHolds}
 use Rattle.cp_model.specs.Types.{ArrayOf, ComponentOf, GlobalScope, NoType, Queue, RecordOf, ResolvedType, Simple}
-use Rattle.cp_model.proofs.StateMaps.{differ, with_at_there}
+use Rattle.cp_model.proofs.StateMaps.{with_at_there}
 use Rattle.cp_typing.specs.WellTyped.{WellTyped}
 use Rattle.cp_program_model.specs.Programs.{CodeUnit, Done, Program}
 use Rattle.cp_program_model.specs.Layout.{Part, component_words, head_words, member, member_part}
@@ -248,7 +248,7 @@ not_fresh e = true≢false (ap is_unstarted e)
 -- Each other process has not begun.
 module _ (program : Program) (setup : Setup) (F : StandsFor program setup) (k : ℕ) (P : ProcessStands program F.texts setup (suc (suc k))) where
   unstarted : (start setup).status (suc (suc k)) ≡ stage.Unstarted
-  unstarted = with_at_there 1 (suc (suc k)) Ready (λ q. Unstarted) (differ 1 (suc (suc k)) (λ e. absurd (omega (arith, e))))
+  unstarted = with_at_there 1 (suc (suc k)) Ready (λ q. Unstarted) (ne_eqb 1 (suc (suc k)) (λ e. absurd (omega (arith, e))))
 
   other_is_part : PartOf (G program setup F (suc (suc k)) P) (start setup) [] (own program setup F (suc (suc k)) P)
   other_is_part = record {

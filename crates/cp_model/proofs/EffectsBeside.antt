@@ -1,13 +1,13 @@
 -- The effect of a step of q in a state in which another process p is ready.
 use Rattle.std.specs.Prelude.{Bool, List, None, Some, [], false, if◌then◌else◌, nat_eq, refl, true, ℕ, ◌∷◌, ◌≡◌, ◌≢◌}
 use Rattle.std.proofs.Common.{ap, arith, sym, ◌∙◌}
-use Rattle.std.proofs.lemmas.Bool.{eqb-false, eqb-true}
+use Rattle.std.proofs.lemmas.Bool.{eqb-false, eqb-true, ne_eqb}
 use Rattle.cp_model.specs.Outcomes.{Fault, Gives}
 use Rattle.cp_model.specs.Continuations.{Task}
 use Rattle.cp_model.specs.Configurations.{Asking, Configuration, Continues, Delayed, Delays, Effect, Ended, Ends, Enters, Faulted, Fresh, Leaves, Opens, Own, Ready, Starts, Status, StepResult, Unstarted, Waiting, Waits}
 use Rattle.cp_model.specs.States.{Free, HeldBy, Holder, State, Unset, is_started, set_status, with_at}
 use Rattle.cp_model.specs.Gates.{apply_effect, enter, made_ready, make_ready, pass_on, pass_to, set_gate, start_process}
-use Rattle.cp_model.proofs.StateMaps.{differ, state_is, with_at_swap, with_at_there}
+use Rattle.cp_model.proofs.StateMaps.{state_is, with_at_swap, with_at_there}
 use Rattle.cp_model.proofs.OwnSteps.{install, result_status, status_by}
 
 abbrev pub IsOwnStatus : Status → Type 0
@@ -54,7 +54,7 @@ module _ (p : ℕ) (r : Configuration) (x : Status) (own : IsOwnStatus x) where
   status_beside q y u d = state_is _ _ refl refl refl refl (with_at_swap q p y x u.status (λ e. d (sym e))) refl refl
 
   status_of_other : (q : ℕ) (y : Status) (u : State) → p ≢ q → (set_status q y u).status p ≡ u.status p
-  status_of_other q y u d = with_at_there q p y u.status (differ q p (λ e. d (sym e)))
+  status_of_other q y u d = with_at_there q p y u.status (ne_eqb q p (λ e. d (sym e)))
 
   start_beside : (q : ℕ) (k : List Task) (y : Status) (u : State) → u.status p ≡ Ready → u.status q ≡ y
       → start_process q k ((install p r x u).status q) (install p r x u) ≡ install p r x (start_process q k y u)
@@ -149,7 +149,7 @@ status_alone p q y u d = record {
   consumed = refl;
   rounds = refl;
   continuation = refl;
-  status = with_at_there q p y u.status (differ q p (λ e. d (sym e)));
+  status = with_at_there q p y u.status (ne_eqb q p (λ e. d (sym e)));
 }
 
 pub effect_alone : (p q : ℕ) (e : Effect) (u : State) → p ≢ q → u.status p ≡ Ready → LeavesAlone p u (apply_effect q e u)
@@ -215,8 +215,8 @@ effect_alone p q (Starts o k) u d h = go (u.status o) refl
       transcript = refl;
       consumed = refl;
       rounds = refl;
-      continuation = with_at_there o p k u.continuation (differ o p (apart_from e));
-      status = with_at_there o p Fresh u.status (differ o p (apart_from e));
+      continuation = with_at_there o p k u.continuation (ne_eqb o p (apart_from e));
+      status = with_at_there o p Fresh u.status (ne_eqb o p (apart_from e));
     }
     go Fresh e = same
     go Ready e = same

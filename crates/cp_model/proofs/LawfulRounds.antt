@@ -1,6 +1,7 @@
 -- Every lawful order of a round leaves what one processor leaves.
 use Rattle.std.specs.Prelude.{List, [], false, fold, refl, suc, zero, ℕ, ◌<◌, ◌∷◌, ◌≡◌, ◌≢◌}
 use Rattle.std.proofs.Common.{ap, arith, sym, ◌∙◌}
+use Rattle.std.proofs.lemmas.Bool.{ne_eqb}
 use Rattle.cp_model.specs.Abstract.{Process}
 use Rattle.cp_model.specs.States.{Setup, State, count_components, initial_variables, is_in, numbers_from, processes}
 use Rattle.cp_model.specs.Turns.{kernel_step, kernel_turn, private_step, private_turn}
@@ -8,7 +9,6 @@ use Rattle.cp_model.specs.Rounds.{Event, KernelTurn, PrivateStep, all_turns, clo
 use Rattle.cp_model.specs.Orders.{IsLawful}
 use Rattle.cp_model.specs.Invariant.{Invariant}
 use Rattle.cp_model.proofs.Orders.{AreDistinct, MayChangePlaces, after, lawful_is_one_by_one, many, one_by_one}
-use Rattle.cp_model.proofs.StateMaps.{differ}
 use Rattle.cp_model.proofs.OwnSteps.{private_past_private}
 use Rattle.cp_model.proofs.StepOrder.{private_past_kernel}
 use Rattle.cp_model.proofs.OutsideReach.{may_commute}
@@ -16,7 +16,7 @@ use Rattle.cp_model.proofs.StateInvariant.{kernel_step_keeps, kernel_turn_keeps,
 
 pub below_are_out : (p q n : ℕ) → p < q → is_in p (numbers_from q n) ≡ false
 below_are_out p q zero h = refl
-below_are_out p q (suc n) h = rw (differ p q (Prim.omega arith)) (below_are_out p (suc q) n (Prim.omega arith))
+below_are_out p q (suc n) h = rw (ne_eqb p q (Prim.omega arith)) (below_are_out p (suc q) n (Prim.omega arith))
 
 pub numbers_are_distinct : (p n : ℕ) → AreDistinct (numbers_from p n)
 numbers_are_distinct p zero = tt

@@ -1,7 +1,7 @@
 -- No step of another process makes a process private that isn't.
 use Rattle.std.specs.Prelude.{Bool, List, None, Some, [], false, if◌then◌else◌, nat_eq, refl, true, ℕ, ◌∷◌, ◌≡◌, ◌≢◌}
 use Rattle.std.proofs.Common.{sym}
-use Rattle.std.proofs.lemmas.Bool.{eqb-true}
+use Rattle.std.proofs.lemmas.Bool.{eqb-true, ne_eqb}
 use Rattle.cp_model.specs.Outcomes.{Fault, Gives}
 use Rattle.cp_model.specs.Continuations.{Task, is_in_monitor}
 use Rattle.cp_model.specs.Configurations.{Asking, Continues, Delayed, Delays, Effect, Ended, Ends, Enters, Faulted, Fresh, Leaves, Opens, Own, Ready, Starts, Status, StepResult, Unstarted, Waiting, Waits}
@@ -9,7 +9,6 @@ use Rattle.cp_model.specs.States.{Free, HeldBy, Holder, Setup, State, Unset, set
 use Rattle.cp_model.specs.Gates.{apply_effect, enter, made_ready, make_ready, pass_to, set_gate, start_process}
 use Rattle.cp_model.specs.Turns.{after_step, kind_of}
 use Rattle.cp_model.specs.Invariant.{IsBlocked}
-use Rattle.cp_model.proofs.StateMaps.{differ}
 use Rattle.cp_model.proofs.OwnSteps.{NotPrivate}
 
 module _ (setup : Setup) where
@@ -43,7 +42,7 @@ module _ (setup : Setup) where
   pass_other p m (q ∷ qs) u o h = make_ready_other p q (set_gate m (HeldBy q) qs u) o h
 
   set_other : (p q : ℕ) (y : Status) (u : State) → p ≢ q → NotPrivateAt u p → NotPrivateAt (set_status q y u) p
-  set_other p q y u d o = rw (differ q p (λ e. d (sym e))) o
+  set_other p q y u d o = rw (ne_eqb q p (λ e. d (sym e))) o
 
   effect_other : (p q : ℕ) (e : Effect) (u : State) → p ≢ q → NotPrivateAt u p → BlockedHoldsAt u p
       → NotPrivateAt (apply_effect q e u) p
@@ -59,7 +58,7 @@ module _ (setup : Setup) where
   effect_other p q (Leaves m) u d o h = pass_other p m (u.gates m).askers u o h
   effect_other p q (Delays m l) u d o h =
       pass_other p m (u.gates m).askers (set_status q (Delayed m l) u) (set_other p q (Delayed m l) u d o)
-      (rw (differ q p (λ e. d (sym e))) h)
+      (rw (ne_eqb q p (λ e. d (sym e))) h)
   effect_other p q (Continues m None) u d o h = pass_other p m (u.gates m).askers u o h
   effect_other p q (Continues m (Some c)) u d o h = make_ready_other p c (set_gate m (HeldBy c) (u.gates m).askers u) o h
   effect_other p q (Opens m) u d o h = o
@@ -84,4 +83,4 @@ module _ (setup : Setup) where
   after_step_other p q s (Fault n) d a h = set_other p q (Faulted n) s d a
   after_step_other p q s (Gives (u, e)) d a h =
       effect_other p q e (with_configuration s q u) d
-      (rw (differ q p (λ f. d (sym f))) a) (rw (differ q p (λ f. d (sym f))) h)
+      (rw (ne_eqb q p (λ f. d (sym f))) a) (rw (ne_eqb q p (λ f. d (sym f))) h)

@@ -1,7 +1,7 @@
 -- What a step of one process leaves unchanged of the reach of another.
 use Rattle.std.specs.Prelude.{Bool, List, None, Option, Some, [], false, nat_eq, not, refl, true, ℕ, ◌∷◌, ◌≡◌, ◌≢◌}
 use Rattle.std.proofs.Common.{ap, arith, subst, sym, ◌∙◌}
-use Rattle.std.proofs.lemmas.Bool.{eq-eqb, eqb-true}
+use Rattle.std.proofs.lemmas.Bool.{eq-eqb, eqb-true, ne_eqb}
 use Rattle.cp_model.specs.Locations.{Location, OfActivation, OfMonitor, OfProcess, Owner}
 use Rattle.cp_model.specs.Stores.{Reference}
 use Rattle.cp_model.specs.Environments.{Environment, Frame}
@@ -12,7 +12,7 @@ use Rattle.cp_model.specs.Rounds.{after_closing, close_round}
 use Rattle.cp_model.specs.Reach.{in_reach}
 use Rattle.cp_model.specs.Invariant.{EnvironmentIn, FrameIn, Invariant, IsActivation, IsBlocked, TaskIn, TasksInReach}
 use Rattle.cp_model.specs.Parts.{is_own}
-use Rattle.cp_model.proofs.StateMaps.{differ, is_foreign}
+use Rattle.cp_model.proofs.StateMaps.{is_foreign}
 use Rattle.cp_model.proofs.MixedStores.{IsClosed}
 use Rattle.cp_model.proofs.ActionReach.{ContinuationIn}
 use Rattle.cp_model.proofs.QuietSteps.{no_gates-tail}
@@ -25,8 +25,8 @@ in_reach_own p (OfActivation q d) = refl
 in_reach_own p (OfMonitor m) = refl
 
 in_reach_foreign : (p r : ℕ) (ms : List ℕ) (o : Owner) → p ≢ r → in_reach r ms o ≡ true → is_foreign p o ≡ true
-in_reach_foreign p r ms (OfProcess q) d h = rw (differ p q (λ e. d (e ∙ sym (eqb-true r q h)))) refl
-in_reach_foreign p r ms (OfActivation q k) d h = rw (differ p q (λ e. d (e ∙ sym (eqb-true r q h)))) refl
+in_reach_foreign p r ms (OfProcess q) d h = rw (ne_eqb p q (λ e. d (e ∙ sym (eqb-true r q h)))) refl
+in_reach_foreign p r ms (OfActivation q k) d h = rw (ne_eqb p q (λ e. d (e ∙ sym (eqb-true r q h)))) refl
 in_reach_foreign p r ms (OfMonitor m) d h = refl
 
 environment_more : (t v : Owner → Bool) (env : Environment) → ((o : Owner) → t o ≡ true → v o ≡ true) → EnvironmentIn t env

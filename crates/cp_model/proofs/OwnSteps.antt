@@ -1,7 +1,7 @@
 -- A private step reads and writes only the own part of its process, so two private steps commute.
 use Rattle.std.specs.Prelude.{Bool, List, [], false, if◌then◌else◌, nat_eq, refl, suc, true, ℕ, ◌||◌, ◌∷◌, ◌≡◌, ◌≢◌}
 use Rattle.std.proofs.Common.{ap, arith, sym, ◌∙◌}
-use Rattle.std.proofs.lemmas.Bool.{eq-eqb}
+use Rattle.std.proofs.lemmas.Bool.{eq-eqb, ne_eqb}
 use Rattle.cp_model.specs.Locations.{Location, OfActivation, Owner}
 use Rattle.cp_model.specs.Stores.{Store}
 use Rattle.cp_model.specs.Outcomes.{Fault, Gives}
@@ -13,7 +13,7 @@ use Rattle.cp_model.specs.States.{Setup, State, configuration, context, is_set, 
 use Rattle.cp_model.specs.Turns.{Kernel, Kind, NoStep, Private, after_step, if_private, kind, kind_of, private_step, step}
 use Rattle.cp_model.specs.Invariant.{IsBlocked}
 use Rattle.cp_model.specs.Parts.{is_own}
-use Rattle.cp_model.proofs.StateMaps.{differ, is_foreign, own_apart, state_is, with_at_same, with_at_swap, with_at_there}
+use Rattle.cp_model.proofs.StateMaps.{is_foreign, own_apart, state_is, with_at_same, with_at_swap, with_at_there}
 use Rattle.cp_model.proofs.MixedStores.{IsClosed, mix, mix_same}
 use Rattle.cp_model.proofs.ActionReach.{ContinuationIn}
 use Rattle.cp_model.proofs.ReturnReach.{result_mixed, with_mixed_store}
@@ -191,7 +191,7 @@ module _ (setup : Setup) where
   }
     where
       n : nat_eq p q ≡ false
-      n = differ p q d
+      n = ne_eqb p q d
 
       at : (l : Location) (a b : Bool) → is_own q l.owner ≡ a → is_own p l.owner ≡ b → (if b then r.store l else s.store l)
           ≡ (if a then s.store l else (if b then r.store l else s.store l))

@@ -2,7 +2,7 @@
 -- processes, and the kernel's part.
 use Rattle.std.specs.Prelude.{Bool, List, None, Some, [], false, if◌then◌else◌, nat_eq, not, refl, suc, true, zero, ℕ, ◌∷◌, ◌≡◌, ◌≢◌}
 use Rattle.std.proofs.Common.{ap, arith, subst, sym, ◌∙◌}
-use Rattle.std.proofs.lemmas.Bool.{eqb-true}
+use Rattle.std.proofs.lemmas.Bool.{eqb-true, ne_eqb}
 use Rattle.cp_model.specs.Locations.{Location, OfProcess}
 use Rattle.cp_model.specs.Stores.{Store}
 use Rattle.cp_model.specs.Outcomes.{Fault, Gives}
@@ -14,7 +14,7 @@ use Rattle.cp_model.specs.Gates.{apply_effect, enter, made_ready, make_ready, pa
 use Rattle.cp_model.specs.Turns.{Kernel, Kind, NoStep, Private, after_step, if_kernel, kernel_step, kernel_turn, kind, private_step, step}
 use Rattle.cp_model.specs.Invariant.{Invariant}
 use Rattle.cp_model.specs.Parts.{HasBegun, HasNotBegun, SameKernelPart, SamePrivateState, is_own, kernel_status, private_status}
-use Rattle.cp_model.proofs.StateMaps.{differ, is_foreign, own_apart, with_at_there}
+use Rattle.cp_model.proofs.StateMaps.{is_foreign, own_apart, with_at_there}
 use Rattle.cp_model.proofs.MixedStores.{IsClosed, mix_same}
 use Rattle.cp_model.proofs.ActionReach.{ContinuationIn}
 use Rattle.cp_model.proofs.ReturnReach.{result_mixed}
@@ -39,7 +39,7 @@ gate_own p m x qs v = record {
 
 status_own : (p q : ℕ) (x : Status) (v : State) → q ≢ p → SamePrivateState p v (set_status q x v)
 status_own p q x v d = record {
-  status = ap private_status (with_at_there q p x v.status (differ q p d));
+  status = ap private_status (with_at_there q p x v.status (ne_eqb q p d));
   transcript = refl;
   consumed = refl;
   store = λ a l h. refl;
@@ -176,10 +176,10 @@ module _ (setup : Setup) where
       first : SamePrivateState p s (with_configuration s q u)
       first = record {
         status = refl;
-        transcript = with_at_there q p u.transcript s.transcript (differ q p d);
-        consumed = with_at_there q p u.consumed s.consumed (differ q p d);
+        transcript = with_at_there q p u.transcript s.transcript (ne_eqb q p d);
+        consumed = with_at_there q p u.consumed s.consumed (ne_eqb q p d);
         store = λ a l h. ap (λ x. store_of x l) (w a) ∙ at l (is_own p l.owner) h;
-        continuation = λ a. with_at_there q p u.continuation s.continuation (differ q p d);
+        continuation = λ a. with_at_there q p u.continuation s.continuation (ne_eqb q p d);
       }
 
   kernel_step_other_parts : (p q : ℕ) (s : State) → q ≢ p → Invariant s → SamePrivateState p s (kernel_step setup s q)
@@ -214,11 +214,11 @@ module _ (setup : Setup) where
       go NoStep h = subst (λ (u : State). SamePrivateState p s u) (sym (no_private_step setup q s NoStep h tt)) (private_state_refl p s)
       go Kernel h = subst (λ (u : State). SamePrivateState p s u) (sym (no_private_step setup q s Kernel h tt)) (private_state_refl p s)
       go Private h = subst (λ (u : State). SamePrivateState p s u) (sym (private_step_is setup q s s (may_commute s i) h (same_for_self setup q s))) (record {
-        status = ap private_status (with_at_there q p (status_after setup s q) s.status (differ q p d));
-        transcript = with_at_there q p (own_configuration setup s q).transcript s.transcript (differ q p d);
-        consumed = with_at_there q p (own_configuration setup s q).consumed s.consumed (differ q p d);
+        status = ap private_status (with_at_there q p (status_after setup s q) s.status (ne_eqb q p d));
+        transcript = with_at_there q p (own_configuration setup s q).transcript s.transcript (ne_eqb q p d);
+        consumed = with_at_there q p (own_configuration setup s q).consumed s.consumed (ne_eqb q p d);
         store = λ a l m. at l (is_own q l.owner) (own_apart p q l.owner (λ e. d (sym e)) m);
-        continuation = λ a. with_at_there q p (own_configuration setup s q).continuation s.continuation (differ q p d);
+        continuation = λ a. with_at_there q p (own_configuration setup s q).continuation s.continuation (ne_eqb q p d);
       })
 
   pub private_step_kernel_part : (p : ℕ) (s : State) → Invariant s → SameKernelPart s (private_step setup s p)
@@ -243,7 +243,7 @@ module _ (setup : Setup) where
         status = λ r. told r (nat_eq p r) refl;
         monitor_store = λ l m e. at l (is_own p l.owner) (ap (is_own p) e);
         unbegun_store = λ r a l m. at l (is_own p l.owner) (own_apart r p l.owner (other r a) m);
-        unbegun_continuation = λ r a. with_at_there p r (own_configuration setup s p).continuation s.continuation (differ p r (λ e. other r a (sym e)));
+        unbegun_continuation = λ r a. with_at_there p r (own_configuration setup s p).continuation s.continuation (ne_eqb p r (λ e. other r a (sym e)));
       })
         where
           is_ready : s.status p ≡ Ready

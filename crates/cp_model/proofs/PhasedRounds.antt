@@ -1,7 +1,7 @@
 -- The phased round leaves what the round of one processor leaves.
 use Rattle.std.specs.Prelude.{Bool, List, [], false, if◌then◌else◌, nat_eq, refl, suc, true, zero, ℕ, ◌||◌, ◌∷◌, ◌≡◌, ◌≢◌, ◌≤◌}
 use Rattle.std.proofs.Common.{ap, arith, subst, sym, ◌∙◌}
-use Rattle.std.proofs.lemmas.Bool.{eqb-false, eqb-true}
+use Rattle.std.proofs.lemmas.Bool.{eqb-false, eqb-true, ne_eqb}
 use Rattle.cp_model.specs.Abstract.{Process}
 use Rattle.cp_model.specs.Locations.{Location, OfActivation, OfMonitor, OfProcess, Owner}
 use Rattle.cp_model.specs.Stores.{Store}
@@ -12,7 +12,7 @@ use Rattle.cp_model.specs.Rounds.{after_own_turn, all_turns, close_round, kernel
 use Rattle.cp_model.specs.Invariant.{Invariant}
 use Rattle.cp_model.specs.Parts.{is_own}
 use Rattle.cp_model.proofs.Orders.{AreDistinct}
-use Rattle.cp_model.proofs.StateMaps.{differ, state_is, with_at_here, with_at_same}
+use Rattle.cp_model.proofs.StateMaps.{state_is, with_at_here, with_at_same}
 use Rattle.cp_model.proofs.MixedStores.{mix}
 use Rattle.cp_model.proofs.ReturnReach.{with_mixed_store}
 use Rattle.cp_model.proofs.OwnSteps.{IsSameFor, install, no_private_step, own_configuration, private_step_is, same_for_self, same_kind, status_after}
@@ -295,10 +295,10 @@ module _ (setup : Setup) where
   unfolding AreFresh
   numbers_are_fresh p zero done h f = tt
   numbers_are_fresh p (suc n) done h f = (
-    differ 0 p (Prim.omega arith),
+    ne_eqb 0 p (Prim.omega arith),
     f p (Prim.omega arith),
     numbers_are_fresh (suc p) n (p ∷ done) (Prim.omega arith)
-        (λ k g. rw (differ k p (Prim.omega arith)) (f k (Prim.omega arith))),
+        (λ k g. rw (ne_eqb k p (Prim.omega arith)) (f k (Prim.omega arith))),
   )
 
   turned_parts_of_none : (t : ℕ) (s : State) → turned_parts t [] s ≡ s

@@ -1,7 +1,7 @@
 -- Each step of a ready process, each waking and each closing keeps the invariant of states.
 use Rattle.std.specs.Prelude.{Bool, List, None, Some, [], false, fold, if◌then◌else◌, nat_eq, not, refl, suc, true, zero, ℕ, ◌%◌, ◌∷◌, ◌≡◌, ◌≢◌}
 use Rattle.std.proofs.Common.{ap, arith, subst, sym, ◌∙◌}
-use Rattle.std.proofs.lemmas.Bool.{eq-eqb, eqb-false, eqb-true}
+use Rattle.std.proofs.lemmas.Bool.{eq-eqb, eqb-false, eqb-true, ne_eqb}
 use Rattle.cp_model.specs.Locations.{Location, OfActivation, OfMonitor, OfProcess, Owner}
 use Rattle.cp_model.specs.Stores.{Reference, Store}
 use Rattle.cp_model.specs.Outcomes.{Fault, Gives}
@@ -14,7 +14,7 @@ use Rattle.cp_model.specs.Turns.{Kernel, Kind, NoStep, Private, after_step, if_k
 use Rattle.cp_model.specs.Rounds.{Event, KernelTurn, PrivateStep, all_turns, wake_status, replay_event, replay_round, run, sequential_round, wake}
 use Rattle.cp_model.specs.Reach.{in_reach}
 use Rattle.cp_model.specs.Invariant.{ContinuationInvariant, FramesInvariant, Invariant, IsBlocked, NoneBeyond, StoreInvariant}
-use Rattle.cp_model.proofs.StateMaps.{differ, with_at_here}
+use Rattle.cp_model.proofs.StateMaps.{with_at_here}
 use Rattle.cp_model.proofs.MixedStores.{mix, mix_same}
 use Rattle.cp_model.proofs.ExpressionReach.{IfGives}
 use Rattle.cp_model.proofs.ReturnReach.{result_mixed}
@@ -65,8 +65,8 @@ module _ (setup : Setup) where
       ap (λ st. step_of (context setup s p) (record { store = st; continuation = s.continuation p; transcript = s.transcript p; consumed = s.consumed p })) (sym (mix_same (not_of q) s.store))
       ∙ step_same (not_of q) s.store (context setup s p)
       (λ r. is_started (s.status r)) (λ m. is_set (s.gates m).holder) (configuration s p)
-      (closed_but s i (not_of q) (λ r n ms o h e. other r ms o h e)) (λ n. rw (differ q p (λ e. d (sym e))) refl)
-      (tasks_more p (not_of q) (s.continuation p) (λ ms o e. other p ms o (rw (differ q p (λ f. d (sym f))) refl) e) (i.continuations p).tasks)
+      (closed_but s i (not_of q) (λ r n ms o h e. other r ms o h e)) (λ n. rw (ne_eqb q p (λ e. d (sym e))) refl)
+      (tasks_more p (not_of q) (s.continuation p) (λ ms o e. other p ms o (rw (ne_eqb q p (λ f. d (sym f))) refl) e) (i.continuations p).tasks)
       (λ a. record { monitors = λ m. refl; processes = λ r e. refl; same_started = refl; same_set = refl })
     where
       other : (r : ℕ) (ms : List ℕ) (o : Owner) → not (nat_eq q r) ≡ true → in_reach r ms o ≡ true → not_of q o ≡ true

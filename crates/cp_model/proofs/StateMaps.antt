@@ -1,7 +1,7 @@
 -- Numbers of processes, functions of them, and when two states are equal.
 use Rattle.std.specs.Prelude.{Bool, false, if◌then◌else◌, nat_eq, not, refl, true, ℕ, ◌≡◌, ◌≢◌}
 use Rattle.std.proofs.Common.{ap, sym, ◌∙◌}
-use Rattle.std.proofs.lemmas.Bool.{eq-eqb, eqb-true}
+use Rattle.std.proofs.lemmas.Bool.{eq-eqb, eqb-true, ne_eqb}
 use Rattle.cp_model.specs.Locations.{OfActivation, OfMonitor, OfProcess, Owner}
 use Rattle.cp_model.specs.States.{State, with_at}
 use Rattle.cp_model.specs.Parts.{is_own}
@@ -9,17 +9,10 @@ use Rattle.cp_model.specs.Parts.{is_own}
 abbrev pub is_foreign : ℕ → Owner → Bool
 is_foreign p o = not (is_own p o)
 
-pub differ : (p q : ℕ) → p ≢ q → nat_eq p q ≡ false
-differ p q d = go (nat_eq p q) refl
-  where
-    go : (b : Bool) → nat_eq p q ≡ b → b ≡ false
-    go true e = absurd (d (eqb-true p q e))
-    go false e = refl
-
 -- No owner belongs to two processes.
 pub own_apart : (p q : ℕ) (o : Owner) → p ≢ q → is_own p o ≡ true → is_own q o ≡ false
-own_apart p q (OfProcess r) d h = differ q r (λ e. d (eqb-true p r h ∙ sym e))
-own_apart p q (OfActivation r k) d h = differ q r (λ e. d (eqb-true p r h ∙ sym e))
+own_apart p q (OfProcess r) d h = ne_eqb q r (λ e. d (eqb-true p r h ∙ sym e))
+own_apart p q (OfActivation r k) d h = ne_eqb q r (λ e. d (eqb-true p r h ∙ sym e))
 own_apart p q (OfMonitor m) d h = refl
 
 -- ---- Functions of a process's number

@@ -1,7 +1,7 @@
 -- A private step of p and a kernel step of q commute.
 use Rattle.std.specs.Prelude.{Bool, false, if◌then◌else◌, nat_eq, not, refl, true, ℕ, ◌≡◌, ◌≢◌}
 use Rattle.std.proofs.Common.{ap, arith, subst, sym, ◌∙◌}
-use Rattle.std.proofs.lemmas.Bool.{eqb-true}
+use Rattle.std.proofs.lemmas.Bool.{eqb-true, ne_eqb}
 use Rattle.cp_model.specs.Locations.{Location, OfActivation, OfProcess}
 use Rattle.cp_model.specs.Stores.{Store}
 use Rattle.cp_model.specs.Outcomes.{Fault, Gives}
@@ -11,7 +11,7 @@ use Rattle.cp_model.specs.States.{Setup, State, configuration, context, is_set, 
 use Rattle.cp_model.specs.Gates.{apply_effect}
 use Rattle.cp_model.specs.Turns.{Kernel, Kind, NoStep, Private, after_step, if_kernel, kernel_step, kind, private_step, step}
 use Rattle.cp_model.specs.Parts.{is_own}
-use Rattle.cp_model.proofs.StateMaps.{differ, is_foreign, state_is, with_at_swap, with_at_there}
+use Rattle.cp_model.proofs.StateMaps.{is_foreign, state_is, with_at_swap, with_at_there}
 use Rattle.cp_model.proofs.MixedStores.{IsClosed, mix, mix_same}
 use Rattle.cp_model.proofs.ActionReach.{ContinuationIn}
 use Rattle.cp_model.proofs.ReturnReach.{result_mixed, with_mixed_store}
@@ -33,7 +33,7 @@ module _ (setup : Setup) where
   }
     where
       n : nat_eq p q ≡ false
-      n = differ p q d
+      n = ne_eqb p q d
 
       at : (l : Location) (b : Bool) → (if b then r.store l else s.store l)
           ≡ (if not b then s.store l else (if b then r.store l else s.store l))
@@ -52,7 +52,7 @@ module _ (setup : Setup) where
       at k false f = refl
 
   pub foreign_activation : (p q : ℕ) (d : ℕ) → p ≢ q → is_foreign p (OfActivation q d) ≡ true
-  foreign_activation p q d n = rw (differ p q n) refl
+  foreign_activation p q d n = rw (ne_eqb p q n) refl
 
   foreign_process : (p : ℕ) (s : State) → s.status p ≡ Ready → (r : ℕ) → is_started (s.status r) ≡ false
       → is_foreign p (OfProcess r) ≡ true
@@ -126,7 +126,7 @@ module _ (setup : Setup) where
       }
   kernel_same_for p q s (Gives (u, f)) d h e =
       let a = effect_alone p q f (with_configuration s q u) d h in
-      let n = differ q p (λ g. d (sym g)) in
+      let n = ne_eqb q p (λ g. d (sym g)) in
       let w : u.store ≡ mix (is_foreign p) u.store s.store = ap (λ x. (result (configuration s q) x).store) e in
       record {
         store = a.store ∙ (λ i l. at (w i) l w (is_own p l.owner) refl i) ∙ ap (λ st. mix (is_own p) s.store st) (sym a.store);

@@ -5,10 +5,10 @@ use Rattle.std.specs.Int.{w32, w64, cast_signed, cast_unsigned}
 use Rattle.std.specs.Int.Signed.{mag, mag_rem}
 use Rattle.std.proofs.Math.Nat.{div-le_self}
 use Rattle.std.proofs.lemmas.Int.{ints, fits_signed_mul, to_z-of_z}
+use Rattle.std.proofs.lemmas.Bool.{ne_eqb}
 use Rattle.cp_model.specs.declared.state.Fault.{Fault}
 use Rattle.cp_model.specs.declared.state.Fault.TheVariants as fault
 use Rattle.cp_model.specs.Integers.{same_integer}
-use Rattle.cp_model.proofs.StateMaps.{differ}
 use Rattle.cp_program_model.specs.Functions.{in_range}
 use Rattle.cp_machine_model.specs.Values.{unless_zero}
 
@@ -70,7 +70,7 @@ difference_fits a b f g = record { sfits = Prim.grind (arith, ints, f.sfits, g.s
 -- A divisor that passed the code's test is not 0.
 pub apart : (b : ℤ) → (b ≡ pos 0 → ⊥) → same_integer b (pos 0) ≡ false
 apart (pos zero) h = absurd (h refl)
-apart (pos (suc n)) h = differ (suc n) 0 (λ e. absurd (omega (arith, e)))
+apart (pos (suc n)) h = ne_eqb (suc n) 0 (λ e. absurd (omega (arith, e)))
 apart (negsuc n) h = refl
 
 pub unless_zero_passed : (d : ℤ) (r : Result ℤ Fault) → same_integer d (pos 0) ≡ false → r ≡ unless_zero d r
