@@ -1,12 +1,11 @@
 -- Where monitors lie: their words are among the shared ones, which follow a process's own words,
 -- and don't overlap.
-use Rattle.std.proofs.Common.{Bool, List, None, Option, Some, [], ap, arith, false, inl, inr, length, refl, suc, sym, true, zero, ℕ, ◌<◌, ◌∙◌, ◌∷◌, ◌≡◌, ◌≤◌}
-use Rattle.std.specs.Prelude.{filter, if◌then◌else◌}
-use Rattle.cp_model.specs.Abstract.{Monitor, Name, Process, Sort, System}
-use Rattle.cp_model.specs.Components.{is_component_of}
+use Rattle.std.proofs.Common.{List, None, Option, Some, [], ap, arith, inl, inr, length, suc, sym, zero, ℕ, ◌<◌, ◌∙◌, ◌∷◌, ◌≡◌, ◌≤◌}
+use Rattle.cp_model.specs.Abstract.{Monitor, Name, Process, System}
 use Rattle.cp_model.specs.Declarations.{Variable}
 use Rattle.cp_model.specs.Report.{components_of}
-use Rattle.cp_model.specs.States.{Setup, count_components, initial_variables, monitor_count, process_count}
+use Rattle.cp_model.specs.States.{Setup, initial_variables, monitor_count, process_count}
+use Rattle.cp_model.proofs.ComponentCounts.{counted}
 use Rattle.cp_program_model.specs.Layout.{component_words}
 use Rattle.cp_program_model.specs.Programs.{Program}
 use Rattle.cp_program_model.specs.StandsFor.{Apart, MonitorStands, StandsFor, component_at, system_of_monitor, system_of_process}
@@ -21,15 +20,6 @@ pub there_below : (vs : List (Name × Variable)) (k : ℕ) (s : System) → comp
 there_below [] k s h = absurd (some_is_not_none s (sym h))
 there_below (v ∷ vs) zero s h = omega arith
 there_below (v ∷ vs) (suc k) s h = omega (arith, there_below vs k s h)
-
-pub counted : (z : Sort) (vs : List (Name × Variable)) → length (filter (λ v. is_component_of z v.1.type) vs) ≡ count_components z vs
-counted z [] = refl
-counted z (v ∷ vs) = by (is_component_of z v.1.type) (counted z vs)
-  where
-    by : (b : Bool) → length (filter (λ v. is_component_of z v.1.type) vs) ≡ count_components z vs
-        → length (if b then v ∷ filter (λ v. is_component_of z v.1.type) vs else filter (λ v. is_component_of z v.1.type) vs) ≡ (if b then suc (count_components z vs) else count_components z vs)
-    by true e = ap suc e
-    by false e = e
 
 -- The numbers of monitors and processes are within their counts.
 pub monitor_below : (setup : Setup) (m : ℕ) (y : System) → system_of_monitor setup m ≡ Some y → (1 ≤ m) × (m ≤ monitor_count setup)

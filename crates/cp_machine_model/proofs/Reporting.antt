@@ -10,6 +10,7 @@ use Rattle.cp_model.specs.Parts.{HasBegun, HasNotBegun, private_status}
 use Rattle.cp_model.specs.Report.{Text, component_members, components_of, line, monitor_text, monitors_text, process_text, processes_text, report}
 use Rattle.cp_model.specs.States.{Setup, State, initial_variables, process_count}
 use Rattle.cp_model.specs.Types.{ComponentOf, GlobalScope}
+use Rattle.cp_model.proofs.ComponentCounts.{counted}
 use Rattle.cp_program_model.specs.Layout.{head_words}
 use Rattle.cp_program_model.specs.StandsFor.{component_in, system_of_monitor, system_of_process}
 use Rattle.cp_machine_model.specs.Addresses.{Activation, Ground, activations, in_sight}
@@ -23,7 +24,6 @@ use Rattle.cp_machine_model.specs.PrivateStates.{PrivateState}
 use Rattle.cp_machine_model.specs.Reports.{gate_line, head_line, head_of, lines_visit, machine_report, monitor_lines, monitors_lines, part_lines, process_lines, processes_lines, transcript_line, visit_component}
 use Rattle.cp_machine_model.specs.RoundLaws.{ReportIsReport}
 use Rattle.cp_machine_model.proofs.Finding.{some_is_not_none}
-use Rattle.cp_machine_model.proofs.MonitorsThere.{counted}
 use Rattle.cp_machine_model.proofs.PartLeaves.{NamedMembers}
 use Rattle.cp_machine_model.proofs.ReportParts.{component_of, is_component, monitor_values, process_values}
 use Rattle.cp_machine_model.proofs.ReportStatus.{status_same}

@@ -1,14 +1,15 @@
 -- Where the count of rounds alone has grown, the report differs in its first line alone.
-use Rattle.std.specs.Prelude.{Bool, List, [], codes, false, filter, flat_map, if◌then◌else◌, length, nat_eq, refl, suc, true, zero, ℕ, ◌++◌, ◌+◌, ◌<◌, ◌∷◌, ◌≡◌, ◌≢◌, ◌≤◌}
-use Rattle.std.proofs.Common.{ap, arith, sym, ◌∙◌}
+use Rattle.std.specs.Prelude.{Bool, List, [], codes, false, flat_map, if◌then◌else◌, length, nat_eq, refl, suc, true, zero, ℕ, ◌++◌, ◌+◌, ◌<◌, ◌∷◌, ◌≡◌, ◌≢◌, ◌≤◌}
+use Rattle.std.proofs.Common.{arith, sym, ◌∙◌}
 use Rattle.std.proofs.lemmas.Bool.{eq-eqb, true≢false}
-use Rattle.cp_model.specs.Abstract.{Monitor, Name, Process, Sort}
-use Rattle.cp_model.specs.Components.{is_component_of, monitor_location, process_location}
+use Rattle.cp_model.specs.Abstract.{Monitor, Name, Process}
+use Rattle.cp_model.specs.Components.{monitor_location, process_location}
 use Rattle.cp_model.specs.Decimal.{natural}
 use Rattle.cp_model.specs.Declarations.{Variable, globals, reported_members}
 use Rattle.cp_model.specs.Report.{askers_text, component_members, components_of, escape, gate_text, line, monitors_text, process_text, processes_text, report, status_text, variable_lines}
-use Rattle.cp_model.specs.States.{Setup, State, count_components, initial_variables, is_in, numbers_from, process_count, processes}
+use Rattle.cp_model.specs.States.{Setup, State, initial_variables, is_in, numbers_from, process_count, processes}
 use Rattle.cp_model.specs.Types.{Members}
+use Rattle.cp_model.proofs.ComponentCounts.{counted}
 use Rattle.cp_stillness.specs.Laws.{ReportOfCount}
 use Rattle.cp_stillness.specs.Stillness.{OnlyCountGrows}
 
@@ -22,16 +23,6 @@ numbered (suc n) p q first last =
     by : (b : Bool) → nat_eq q p ≡ b → (q ≢ p → is_in q (numbers_from (suc p) n) ≡ true) → (if b then true else is_in q (numbers_from (suc p) n)) ≡ true
     by true e later = refl
     by false e later = later (λ h. true≢false (sym (eq-eqb q p h) ∙ e))
-
-counted : (z : Sort) (vs : List (Name × Variable)) → length (filter (λ v. is_component_of z v.1.type) vs) ≡ count_components z vs
-counted z [] = refl
-counted z (v ∷ vs) = by (is_component_of z v.1.type) (counted z vs)
-  where
-    by : (b : Bool) → length (filter (λ v. is_component_of z v.1.type) vs) ≡ count_components z vs
-        → length (if b then v ∷ filter (λ v. is_component_of z v.1.type) vs else filter (λ v. is_component_of z v.1.type) vs)
-        ≡ (if b then suc (count_components z vs) else count_components z vs)
-    by true e = ap suc e
-    by false e = e
 
 -- ---- Lines
 
