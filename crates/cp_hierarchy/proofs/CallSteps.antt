@@ -20,12 +20,12 @@ use Rattle.cp_model.specs.Arguments.{argument_writes, bind, designator_of, refer
 use Rattle.cp_model.specs.CallSteps.{Target, activation_environment, call, called_configuration, component_target, entering, target}
 use Rattle.cp_model.proofs.ExpressionReach.{IfGives, then_gives}
 use Rattle.cp_model.proofs.StatementInvariant.{class_location_owner}
+use Rattle.cp_model.proofs.Lists.{in_head}
 use Rattle.cp_hierarchy.specs.Hierarchy.{Descends}
 use Rattle.cp_hierarchy.specs.Gates.{IsInnermost}
 use Rattle.cp_hierarchy.specs.Effects.{NoNewQueue}
 use Rattle.cp_typing.specs.PassedRights.{AllPassEarlier, PassesEarlier}
 use Rattle.cp_hierarchy.specs.InOrder.{AllFit, Fits, Here, Keeps, OwnerFits, RightsDescend, SortFits, World}
-use Rattle.cp_hierarchy.proofs.Lists.{in_head}
 use Rattle.cp_hierarchy.proofs.Writes.{AllTame, append_tame, forget_queues, forget_rights, puts_queues, puts_rights, starting_tame, writes_tame}
 use Rattle.cp_hierarchy.proofs.Pushing.{Put, push_fits}
 use Rattle.cp_hierarchy.proofs.Found.{IsCallable, number_earlier}

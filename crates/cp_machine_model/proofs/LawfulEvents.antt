@@ -6,6 +6,7 @@ use Rattle.std.proofs.lemmas.Bool.{eq-eqb, eqb-true, true≢false}
 use Rattle.cp_model.specs.Orders.{IsLawful, kernel_turn_order, private_steps}
 use Rattle.cp_model.specs.Rounds.{Event, KernelTurn, PrivateStep}
 use Rattle.cp_model.specs.States.{is_in, numbers_from}
+use Rattle.cp_model.proofs.Lists.{in_head, in_more}
 use Rattle.cp_machine_model.specs.Replays.{AreWithin}
 
 numbers_between : (p q n : ℕ) → is_in p (numbers_from q n) ≡ true → (q ≤ p) × (p < q + n)
@@ -21,16 +22,6 @@ not_counted : (b : Bool) (n : ℕ) → (if b then suc n else n) ≡ 0 → (b ≡
 not_counted true n h = absurd (omega (arith, h))
 not_counted false n h = (refl, h)
 
-first_in : (p : ℕ) (ps : List ℕ) → is_in p (p ∷ ps) ≡ true
-first_in p ps = ap (λ b. if b then true else is_in p ps) (eq-eqb p p refl)
-
-then_in : (p q : ℕ) (ps : List ℕ) → is_in p ps ≡ true → is_in p (q ∷ ps) ≡ true
-then_in p q ps h = by (nat_eq p q)
-  where
-    by : (b : Bool) → (if b then true else is_in p ps) ≡ true
-    by true = refl
-    by false = h
-
 within : (n : ℕ) (es : List Event)
     → ((p : ℕ) → is_in p (numbers_from 1 n) ≡ false → private_steps p es ≡ 0)
     → ((p : ℕ) → is_in p (kernel_turn_order es) ≡ true → is_in p (numbers_from 1 n) ≡ true)
@@ -44,8 +35,8 @@ within n (PrivateStep q ∷ es) steps turns =
     known true e = e
     known false e = absurd (true≢false (sym (eq-eqb q q refl) ∙ (not_counted (nat_eq q q) (private_steps q es) (steps q e)).0))
 within n (KernelTurn q ∷ es) steps turns =
-    let r = numbers_between q 1 n (turns q (first_in q (kernel_turn_order es))) in
-    (r.0, omega (arith, r.1), within n es steps (λ p h. turns p (then_in p q (kernel_turn_order es) h)))
+    let r = numbers_between q 1 n (turns q (in_head q (kernel_turn_order es))) in
+    (r.0, omega (arith, r.1), within n es steps (λ p h. turns p (in_more p q (kernel_turn_order es) h)))
 
 pub lawful_within : (t n : ℕ) (es : List Event) → IsLawful t (numbers_from 1 n) es → AreWithin n es
 lawful_within t n es lawful =

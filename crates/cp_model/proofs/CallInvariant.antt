@@ -29,7 +29,8 @@ use Rattle.cp_model.proofs.ExpressionReach.{IfGives, PlaceIn, anything, place_in
 use Rattle.cp_model.proofs.ActionReach.{FoundIn, call_in_task_in}
 use Rattle.cp_model.proofs.StoreInvariants.{AllPlain, IsPlain, forget_no_new_reference, forget_store, forgotten, frames_keep_store, is_closed, leaves_plain, push_continuation, push_keeps, same_owner_of}
 use Rattle.cp_model.proofs.ReturnInvariant.{EffectInvariant, StepInvariant, continuation_tail}
-use Rattle.cp_model.proofs.StatementInvariant.{class_location_owner, if_after, in_first, run_task_after}
+use Rattle.cp_model.proofs.StatementInvariant.{class_location_owner, if_after, run_task_after}
+use Rattle.cp_model.proofs.Lists.{in_head}
 
 abbrev CallWrite : (Owner → Bool) → Owner → Location → Value → Type 0
 CallWrite t o l (Reference j) = (l.owner ≡ o) × (t j.owner ≡ true)
@@ -230,7 +231,7 @@ module _ (w : Context) (config : Configuration) (s : StoreInvariant config.store
               (EndCall u.environment (component_target w u.environment config.store y n).gate ∷ k))
               (component_target w u.environment config.store y n).component.owner ≡ true
           by_sort Class = rw (class_location_owner w config s u.environment n) h.component
-          by_sort Monitor = in_first w config s (monitor_number u.environment config.store n) (marked_monitors k)
+          by_sort Monitor = in_head (monitor_number u.environment config.store n) (marked_monitors k)
           by_sort Process = h.component
 
       closed : IsClosed (in_reach w.process (marked_monitors k)) config.store

@@ -1,3 +1,4 @@
+pub mod Lists
 pub mod ComponentCounts
 pub mod Orders
 pub mod StateMaps

@@ -23,13 +23,13 @@ use Rattle.cp_model.specs.StandardCalls.{continue, delay, enqueue, next_input, n
 use Rattle.cp_model.specs.Initialisation.{body_environment, init_arguments, init_component}
 use Rattle.cp_model.specs.StatementSteps.{chosen_arm, execute, for_step, is_past, is_true, next_counter}
 use Rattle.cp_model.specs.Step.{run_task}
-use Rattle.cp_model.specs.States.{is_in}
 use Rattle.cp_model.specs.Start.{start}
 use Rattle.cp_model.specs.Reach.{in_reach}
 use Rattle.cp_model.specs.Invariant.{ContinuationInvariant, EnvironmentIn, FrameIn, StoreInvariant}
 use Rattle.cp_model.proofs.ExpressionReach.{IfGives, anything, then_gives}
 use Rattle.cp_model.proofs.StoreInvariants.{AllKeepStore, continuation_keeps_store, push_continuation, push_keeps, put_all_no_new_reference, put_all_store, writes_keep_store}
 use Rattle.cp_model.proofs.ReturnInvariant.{CallEndInvariant, ConfigurationInvariant, EffectInvariant, StartedContinuation, StepInvariant, call_end, continuation_tail, returns_configuration}
+use Rattle.cp_model.proofs.Lists.{in_head}
 
 -- ---- Statements that store
 
@@ -233,9 +233,6 @@ module _ (w : Context) (config : Configuration) (s : StoreInvariant config.store
   body_ok x env gate k h o = push_continuation w.process config.store x env (EndBody gate ∷ k) h
       (record { tasks = (tt, o.tasks); frames = o.frames; beyond = o.beyond })
 
-  pub in_first : (m : ℕ) (ms : List ℕ) → is_in m (m ∷ ms) ≡ true
-  in_first m ms = rw (eq-eqb m m refl) refl
-
   init_after : (y : Sort) (env : Environment) (k : List Task) (arguments : Expressions) (n : Component) → n.system.sort ≡ y
       → EnvironmentIn (in_reach w.process (marked_monitors k)) env → ContinuationInvariant w.process config.store k
       → IfGives (StepInvariant w.process) (init_component y w config env k arguments n)
@@ -266,7 +263,7 @@ module _ (w : Context) (config : Configuration) (s : StoreInvariant config.store
         ok = continuation_keeps_store w.process config.store (put_all ws config.store) _
             (put_all_no_new_reference ws config.store g)
             (body_ok n.system.body (body_environment env n.system (monitor_location m)) (Some m) k
-            (record { component = in_first m (marked_monitors k); frame = tt }) o);
+            (record { component = in_head m (marked_monitors k); frame = tt }) o);
         effect = tt;
       }))
     where

@@ -3,33 +3,23 @@
 -- After the waking the state is still, so no turn changes it, in whatever order turns come.
 use Rattle.std.specs.Prelude.{Bool, List, [], false, fold, if◌then◌else◌, length, nat_eq, refl, suc, true, zero, ℕ, ◌%◌, ◌+◌, ◌∷◌, ◌≡◌}
 use Rattle.std.proofs.Common.{ap, arith, subst, sym, ◌∙◌}
-use Rattle.std.proofs.lemmas.Bool.{eq-eqb}
 use Rattle.cp_model.specs.States.{Setup, State, is_in, processes}
 use Rattle.cp_model.specs.Turns.{kernel_turn, private_turn}
 use Rattle.cp_model.specs.Rounds.{Event, KernelTurn, PrivateStep, after_own_turn, all_turns, close_round, kernel_turns, own_parts, owner_process, replay_event, replay_round, run, sequential_round, wake, wake_status}
 use Rattle.cp_model.specs.Orders.{replay}
 use Rattle.cp_model.proofs.StateMaps.{state_is}
+use Rattle.cp_model.proofs.Lists.{in_head, in_more}
 use Rattle.cp_stillness.specs.Laws.{StaysStill, StillAfterMoreRounds, StillEventsChangeNothing, StillPhasedRoundChangesNothing, StillReplayChangesNothing, StillRoundChangesNothing, StillRunChangesNothing}
 use Rattle.cp_stillness.specs.Stillness.{AreOfProcesses, OnlyCountGrows, can_move, is_still, none_can_move}
 use Rattle.cp_stillness.proofs.Resting.{is_idle, never_begins, never_wakes, rests}
 
 -- ---- Lists of processes
 
-is_first : (p : ℕ) (ps : List ℕ) → is_in p (p ∷ ps) ≡ true
-is_first p ps = ap (λ b. if b then true else is_in p ps) (eq-eqb p p refl)
-
-is_later : (p q : ℕ) (ps : List ℕ) → is_in p ps ≡ true → is_in p (q ∷ ps) ≡ true
-is_later p q ps h = by (nat_eq p q)
-  where
-    by : (b : Bool) → (if b then true else is_in p ps) ≡ true
-    by true = refl
-    by false = h
-
 same_moves : (s u : State) (ps : List ℕ) → ((p : ℕ) → is_in p ps ≡ true → u.status p ≡ s.status p) → none_can_move u ps ≡ none_can_move s ps
 same_moves s u [] same = refl
 same_moves s u (p ∷ ps) same =
-    let rest = same_moves s u ps (λ q h. same q (is_later q p ps h)) in
-    λ i. if can_move (same p (is_first p ps) i) then false else rest i
+    let rest = same_moves s u ps (λ q h. same q (in_more q p ps h)) in
+    λ i. if can_move (same p (in_head p ps) i) then false else rest i
 
 pub stays_still : StaysStill
 stays_still setup n s u g = same_moves s u (processes setup) g.status
@@ -107,14 +97,14 @@ module _ (setup : Setup) where
     no_turns : (ps : List ℕ) → AreThere ps → all_turns setup t s ps ≡ s
     no_turns [] there = refl
     no_turns (p ∷ ps) there =
-        let here = there p (is_first p ps) in
+        let here = there p (in_head p ps) in
         ap (λ u. all_turns setup t (kernel_turn setup t u p) ps) (no_private_turn p here)
-        ∙ (ap (λ u. all_turns setup t u ps) (no_kernel_turn p here) ∙ no_turns ps (λ q h. there q (is_later q p ps h)))
+        ∙ (ap (λ u. all_turns setup t u ps) (no_kernel_turn p here) ∙ no_turns ps (λ q h. there q (in_more q p ps h)))
 
     no_kernel_turns : (ps : List ℕ) → AreThere ps → kernel_turns setup t s ps ≡ s
     no_kernel_turns [] there = refl
     no_kernel_turns (p ∷ ps) there =
-        ap (λ u. kernel_turns setup t u ps) (no_kernel_turn p (there p (is_first p ps))) ∙ no_kernel_turns ps (λ q h. there q (is_later q p ps h))
+        ap (λ u. kernel_turns setup t u ps) (no_kernel_turn p (there p (in_head p ps))) ∙ no_kernel_turns ps (λ q h. there q (in_more q p ps h))
 
     no_own_turn : {A : Type 0} (part : State → A) (p : ℕ) → after_own_turn setup t s part p ≡ part s
     no_own_turn {A = A} part p = by (is_in p (processes setup)) refl
