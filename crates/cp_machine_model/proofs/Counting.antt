@@ -23,6 +23,7 @@ use Rattle.cp_model.specs.Stores.{Ordinal, Store, put}
 use Rattle.cp_model.specs.Turns.{after_step}
 use Rattle.cp_model.specs.Types.{Simple}
 use Rattle.cp_model.specs.declared.state.Fault as machine
+use Rattle.cp_model.proofs.QuietSteps.{if_quiet}
 use Rattle.cp_program_model.specs.Terms.{Rooted}
 use Rattle.cp_program_model.specs.Programs as op
 use Rattle.cp_program_model.specs.Sites.{operation_at}
@@ -45,7 +46,7 @@ use Rattle.cp_machine_model.proofs.Pushing.{marks_push, push_left}
 use Rattle.cp_machine_model.proofs.RunningOn.{left_afresh, runs_moved, runs_written, words_moved, words_pushed}
 use Rattle.cp_machine_model.proofs.Stepping.{Now, Stepped, both_step, clock_of, does, faulted, went}
 use Rattle.cp_machine_model.proofs.Effects.{quiet_agrees}
-use Rattle.cp_machine_model.proofs.QuietOperations.{either_quiet, for_quiet, operation_quiet}
+use Rattle.cp_machine_model.proofs.QuietOperations.{for_quiet, operation_quiet}
 
 -- The counter and the last value are put into their temps, and the body is left to do before the
 -- next test.
@@ -204,7 +205,7 @@ for_next_steps G s w before o x down n last st env k N =
     ∙ ap (λ z. computed z n last) F.counts.way)))
     (by (same_integer n last)))
     (λ all. quiet_agrees G w.own (does G s (Acts (ForNext x down n last st N.on.running.env) k)) (act G.program w o (op.ForNext F.counting)).1
-    (either_quiet (same_integer n last) _ _ tt (for_quiet (context G.setup s G.p) (configuration s G.p) N.on.running.env k x down (next_counter down n) last st))
+    (if_quiet (same_integer n last) _ _ tt (for_quiet (context G.setup s G.p) (configuration s G.p) N.on.running.env k x down (next_counter down n) last st))
     (operation_quiet G.program w o (op.ForNext F.counting) tt))
   where
     F : ForLeft (site G N.on.running) o.temps N.on.running.temp x down n last st o.counter N.on.left.1.0 N.on.left.1.1

@@ -69,8 +69,8 @@ use Rattle.cp_machine_model.proofs.Stepping.{Stepped, beyond, clock_of, faulted,
 use Rattle.cp_machine_model.proofs.Targets.{class_lies, lies_below, mark_is}
 use Rattle.cp_machine_model.specs.Means.{MarkMeans}
 use Rattle.cp_machine_model.proofs.Effects.{quiet_agrees}
-use Rattle.cp_machine_model.proofs.QuietOperations.{either_quiet, operation_quiet, then_quiet}
-use Rattle.cp_model.proofs.QuietSteps.{Quietly}
+use Rattle.cp_machine_model.proofs.QuietOperations.{operation_quiet}
+use Rattle.cp_model.proofs.QuietSteps.{Quietly, if_quiet, then_quiet}
 
 -- The body of a class.
 abbrev body_of_class : Ground → System → Location → Environment
@@ -188,7 +188,7 @@ init_steps G s w before o x es env k I units Y call next there h none declares =
     (subst (λ (z : Option Component). Quietly (elim z as (λ y. StepResult) [ None ↦ own_step (with_continuation (configuration s G.p) k) | Some m ↦ init_component m.system.sort (context G.setup s G.p) (configuration s G.p) here k es m ]))
     (sym Y.now.on.left.2.3.4)
     (subst (λ z. Quietly (init_component z (context G.setup s G.p) (configuration s G.p) here k es n)) (sym h.0)
-    (either_quiet (is_initialised (s.store (class_location here s.store n))) _ _ tt
+    (if_quiet (is_initialised (s.store (class_location here s.store n))) _ _ tt
     (then_quiet (init_arguments (context G.setup s G.p) (configuration s G.p) here es n (class_location here s.store n)) _ (λ ws. tt)))))
     (operation_quiet G.program w o (op.InitClass call next) tt))
   where

@@ -9,14 +9,14 @@ use Rattle.cp_model.specs.Assignments.{writes_of}
 use Rattle.cp_model.specs.Environments.{Environment}
 use Rattle.cp_model.specs.Expressions.{place, value}
 use Rattle.cp_model.specs.Integers.{same_integer}
-use Rattle.cp_model.specs.Outcomes.{Fault, Gives, Outcome, and_then}
+use Rattle.cp_model.specs.Outcomes.{Fault, and_then}
 use Rattle.cp_model.specs.Places.{ordinal_of, simple_value, within}
 use Rattle.cp_model.specs.StandardCalls.{next_input}
 use Rattle.cp_model.specs.StatementSteps.{chosen_arm, execute, for_step, is_past, next_counter}
 use Rattle.cp_model.specs.Stores.{Writes}
 use Rattle.cp_model.specs.declared.state.Fault as fault
 use Rattle.cp_model.specs.declared.state.Fault.TheVariants as faults
-use Rattle.cp_model.proofs.QuietSteps.{Quietly}
+use Rattle.cp_model.proofs.QuietSteps.{Quietly, if_quiet, then_quiet}
 use Rattle.cp_program_model.specs.Programs as op
 use Rattle.cp_program_model.specs.Programs.{Call, CodeUnit, Counting, Operation, Program}
 use Rattle.cp_program_model.specs.Starts.{word}
@@ -28,14 +28,6 @@ use Rattle.cp_machine_model.specs.Steps.{act, count_to, go_to_arm}
 use Rattle.cp_machine_model.specs.Values.{View, place_of, value_of}
 
 -- ---- the meaning's
-
-pub then_quiet : {A : Type 0} (o : Outcome A) (f : A → StepResult) → ((x : A) → Quietly (f x)) → Quietly (and_then o f)
-then_quiet (Fault n) f h = tt
-then_quiet (Gives x) f h = h x
-
-pub either_quiet : (b : Bool) (x y : StepResult) → Quietly x → Quietly y → Quietly (if b then x else y)
-either_quiet true x y h k = h
-either_quiet false x y h k = k
 
 -- Statements that never leave anything to the kernel, whichever gate is held.
 abbrev pub IsQuietStatement : Statement → Type 0
@@ -66,7 +58,7 @@ module _ (w : Context) (config : Configuration) (env : Environment) (k : List Ta
       by None = tt
       by (Some x) = tt
   statement_quiet (a.For x down e f s) h =
-      then_quiet (value w.clock env config.store e) _ (λ v. then_quiet (value w.clock env config.store f) _ (λ y. either_quiet (is_past down (ordinal_of v) (ordinal_of y)) _ _ tt (for_quiet x down (ordinal_of v) (ordinal_of y) s)))
+      then_quiet (value w.clock env config.store e) _ (λ v. then_quiet (value w.clock env config.store f) _ (λ y. if_quiet (is_past down (ordinal_of v) (ordinal_of y)) _ _ tt (for_quiet x down (ordinal_of v) (ordinal_of y) s)))
   statement_quiet (a.Cycle s) h = tt
   statement_quiet _ h = absurd h
 

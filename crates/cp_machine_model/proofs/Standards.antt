@@ -46,8 +46,8 @@ use Rattle.cp_machine_model.proofs.Finding.{in_context_none, or_else_none}
 use Rattle.cp_machine_model.proofs.RunningOn.{runs_moved, runs_written}
 use Rattle.cp_machine_model.proofs.Stepping.{IsFree, Now, Stepped, clock_of, faulted, went}
 use Rattle.cp_machine_model.proofs.Effects.{quiet_agrees}
-use Rattle.cp_machine_model.proofs.QuietOperations.{operation_quiet, then_quiet, with_result_quiet}
-use Rattle.cp_model.proofs.QuietSteps.{Quietly}
+use Rattle.cp_machine_model.proofs.QuietOperations.{operation_quiet, with_result_quiet}
+use Rattle.cp_model.proofs.QuietSteps.{Quietly, then_quiet}
 use Rattle.cp_machine_model.specs.Values.{place_of}
 use Rattle.cp_program_model.specs.Starts.{word}
 

@@ -15,7 +15,7 @@ use Rattle.cp_model.specs.StatementSteps.{is_true}
 use Rattle.cp_model.specs.States.{State, configuration, context}
 use Rattle.cp_model.specs.Turns.{after_step}
 use Rattle.cp_model.specs.declared.state.Fault as fault
-use Rattle.cp_model.proofs.QuietSteps.{Quietly}
+use Rattle.cp_model.proofs.QuietSteps.{Quietly, then_quiet}
 use Rattle.cp_program_model.specs.Programs as op
 use Rattle.cp_program_model.specs.Programs.{Operation}
 use Rattle.cp_program_model.specs.Sites.{operation_at}
@@ -31,7 +31,7 @@ use Rattle.cp_machine_model.proofs.Finding.{in_context_none}
 use Rattle.cp_machine_model.proofs.RunningOn.{runs_moved, runs_pushed}
 use Rattle.cp_machine_model.proofs.Stepping.{Now, Stepped, both_step, clock_of, does, faulted, went}
 use Rattle.cp_machine_model.proofs.Effects.{quiet_agrees}
-use Rattle.cp_machine_model.proofs.QuietOperations.{operation_quiet, then_quiet}
+use Rattle.cp_machine_model.proofs.QuietOperations.{operation_quiet}
 use Rattle.cp_machine_model.specs.Steps.{act}
 use Rattle.cp_model.specs.Expressions.{value}
 

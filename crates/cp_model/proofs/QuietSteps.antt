@@ -34,11 +34,11 @@ IsQuiet _ = ⊥
 abbrev pub Quietly : StepResult → Type 0
 Quietly o = IfGives (λ x. IsQuiet x.1) o
 
-then_quiet : {A : Type 0} (o : Outcome A) (f : A → StepResult) → ((x : A) → Quietly (f x)) → Quietly (and_then o f)
+pub then_quiet : {A : Type 0} (o : Outcome A) (f : A → StepResult) → ((x : A) → Quietly (f x)) → Quietly (and_then o f)
 then_quiet (Fault n) f h = tt
 then_quiet (Gives x) f h = h x
 
-if_quiet : (x : Bool) (o u : StepResult) → Quietly o → Quietly u → Quietly (if x then o else u)
+pub if_quiet : (x : Bool) (o u : StepResult) → Quietly o → Quietly u → Quietly (if x then o else u)
 if_quiet true o u h k = h
 if_quiet false o u h k = k
 
