@@ -14,7 +14,7 @@ use Rattle.cp_model.specs.Leaves.{leaves}
 use Rattle.cp_model.specs.Locations.{ByIndex, ByName, Location, under}
 use Rattle.cp_model.specs.Operators.{Clock, apply_operator, integer_result, is_empty_queue, realtime, standard_function, with_divisor}
 use Rattle.cp_model.specs.Outcomes.{Fault, Gives, Outcome, and_then, guard}
-use Rattle.cp_model.specs.Places.{Place, TypedValue, base_of_value, element_place, field_place, field_type, head_value, indexed_place, ordinal_in, ordinal_of, head_or_absent, place_of_meaning, read, referent, simple_value, value_of_meaning, within}
+use Rattle.cp_model.specs.Places.{Place, TypedValue, base_of_value, element_place, field_place, field_type, head_value, indexed_place, ordinal_in, ordinal_of, head_or_absent, place_of_meaning, read, referent, value_of_meaning, within}
 use Rattle.cp_model.specs.Stores.{Ordinal, QueueHolds, Store}
 use Rattle.cp_model.specs.Types.{ArrayOf, Members, Queue, RecordOf, ResolvedType, Simple, base_of_type}
 use Rattle.cp_model.specs.declared.state.Fault as machine
@@ -28,6 +28,7 @@ use Rattle.cp_machine_model.specs.Values.{View, apply, bind, place_of, root_plac
 use Rattle.cp_program_model.specs.Layout.{Part, distance, farther, natural, part}
 use Rattle.cp_program_model.specs.Sites.{IsNoClock, NamesVariable, Site, local_location}
 use Rattle.cp_program_model.specs.TermsFor.{Agrees, Knowns, SpotFor, TermFor, move_spot, result_base}
+use Rattle.cp_program_model.proofs.StandardStand.{integer_agrees}
 use Rattle.cp_model.specs.Integers.{same_integer}
 use Rattle.cp_machine_model.specs.Means.{Here, PlaceAgrees, process_of_word}
 use Rattle.cp_machine_model.proofs.Finding.{called_is_found, in_context_none, member_has_type, or_else_none, part_whole, under_nothing}
@@ -36,13 +37,6 @@ use Rattle.cp_machine_model.proofs.Finding.{called_is_found, in_context_none, me
 
 pub ordinal_is : (v : TypedValue) (n : ℤ) → v.values ≡ Ordinal n ∷ [] → ordinal_of v ≡ n
 ordinal_is v n h = ap (λ vs. ordinal_in (head_or_absent vs)) h
-
-pub integer_agrees : (n : ℤ) → Agrees Integer (integer_result n) (in_range n)
-integer_agrees n = by (within (negsuc 32767) (pos 32767) n)
-  where
-    by : (b : Bool) → Agrees Integer (guard b 3 (simple_value Integer n)) (unless b fault.Overflow n)
-    by true = (refl, refl)
-    by false = refl
 
 divisor_agrees : (d : ℤ) (o : Outcome TypedValue) (r : Result ℤ machine.Fault) → Agrees Integer o r → Agrees Integer (with_divisor d o) (unless_zero d r)
 divisor_agrees d o r h = by (same_integer d (pos 0))

@@ -4,7 +4,7 @@ mod Standing
 mod NamesStand
 mod Temps
 mod Fits
-mod StandardStand
+pub mod StandardStand
 pub mod CallsStand
 mod SpotsStand
 mod TermsStand

@@ -15,7 +15,7 @@ use Rattle.cp_program_model.specs.Terms.{Abs, Chr, Ord, Shift}
 use Rattle.cp_program_model.specs.Functions.{in_range, unless}
 use Rattle.cp_program_model.specs.TermsFor.{Agrees, FunctionFor, IsEmptyFunction, result_base}
 
-integer_agrees : (n : ℤ) → Agrees Integer (integer_result n) (in_range n)
+pub integer_agrees : (n : ℤ) → Agrees Integer (integer_result n) (in_range n)
 integer_agrees n = by (within (negsuc 32767) (pos 32767) n)
   where
     by : (b : Bool) → Agrees Integer (guard b 3 (simple_value Integer n)) (unless b fault.Overflow n)
