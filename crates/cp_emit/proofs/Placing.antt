@@ -5,7 +5,7 @@ use Rattle.std.specs.Prelude.{◌+ℤ◌, int_le, replicate}
 use Rattle.std.proofs.Math.ListN.{set}
 use Rattle.std.proofs.lemmas.Int.{ints}
 use Rattle.cp_model.specs.Integers.{same_integer}
-use Rattle.cp_program.proofs.SameIntegers.{alike, differ}
+use Rattle.cp_model.proofs.SameIntegers.{alike, differ}
 use Rattle.cp_program_model.specs.Programs.{Arm}
 use Rattle.cp_program_model.specs.Layout.{distance}
 use Rattle.cp_program_model.specs.Tables.{arm_at}

@@ -1,4 +1,5 @@
 pub mod Lists
+pub mod SameIntegers
 pub mod ComponentCounts
 pub mod Orders
 pub mod StateMaps

@@ -9,11 +9,11 @@ use Rattle.cp_model.specs.Integers.{count_between, same_integer}
 use Rattle.cp_typing.specs.Words.{component_words, rights_in, words, words_of_members}
 use Rattle.cp_program_model.specs.Programs.{Done, Fill, Part, Repeat, StartPlan}
 use Rattle.cp_model.specs.Places.{within}
+use Rattle.cp_model.proofs.SameIntegers.{equal_integers}
 use Rattle.cp_program_model.specs.Layout.{head_words}
 use Rattle.cp_program_model.specs.Starts.{fill, paste, repeat_block, carry_out, word}
 use Rattle.cp_program_model.specs.Plans.{fill_before, is_short, pieces_before, plan_before, plan_of_word}
 use Rattle.cp_program_model.proofs.Pasting.{copies, copies_length, fill_is_paste, paste_append, paste_outside, paste_same}
-use Rattle.cp_program_model.proofs.TablesStand.{equal_integers}
 
 -- ---- Start values
 

@@ -1,9 +1,10 @@
 -- A table leads where the list of arms leads: to the first arm with the label.
-use Rattle.std.proofs.Common.{◌≡◌, ◌≤◌, ◌<◌, ℕ, zero, suc, ◌*◌, ℤ, pos, negsuc, List, [], ◌∷◌, Some, None, refl, ap, sym, ◌∙◌, Bool, true, false, if◌then◌else◌, length, arith, eqb-true}
+use Rattle.std.proofs.Common.{◌≡◌, ◌≤◌, ◌<◌, ℕ, zero, suc, ◌*◌, ℤ, pos, negsuc, List, [], ◌∷◌, Some, None, refl, ap, sym, ◌∙◌, Bool, true, false, if◌then◌else◌, length, arith}
 use Prim.{grind}
 use Rattle.std.specs.Prelude.{◌+ℤ◌, int_le, nat_le, slice_index_or}
 use Rattle.std.proofs.lemmas.Bool.{leb-true, true≢false}
 use Rattle.cp_model.specs.Integers.{count_between, same_integer}
+use Rattle.cp_model.proofs.SameIntegers.{equal_integers}
 use Rattle.cp_program_model.specs.Programs.{Arm, Dense, Sparse}
 use Rattle.cp_program_model.specs.Layout.{distance}
 use Rattle.cp_program_model.specs.Tables.{arm_at, place_in}
@@ -44,12 +45,6 @@ higher_right m n = go (int_le m n) refl
     go : (b : Bool) → int_le m n ≡ b → int_le n (if b then n else m) ≡ true
     go true h = same n
     go false h = grind (arith, h)
-
-pub equal_integers : (m n : ℤ) → same_integer m n ≡ true → m ≡ n
-equal_integers (pos m) (pos n) h = ap pos (eqb-true m n h)
-equal_integers (negsuc m) (negsuc n) h = ap negsuc (eqb-true m n h)
-equal_integers (pos m) (negsuc n) h = absurd (cc)
-equal_integers (negsuc m) (pos n) h = absurd (cc)
 
 -- ---- Bounds of labels
 
