@@ -14,6 +14,7 @@ use Rattle.cp_model.specs.declared.tree.Fields.{Fields}
 use Rattle.cp_model.specs.declared.tree.System.{System}
 use Rattle.cp_model.specs.declared.tree.TypeExpression.{TypeExpression}
 use Rattle.cp_model.specs.declared.tree.TypeExpression.TheVariants as written
+use Rattle.cp_model.proofs.TypeViews.{view_array, view_record}
 use Rattle.cp_program_model.specs.Compile.{CompiledTypes, first_of_type, with_definition, with_definitions, with_system}
 use Rattle.cp_program_model.specs.Programs.{StartPlan}
 use Rattle.cp_program_model.specs.Scopes.{or_zero}
@@ -24,7 +25,6 @@ use Rattle.cp_translate.specs.Initialisation.{IsTable}
 use Rattle.cp_scope.specs.Numbering.{system_of}
 use Rattle.cp_scope.specs.Standing.{TypeMeans, row_at, system_at}
 use Rattle.cp_scope.specs.Tables.{InFront}
-use Rattle.cp_scope.proofs.Written.{view_array, view_record}
 use Rattle.cp_compile.specs.Compiles.{IsCompiled}
 use Rattle.cp_compile.specs.CompiledSystems.{IsSystem}
 use Rattle.cp_compile.specs.CompiledTexts.{AreNamed, IsDefined, IsText, TypesAre, defined_name}

@@ -33,3 +33,4 @@ pub mod AskingChains
 pub mod PrivatelyReady
 pub mod Views
 pub mod StatementViews
+pub mod TypeViews

@@ -4,21 +4,14 @@ use Rattle.std.proofs.Common.{◌≡◌, ◌<◌, ◌+◌, ℕ, List, [], ◌∷
 use Rattle.std.proofs.lemmas.List.{drop_more}
 use Rattle.cp_model.specs.Abstract as a
 use Rattle.cp_model.specs.Erase as erase
-use Rattle.cp_model.specs.Syntax as s
-use Rattle.cp_model.specs.View.{fields_layer, section_of, type_expression, type_layer, types_of}
+use Rattle.cp_model.specs.View.{section_of, type_expression, types_of}
 use Rattle.cp_model.specs.declared.tree.Section.{Section}
 use Rattle.cp_model.specs.declared.tree.TypeExpression.{TypeExpression}
 use Rattle.cp_model.specs.declared.tree.TypeExpression.TheVariants as tree
-use Rattle.cp_model.specs.declared.tree.TypeExpression.TheVariants.{rolls-Array}
-use Rattle.cp_model.specs.declared.tree.TypeExpression.TheFolds.{fold-roll-TypeExpression}
+use Rattle.cp_model.proofs.TypeViews.{view_array}
 use Rattle.cp_typing.specs.Magnitudes.{AreNegativesWithin, BeginsWithin}
 
 -- ---- types
-
-view_array : (at : ℕ) (indices : Vec TypeExpression Global) (element : Box TypeExpression Global)
-    → type_expression (tree.Array at indices element) ≡ s.Array at (types_of (map type_expression indices.items)) (type_expression element.value)
-view_array at indices element =
-    ap type_expression (sym (rolls-Array at indices element)) ∙ fold-roll-TypeExpression s.TypeExpression s.Variables type_layer fields_layer _
 
 arrays_begin : (n : ℕ) (is : List a.TypeExpression) (e : a.TypeExpression) → BeginsWithin n e → BeginsWithin n (erase.arrays is e)
 arrays_begin n [] e h = h

@@ -1,6 +1,5 @@
 pub mod Kept
 pub mod Telling
-pub mod Views
 pub mod CappedWords
 pub mod Groups
 pub mod HeadingGroups
@@ -11,7 +10,6 @@ pub mod Earliest
 pub mod Judging
 pub mod Fields
 pub mod ArraysMade
-pub mod TypeViews
 pub mod FieldsMade
 pub mod Unrefused
 pub mod TypesMade

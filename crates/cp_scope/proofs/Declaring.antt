@@ -8,13 +8,13 @@ use Rattle.cp_model.specs.Types.{GlobalScope, ResolvedType, named_type}
 use Rattle.cp_model.specs.declared.tree.Fields.{Fields}
 use Rattle.cp_model.specs.declared.tree.Identifier.{Identifier}
 use Rattle.cp_model.specs.declared.tree.Parameters.{Parameters}
+use Rattle.cp_model.proofs.TypeViews.{view_fields}
 use Rattle.cp_scope.specs.declared.names.Names.{Names}
 use Rattle.cp_scope.specs.declared.types.Types.{Types}
 use Rattle.cp_scope.specs.Variables.{AreDeclared, Declares, Entry, declared_entries, parameters_of, variables_of, with_declared_groups, with_declared_parameters}
 use Rattle.cp_scope.specs.Routines.{ResultIs}
 use Rattle.cp_scope.specs.Standing.{Grows, ScopeStands, Stands, type_from}
 use Rattle.cp_scope.proofs.Standing.{still_stands}
-use Rattle.cp_scope.proofs.Written.{view_fields}
 
 pub each_declared : (types : Types) (xs : List Identifier) (r : Bool) (n : ℕ) (t : ResolvedType) (rest : List Entry) (vs : List (Name × Variable)) → Stands types n t
     → AreDeclared types rest vs → AreDeclared types (declared_entries xs r n ++ rest) (declared_group r t (map erase.name xs) vs)

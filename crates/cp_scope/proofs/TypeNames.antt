@@ -9,10 +9,10 @@ use Rattle.cp_model.specs.View as view
 use Rattle.cp_model.specs.declared.tree.Fields.{Fields}
 use Rattle.cp_model.specs.declared.tree.TypeExpression.{TypeExpression}
 use Rattle.cp_model.specs.declared.tree.TypeExpression.TheVariants as tree
+use Rattle.cp_model.proofs.TypeViews.{view_array, view_record}
 use Rattle.cp_program_model.specs.Scopes.{declared_type, is_among, type_name}
 use Rattle.cp_scope.specs.Tables.{Behind, or_last}
 use Rattle.cp_scope.specs.TypeNames.{NamesMore, name_or, typed_among}
-use Rattle.cp_scope.proofs.Written.{view_array, view_record}
 
 -- ---- Tables
 

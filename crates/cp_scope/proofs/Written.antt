@@ -2,31 +2,15 @@
 use Rattle.std.proofs.Common.{◌≡◌, ◌++◌, ◌∷◌, ◌∙◌, ℕ, List, [], Box, Vec, Global, ap, map, refl, sym}
 use Rattle.cp_model.specs.Abstract.{Name}
 use Rattle.cp_model.specs.Erase as erase
-use Rattle.cp_model.specs.Syntax as s
-use Rattle.cp_model.specs.View as view
-use Rattle.cp_model.specs.View.{fields_layer, type_expression, type_layer, types_of}
+use Rattle.cp_model.specs.View.{type_expression, types_of}
 use Rattle.cp_model.specs.Types.{GlobalScope, Members, NoMembers, ResolvedType, resolved_type, with_members}
 use Rattle.cp_model.specs.declared.tree.Fields.{Fields}
 use Rattle.cp_model.specs.declared.tree.Identifier.{Identifier}
 use Rattle.cp_model.specs.declared.tree.TypeExpression.{TypeExpression}
 use Rattle.cp_model.specs.declared.tree.TypeExpression.TheVariants as tree
-use Rattle.cp_model.specs.declared.tree.TypeExpression.TheVariants.{rolls-Array, rolls-Record}
-use Rattle.cp_model.specs.declared.tree.TypeExpression.TheFolds.{fold-roll-TypeExpression, fold_out-Fields}
+use Rattle.cp_model.proofs.TypeViews.{view_array, view_fields, view_record}
 use Rattle.cp_scope.specs.declared.types.Types.{Types}
 use Rattle.cp_scope.specs.Standing.{AreMembers, Stands, entries_of, fields_of, array_type_over, record_type, with_groups, type_from}
-
-pub view_array : (at : ℕ) (indices : Vec TypeExpression Global) (element : Box TypeExpression Global)
-    → type_expression (tree.Array at indices element) ≡ s.Array at (types_of (map type_expression indices.items)) (type_expression element.value)
-view_array at indices element =
-    ap type_expression (sym (rolls-Array at indices element)) ∙ fold-roll-TypeExpression s.TypeExpression s.Variables type_layer fields_layer _
-
-pub view_record : (at : ℕ) (groups : Vec Fields Global)
-    → type_expression (tree.Record at groups) ≡ s.Record at (view.fields_of (map view.variables groups.items))
-view_record at groups =
-    ap type_expression (sym (rolls-Record at groups)) ∙ fold-roll-TypeExpression s.TypeExpression s.Variables type_layer fields_layer _
-
-pub view_fields : (f : Fields) → view.variables f ≡ record { names = f.names.items; of = view.type_expression f.of }
-view_fields = fold_out-Fields s.TypeExpression s.Variables type_layer fields_layer
 
 pub array_written : (g : GlobalScope) (at : ℕ) (indices : Vec TypeExpression Global) (element : Box TypeExpression Global)
     → array_type_over indices.items (type_from element.value g) g ≡ type_from (tree.Array at indices element) g

@@ -8,6 +8,7 @@ use Rattle.cp_model.specs.RulesJudged.{both}
 use Rattle.cp_model.specs.RulesTypes as ty
 use Rattle.cp_model.specs.View as view
 use Rattle.cp_model.specs.declared.tree.Fields.{Fields}
+use Rattle.cp_model.proofs.TypeViews.{view_array, view_fields, view_subrange}
 use Rattle.cp_rules.specs.Checking.{first_of}
 use Rattle.cp_rules.specs.Records as records
 use Rattle.cp_rules.specs.Records.{or_first}
@@ -16,8 +17,6 @@ use Rattle.cp_rules.proofs.ArraysMade.{array_made, row_made}
 use Rattle.cp_rules.proofs.TypesMade.{Added, group_added, groups_first, groups_made, groups_members, indices_answers, indices_made, record_made}
 use Rattle.cp_rules.proofs.Fields.{or_nothing}
 use Rattle.cp_rules.proofs.Unrefused.{if_ok}
-use Rattle.cp_rules.proofs.TypeViews.{view_array, view_subrange}
-use Rattle.cp_rules.proofs.Views.{view_fields}
 use Rattle.cp_rules.proofs.checker.Checker.+types.Goals as goal
 
 pub type_of-returns-in-Subrange : goal.type_of-returns-in-Subrange

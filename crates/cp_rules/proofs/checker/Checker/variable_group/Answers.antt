@@ -1,9 +1,9 @@
 use Rattle.std.proofs.Common.{◌≡◌, ap, length, rules}
 use Rattle.cp_model.specs.Syntax as s
 use Rattle.cp_model.specs.View as view
+use Rattle.cp_model.proofs.TypeViews.{view_fields}
 use Rattle.cp_rules.specs.Checking.{State}
 use Rattle.cp_rules.proofs.Groups.{group_declared}
-use Rattle.cp_rules.proofs.Views.{view_fields}
 use Rattle.cp_rules.proofs.checker.Checker.variable_group.Goals as goal
 
 pub returns : goal.returns
