@@ -1,6 +1,5 @@
 -- An accepted text is refused only with a fault.
-use Rattle.std.proofs.Common.{◌≡◌, ◌≤◌, ℕ, false, List, length, Option, None, Some, Result, Ok, Err, IfErr, IfOk, IfSome, OnErr, ap, sym, ◌∙◌, subst, arith, inl}
-use Rattle.std.specs.Result.{is_err}
+use Rattle.std.proofs.Common.{◌≡◌, ◌≤◌, ℕ, List, length, Option, None, Some, Err, IfSome, ap, sym, ◌∙◌, subst, arith, inl}
 use Rattle.std.proofs.lemmas.List.{take_all}
 use Rattle.cp_model.specs.Syntax as s
 use Rattle.cp_model.specs.Grammar.{Reads, nesting_limit}
@@ -105,16 +104,3 @@ write_fault e w = subst (λ (r : Refusal). IsFault r) (sym w) tt
 
 pub memory_fault : (e : Refusal) → e ≡ refusal.Memory → IsFault e
 memory_fault e m = subst (λ (r : Refusal). IsFault r) (sym m) tt
-
--- What follows from an error.
-pub on_err : {T E A : Type 0} {P : E → Type 0} (r : Result T E) → ((e : E) → A → P e) → OnErr r A → IfErr r P
-on_err (Ok x) f h = h
-on_err (Err e) f h = f e h
-
-pub of_err : {T E : Type 0} {Q P : E → Type 0} (r : Result T E) → ((e : E) → Q e → P e) → IfErr r Q → IfErr r P
-of_err (Ok x) f h = h
-of_err (Err e) f h = f e h
-
-pub from_ok : {T E : Type 0} {Q : Type 0} (r : Result T E) → is_err r ≡ false → IfOk r (λ x. Q) → Q
-from_ok (Ok x) e h = h
-from_ok (Err x) e h = absurd (Prim.grind (arith, e))

@@ -11,7 +11,6 @@ pub mod Judging
 pub mod Fields
 pub mod ArraysMade
 pub mod FieldsMade
-pub mod Unrefused
 pub mod TypesMade
 pub mod Visible
 pub mod Finished

@@ -3,12 +3,13 @@ use Rattle.std.proofs.KnownBytes.{Keeps-refl}
 use Rattle.std.proofs.lemmas.Result.{err_from_is_err_and}
 use Rattle.cp_model.specs.Syntax as s
 use Rattle.cp_model.specs.View as view
+use Rattle.cp_model.proofs.Results.{if_err, on_err}
 use Rattle.cp_judge.proofs.Tells.{on_ok}
 use Rattle.cp_accept.specs.Cutting.{judge_input}
 use Rattle.cp_execute.specs.Executed.{IsDue}
 use Rattle.cp_accept.specs.Takings.{concern}
 use Rattle.cp_accept.specs.Texts.{IsAccepted}
-use Rattle.cp_accept.proofs.Faults.{known_text_fault, memory_fault, of_err, on_err, write_fault}
+use Rattle.cp_accept.proofs.Faults.{known_text_fault, memory_fault, write_fault}
 use Rattle.cp_accept.proofs.Takings.{input_kept, input_written, memory_at, no_write_of_input, no_write_of_text, text_at, text_taken}
 use Rattle.cp_accept.proofs.TextRefusals.{of_known, run_refused_input, run_refused_text}
 use Rattle.cp_execute.proofs.execute.run_text.Given.{Over}
@@ -128,7 +129,7 @@ returns-clause-beginning g c =
     (rw c.deref-2.ensures.value at c.write_result.ensures.beginning)
 
 pub returns-clause-faults : goal.returns-clause-faults
-returns-clause-faults g c = of_err c.write_result.result (λ e write xs t text is. inl (write_fault e write)) c.write_result.ensures.write
+returns-clause-faults g c = if_err c.write_result.result (λ e write xs t text is. inl (write_fault e write)) c.write_result.ensures.write
 
 pub returns-clause-text : goal.returns-clause-text
 returns-clause-text g c = text_taken c.write_result.result _ _ c.in_ok-tree.ensures.taken

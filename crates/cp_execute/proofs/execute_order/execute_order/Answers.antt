@@ -1,11 +1,11 @@
 use Rattle.std.proofs.KnownBytes.{Keeps-refl}
 use Rattle.std.proofs.lemmas.Result.{err_from_is_err_and}
 use Rattle.cp_model.specs.View as view
+use Rattle.cp_model.proofs.Results.{if_err, on_err}
 use Rattle.cp_judge.proofs.Tells.{on_ok}
 use Rattle.cp_execute.specs.Replayed.{IsReplayed, RefusesOrder}
 use Rattle.cp_accept.specs.Refusals.{of_read}
 use Rattle.cp_accept.specs.Takings.{concern}
-use Rattle.cp_accept.proofs.Faults.{of_err, on_err}
 use Rattle.cp_execute.proofs.OrderRefusals.{input_refused, order_refused, order_unread, refuses_order_of, replay_refused_input, replay_refused_order, replay_refused_text, text_refused, write_refused}
 use Rattle.cp_execute.proofs.OrdersDue.{input_is_fit, replay_due}
 use Rattle.cp_accept.proofs.Takings.{input_before, input_kept, input_written, no_write_of_input, no_write_of_order, no_write_of_text, order_after_input, order_after_text, order_at, order_failed, order_written, text_at, text_taken}
@@ -179,7 +179,7 @@ returns-clause-beginning g c =
     (rw c.deref-3.ensures.value at c.write_result.ensures.beginning)
 
 pub returns-clause-accepted : goal.returns-clause-accepted
-returns-clause-accepted g c = of_err c.write_result.result (λ e write. write_refused (g.R.Read.remaining c.args.text.now) e write) c.write_result.ensures.write
+returns-clause-accepted g c = if_err c.write_result.result (λ e write. write_refused (g.R.Read.remaining c.args.text.now) e write) c.write_result.ensures.write
 
 pub returns-clause-text : goal.returns-clause-text
 returns-clause-text g c = text_taken c.write_result.result _ _ c.in_ok-tree.ensures.taken

@@ -5,13 +5,13 @@ use Rattle.cp_model.specs.Declarations.{globals}
 use Rattle.cp_model.specs.Orders.{replay}
 use Rattle.cp_model.specs.Start.{start}
 use Rattle.cp_model.specs.View as view
+use Rattle.cp_model.proofs.Results.{if_ok}
 use Rattle.cp_orders.specs.Reading.{AllWithin}
 use Rattle.cp_orders.specs.Rounds.{rounds_of}
 use Rattle.cp_program.specs.View as program_view
 use Rattle.cp_program_model.specs.StandsFor.{StandsFor}
 use Rattle.cp_rounds.specs.Views.{machine_of}
 use Rattle.cp_rounds.proofs.InStates.{process_count_is}
-use Rattle.cp_rounds.proofs.Outcomes.{of_ok}
 use Rattle.cp_execute.specs.Executed.{setup_of}
 use Rattle.cp_execute.specs.Replayed.{timed}
 use Rattle.cp_execute.proofs.Replays.{replay_calm}
@@ -31,7 +31,7 @@ replay_rounds-requires-clause-within c =
 
 pub returns : goal.returns
 returns c =
-    of_ok c.report_of.result
+    if_ok c.report_of.result
     (λ bytes is.
     let how = c.args.replay.now in
     let t = view.tree c.args.tree.now in

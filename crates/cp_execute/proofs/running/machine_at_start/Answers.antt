@@ -1,8 +1,8 @@
 use Rattle.std.proofs.Common.{ap, refl, subst}
+use Rattle.cp_model.proofs.Results.{if_ok}
 use Rattle.cp_machine_model.specs.Machines as plain
 use Rattle.cp_program.specs.View as program_view
 use Rattle.cp_program_model.specs.StandsFor.{StandsFor}
-use Rattle.cp_rounds.proofs.Outcomes.{of_ok}
 use Rattle.cp_accept.specs.Cutting.{AreParts}
 use Rattle.cp_execute.specs.Executed.{setup_of}
 use Rattle.cp_execute.proofs.Starts.{have_inputs}
@@ -10,7 +10,7 @@ use Rattle.cp_execute.proofs.running.machine_at_start.Goals as goal
 
 pub returns-clause-state : goal.returns-clause-state
 returns-clause-state c =
-    of_ok c.new.result
+    if_ok c.new.result
     (λ machine started t is.
     let input = c.args.input.now in
     let setup = setup_of t input c.args.tick.rounds in
@@ -22,4 +22,4 @@ returns-clause-state c =
     c.new.ensures.state
 
 pub returns-clause-rounds : goal.returns-clause-rounds
-returns-clause-rounds c = of_ok c.new.result (λ machine start. ap (λ (m : plain.Machine). m.rounds) start) c.new.ensures.start
+returns-clause-rounds c = if_ok c.new.result (λ machine start. ap (λ (m : plain.Machine). m.rounds) start) c.new.ensures.start

@@ -5,9 +5,9 @@ use Rattle.cp_model.specs.Declarations.{globals}
 use Rattle.cp_model.specs.Rounds as meaning
 use Rattle.cp_model.specs.Start.{start}
 use Rattle.cp_model.specs.View as view
+use Rattle.cp_model.proofs.Results.{from_ok}
 use Rattle.cp_rounds.specs.Views.{machine_of}
 use Rattle.cp_execute.specs.Executed.{setup_of}
-use Rattle.cp_accept.proofs.Faults.{from_ok}
 use Rattle.cp_execute.proofs.Starts.{lent, reported}
 use Rattle.cp_execute.proofs.running.report_after_run.Goals as goal
 

@@ -1,8 +1,8 @@
 use Rattle.std.proofs.Common.{◌≡◌, ◌∙◌, ◌+◌, ◌-◌, ℕ, ap, arith, subst, sym}
 use Rattle.std.proofs.lemmas.Result.{err_from_is_err_and}
-use Rattle.cp_accept.proofs.Faults.{from_ok}
 use Rattle.cp_machine_model.specs.Machines as plain
 use Rattle.cp_model.specs.States.{numbers_from}
+use Rattle.cp_model.proofs.Results.{from_ok}
 use Rattle.cp_rounds.specs.InStates.{MakesRounds}
 use Rattle.cp_rounds.specs.Views.{machine_of, processes_of}
 use Rattle.cp_trace.proofs.RoundsMade.{more_made, rounds_count}

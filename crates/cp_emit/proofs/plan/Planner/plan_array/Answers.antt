@@ -1,8 +1,8 @@
 use Rattle.std.proofs.Common.{◌∙◌, w32}
 use Rattle.std.proofs.lemmas.Int.{to_z-of_z}
 use Rattle.cp_model.specs.Integers.{count_between}
+use Rattle.cp_model.proofs.Results.{if_ok}
 use Rattle.cp_program_model.specs.Plans.{plan_of_elements, value_of_fill}
-use Rattle.cp_scope.proofs.Unrefused.{if_ok}
 use Rattle.cp_emit.proofs.plan.Planner.plan_array.Goals as goal
 
 pub returns : goal.returns

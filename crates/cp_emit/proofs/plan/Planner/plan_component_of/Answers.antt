@@ -2,11 +2,11 @@ use Rattle.std.proofs.Common.{rules, ◌≡◌, ◌∙◌, ◌++◌, ◌-◌, su
 use Rattle.std.proofs.lemmas.List.{append-nil}
 use Rattle.cp_model.specs.Declarations.{declarations, members_from, reported_members}
 use Rattle.cp_model.specs.Types.{NoMembers}
+use Rattle.cp_model.proofs.Results.{if_ok}
 use Rattle.cp_program_model.specs.Layout.{head_words}
 use Rattle.cp_program_model.specs.Plans.{placed, plan_of_parts}
 use Rattle.cp_scope.specs.declared.types.Field.{Field}
 use Rattle.cp_scope.specs.declared.variables.Declared.{Declared}
-use Rattle.cp_scope.proofs.Unrefused.{if_ok}
 use Rattle.cp_scope.specs.Standing.{AreMembers, entry}
 use Rattle.cp_emit.specs.Members.{member_of, own_of}
 use Rattle.cp_emit.specs.Planning.{types_of}

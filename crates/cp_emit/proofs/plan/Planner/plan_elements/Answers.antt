@@ -1,10 +1,10 @@
 use Rattle.std.proofs.Common.{rules, ◌≡◌, ◌≢◌, ◌∙◌, ◌*◌, List, [], None, Some, ap, sym, length, take}
+use Rattle.cp_model.proofs.Results.{if_ok}
 use Rattle.cp_program_model.specs.Plans.{plan_before, plan_of_elements, value_of_fill}
 use Rattle.cp_program_model.specs.Programs as code
 use Rattle.cp_program.specs.View as view
 use Rattle.cp_program.specs.declared.program.StartPiece.{StartPiece}
 use Rattle.cp_program.proofs.Wide.{narrow}
-use Rattle.cp_scope.proofs.Unrefused.{if_ok}
 use Rattle.cp_emit.specs.Drafts.{starts_of}
 use Rattle.cp_emit.specs.Planning.{known_of}
 use Rattle.cp_emit.proofs.TypesPlanned.{elements_before, no_pieces}

@@ -1,6 +1,6 @@
 use Rattle.std.proofs.Common.{rules, ◌≡◌, ◌∙◌, List, ap, drop, length, map, sym}
+use Rattle.cp_model.proofs.Results.{if_ok}
 use Rattle.cp_program_model.specs.Plans.{arranged, plan_in_order}
-use Rattle.cp_scope.proofs.Unrefused.{if_ok}
 use Rattle.cp_emit.specs.declared.plan.Placed.{Placed}
 use Rattle.cp_emit.specs.Planning.{known_of, placed_in}
 use Rattle.cp_emit.proofs.PartsPlanned.{take_first}

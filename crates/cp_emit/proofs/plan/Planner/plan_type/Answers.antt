@@ -1,8 +1,8 @@
 use Rattle.std.proofs.Common.{rules, ◌≡◌, ◌∙◌, Some, ap}
+use Rattle.cp_model.proofs.Results.{if_ok}
 use Rattle.cp_program_model.specs.Plans.{plan, plan_of_word}
 use Rattle.cp_scope.specs.Standing.{row_at}
 use Rattle.cp_scope.specs.declared.types.TypeRow.TheVariants as row
-use Rattle.cp_scope.proofs.Unrefused.{if_ok}
 use Rattle.cp_program.proofs.Wide.{narrow}
 use Rattle.cp_emit.specs.Drafts.{plan_of}
 use Rattle.cp_emit.specs.Planning.{known_of, types_of}

@@ -9,6 +9,7 @@ use Rattle.cp_model.specs.RulesTypes as ty
 use Rattle.cp_model.specs.View as view
 use Rattle.cp_model.specs.declared.tree.Fields.{Fields}
 use Rattle.cp_model.proofs.TypeViews.{view_array, view_fields, view_subrange}
+use Rattle.cp_model.proofs.Results.{if_ok}
 use Rattle.cp_rules.specs.Checking.{first_of}
 use Rattle.cp_rules.specs.Records as records
 use Rattle.cp_rules.specs.Records.{or_first}
@@ -16,7 +17,6 @@ use Rattle.cp_rules.specs.Types.{with_groups, with_indices}
 use Rattle.cp_rules.proofs.ArraysMade.{array_made, row_made}
 use Rattle.cp_rules.proofs.TypesMade.{Added, group_added, groups_first, groups_made, groups_members, indices_answers, indices_made, record_made}
 use Rattle.cp_rules.proofs.Fields.{or_nothing}
-use Rattle.cp_rules.proofs.Unrefused.{if_ok}
 use Rattle.cp_rules.proofs.checker.Checker.+types.Goals as goal
 
 pub type_of-returns-in-Subrange : goal.type_of-returns-in-Subrange

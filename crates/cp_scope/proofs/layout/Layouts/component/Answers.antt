@@ -1,6 +1,6 @@
 use Rattle.std.proofs.Common.{refl}
+use Rattle.cp_model.proofs.Results.{if_ok}
 use Rattle.cp_scope.proofs.Laying.{class_laid, laid_later}
-use Rattle.cp_scope.proofs.Unrefused.{if_ok}
 use Rattle.cp_scope.proofs.layout.Layouts.component.Goals as goal
 
 pub returns-in-Class : goal.returns-in-Class

@@ -1,6 +1,7 @@
 use Rattle.std.proofs.Common.{◌≡◌, ◌++◌, ◌∙◌, suc, List, [], ap, arith, map, refl, subst, sym}
 use Rattle.std.proofs.lemmas.List.{append-nil}
 use Rattle.cp_model.specs.Types.{NoMembers}
+use Rattle.cp_model.proofs.Results.{if_ok}
 use Rattle.cp_scope.specs.declared.types.Field.{Field}
 use Rattle.cp_scope.specs.Components.{own_members}
 use Rattle.cp_scope.specs.Layouts.{Counts, rights_of}
@@ -8,7 +9,6 @@ use Rattle.cp_scope.specs.Standing.{AreMembers, entry, with_groups, with_paramet
 use Rattle.cp_scope.proofs.Laying.{laid_later}
 use Rattle.cp_scope.proofs.Members.{variables_are}
 use Rattle.cp_scope.proofs.Standing.{grows_more, still_scope}
-use Rattle.cp_scope.proofs.Unrefused.{if_ok}
 use Rattle.cp_scope.proofs.layout.Layouts.own_members.Goals as goal
 
 pub returns : goal.returns

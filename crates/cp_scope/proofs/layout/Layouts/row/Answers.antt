@@ -1,10 +1,10 @@
 use Rattle.std.proofs.Common.{◌≡◌, ◌∙◌, Some, ap, refl, rules, subst, sym}
 use Rattle.cp_model.specs.Integers.{count_between}
+use Rattle.cp_model.proofs.Results.{if_ok}
 use Rattle.cp_typing.specs.Words.{words}
 use Rattle.cp_scope.specs.Layouts.{Counts}
 use Rattle.cp_scope.proofs.Laying.{array_laid, component_laid, laid_later, record_laid}
 use Rattle.cp_scope.proofs.Standing.{has_system, same_system}
-use Rattle.cp_scope.proofs.Unrefused.{if_ok}
 use Rattle.cp_scope.proofs.layout.Layouts.row.Goals as goal
 
 pub returns-in-Array : goal.returns-in-Array

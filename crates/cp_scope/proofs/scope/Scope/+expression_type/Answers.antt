@@ -1,8 +1,8 @@
 use Rattle.std.proofs.Common.{◌∙◌, ap, subst, sym}
 use Rattle.cp_model.specs.View as view
+use Rattle.cp_model.proofs.Results.{if_ok}
 use Rattle.cp_scope.specs.Expressions.{ValueIs}
 use Rattle.cp_scope.proofs.ValueTypes.{first_argument}
-use Rattle.cp_scope.proofs.Unrefused.{if_ok}
 use Rattle.cp_scope.proofs.scope.Scope.+expression_type.Goals as goal
 
 pub returns-in_ok-expression_type-in-len1-up : goal.returns-in_ok-expression_type-in-len1-up

@@ -4,12 +4,12 @@ use Rattle.cp_model.specs.Erase as erase
 use Rattle.cp_model.specs.View as view
 use Rattle.cp_program_model.specs.Scopes.{environment}
 use Rattle.cp_model.specs.Expressions.{name_of}
+use Rattle.cp_model.proofs.Results.{if_ok}
 use Rattle.cp_typing.specs.StaticTypes.{expression_type, standard_type}
 use Rattle.cp_scope.specs.declared.scope.Callee.{Callee}
 use Rattle.cp_scope.specs.Expressions.{SimpleIs}
 use Rattle.cp_scope.specs.Scopes.{CalleeIs}
 use Rattle.cp_scope.proofs.ValueTypes.{is_name, nothing_called, part_has_no_name, user_answers}
-use Rattle.cp_scope.proofs.Unrefused.{if_ok}
 use Rattle.cp_scope.proofs.scope.Scope.call_type.Goals as goal
 
 pub returns-in-Some : goal.returns-in-Some

@@ -1,10 +1,10 @@
 use Rattle.std.proofs.Common.{◌∙◌, ap, subst, sym}
 use Rattle.cp_model.specs.Abstract as a
+use Rattle.cp_model.proofs.Results.{if_ok}
 use Rattle.cp_typing.specs.StaticTypes.{own_value_type}
 use Rattle.cp_program_model.specs.Scopes.{environment}
 use Rattle.cp_scope.specs.Expressions.{SimpleIs}
 use Rattle.cp_scope.proofs.ValueTypes.{is_name, part_typed}
-use Rattle.cp_scope.proofs.Unrefused.{if_ok}
 use Rattle.cp_scope.proofs.scope.Scope.own_type.Goals as goal
 
 pub returns-then-is_part : goal.returns-then-is_part

@@ -2,12 +2,12 @@ use Rattle.std.proofs.Common.{Option, subst}
 use Rattle.cp_model.specs.Calls.{callee}
 use Rattle.cp_model.specs.Erase as erase
 use Rattle.cp_model.specs.View as view
+use Rattle.cp_model.proofs.Results.{if_ok}
 use Rattle.cp_program_model.specs.Scopes.{environment}
 use Rattle.cp_typing.specs.StaticTypes.{own_value_type}
 use Rattle.cp_scope.specs.declared.scope.Callee.{Callee}
 use Rattle.cp_scope.specs.Scopes.{CalleeIs}
 use Rattle.cp_scope.proofs.ValueTypes.{nothing_called, user_answers}
-use Rattle.cp_scope.proofs.Unrefused.{if_ok}
 use Rattle.cp_scope.proofs.scope.Scope.use_type.Goals as goal
 
 pub returns-in-Some : goal.returns-in-Some

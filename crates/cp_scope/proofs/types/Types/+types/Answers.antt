@@ -6,11 +6,11 @@ use Rattle.cp_model.specs.declared.tree.TypeExpression.{TypeExpression}
 use Rattle.std.proofs.lemmas.List.{append-nil, at_drop_more, drop_all}
 use Rattle.cp_model.specs.Types.{NoMembers}
 use Rattle.cp_model.specs.declared.tree.Fields.{Fields}
+use Rattle.cp_model.proofs.Results.{if_ok}
 use Rattle.cp_scope.specs.Standing.{AreMembers, MakesIndexed, entries_of, entry, with_group, with_groups, type_from}
 use Rattle.cp_scope.proofs.Standing.{grows_more, indexed_more, indexed_none, still_scope, still_stands}
 use Rattle.cp_scope.specs.declared.types.Field.{Field}
 use Rattle.cp_scope.proofs.Groups.{GroupsAdded, all_added, none_added, one_added}
-use Rattle.cp_scope.proofs.Unrefused.{if_ok}
 use Rattle.cp_scope.proofs.Written.{array_written, groups_written, names_written, record_written}
 use Rattle.cp_scope.proofs.types.Types.+types.Goals as goal
 

@@ -1,6 +1,6 @@
 use Rattle.cp_scope.proofs.Standing.{array_made}
-use Rattle.cp_scope.proofs.Unrefused.{if_ok}
 use Rattle.cp_scope.proofs.types.Types.array.Goals as goal
+use Rattle.cp_model.proofs.Results.{if_ok}
 
 pub returns : goal.returns
 returns c =

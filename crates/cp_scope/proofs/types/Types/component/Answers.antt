@@ -4,10 +4,10 @@ use Rattle.cp_model.specs.Declarations.{reported_members}
 use Rattle.cp_model.specs.Erase as erase
 use Rattle.cp_model.specs.View as view
 use Rattle.cp_model.specs.Types.{NoMembers}
+use Rattle.cp_model.proofs.Results.{if_ok}
 use Rattle.cp_scope.specs.declared.types.Field.{Field}
 use Rattle.cp_scope.specs.Standing.{AreMembers, entry, with_groups}
 use Rattle.cp_scope.proofs.Standing.{grows_not, kept, kept_members, kept_more, same_system, still_scope}
-use Rattle.cp_scope.proofs.Unrefused.{if_ok}
 use Rattle.cp_scope.proofs.Members.{variables_are}
 use Rattle.cp_scope.proofs.types.Types.component.Goals as goal
 

@@ -13,13 +13,13 @@ use Rattle.cp_program_model.specs.CodedStatements.{Emitted, EmittedArms, calls_a
 use Rattle.cp_program_model.specs.CodedTerms.{coded_term}
 use Rattle.cp_program_model.specs.Programs as op
 use Rattle.cp_emit.specs.Emission.{Emits, place_of, with_body, with_repeated}
-use Rattle.cp_scope.proofs.Unrefused.{if_ok}
 use Rattle.cp_program.specs.View as view
 use Rattle.cp_translate.specs.Statements.{ArmsEnter, Enters}
 use Rattle.cp_translate.proofs.Counting.{for_entered}
 use Rattle.cp_translate.proofs.Sequencing.{body_made, if_entered, loop_made, nothing_entered, seq_entered, then_entered}
 use Rattle.cp_translate.proofs.Cases.{arm_entered}
 use Rattle.cp_model.proofs.StatementViews.{view_arm, view_case, view_cycle, view_if, view_if_else}
+use Rattle.cp_model.proofs.Results.{if_ok}
 use Rattle.cp_translate.proofs.translator.Translator.+statements.Goals as goal
 
 pub statements-loop-i-preserved : goal.statements-loop-i-preserved

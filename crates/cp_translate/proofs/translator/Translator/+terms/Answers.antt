@@ -19,7 +19,6 @@ use Rattle.cp_model.specs.declared.tree.Expression.{Expression}
 use Rattle.cp_program_model.specs.CodedTerms.{CodedArguments, argument_of, coded_arguments, coded_spot, coded_standard, coded_term, coded_variable, lone_term, name_or_item, no_arguments, parameters_of, term_of_name, with_argument}
 use Rattle.cp_program_model.specs.Terms.{Number}
 use Rattle.cp_emit.specs.Emission.{coded_call}
-use Rattle.cp_scope.proofs.Unrefused.{if_ok}
 use Rattle.cp_scope.proofs.ValueTypes.{is_name}
 use Rattle.cp_emit.specs.declared.call.MadeTerm.{MadeTerm}
 use Rattle.cp_program.proofs.Wide.{narrow}
@@ -29,6 +28,7 @@ use Rattle.cp_translate.proofs.CallsMade.{called_as, called_by, first_at, none_c
 use Rattle.cp_translate.proofs.Consisting.{bare_call, bare_chain, meant, no_bare_call, no_bare_chain, no_character, no_not, no_number, no_signed, other_spot}
 use Rattle.cp_translate.proofs.TermsMade.{lone_made, part_held, seen_as}
 use Rattle.cp_model.proofs.Views.{view_call, view_chain, view_character, view_designator, view_field, view_index, view_not, view_number, view_operation, view_signed}
+use Rattle.cp_model.proofs.Results.{if_ok}
 use Rattle.cp_translate.proofs.translator.Translator.+terms.Goals as goal
 
 pub chain-loop-o-preserved : goal.chain-loop-o-preserved

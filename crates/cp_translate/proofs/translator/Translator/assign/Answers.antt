@@ -1,9 +1,9 @@
 use Rattle.std.proofs.Common.{◌∙◌, subst, sym}
 use Rattle.cp_model.specs.Erase as erase
 use Rattle.cp_model.specs.View as tree
+use Rattle.cp_model.proofs.Results.{if_ok}
 use Rattle.cp_program_model.specs.CodedStatements.{assign_by}
 use Rattle.cp_emit.specs.Emission.{place_of}
-use Rattle.cp_scope.proofs.Unrefused.{if_ok}
 use Rattle.cp_translate.specs.Statements.{Enters}
 use Rattle.cp_translate.proofs.translator.Translator.assign.Goals as goal
 

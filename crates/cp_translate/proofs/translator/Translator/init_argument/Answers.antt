@@ -2,12 +2,12 @@ use Rattle.std.proofs.Common.{rules, ◌≡◌, ◌∙◌, false, true, ap, map,
 use Rattle.cp_model.specs.Declarations.{is_component}
 use Rattle.cp_model.specs.Erase as erase
 use Rattle.cp_model.specs.View as tree
+use Rattle.cp_model.proofs.Results.{if_ok}
 use Rattle.cp_program_model.specs.CodedTerms.{coded_term, lone_spot}
 use Rattle.cp_program_model.specs.Layout.{member, right}
 use Rattle.cp_program_model.specs.Scopes.{part_start, right_start}
 use Rattle.cp_program_model.specs.Terms as plain
 use Rattle.cp_emit.specs.Emission.{coded_call}
-use Rattle.cp_scope.proofs.Unrefused.{if_ok}
 use Rattle.cp_translate.specs.Initialisation.{right_argument}
 use Rattle.cp_translate.specs.Translated.{IsArgument}
 use Rattle.cp_translate.proofs.Initialising.{component_argument, other_argument, simple_argument}

@@ -4,6 +4,7 @@ use Rattle.cp_model.specs.Components.{component_named}
 use Rattle.cp_model.specs.Declarations.{declarations}
 use Rattle.cp_model.specs.Erase as erase
 use Rattle.cp_model.specs.View as tree
+use Rattle.cp_model.proofs.Results.{if_ok}
 use Rattle.cp_program_model.specs.CodedStatements.{init_by}
 use Rattle.cp_program_model.specs.Scopes as code
 use Rattle.cp_program_model.specs.Scopes.{environment}
@@ -12,7 +13,6 @@ use Rattle.cp_scope.specs.declared.scope.Scope as table
 use Rattle.cp_scope.specs.declared.systems.Component.{Component}
 use Rattle.cp_scope.specs.Scopes.{Names}
 use Rattle.cp_scope.specs.Systems.{ComponentIs}
-use Rattle.cp_scope.proofs.Unrefused.{if_ok}
 use Rattle.cp_translate.specs.Statements.{Enters}
 use Rattle.cp_translate.proofs.translator.Translator.init_item.Goals as goal
 

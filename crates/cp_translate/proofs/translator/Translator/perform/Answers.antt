@@ -2,10 +2,10 @@ use Rattle.std.proofs.Common.{map, subst, sym}
 use Rattle.cp_model.specs.Calls.{callee}
 use Rattle.cp_model.specs.Erase as erase
 use Rattle.cp_model.specs.View as tree
+use Rattle.cp_model.proofs.Results.{if_ok}
 use Rattle.cp_program_model.specs.CodedStatements.{perform_by, standard_statement}
 use Rattle.cp_program_model.specs.Scopes.{environment}
 use Rattle.cp_emit.specs.Emission.{place_of}
-use Rattle.cp_scope.proofs.Unrefused.{if_ok}
 use Rattle.cp_translate.specs.Statements.{Enters}
 use Rattle.cp_translate.proofs.CallsMade.{called_by, none_called}
 use Rattle.cp_translate.proofs.translator.Translator.perform.Goals as goal

@@ -2,11 +2,11 @@ use Rattle.std.proofs.Common.{rules, ◌≡◌, true, false, codes, subst, sym}
 use Rattle.std.specs.Str.{bytes_eq}
 use Rattle.cp_model.specs.Erase as erase
 use Rattle.cp_model.specs.View as tree
+use Rattle.cp_model.proofs.Results.{if_ok}
 use Rattle.cp_typing.specs.StaticTypes.{expression_type}
 use Rattle.cp_program_model.specs.CodedTerms.{coded_term, coded_variable}
 use Rattle.cp_program_model.specs.Scopes.{environment}
 use Rattle.cp_emit.specs.Emission.{place_of}
-use Rattle.cp_scope.proofs.Unrefused.{if_ok}
 use Rattle.cp_translate.specs.Statements.{Enters}
 use Rattle.cp_translate.proofs.Performing.{accepts, continues, delays, displays}
 use Rattle.cp_translate.proofs.translator.Translator.standard_procedure.Goals as goal

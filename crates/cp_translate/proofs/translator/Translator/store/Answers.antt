@@ -1,12 +1,12 @@
 use Rattle.std.proofs.Common.{refl}
 use Rattle.cp_model.specs.Erase as erase
 use Rattle.cp_model.specs.View as tree
+use Rattle.cp_model.proofs.Results.{if_ok}
 use Rattle.cp_typing.specs.StaticTypes.{place_type}
 use Rattle.cp_program_model.specs.CodedTerms.{coded_spot, coded_term, coded_variable}
 use Rattle.cp_program_model.specs.Scopes.{environment}
 use Rattle.cp_emit.specs.Emission.{place_of}
 use Rattle.cp_scope.specs.Standing.{simple_of}
-use Rattle.cp_scope.proofs.Unrefused.{if_ok}
 use Rattle.cp_translate.proofs.Storing.{stored}
 use Rattle.cp_translate.proofs.translator.Translator.store.Goals as goal
 
