@@ -35,3 +35,4 @@ pub mod PrivatelyReady
 pub mod Views
 pub mod StatementViews
 pub mod TypeViews
+pub mod Judging

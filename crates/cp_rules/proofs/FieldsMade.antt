@@ -11,6 +11,7 @@ use Rattle.cp_model.specs.declared.rules.Rule.TheVariants.{C1, C13}
 use Rattle.cp_model.specs.RulesJudged.{Broken, Judged, Sound, Violations, also, both, guard, then_judge, unless, violations_of}
 use Rattle.cp_model.specs.RulesEnvironment.{Environment, Members, Text, row_of}
 use Rattle.cp_model.specs.RulesTypes as ty
+use Rattle.cp_model.proofs.Judging.{first_empty, rest_empty, sound_has}
 use Rattle.cp_names.specs.Tables.{with_new}
 use Rattle.cp_rules.specs.Records as records
 use Rattle.cp_names.specs.Tables.{with_new}
@@ -78,14 +79,6 @@ same_violations seen ms t (x ∷ xs) same =
 
 -- ---- fields that are all new
 
-nothing_first : (vs ws : Violations) → vs ++ ws ≡ [] → vs ≡ []
-nothing_first [] ws h = refl
-nothing_first (v ∷ vs) ws h = absurd (cc)
-
-nothing_last : (vs ws : Violations) → vs ++ ws ≡ [] → ws ≡ []
-nothing_last [] ws h = h
-nothing_last (v ∷ vs) ws h = absurd (cc)
-
 new_field : (ms : Members) (x : Identifier) (t : ℕ) (o : Option Member) → unless (not (is_some o)) C1 x.at ≡ [] → with_new x.name (member.Field t) ms o ≡ ms ++ (x.name, member.Field t) ∷ []
 new_field ms x t None h = refl
 new_field ms x t (Some m) h = absurd (cc)
@@ -94,8 +87,8 @@ pub all_new : (ms : Members) (t : ℕ) (xs : List Identifier) → (with_fields m
     → (with_fields ms t xs).members ≡ ms ++ ty.field_members (ty.fields_of_type xs t)
 all_new ms t [] h = sym (append-nil ms)
 all_new ms t (x ∷ xs) h =
-    let first = nothing_first (unless (is_new ms x) C1 x.at) (with_fields (with_field ms x t) t xs).violations h in
-    let rest = nothing_last (unless (is_new ms x) C1 x.at) (with_fields (with_field ms x t) t xs).violations h in
+    let first = first_empty (unless (is_new ms x) C1 x.at) (with_fields (with_field ms x t) t xs).violations h in
+    let rest = rest_empty (unless (is_new ms x) C1 x.at) (with_fields (with_field ms x t) t xs).violations h in
     all_new (with_field ms x t) t xs rest
     ∙ ap (λ ns. ns ++ ty.field_members (ty.fields_of_type xs t)) (new_field ms x t (lookup x.name ms) first)
     ∙ append_assoc ms ((x.name, member.Field t) ∷ []) (ty.field_members (ty.fields_of_type xs t))
@@ -111,10 +104,6 @@ appended_violations : (xs : List Identifier) (a : Judged ℕ) (b : Judged ty.Fie
 appended_violations xs (Sound u) (Sound fs) = refl
 appended_violations xs (Sound u) (Broken v vs) = refl
 appended_violations xs (Broken v vs) b = refl
-
-nothing_broken : {A : Type 0} (j : Judged A) → violations_of j ≡ [] → (x : A) × (j ≡ Sound x)
-nothing_broken (Sound x) h = (x, refl)
-nothing_broken (Broken v vs) h = absurd (cc)
 
 field_members_append : (fs gs : ty.FieldList) → ty.field_members (fs ++ gs) ≡ ty.field_members fs ++ ty.field_members gs
 field_members_append [] gs = refl
@@ -156,10 +145,10 @@ groups_told env seen ms (g ∷ gs) same =
           ∙ (λ i. named i ++ (violations_of placed ++ told.violations i)) ∙ sym listed;
       members = λ fs h.
           let none : names ++ (violations_of placed ++ violations_of rest.of) ≡ [] = sym listed ∙ ap violations_of h in
-          let no_names : names ≡ [] = nothing_first names _ none in
-          let none_in : violations_of placed ++ violations_of rest.of ≡ [] = nothing_last names _ none in
-          let a = nothing_broken placed (nothing_first (violations_of placed) (violations_of rest.of) none_in) in
-          let b = nothing_broken rest.of (nothing_last (violations_of placed) (violations_of rest.of) none_in) in
+          let no_names : names ≡ [] = first_empty names _ none in
+          let none_in : violations_of placed ++ violations_of rest.of ≡ [] = rest_empty names _ none in
+          let a = sound_has placed (first_empty (violations_of placed) (violations_of rest.of) none_in) in
+          let b = sound_has rest.of (rest_empty (violations_of placed) (violations_of rest.of) none_in) in
           let whole : Sound (ty.fields_of_type xs a.0 ++ b.0) ≡ Sound fs =
           sym (λ i. also (no_names i) (both (a.1 i) (b.1 i) (λ v fs. ty.append_fields (ty.fields_of_type xs v) fs))) ∙ h in
           let fs_are : ty.fields_of_type xs a.0 ++ b.0 ≡ fs = cc in

@@ -9,7 +9,7 @@ use Rattle.cp_model.specs.RulesDeclarations.{Declared, routine, routines}
 use Rattle.cp_model.specs.Types.{GlobalScope}
 use Rattle.cp_typing.specs.WellTyped.{TypedRoutine}
 use Rattle.cp_typing.proofs.Names.{AllDistinct, NewNames}
-use Rattle.cp_typing.proofs.Judging.{first_empty, rest_empty}
+use Rattle.cp_model.proofs.Judging.{first_empty, rest_empty}
 use Rattle.cp_typing.proofs.TableMeanings.{Types, grows_on, grows_same}
 use Rattle.cp_typing.proofs.RoutineNames.{routine_names}
 use Rattle.cp_typing.proofs.ComponentScopes.{ComponentScope, with_routine, RoutinesMade}

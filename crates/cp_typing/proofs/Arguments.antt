@@ -23,7 +23,7 @@ use Rattle.cp_model.specs.Expressions.{name_of}
 use Rattle.cp_model.specs.Calls.{Callee, callee}
 use Rattle.cp_typing.specs.StaticTypes.{answer_type, called_type, expression_type, first_type, is_clock, operator_type, own_value_type, place_type, place_type_meant, standard_type, value_type_meant}
 use Rattle.cp_typing.specs.Judgement.{Agree, AllFit, Fits, FitsBy, IsFunction, IsOfBase, IsVariableArgument, Place, TypedExpression}
-use Rattle.cp_typing.proofs.Judging.{also_none, also_sound, provided_sound}
+use Rattle.cp_model.proofs.Judging.{also_none, also_sound, provided_sound}
 use Rattle.cp_typing.proofs.TableMeanings.{HeadingAs, OptionalAt, ParametersAs, ReturnsAs, RoutineAs, TypeAt, Types}
 use Rattle.cp_typing.proofs.Visible.{ExpressionAs, PartAs, Visible, agree_as, agree_value, full_of, some_same}
 

@@ -24,7 +24,7 @@ use Rattle.cp_model.specs.Types.{GlobalScope, ResolvedType}
 use Rattle.cp_typing.specs.StaticTypes.{expression_type, place_type}
 use Rattle.cp_typing.specs.Judgement as typed
 use Rattle.cp_typing.specs.Judgement.{Agree, AllFit, AllInitFit, Called, InitFits, Initialises, IsChangeable, IsCharVariable, IsComponentArgument, IsNew, IsOfBase, IsProcedureCall, IsStandardStatement, Place, TypedArms, TypedExpression, TypedExpressions, TypedLabels, TypedPlace, TypedStatement, has_queues, labels_seen}
-use Rattle.cp_typing.proofs.Judging.{BothSound, also_none, also_sound, both_parts, first_empty, provided_holds, rest_empty, sound_same, then_sound}
+use Rattle.cp_model.proofs.Judging.{BothSound, also_none, also_sound, both_parts, first_empty, provided_holds, rest_empty, sound_same, then_sound}
 use Rattle.cp_typing.proofs.TypeRows.{holds}
 use Rattle.cp_typing.proofs.TableMeanings.{RowAs, TypeAt, Types}
 use Rattle.cp_typing.proofs.Visible.{ExpressionAs, PartAs, ResultAs, Visible, agree_as, agree_value}

@@ -27,7 +27,7 @@ use Rattle.cp_model.specs.RulesExpressions.{argument, arguments, c10_by_referenc
 use Rattle.cp_model.specs.Types.{GlobalScope}
 use Rattle.cp_model.specs.Calls.{Callee, callee}
 use Rattle.cp_typing.specs.Judgement.{MayBeCalled, Place}
-use Rattle.cp_typing.proofs.Judging.{also_none, also_sound, both_sound, provided_sound, sound_same, then_sound}
+use Rattle.cp_model.proofs.Judging.{also_none, also_sound, both_sound, provided_sound, sound_same, then_sound}
 use Rattle.cp_typing.proofs.TypeRows.{holds}
 use Rattle.cp_typing.proofs.TableMeanings.{RoutineAs, Types, standard_name}
 use Rattle.cp_typing.proofs.Visible.{DesignatorAs, OwnAs, some_same}

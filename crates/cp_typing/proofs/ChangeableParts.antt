@@ -22,7 +22,7 @@ use Rattle.cp_model.specs.RulesExpressions.{designate, apply_indices, judge, app
 use Rattle.cp_model.specs.Types.{GlobalScope}
 use Rattle.cp_model.specs.Names.{lookup}
 use Rattle.cp_typing.specs.Judgement.{Place}
-use Rattle.cp_typing.proofs.Judging.{both_sound, provided_sound, sound_same, then_sound}
+use Rattle.cp_model.proofs.Judging.{both_sound, provided_sound, sound_same, then_sound}
 use Rattle.cp_typing.proofs.TypeRows.{holds}
 use Rattle.cp_typing.proofs.TableMeanings.{Types}
 use Rattle.cp_typing.proofs.Visible.{DesignatorAs, PartAs, Visible}

@@ -22,7 +22,7 @@ use Rattle.cp_model.specs.Names.{lookup}
 use Rattle.cp_typing.specs.Judgement.{IsSimple, Place}
 use Rattle.cp_typing.specs.WellTyped.{TypedRoutine}
 use Rattle.cp_typing.proofs.Names.{AllDistinct, keys}
-use Rattle.cp_typing.proofs.Judging.{also_sound, provided_sound, sound_has, then_sound}
+use Rattle.cp_model.proofs.Judging.{also_sound, provided_sound, sound_has, then_sound}
 use Rattle.cp_typing.proofs.TableMeanings.{Declares, Grows, NamesAs, NeedAs, ReturnsAs, RoutineAs, Tables, TypeAs, TypeAt, Types, names_kept, routine_kept}
 use Rattle.cp_typing.proofs.Visible.{base_for, some_same}
 use Rattle.cp_typing.proofs.Layers.{IsOuter, Layers}

@@ -24,7 +24,7 @@ use Rattle.cp_model.specs.Declarations.{Variable}
 use Rattle.cp_model.specs.Names.{lookup}
 use Rattle.cp_typing.specs.Judgement.{has_queues}
 use Rattle.cp_typing.proofs.Names.{NewNames, bytes_same, keys, keys-append, lookup-append, lookup_none, none_has}
-use Rattle.cp_typing.proofs.Judging.{first_empty, rest_empty, unless_holds}
+use Rattle.cp_model.proofs.Judging.{first_empty, rest_empty, unless_holds}
 use Rattle.cp_typing.proofs.TableMeanings.{GlobalAs, Grows, NamesAs, RowAs, Tables, Types, grows_on, grows_same, row_kept}
 use Rattle.cp_typing.proofs.Visible.{some_same}
 use Rattle.cp_typing.proofs.LayerNames.{VariablesAs}

@@ -27,7 +27,7 @@ use Rattle.cp_typing.specs.Words.{component_words, rights_in, words, words_of_me
 use Rattle.cp_typing.proofs.Bounds.{times_bound}
 use Rattle.cp_typing.proofs.Owners.{CountedIn, CountsMore, OwnersFitIn, group_fits, owners_append, owners_none, counted_append, counted_none, group_counted, named_group}
 use Rattle.cp_typing.proofs.Names.{NewNames, keys, keys-append, lookup-append, new_append}
-use Rattle.cp_typing.proofs.Judging.{first_empty, rest_empty, sound_has}
+use Rattle.cp_model.proofs.Judging.{first_empty, rest_empty, sound_has}
 use Rattle.cp_typing.proofs.TypesMade.{placed_allows, placed_sound, type_made, placed_inner}
 use Rattle.cp_typing.proofs.TypeRows.{TypeMade, with_tables}
 use Rattle.cp_typing.proofs.TableMeanings.{Declares, Grows, NamesAs, RowAs, StructureAs, Tables, TypeAt, Types, grows_on, grows_same, names_kept}

@@ -13,7 +13,7 @@ use Rattle.cp_model.specs.Types.{GlobalScope}
 use Rattle.cp_model.specs.Declarations.{define, define_all}
 use Rattle.cp_typing.specs.Systems.{systems_of}
 use Rattle.cp_typing.specs.WellTyped.{Later}
-use Rattle.cp_typing.proofs.Judging.{first_empty, rest_empty}
+use Rattle.cp_model.proofs.Judging.{first_empty, rest_empty}
 use Rattle.cp_typing.proofs.TableMeanings.{Types}
 use Rattle.cp_typing.proofs.TypeOrder.{ascend_kept, ascend_on, more_on, no_more}
 use Rattle.cp_typing.proofs.Stages.{Defined, Stage, SystemTyped, constant_defined, later_on, later_same, in_order_on, no_systems, type_defined, typed_later}

@@ -25,7 +25,7 @@ use Rattle.cp_model.specs.Names.{lookup}
 use Rattle.cp_typing.specs.StaticTypes.{element_type, expression_type, place_type}
 use Rattle.cp_typing.specs.Judgement as typed
 use Rattle.cp_typing.specs.Judgement.{Agree, IsOfBase, Place, TypedPlace, has_queues}
-use Rattle.cp_typing.proofs.Judging.{also_sound, provided_sound, sound_same, then_sound}
+use Rattle.cp_model.proofs.Judging.{also_sound, provided_sound, sound_same, then_sound}
 use Rattle.cp_typing.proofs.TableMeanings.{IsIndex, RecordAs, RoutineOf, StructureAs, SystemAs, TypeAt, Types}
 use Rattle.cp_typing.proofs.Visible.{ComponentFor, DesignatorAs, EntityAs, EntryAs, ExpressionAs, FieldAs, PartAs, Visible, agree_as, agree_value, component_of, field_found, is_right, plain_as}
 

@@ -27,7 +27,7 @@ use Rattle.cp_model.specs.Components.{Component, component_named, declared_monit
 use Rattle.cp_model.specs.Names.{lookup}
 use Rattle.cp_typing.specs.Judgement.{IsComponentArgument, Place}
 use Rattle.cp_typing.specs.PassedRights.{AllPassEarlier, EachInit, EachInitIn, IsEarlier, ItemPassesEarlier, PassesEarlier}
-use Rattle.cp_typing.proofs.Judging.{also_rest, first_empty, provided_holds, rest_empty, sound_has, then_sound}
+use Rattle.cp_model.proofs.Judging.{also_rest, first_empty, provided_holds, rest_empty, sound_has, then_sound}
 use Rattle.cp_typing.proofs.TableMeanings.{ParametersAs, TypeAt, Types}
 use Rattle.cp_typing.proofs.TypeOrder.{AllBefore, ParametersBefore}
 use Rattle.cp_typing.proofs.Visible.{Visible, component_of}

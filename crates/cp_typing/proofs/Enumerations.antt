@@ -20,7 +20,7 @@ use Rattle.cp_model.specs.RulesDeclarations.{declare_each}
 use Rattle.cp_typing.specs.Declared.{IsData}
 use Rattle.cp_typing.specs.WellTyped.{Later}
 use Rattle.cp_typing.proofs.Names.{AllDistinct, NewNames, bytes_eq-refl, keys, keys-append, lookup-append, lookup_first, lookup_later, lookup_none, has_first, there_is_not_new, lookup_has}
-use Rattle.cp_typing.proofs.Judging.{first_empty, rest_empty}
+use Rattle.cp_model.proofs.Judging.{first_empty, rest_empty}
 use Rattle.cp_typing.proofs.TypeRows.{grows_by, not_new, tables_added}
 use Rattle.cp_typing.proofs.TableMeanings.{data_row, simple_data, BaseAt, Grows, NamesAs, Tables, TypeAt, Types, slice_seam}
 use Rattle.cp_typing.proofs.Layers.{IsOuter}

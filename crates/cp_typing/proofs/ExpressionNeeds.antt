@@ -27,7 +27,7 @@ use Rattle.cp_model.specs.Types.{GlobalScope}
 use Rattle.cp_model.specs.Calls.{Callee, callee}
 use Rattle.cp_typing.specs.Judgement.{Place}
 use Rattle.cp_typing.specs.Needs.{call_need, in_designator, in_expression, in_expressions, of_callee, start_need}
-use Rattle.cp_typing.proofs.Judging.{also_sound, both_sound, then_sound}
+use Rattle.cp_model.proofs.Judging.{also_sound, both_sound, then_sound}
 use Rattle.cp_typing.proofs.TableMeanings.{Types}
 use Rattle.cp_typing.proofs.Visible.{DesignatorAs, OwnAs, Visible}
 use Rattle.cp_typing.proofs.Calls.{AllSound, FirstIs, argument_same, arguments_sound}

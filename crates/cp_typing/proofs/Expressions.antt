@@ -30,7 +30,7 @@ use Rattle.cp_model.specs.Environments.{meaning}
 use Rattle.cp_model.specs.Expressions.{name_of}
 use Rattle.cp_typing.specs.StaticTypes.{answer_type, called_type, expression_type, own_value_type, standard_type, value_type_meant}
 use Rattle.cp_typing.specs.Judgement.{IsUsedAs, Called, IsFunction, IsFunctionCall, IsOfBase, Place, TypedExpressions}
-use Rattle.cp_typing.proofs.Judging.{also_sound, both_sound, provided_sound, sound_same, then_sound}
+use Rattle.cp_model.proofs.Judging.{also_sound, both_sound, provided_sound, sound_same, then_sound}
 use Rattle.cp_typing.proofs.TableMeanings.{BaseAt, TypeAt, Types}
 use Rattle.cp_typing.proofs.Visible.{ConstantHere, DesignatorAs, ExpressionAs, PartAs, Visible, base_for, full_of, of_base, same_base}
 use Rattle.cp_typing.proofs.Designators.{first_as, index_as, member_as}

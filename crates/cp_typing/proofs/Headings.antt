@@ -24,7 +24,7 @@ use Rattle.cp_typing.specs.Words.{words}
 use Rattle.cp_typing.specs.Needs as needs
 use Rattle.cp_typing.proofs.Bounds.{times_bound}
 use Rattle.cp_typing.proofs.Names.{NewNames, keys, keys-append, new_append}
-use Rattle.cp_typing.proofs.Judging.{first_empty, provided_sound, rest_empty, sound_has, then_sound}
+use Rattle.cp_model.proofs.Judging.{first_empty, provided_sound, rest_empty, sound_has, then_sound}
 use Rattle.cp_typing.proofs.TableMeanings.{Declares, NamesAs, ParametersAs, RowAs, StructureAs, Tables, TypeAs, TypeAt, Types}
 use Rattle.cp_typing.proofs.LayerNames.{VariablesAs, variables_append}
 use Rattle.cp_typing.proofs.DeclaredVariables.{group_append, placed_words}

@@ -26,7 +26,7 @@ use Rattle.cp_model.specs.Declarations as d
 use Rattle.cp_model.specs.Declarations.{Variable, declarations}
 use Rattle.cp_typing.specs.StaticTypes.{expression_type}
 use Rattle.cp_typing.specs.Judgement.{Agree, AllInitFit, InitFits, Initialises, IsComponentArgument, Place, TypedExpression, TypedStatement}
-use Rattle.cp_typing.proofs.Judging.{also_rest, also_sound, first_empty, provided_holds, provided_sound, rest_empty, sound_has, sound_same, then_sound}
+use Rattle.cp_model.proofs.Judging.{also_rest, also_sound, first_empty, provided_holds, provided_sound, rest_empty, sound_has, sound_same, then_sound}
 use Rattle.cp_typing.proofs.TypeRows.{holds}
 use Rattle.cp_typing.proofs.TableMeanings.{ParametersAs, StructureAs, SystemAs, TypeAt, Types}
 use Rattle.cp_typing.proofs.Visible.{EntityAs, ExpressionAs, PartAs, Visible, agree_as, agree_value, component_of, some_same}

@@ -12,7 +12,7 @@ use Rattle.cp_model.specs.RulesStatements.{Label, c2_c3_label, is_among, labels,
 use Rattle.cp_model.specs.Types.{GlobalScope, base_of_type, constant_value, full_range}
 use Rattle.cp_model.specs.Integers.{same_integer}
 use Rattle.cp_typing.specs.Judgement.{IsNew, Place, TypedLabels, labels_seen}
-use Rattle.cp_typing.proofs.Judging.{also_none, also_sound, first_empty, provided_sound, rest_empty, sound_has, then_sound}
+use Rattle.cp_model.proofs.Judging.{also_none, also_sound, first_empty, provided_sound, rest_empty, sound_has, then_sound}
 use Rattle.cp_typing.proofs.TypeRows.{holds, ValueAs, constant_valued}
 use Rattle.cp_typing.proofs.TableMeanings.{BaseAt, Types}
 use Rattle.cp_typing.proofs.Visible.{Visible, some_same}

@@ -1,6 +1,5 @@
 pub mod Bounds
 pub mod Names
-pub mod Judging
 pub mod ComponentNames
 pub mod Locations
 pub mod TableMeanings

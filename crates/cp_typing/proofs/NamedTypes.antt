@@ -19,7 +19,7 @@ use Rattle.cp_model.specs.Names.{lookup}
 use Rattle.cp_model.specs.Types.{ArrayOf, ComponentOf, GlobalScope, Members, NoType, Queue, RecordOf, ResolvedType, Simple, array_type, subrange_type}
 use Rattle.cp_model.specs.Declarations.{is_component}
 use Rattle.cp_typing.proofs.Names.{lookup-append}
-use Rattle.cp_typing.proofs.Judging.{sound_same}
+use Rattle.cp_model.proofs.Judging.{sound_same}
 use Rattle.cp_typing.proofs.TableMeanings.{TypeAt, Types}
 use Rattle.cp_typing.proofs.TypeRows.{TypeMade}
 use Rattle.cp_typing.proofs.TypesMade.{alone_in, placed_allows, placed_inner}

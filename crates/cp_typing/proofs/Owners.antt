@@ -22,7 +22,7 @@ use Rattle.cp_model.specs.Declarations.{Variable, declared_group, is_component}
 use Rattle.cp_model.specs.Components.{is_component_of, same_sort}
 use Rattle.cp_model.specs.States.{count_components}
 use Rattle.cp_typing.specs.Needs.{AllOwnersFit, OwnerFits, owner_words, words_as_owner}
-use Rattle.cp_typing.proofs.Judging.{first_empty, rest_empty}
+use Rattle.cp_model.proofs.Judging.{first_empty, rest_empty}
 use Rattle.cp_typing.proofs.Bounds.{is_within_true}
 use Rattle.cp_typing.proofs.TypeRows.{holds, not_is}
 use Rattle.cp_typing.proofs.TableMeanings.{StructureAs, Types}

@@ -21,7 +21,7 @@ use Rattle.cp_typing.specs.Judgement.{Place, TypedStatement}
 use Rattle.cp_typing.specs.WellTyped.{routine_place}
 use Rattle.cp_typing.specs.Needs.{call_need, in_statement, start_need}
 use Rattle.cp_typing.proofs.Names.{AllDistinct, NewNames, keys, keys-append, none_has}
-use Rattle.cp_typing.proofs.Judging.{first_empty, rest_empty}
+use Rattle.cp_model.proofs.Judging.{first_empty, rest_empty}
 use Rattle.cp_typing.proofs.TypeRows.{grows_by}
 use Rattle.cp_typing.proofs.TableMeanings.{Grows, NamesAs, ReturnsAs, Tables, Types, grows_on, grows_same, returns_kept}
 use Rattle.cp_typing.proofs.ExpressionNeeds.{Bounded}

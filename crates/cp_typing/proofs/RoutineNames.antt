@@ -13,7 +13,7 @@ use Rattle.cp_typing.proofs.Names.{AllDistinct, NewNames, bytes_eq-refl, bytes_s
 use Rattle.cp_typing.proofs.Visible.{some_same}
 use Rattle.cp_model.specs.declared.tree.Sort.{Sort}
 use Rattle.cp_model.specs.Names.{lookup}
-use Rattle.cp_typing.proofs.Judging.{first_empty, rest_empty}
+use Rattle.cp_model.proofs.Judging.{first_empty, rest_empty}
 use Rattle.cp_typing.proofs.DeclaredNames.{declared_new}
 
 -- ---- new names stay distinct

@@ -35,7 +35,7 @@ use Rattle.cp_typing.specs.Needs.{call_need, in_statement, start_need, statement
 use Rattle.cp_typing.proofs.Distinctness.{distinct_variables, keys_same, local_names_distinct, no_clock, outer_no_local}
 use Rattle.cp_typing.proofs.VariableKinds.{routine_parameters, routine_variables}
 use Rattle.cp_typing.proofs.Names.{AllDistinct, bytes_same, keys, keys-append, lookup-append, lookup_has, none_has}
-use Rattle.cp_typing.proofs.Judging.{first_empty, rest_empty}
+use Rattle.cp_model.proofs.Judging.{first_empty, rest_empty}
 use Rattle.cp_typing.proofs.TypeRows.{grows_by}
 use Rattle.cp_typing.proofs.TableMeanings.{Grows, NeedAs, ParametersAs, ReturnsAs, RoutineAs, RowAs, Tables, data_fits, row_data, Types, grows_on, names_kept, parameters_kept, returns_kept, routine_kept}
 use Rattle.cp_typing.proofs.Bounds.{capped_within}

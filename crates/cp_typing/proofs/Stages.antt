@@ -28,7 +28,7 @@ use Rattle.cp_typing.specs.Systems.{systems_of}
 use Rattle.cp_typing.specs.Declared.{AllFormed, IsData}
 use Rattle.cp_typing.specs.WellTyped.{Later, TypedInOrder, TypedSystem}
 use Rattle.cp_typing.proofs.Names.{AllDistinct, bytes_eq-refl, bytes_same, lookup_first, lookup_later, keys, keys-append, lookup-append, none_has}
-use Rattle.cp_typing.proofs.Judging.{first_empty, rest_empty, sound_has}
+use Rattle.cp_model.proofs.Judging.{first_empty, rest_empty, sound_has}
 use Rattle.cp_typing.proofs.TypesMade.{alone_in, placed_allows, placed_sound, type_made, placed_inner}
 use Rattle.cp_typing.proofs.TypeRows.{TypeMade, ValueAs, constant_valued}
 use Rattle.cp_typing.proofs.TableMeanings.{GlobalAs, Grows, HeadingAs, NamesAs, ReturnsAs, RoutineAs, RoutineOf, RowAs, StructureAs, SystemAs, Tables, data_fits, row_data, TypeAt, Types, grows_same, names_kept}

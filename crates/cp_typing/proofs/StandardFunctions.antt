@@ -26,7 +26,7 @@ use Rattle.cp_model.specs.Calls.{callee}
 use Rattle.cp_typing.specs.StaticTypes.{called_type, expression_type, own_value_type, standard_type}
 use Rattle.cp_typing.specs.Judgement as typed
 use Rattle.cp_typing.specs.Judgement.{IsUsedAs, AllFit, Called, IsFunction, IsFunctionCall, IsOfBase, IsQueueArgument, IsSimple, OperandsFit, Place, StandardFits, TypedExpression, TypedExpressions, TypedUse, IsInMonitorRoutine}
-use Rattle.cp_typing.proofs.Judging.{provided_sound, sound_same}
+use Rattle.cp_model.proofs.Judging.{provided_sound, sound_same}
 use Rattle.cp_typing.proofs.TableMeanings.{BaseAt, TypeAt, Types, standard_name}
 use Rattle.cp_typing.proofs.Visible.{ExpressionAs, Visible, base_for, of_base, same_base, some_same}
 use Rattle.cp_typing.proofs.Calls.{FirstIs}

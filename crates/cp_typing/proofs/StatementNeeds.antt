@@ -27,7 +27,7 @@ use Rattle.cp_model.specs.Types.{GlobalScope}
 use Rattle.cp_model.specs.Components.{Component, component_named}
 use Rattle.cp_typing.specs.Judgement.{Place}
 use Rattle.cp_typing.specs.Needs.{call_need, in_arms, in_statement, of_body, of_component, start_need}
-use Rattle.cp_typing.proofs.Judging.{BothSound, also_rest, also_sound, both_parts, both_sound, first_empty, provided_holds, rest_empty, sound_has, then_sound}
+use Rattle.cp_model.proofs.Judging.{BothSound, also_rest, also_sound, both_parts, both_sound, first_empty, provided_holds, rest_empty, sound_has, then_sound}
 use Rattle.cp_typing.proofs.TableMeanings.{Types, ParametersAs, TypeAt}
 use Rattle.cp_typing.proofs.Visible.{Visible, component_of}
 use Rattle.cp_typing.proofs.Calls.{AllSound, FirstIs, arguments_sound}

@@ -31,7 +31,7 @@ use Rattle.cp_model.specs.Calls.{callee}
 use Rattle.cp_typing.specs.StaticTypes.{expression_type, place_type}
 use Rattle.cp_typing.specs.Judgement as typed
 use Rattle.cp_typing.specs.Judgement.{Agree, AllFit, AllInitFit, Called, InitFits, Initialises, IsChangeable, IsCharVariable, IsComponentArgument, IsNew, IsOfBase, IsProcedureCall, IsStandardStatement, Place, TypedArms, TypedExpression, TypedExpressions, TypedLabels, TypedPlace, TypedStatement, has_queues, IsInMonitorRoutine, labels_seen}
-use Rattle.cp_typing.proofs.Judging.{also_none, also_sound, both_sound, first_empty, provided_sound, rest_empty, sound_has, then_sound}
+use Rattle.cp_model.proofs.Judging.{also_none, also_sound, both_sound, first_empty, provided_sound, rest_empty, sound_has, then_sound}
 use Rattle.cp_typing.proofs.TableMeanings.{BaseAt, ReturnsAs, TypeAt, Types, standard_name}
 use Rattle.cp_typing.proofs.Visible.{ExpressionAs, PartAs, Visible, agree_as, agree_value, base_for, base_is, of_base, some_same}
 use Rattle.cp_typing.proofs.Calls.{AllSound, FirstIs, ProcedureCalled, UserCalled, arguments_sound, procedure_as}

@@ -22,7 +22,7 @@ use Rattle.cp_typing.specs.Judgement.{has_queues}
 use Rattle.cp_typing.specs.Words.{words, words_of_members}
 use Rattle.cp_typing.specs.SoundTypes.{SoundMembers, has_member}
 use Rattle.cp_typing.proofs.Names.{AllDistinct, NewNames, keys}
-use Rattle.cp_typing.proofs.Judging.{both_sound, first_empty, provided_sound, rest_empty, sound_same}
+use Rattle.cp_model.proofs.Judging.{both_sound, first_empty, provided_sound, rest_empty, sound_same}
 use Rattle.cp_typing.proofs.Bounds.{at_most-int_le, capped_within, is_within_true, times_least, within_rises}
 use Rattle.cp_typing.proofs.TableMeanings.{DataRow, FieldsAs, data_row, row_data, Grows, NamesAs, RowAs, StructureAs, Tables, TypeAt, Types, fields_kept, simple_data, slice_seam}
 use Rattle.cp_typing.proofs.TypeRows.{grows_by, tables_added, TypeMade, made_none, made_on, made_sound, not_new, row_made, holds, subrange_parts, not_is, ValueAs, constant_valued}

@@ -31,7 +31,7 @@ use Rattle.cp_typing.specs.WellTyped.{Later}
 use Rattle.cp_typing.proofs.VariableKinds.{system_parameters, system_variables}
 use Rattle.cp_typing.proofs.Owners.{counted_elsewhere}
 use Rattle.cp_typing.proofs.Names.{AllDistinct, keys, keys-append, lookup_first, none_has}
-use Rattle.cp_typing.proofs.Judging.{first_empty, rest_empty}
+use Rattle.cp_model.proofs.Judging.{first_empty, rest_empty}
 use Rattle.cp_typing.proofs.TypeRows.{grows_by, tables_added}
 use Rattle.cp_typing.proofs.TableMeanings.{Grows, HeadingAs, NamesAs, ParametersAs, RoutineOf, SystemAs, Tables, TypeAt, Types, grows_on, grows_same, heading_kept, parameters_kept, routine_of_kept, slice_first, slice_last, slice_seam}
 use Rattle.cp_typing.proofs.Visible.{some_same}

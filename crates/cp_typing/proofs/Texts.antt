@@ -22,7 +22,7 @@ use Rattle.cp_typing.specs.WellTyped.{Later, TypedBodies, WellTyped}
 use Rattle.cp_typing.specs.Laws.{AcceptedTextsAreWellTyped}
 use Rattle.cp_typing.specs.Words.{words_of_variables}
 use Rattle.cp_typing.specs.Needs.{AllOwnersFit, owner_words}
-use Rattle.cp_typing.proofs.Judging.{first_empty, rest_empty}
+use Rattle.cp_model.proofs.Judging.{first_empty, rest_empty}
 use Rattle.cp_typing.proofs.DeclaredVariables.{VariablesMade, variables_made}
 use Rattle.cp_typing.proofs.Stages.{Defined, Stage, later_same}
 use Rattle.cp_typing.proofs.ComponentBodies.{body_need, Inside, Opened, open_scope, bodies_typed}

@@ -21,7 +21,7 @@ use Rattle.cp_model.specs.RulesTypes.{FieldList, add_type, at_most, c2_c3_subran
 use Rattle.cp_model.specs.Declarations.{is_component}
 use Rattle.cp_model.specs.Types.{ComponentOf, GlobalScope, Members, ResolvedType, constant_value, resolved_type}
 use Rattle.cp_model.specs.Names.{lookup}
-use Rattle.cp_typing.proofs.Judging.{also_none, also_sound, provided_sound, sound_same}
+use Rattle.cp_model.proofs.Judging.{also_none, also_sound, provided_sound, sound_same}
 use Rattle.cp_typing.proofs.TableMeanings.{BaseAt, ConstantAs, DataRow, data_row, GlobalAs, Grows, NamesAs, RowAs, StructureAs, Tables, TypeAs, TypeAt, Types, grows_on, grows_same, row_kept, slice_first, slice_last, slice_seam, taken_first}
 
 -- ---- more rows

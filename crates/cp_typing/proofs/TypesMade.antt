@@ -16,7 +16,7 @@ use Rattle.cp_model.specs.RulesTypes.{FieldList, Made, allows_queues, allows_str
 use Rattle.cp_model.specs.Declarations.{is_component}
 use Rattle.cp_model.specs.Types.{ArrayOf, ComponentOf, GlobalScope, Members, NoMembers, NoType, Queue, RecordOf, ResolvedType, Simple, members_of, or_no_type, with_members}
 use Rattle.cp_typing.proofs.Names.{NewNames, keys, new_append, new_is_distinct}
-use Rattle.cp_typing.proofs.Judging.{also_none, also_sound, both_sound, provided_sound, sound_same, then_sound}
+use Rattle.cp_model.proofs.Judging.{also_none, also_sound, both_sound, provided_sound, sound_same, then_sound}
 use Rattle.cp_typing.proofs.Bounds.{is_within_true}
 use Rattle.cp_typing.proofs.TableMeanings.{FieldsAs, NamesAs, RowAs, StructureAs, Tables, TypeAs, TypeAt, Types, names_kept}
 use Rattle.cp_typing.proofs.TypeRows.{TablesMade, TypeMade, made_none, made_on, made_sound, record_sound, cons_same, holds, not_is, type_named}
