@@ -2,15 +2,13 @@
 use Rattle.std.proofs.Common.{◌≡◌, ℕ, zero, suc, List, [], ◌∷◌, ◌++◌, Bool, true, false, Some, refl, sym, ap, ◌∙◌, arith, slice_get, length}
 use Rattle.std.specs.Prelude.{if◌then◌else◌, nat_eq}
 use Rattle.cp_model.specs.Input.{cut}
+use Rattle.cp_model.proofs.Options.{same_some}
 use Rattle.cp_accept.specs.Cutting.{AreParts, Bytes, after_separator, front_part}
 use Rattle.cp_accept.proofs.Parts.{cut_first, cut_later}
 use Rattle.cp_accept.specs.Joining.{AreWhole, joined}
 
 same_tail : (a b : ℕ) (xs ys : List ℕ) → a ∷ xs ≡ b ∷ ys → xs ≡ ys
 same_tail a b xs ys e = Prim.grind (arith, e)
-
-same_bytes : (u v : Bytes) → Some u ≡ Some v → u ≡ v
-same_bytes u v e = Prim.grind (arith, e)
 
 -- The part before the first byte 28 is that of the whole.
 pub front_before : (bs rest : List ℕ) → front_part (bs ++ 28 ∷ rest) ≡ front_part bs
@@ -30,7 +28,7 @@ rest_behind (b ∷ bs) rest whole = by (nat_eq b 28) whole (rest_behind bs rest)
 each_part : (vs : List Bytes) → AreWhole vs → (i : ℕ) (v : Bytes) → slice_get vs i ≡ Some v → v.items ≡ cut (joined vs) (suc i)
 each_part [] whole i v e = absurd (Prim.grind (arith, e))
 each_part (u ∷ vs) whole zero v e =
-    ap (λ (w : Bytes). w.items) (sym (same_bytes u v e)) ∙ (sym (whole 0 u refl) ∙ (sym (front_before u.items (joined vs)) ∙ sym (cut_first (joined (u ∷ vs)))))
+    ap (λ (w : Bytes). w.items) (sym (same_some u v e)) ∙ (sym (whole 0 u refl) ∙ (sym (front_before u.items (joined vs)) ∙ sym (cut_first (joined (u ∷ vs)))))
 each_part (u ∷ vs) whole (suc i) v e =
     each_part vs (λ j w at. whole (suc j) w at) i v e
     ∙ (ap (λ l. cut l (suc i)) (sym (rest_behind u.items (joined vs) (whole 0 u refl))) ∙ sym (cut_later i (joined (u ∷ vs))))

@@ -12,6 +12,7 @@ use Rattle.cp_model.specs.Rules.{Accepted}
 use Rattle.cp_model.specs.declared.tree.Tree.{Tree}
 use Rattle.cp_model.specs.Spelling.{Spells}
 use Rattle.cp_model.specs.declared.token.Token.{Token}
+use Rattle.cp_model.proofs.Options.{same_some}
 use Rattle.cp_scan.specs.Laws.{longest_text}
 use Rattle.cp_syntax.specs.Refusals.{Refused}
 use Rattle.cp_syntax.specs.declared.refusal.SyntaxError.{SyntaxError}
@@ -37,10 +38,7 @@ take_all (suc n) (x ∷ xs) h = ap (λ (ys : List ℕ). x ∷ ys) (take_all n xs
 
 pub of_known : (P : List ℕ → Type 0) (known : Option (List ℕ)) (xs : List ℕ) → IfSome known P → known ≡ Some xs → P xs
 of_known P None xs h e = absurd (Prim.grind (arith, e))
-of_known P (Some ys) xs h e = subst P (some_is ys xs e) h
-  where
-    some_is : (a b : List ℕ) → Some a ≡ Some b → a ≡ b
-    some_is a b e = Prim.grind (arith, e)
+of_known P (Some ys) xs h e = subst P (same_some ys xs e) h
 
 -- What was read of a text within the limit is the text.
 pub whole : (bytes xs : List ℕ) → bytes ≡ front xs → length bytes ≤ 1048576 → bytes ≡ xs

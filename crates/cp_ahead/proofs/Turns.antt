@@ -2,6 +2,7 @@
 use Rattle.std.specs.Prelude.{◌≡◌, ◌≢◌, ◌+◌, ◌-◌, ◌%◌, refl, ℕ, zero, suc, Bool, true, false, if◌then◌else◌, List, [], ◌∷◌, Option, Some, None, length, map, nat_eq, slice_get, slice_set}
 use Rattle.std.proofs.Common.{sym, ◌∙◌, ap, subst, arith}
 use Rattle.std.proofs.lemmas.Bool.{eqb-true, eq-eqb, true≢false}
+use Rattle.cp_model.proofs.Options.{same_some}
 use Rattle.cp_program_model.specs.Programs.{Program}
 use Rattle.cp_machine_model.specs.KernelSteps.{Kernel, stage_of}
 use Rattle.cp_machine_model.specs.Machines.{begin_if, begin_one, wake_one}
@@ -54,9 +55,6 @@ module _ (program : Program) (tick t : ℕ) where
 -- ---- Lists
 
 module _ {X : Type 0} where
-  some_is : (z x : X) → Some z ≡ Some x → x ≡ z
-  some_is z x e = ap (λ (r : Option X). elim r [ None ↦ z | Some v ↦ v ]) (sym e)
-
   none_is : (x : X) → None ≡ Some x → ⊥
   none_is x e = true≢false (sym (ap (λ (r : Option X). elim r [ None ↦ false | Some v ↦ true ]) e))
 
@@ -67,7 +65,7 @@ module _ {X : Type 0} where
 
   pub set_is : (xs : List X) (i : ℕ) (z x : X) → slice_get (slice_set xs i z) i ≡ Some x → x ≡ z
   set_is [] i z x e = absurd (none_is x e)
-  set_is (y ∷ xs) zero z x e = some_is z x e
+  set_is (y ∷ xs) zero z x e = sym (same_some z x e)
   set_is (y ∷ xs) (suc i) z x e = set_is xs i z x e
 
   pub set_apart : (xs : List X) (i j : ℕ) (z : X) → j ≢ i → slice_get (slice_set xs i z) j ≡ slice_get xs j
@@ -84,7 +82,7 @@ module _ {X : Type 0} where
   -- An item of a mapped list comes from an item.
   pub map_got : (f : X → X) (xs : List X) (i : ℕ) (z : X) → slice_get (map f xs) i ≡ Some z → (x : X) × (slice_get xs i ≡ Some x) × (z ≡ f x)
   map_got f [] i z e = absurd (none_is z e)
-  map_got f (x ∷ xs) zero z e = (x, refl, some_is (f x) z e)
+  map_got f (x ∷ xs) zero z e = (x, refl, sym (same_some (f x) z e))
   map_got f (x ∷ xs) (suc i) z e = map_got f xs i z e
 
 -- ---- All processes
@@ -163,7 +161,7 @@ module _ (program : Program) (tick t rounds : ℕ) (n : ℕ → ℕ) (os ys : Li
       by i o z x y is at got (suc c) some h =
           let more = subst (λ c. IsAhead program tick t rounds c x y) some h in
           let less : n i - 1 ≡ c = omega (arith, some) in
-          let kept : z ≡ y = some_is y z (sym at ∙ (sym (made.still i (λ e. absurd (omega (arith, e, some)))) ∙ got)) in
+          let kept : z ≡ y = sym (same_some y z (sym at ∙ (sym (made.still i (λ e. absurd (omega (arith, e, some)))) ∙ got))) in
           subst (λ q. IsAhead program tick t (suc rounds) q o z) (sym less)
           (subst (λ q. IsAhead program tick t (suc rounds) c q z) (sym is)
           (subst (λ q. IsAhead program tick t (suc rounds) c (turn_at program tick t rounds x) q) (sym kept) more.1))

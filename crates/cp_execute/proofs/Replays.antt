@@ -4,6 +4,7 @@ use Rattle.std.specs.Prelude.{fold, slice_get}
 use Rattle.cp_model.specs.Orders.{replay}
 use Rattle.cp_model.specs.Rounds.{Event, replay_event, replay_round, wake}
 use Rattle.cp_model.specs.States.{Setup, State}
+use Rattle.cp_model.proofs.Options.{same_some}
 use Rattle.cp_machine_model.specs.InState.{IsIn, NoneFresh}
 use Rattle.cp_machine_model.proofs.MachineStarts.{closed_calm}
 use Rattle.cp_rounds.specs.InStates.{MakesReplay}
@@ -21,12 +22,9 @@ replay_calm setup [] s h = h
 replay_calm setup (r ∷ rounds) s h =
     replay_calm setup rounds (replay_round setup r.0 s r.1) (closed_calm (fold (replay_event setup r.0) (wake setup s) r.1))
 
-some_is : {A : Type 0} (a b : A) → Some a ≡ Some b → a ≡ b
-some_is a b e = Prim.grind (arith, e)
-
 pub take_more : {A : Type 0} (k : ℕ) (xs : List A) (x : A) → slice_get xs k ≡ Some x → take (suc k) xs ≡ take k xs ++ x ∷ []
 take_more k [] x is = absurd (Prim.grind (arith, is))
-take_more zero (y ∷ xs) x is = ap (λ z. z ∷ []) (some_is y x is)
+take_more zero (y ∷ xs) x is = ap (λ z. z ∷ []) (same_some y x is)
 take_more (suc k) (y ∷ xs) x is = ap (λ zs. y ∷ zs) (take_more k xs x is)
 
 pub none_past : {A : Type 0} (k : ℕ) (xs : List A) → k < length xs → slice_get xs k ≡ None → ⊥

@@ -2,18 +2,12 @@
 use Rattle.std.proofs.Common.{Bool, ◌&&◌, ◌≡◌, [], ◌∷◌, ◌++◌, Option, Some, None, Result, Ok, Err, OnOk, refl, ap, sym, ◌∙◌, subst}
 use Rattle.cp_model.specs.declared.rules.Violation.{Violation}
 use Rattle.cp_model.specs.RulesJudged.{Judged, Sound, Broken, Violations, violations_of, earlier, least, then_judge, both, also}
+use Rattle.cp_model.proofs.Options.{same_some}
 use Rattle.cp_judge.specs.Tells.{Tells, TellsFirst, TellsOf, answer_if}
 
 pub least_append : (t : Option Violation) (vs ws : Violations) → least t (vs ++ ws) ≡ least (least t vs) ws
 least_append t [] ws = refl
 least_append t (v ∷ vs) ws = least_append (earlier t v) vs ws
-
-some_injective : {A : Type 0} {x y : A} → Some x ≡ Some y → x ≡ y
-some_injective {A} {x} {y} h = ap (λ o. or_x o) h
-  where
-    or_x : Option A → A
-    or_x (Some z) = z
-    or_x None = x
 
 ok_injective : {A E : Type 0} {x y : A} → ◌≡◌ {A = Result A E} (Ok x) (Ok y) → x ≡ y
 ok_injective {A} {E} {x} {y} h = ap or_x h
@@ -25,7 +19,7 @@ ok_injective {A} {E} {x} {y} h = ap or_x h
 module _ {A B : Type 0} (k : A → Judged B) (t0 t1 : Option Violation) where
   pub then_some : (j : Judged A) (t2 : Option Violation) (x : A) (r : Option B) → Tells t0 t1 (Some x) j → Tells t1 t2 r (k x) → Tells t0 t2 r (then_judge j k)
   then_some (Sound y) t2 x r h g =
-      let same : x ≡ y = some_injective h.1 in
+      let same : x ≡ y = same_some x y h.1 in
       subst (λ z. Tells t0 t2 r (k z)) same (subst (λ t. Tells t t2 r (k x)) h.0 g)
   then_some (Broken v vs) t2 x r h g = absurd (cc)
 
@@ -44,7 +38,7 @@ module _ {A B : Type 0} (k : A → Judged B) (t0 t1 : Option Violation) where
 module _ {A B C : Type 0} (k : A → B → Judged C) (t0 t1 t2 : Option Violation) where
   pub both_some : (ja : Judged A) (jb : Judged B) (t3 : Option Violation) (x : A) (y : B) (r : Option C) → Tells t0 t1 (Some x) ja → Tells t1 t2 (Some y) jb → Tells t2 t3 r (k x y) → Tells t0 t3 r (both ja jb k)
   both_some (Sound z) jb t3 x y r h g e =
-      let same : x ≡ z = some_injective h.1 in
+      let same : x ≡ z = same_some x z h.1 in
       subst (λ w. Tells t0 t3 r (then_judge jb (k w))) same
       (then_some (k x) t0 t2 jb t3 y r (subst (λ t. Tells t t2 (Some y) jb) h.0 g) e)
   both_some (Broken v vs) jb t3 x y r h g e = absurd (cc)

@@ -13,6 +13,7 @@ use Rattle.cp_model.specs.CallSteps.{with_answer}
 use Rattle.cp_model.specs.Continuations.{Do, EndBody, EndCall, EndProcess, ForNext, RepeatTest, Task, WhileTest}
 use Rattle.cp_model.specs.Environments.{Environment}
 use Rattle.cp_model.specs.Types.{base_of_type, named_type}
+use Rattle.cp_model.proofs.Options.{same_some}
 use Rattle.cp_program_model.specs.Programs as op
 use Rattle.cp_program_model.specs.Programs.{Call, Operation}
 use Rattle.cp_program_model.specs.Sites.{RoutineOf, UnitText, operation_at}
@@ -23,7 +24,6 @@ use Rattle.cp_machine_model.specs.PrivateStates as machine
 use Rattle.cp_machine_model.specs.Addresses.{Ground}
 use Rattle.cp_machine_model.specs.Left.{IsTask, Left, Loop, LoopLeft, Repeat, Running, While, held_below, kept_below, site}
 use Rattle.cp_machine_model.specs.PartOf.{CallsBehind}
-use Rattle.cp_machine_model.proofs.Layouts.{same_some}
 use Rattle.cp_machine_model.proofs.NextCalls.{AllMade, Calling, Follows, Learns, Next}
 use Rattle.cp_machine_model.proofs.FirstCalls.{TermAdvances, term_next}
 use Rattle.cp_machine_model.proofs.AssignCalls.{StatementAdvances}

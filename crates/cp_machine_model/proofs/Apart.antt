@@ -8,11 +8,12 @@ use Rattle.cp_model.specs.Locations.{ByIndex, ByName, Path}
 use Rattle.std.specs.Str.{bytes_eq}
 use Rattle.cp_model.specs.Places.{within}
 use Rattle.cp_model.specs.Types.{ArrayOf, ComponentOf, GlobalScope, Members, MoreMembers, NoMembers, NoType, Queue, RecordOf, ResolvedType, Simple}
+use Rattle.cp_model.proofs.Options.{same_some}
 use Rattle.cp_typing.specs.Words as class_words
 use Rattle.cp_typing.specs.Words.{rights_in, words, words_of_members}
 use Rattle.cp_program_model.specs.Layout.{Part, distance, farther, head_words, member_part, of_class, part}
 use Rattle.cp_machine_model.proofs.Finding.{some_is_not_none}
-use Rattle.cp_machine_model.proofs.Layouts.{farther_some, same_some}
+use Rattle.cp_machine_model.proofs.Layouts.{farther_some}
 use Rattle.cp_machine_model.proofs.Bounds.{part_fits}
 use Rattle.cp_typing.proofs.Names.{bytes_same}
 

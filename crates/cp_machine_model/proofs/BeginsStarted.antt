@@ -16,6 +16,7 @@ use Rattle.cp_model.specs.States.{State, configuration, is_started, with_configu
 use Rattle.cp_model.specs.Stores.{Writes, put_all}
 use Rattle.cp_model.specs.Turns.{after_step}
 use Rattle.cp_model.proofs.StateMaps.{with_at_here}
+use Rattle.cp_model.proofs.Options.{same_some}
 use Rattle.cp_typing.specs.Declared.{Distinct}
 use Rattle.cp_program_model.specs.Layout.{component_words}
 use Rattle.cp_program_model.specs.Programs as code
@@ -32,7 +33,6 @@ use Rattle.cp_machine_model.proofs.BeginsKept.{begun_is, dropped}
 use Rattle.cp_machine_model.proofs.BodyBegins.{process_body, runs_from_start}
 use Rattle.cp_machine_model.proofs.Copying.{copied_length, copied_word}
 use Rattle.cp_machine_model.proofs.InitProcesses.{Bound, InitOfProcess, body, is, moved, names, offsets, one, row_stands, same_system, system, to, top, waits, whole_is}
-use Rattle.cp_machine_model.proofs.Layouts.{same_some}
 use Rattle.cp_machine_model.proofs.OtherGround.{other_ground}
 use Rattle.cp_machine_model.proofs.ParametersGiven.{data_given}
 use Rattle.cp_machine_model.proofs.ProcessRights.{process_without}

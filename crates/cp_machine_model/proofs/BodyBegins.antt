@@ -7,6 +7,7 @@ use Rattle.cp_model.specs.Continuations.{EndProcess, Task, push}
 use Rattle.cp_model.specs.Environments.{Environment}
 use Rattle.cp_model.specs.Locations.{Location, OfProcess, root}
 use Rattle.cp_model.specs.Stores.{Store}
+use Rattle.cp_model.proofs.Options.{same_some}
 use Rattle.cp_program_model.specs.Programs as code
 use Rattle.cp_program_model.specs.Programs.{CodeUnit}
 use Rattle.cp_program_model.specs.Sites.{BodyOf}
@@ -17,7 +18,6 @@ use Rattle.cp_machine_model.specs.Left.{Running, innermost_gate}
 use Rattle.cp_machine_model.specs.PartOf.{DataMeans, RunsOn}
 use Rattle.cp_machine_model.specs.PrivateStates as machine
 use Rattle.cp_machine_model.specs.PrivateStates.{PrivateState}
-use Rattle.cp_machine_model.proofs.Layouts.{same_some}
 use Rattle.cp_machine_model.proofs.OtherGround.{first_has_rights}
 use Rattle.cp_machine_model.proofs.Pushing.{marks_push, push_left}
 use Rattle.cp_machine_model.proofs.RunningOn.{left_afresh, words_pushed}

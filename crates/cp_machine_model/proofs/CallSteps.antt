@@ -27,6 +27,7 @@ use Rattle.cp_model.specs.States.{State, context}
 use Rattle.cp_model.specs.Turns.{after_step}
 use Rattle.cp_model.specs.Stores.{Store, forget, put_all}
 use Rattle.cp_model.specs.Types.{GlobalScope}
+use Rattle.cp_model.proofs.Options.{same_some}
 use Rattle.cp_typing.specs.Declared.{Distinct}
 use Rattle.cp_typing.specs.Needs.{result_words}
 use Rattle.cp_program_model.specs.Terms as terms
@@ -55,7 +56,6 @@ use Rattle.cp_machine_model.proofs.Entering.{Opened, Waits, owner_of_call}
 use Rattle.cp_machine_model.proofs.Finding.{in_context_none, some_is_not_none}
 use Rattle.cp_machine_model.proofs.Heres.{Sees, depth_is, seen_mine}
 use Rattle.cp_machine_model.proofs.Invoking.{Opens, TargetIs, invoked}
-use Rattle.cp_machine_model.proofs.Layouts.{same_some}
 use Rattle.cp_machine_model.proofs.LeftKept.{left_kept}
 use Rattle.cp_machine_model.proofs.NextCalls.{CallReady}
 use Rattle.cp_machine_model.proofs.Opening.{HoldsValues, opened}

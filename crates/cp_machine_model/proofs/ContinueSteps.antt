@@ -23,6 +23,7 @@ use Rattle.cp_model.specs.Types.{Queue}
 use Rattle.cp_model.specs.declared.state.Fault as machine
 use Rattle.cp_model.specs.declared.state.Fault.TheVariants as fault
 use Rattle.cp_model.proofs.StateMaps.{with_at_here}
+use Rattle.cp_model.proofs.Options.{same_some}
 use Rattle.cp_program_model.specs.Terms.{Spot}
 use Rattle.cp_program_model.specs.Programs as op
 use Rattle.cp_program_model.specs.Layout.{local}
@@ -41,7 +42,6 @@ use Rattle.cp_machine_model.proofs.Continuing.{Innermost, innermost, part_same, 
 use Rattle.cp_machine_model.proofs.Doing.{Ready, executed, place_here, statement_steps}
 use Rattle.cp_machine_model.proofs.GatesHeld.{is_held_at_least, monitor_numbered}
 use Rattle.cp_machine_model.proofs.Heres.{seen_mine}
-use Rattle.cp_machine_model.proofs.Layouts.{same_some}
 use Rattle.cp_machine_model.proofs.Returning.{frame_returns, function_returns, procedure_returns, result_returns}
 use Rattle.cp_machine_model.proofs.RunningOn.{runs_moved, runs_stacked, runs_stored}
 use Rattle.cp_machine_model.proofs.Separate.{cell_no_result}

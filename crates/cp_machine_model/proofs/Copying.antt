@@ -31,7 +31,7 @@ use Rattle.cp_machine_model.proofs.Bounds.{part_fits}
 use Rattle.cp_machine_model.proofs.Finding.{some_is_not_none}
 use Rattle.cp_machine_model.proofs.Holding.{reference_no_variable, result_no_variable}
 use Rattle.cp_machine_model.proofs.Keeping.{KeepsActivation, local_named, right_kept, right_no_variable, right_place}
-use Rattle.cp_machine_model.proofs.Layouts.{lies_under, same_some}
+use Rattle.cp_machine_model.proofs.Layouts.{lies_under}
 use Rattle.cp_machine_model.proofs.LeafWords.{leaf_is_part, word_is_part}
 use Rattle.cp_machine_model.proofs.Owned.{OwnRight}
 use Rattle.cp_machine_model.proofs.Separate.{cell_no_own_right, cell_no_reference, cell_no_result, separate}
@@ -40,6 +40,7 @@ use Rattle.cp_machine_model.proofs.StartLeaves.{IsSimple, not_written, part_is_l
 use Rattle.cp_machine_model.proofs.Writing.{is_cell}
 use Rattle.cp_machine_model.proofs.Given.{KeepsGiven, rights_kept}
 use Rattle.cp_model.specs.CallSteps.{is_initialised}
+use Rattle.cp_model.proofs.Options.{same_some}
 use Rattle.cp_machine_model.proofs.Heres.{lies_any}
 
 -- ---- words

@@ -11,6 +11,7 @@ use Rattle.cp_model.specs.Names.{lookup}
 use Rattle.cp_model.specs.Report.{components_of}
 use Rattle.cp_model.specs.States.{initial_variables}
 use Rattle.cp_model.specs.Types.{ComponentOf, GlobalScope, Members}
+use Rattle.cp_model.proofs.Options.{same_some}
 use Rattle.cp_typing.specs.Declared.{SystemVariable, sort_of}
 use Rattle.cp_typing.specs.SoundTypes.{SoundType}
 use Rattle.cp_typing.specs.WellTyped.{WellTyped, text_systems}
@@ -20,7 +21,6 @@ use Rattle.cp_machine_model.specs.PrivateStates as machine
 use Rattle.cp_machine_model.specs.Addresses.{Ground, scope}
 use Rattle.cp_machine_model.specs.Left.{Running, Runs}
 use Rattle.cp_machine_model.proofs.Finding.{some_is_not_none}
-use Rattle.cp_machine_model.proofs.Layouts.{same_some}
 
 -- ---- what is declared
 

@@ -5,11 +5,11 @@ use Rattle.cp_model.specs.Declarations.{Variable}
 use Rattle.cp_model.specs.Locations.{ByIndex, ByName, Location, OfActivation, OfMonitor, OfProcess, Owner, Path, under}
 use Rattle.cp_model.specs.Stores.{Store}
 use Rattle.cp_model.specs.Types.{ComponentOf, ResolvedType}
+use Rattle.cp_model.proofs.Options.{same_some}
 use Rattle.cp_program_model.specs.Layout.{Part, member, right}
 use Rattle.cp_machine_model.specs.Addresses.{Activation, AllHaveRights, AllWords, ClassHasRights, Ground, HasRights, IsGiven, OwnWords, Sight, component_type, in_sight, lies, part_at, scope, sees, words_seen}
 use Rattle.cp_machine_model.proofs.Apart.{InHead, IsClass}
 use Rattle.cp_machine_model.proofs.Heres.{lies_any}
-use Rattle.cp_machine_model.proofs.Layouts.{same_some}
 use Rattle.cp_machine_model.proofs.Separate.{cell_inside, separate}
 use Rattle.cp_machine_model.proofs.Stacks.{Stacked}
 use Rattle.cp_machine_model.proofs.Owned.{component_part, found_monitor}

@@ -15,6 +15,7 @@ use Rattle.cp_model.specs.Locations.{ByIndex, ByName, Location, OfActivation, Of
 use Rattle.cp_model.specs.Operators.{Clock, realtime}
 use Rattle.cp_model.specs.Stores.{Reference, Store}
 use Rattle.cp_model.specs.Types.{ComponentOf, ResolvedType}
+use Rattle.cp_model.proofs.Options.{same_some}
 use Rattle.cp_program_model.specs.Layout.{Part, farther, head_words, local, member_part, of_class, part}
 use Rattle.cp_program_model.specs.TermsFor.{Knowns, nothing_known}
 use Rattle.cp_machine_model.specs.Means.{Here}
@@ -26,7 +27,7 @@ use Rattle.cp_machine_model.specs.Addresses.{Activation, ClassLies, ComponentLie
 use Rattle.cp_machine_model.specs.Left.{Left, Running, held_below, kept_below}
 use Rattle.cp_machine_model.specs.PartOf.{ActivationMeans, ActivationsMean, DataMeans, IfFrame}
 use Rattle.cp_machine_model.proofs.Finding.{part_whole, some_is_not_none}
-use Rattle.cp_machine_model.proofs.Layouts.{lies_under, same_some}
+use Rattle.cp_machine_model.proofs.Layouts.{lies_under}
 
 module _ (G : Ground) (temps : List ℤ) (limit : ℕ) where
   -- There are as many activations as end marks of routines.

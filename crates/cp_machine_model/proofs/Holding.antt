@@ -9,6 +9,7 @@ use Rattle.cp_model.specs.Declarations.{reported_members}
 use Rattle.cp_model.specs.Locations.{ByIndex, ByName, Location, OfActivation, OfMonitor, OfProcess, Owner, Path, same_location, under}
 use Rattle.cp_model.specs.Stores.{Store, Value, put}
 use Rattle.cp_model.specs.Types.{ComponentOf, ResolvedType}
+use Rattle.cp_model.proofs.Options.{same_some}
 use Rattle.cp_program_model.specs.Layout.{Part, activation_words, component_words, farther, local, part}
 use Rattle.cp_program_model.specs.Starts.{word}
 use Rattle.cp_machine_model.specs.Means.{CellMeans}
@@ -20,7 +21,6 @@ use Rattle.cp_machine_model.proofs.Finding.{some_is_not_none}
 use Rattle.cp_machine_model.proofs.Given.{KeepsGiven, rights_kept}
 use Rattle.cp_machine_model.proofs.Heres.{found_below, lies_any}
 use Rattle.cp_machine_model.proofs.Keeping.{KeepsActivation, KeepsData, depth_of, local_named, right_kept, right_no_variable, right_place}
-use Rattle.cp_machine_model.proofs.Layouts.{same_some}
 use Rattle.cp_machine_model.proofs.Stacks.{Stacked, found_inside}
 use Rattle.cp_machine_model.proofs.Owned.{OwnRight, reference_inside, result_inside}
 use Rattle.cp_machine_model.proofs.Separate.{cell_below, cell_no_own_right, cell_no_reference, cell_no_result, own_right_below, separate}

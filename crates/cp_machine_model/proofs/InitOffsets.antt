@@ -11,6 +11,7 @@ use Rattle.cp_model.specs.Declarations.{Variable, declarations, is_component, me
 use Rattle.cp_model.specs.Environments.{permanent_variables}
 use Rattle.cp_model.specs.Names.{lookup}
 use Rattle.cp_model.specs.Types.{GlobalScope, Members, NoMembers, ResolvedType}
+use Rattle.cp_model.proofs.Options.{same_some}
 use Rattle.cp_typing.specs.Declared.{Distinct}
 use Rattle.cp_typing.specs.StartValues.{IsIn}
 use Rattle.cp_typing.specs.Words.{rights_in, words}
@@ -21,7 +22,6 @@ use Rattle.cp_machine_model.proofs.Apart.{IsCell, cell_head, member_above, membe
 use Rattle.cp_machine_model.proofs.Declared.{absent_later, distinct_first}
 use Rattle.cp_machine_model.proofs.Finding.{part_whole, some_is_not_none}
 use Rattle.cp_machine_model.proofs.StartLeaves.{first_name}
-use Rattle.cp_machine_model.proofs.Layouts.{same_some}
 
 -- ---- filtered lists
 

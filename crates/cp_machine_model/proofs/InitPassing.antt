@@ -24,6 +24,7 @@ use Rattle.cp_model.specs.Stores.{Ordinal, Store, Value as StoreValue, Writes, p
 use Rattle.cp_model.specs.Types.{ComponentOf, Members, Simple}
 use Rattle.cp_model.specs.declared.state.Fault as machine
 use Rattle.cp_model.specs.declared.state.Fault.TheVariants as fault
+use Rattle.cp_model.proofs.Options.{same_some}
 use Rattle.cp_typing.specs.Declared.{Distinct}
 use Rattle.cp_typing.specs.StartValues.{IsIn}
 use Rattle.cp_typing.specs.Words.{words}
@@ -44,7 +45,6 @@ use Rattle.cp_machine_model.proofs.Evaluates.{ordinal_is, value_agrees}
 use Rattle.cp_machine_model.proofs.Finding.{in_context_none, or_else_none, some_is_not_none}
 use Rattle.cp_machine_model.proofs.Holding.{put_apart}
 use Rattle.cp_machine_model.proofs.InitOffsets.{Offset, offset_same, offset_within, right_of}
-use Rattle.cp_machine_model.proofs.Layouts.{same_some}
 use Rattle.cp_machine_model.proofs.Passing.{KeptOutside, PassingAgrees, SameOutside, Stays}
 use Rattle.cp_machine_model.proofs.Settling.{snoc_same, stored_at}
 use Rattle.cp_typing.proofs.Locations.{location_itself}

@@ -22,6 +22,7 @@ use Rattle.cp_model.specs.StateViews.{fault_number}
 use Rattle.cp_model.specs.Stores.{Writes, put_all}
 use Rattle.cp_model.specs.declared.state.Fault as faults
 use Rattle.cp_model.specs.declared.state.Fault.TheVariants as fault
+use Rattle.cp_model.proofs.Options.{same_some}
 use Rattle.cp_typing.specs.Declared.{Distinct}
 use Rattle.cp_typing.specs.StartValues.{IsIn}
 use Rattle.cp_typing.specs.Words.{words}
@@ -50,7 +51,6 @@ use Rattle.cp_machine_model.proofs.InitPassing.{InitAgrees, InitBound, passes_in
 use Rattle.cp_machine_model.proofs.InitRights.{given}
 use Rattle.cp_machine_model.proofs.InitSettled.{init_count, init_offsets, init_values}
 use Rattle.cp_machine_model.proofs.Passing.{KeptOutside}
-use Rattle.cp_machine_model.proofs.Layouts.{same_some}
 use Rattle.cp_machine_model.proofs.ProcessRights.{NoClassRights, no_class_rights, process_without}
 use Rattle.cp_machine_model.proofs.RunningOn.{runs_here, runs_over}
 use Rattle.cp_machine_model.proofs.Stacks.{own_in_whole}

@@ -13,6 +13,7 @@ use Rattle.cp_model.specs.Locations.{ByName, Location, OfActivation, Owner, unde
 use Rattle.std.specs.Str.{bytes_eq}
 use Rattle.cp_model.specs.Stores.{Store}
 use Rattle.cp_model.specs.Types.{ComponentOf, ResolvedType}
+use Rattle.cp_model.proofs.Options.{same_some}
 use Rattle.cp_program_model.specs.Layout.{farther, head_words, local, member, member_part, natural, of_class, right, right_at, rights}
 use Rattle.cp_program_model.specs.Starts.{word}
 use Rattle.cp_program_model.specs.TermsFor.{Knowns, nothing_known}
@@ -26,7 +27,6 @@ use Rattle.cp_machine_model.proofs.Apart.{InHead, IsCell, IsClass}
 use Rattle.cp_machine_model.proofs.Finding.{some_is_not_none}
 use Rattle.cp_machine_model.proofs.Given.{KeepsGiven, rights_kept}
 use Rattle.cp_machine_model.proofs.Heres.{depth_is, found_behind, found_here, lies_any}
-use Rattle.cp_machine_model.proofs.Layouts.{same_some}
 use Rattle.cp_machine_model.proofs.Leads.{lies_on}
 use Rattle.cp_machine_model.proofs.Owned.{OwnRight}
 use Rattle.cp_machine_model.proofs.Writing.{is_cell}

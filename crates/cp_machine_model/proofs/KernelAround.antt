@@ -6,6 +6,7 @@ use Rattle.cp_model.specs.Configurations as status
 use Rattle.cp_model.specs.Configurations.{Status}
 use Rattle.cp_model.specs.States as states
 use Rattle.cp_model.specs.States.{Free, Gate, HeldBy, Holder, State, Unset}
+use Rattle.cp_model.proofs.Options.{same_some}
 use Rattle.cp_program_model.specs.Programs as code
 use Rattle.cp_program_model.specs.StandsFor.{StandsFor}
 use Rattle.cp_machine_model.specs.Addresses.{AllWords, Ground}
@@ -13,7 +14,6 @@ use Rattle.cp_machine_model.specs.KernelOf.{KernelOf, StageMeans, kernel_ground}
 use Rattle.cp_machine_model.specs.KernelSteps.{Asking, Begun, Delayed, Fresh, Kernel, Stage, Unstarted, gate_of, is_set, is_started, stage_of}
 use Rattle.cp_machine_model.specs.Passing.{monitor_start}
 use Rattle.cp_machine_model.specs.PrivateStates.{Outside}
-use Rattle.cp_machine_model.proofs.Layouts.{same_some}
 pub use Rattle.cp_machine_model.proofs.MonitorsThere.{monitor_below, process_below}
 use Rattle.cp_machine_model.proofs.Stepping.{AroundAll}
 use Rattle.std.proofs.lemmas.Option.{slice_get_within}

@@ -11,12 +11,10 @@ use Rattle.cp_program_model.specs.Layout.{Part, distance, farther, head_words, l
 use Rattle.cp_machine_model.specs.Addresses.{Activation, Ground, activation_at, lies, part_at, part_of_activation, part_of_component, part_of_local, part_of_owner, scope}
 use Rattle.cp_model.specs.Abstract.{System}
 use Rattle.cp_model.specs.Declarations as declared
+use Rattle.cp_model.proofs.Options.{same_some}
 use Rattle.cp_program_model.specs.StandsFor.{system_of_monitor, system_of_process}
 use Rattle.cp_machine_model.specs.Passing.{monitor_start}
 use Rattle.cp_machine_model.proofs.Finding.{some_is_not_none}
-
-pub same_some : {A : Type 0} (x y : A) → Some x ≡ Some y → x ≡ y
-same_some x y h = ap (λ o. elim o [ None ↦ x | Some z ↦ z ]) h
 
 -- A part that is found farther on.
 pub farther_some : (k : ℕ) (o : Option Part) (n : ℕ) (u : ResolvedType) → farther k o ≡ Some (n, u)

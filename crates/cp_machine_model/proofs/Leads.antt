@@ -7,13 +7,14 @@ use Rattle.cp_model.specs.Locations.{ByIndex, ByName, Location, OfActivation, Of
 use Rattle.std.specs.Str.{bytes_eq}
 use Rattle.cp_model.specs.Places.{within}
 use Rattle.cp_model.specs.Types.{ArrayOf, ComponentOf, GlobalScope, Members, MoreMembers, NoMembers, NoType, Queue, RecordOf, ResolvedType, Simple}
+use Rattle.cp_model.proofs.Options.{same_some}
 use Rattle.cp_typing.specs.Words.{words}
 use Rattle.cp_program_model.specs.Layout.{Part, distance, farther, head_words, local, member_part, of_class, part}
 use Rattle.cp_machine_model.specs.Addresses.{Activation, Ground, activation_at, lies, part_at, part_of_activation, part_of_component, part_of_local, part_of_owner, scope}
 use Rattle.cp_program_model.specs.StandsFor.{system_of_monitor, system_of_process}
 use Rattle.cp_machine_model.specs.Passing.{monitor_start}
 use Rattle.cp_machine_model.proofs.Finding.{some_is_not_none}
-use Rattle.cp_machine_model.proofs.Layouts.{farther_some, same_some}
+use Rattle.cp_machine_model.proofs.Layouts.{farther_some}
 
 abbrev pub GoesOn : (Path → Option Part) → GlobalScope → Path → Path → Type 0
 GoesOn look g p q = (n : ℕ) (u : ResolvedType) → look p ≡ Some (n, u) → look (p ++ q) ≡ farther n (part g u q)

@@ -13,6 +13,7 @@ use Rattle.cp_model.specs.Start.{start}
 use Rattle.cp_model.specs.States.{Setup, State, process_count, processes}
 use Rattle.cp_model.proofs.RoundLaws.{phased_is_sequential}
 use Rattle.cp_model.proofs.StartInvariant.{start_invariant}
+use Rattle.cp_model.proofs.Options.{same_some}
 use Rattle.cp_hierarchy.specs.InOrder.{InOrder, IsOrdered, world}
 use Rattle.cp_hierarchy.proofs.Reached.{closes, run_keeps, start_in_order, whole_round_keeps}
 use Rattle.cp_hierarchy.proofs.Texts.{text_is_ordered}
@@ -27,7 +28,6 @@ use Rattle.cp_machine_model.specs.PrivateStates.{PrivateState}
 use Rattle.cp_machine_model.specs.RoundLaws.{EndIsEnd, RoundIsRound, RoundsAreRun, RunIsReported, StartIsIn}
 use Rattle.cp_machine_model.proofs.Finding.{some_is_not_none}
 use Rattle.cp_machine_model.proofs.KernelStarts.{kernel_starts}
-use Rattle.cp_machine_model.proofs.Layouts.{same_some}
 use Rattle.cp_machine_model.proofs.MachineRounds.{end_stands, round_stands}
 use Rattle.cp_machine_model.proofs.Reporting.{report_is_report}
 use Rattle.cp_machine_model.proofs.Stands.{IsIn, PartStands}

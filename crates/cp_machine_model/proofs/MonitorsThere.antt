@@ -1,11 +1,12 @@
 -- Where monitors lie: their words are among the shared ones, which follow a process's own words,
 -- and don't overlap.
-use Rattle.std.proofs.Common.{List, None, Option, Some, [], ap, arith, inl, inr, length, suc, sym, zero, ℕ, ◌<◌, ◌∙◌, ◌∷◌, ◌≡◌, ◌≤◌}
+use Rattle.std.proofs.Common.{List, None, Some, [], ap, arith, inl, inr, length, suc, sym, zero, ℕ, ◌<◌, ◌∙◌, ◌∷◌, ◌≡◌, ◌≤◌}
 use Rattle.cp_model.specs.Abstract.{Monitor, Name, Process, System}
 use Rattle.cp_model.specs.Declarations.{Variable}
 use Rattle.cp_model.specs.Report.{components_of}
 use Rattle.cp_model.specs.States.{Setup, initial_variables, monitor_count, process_count}
 use Rattle.cp_model.proofs.ComponentCounts.{counted}
+use Rattle.cp_model.proofs.Options.{same_some}
 use Rattle.cp_program_model.specs.Layout.{component_words}
 use Rattle.cp_program_model.specs.Programs.{Program}
 use Rattle.cp_program_model.specs.StandsFor.{Apart, MonitorStands, StandsFor, component_at, system_of_monitor, system_of_process}
@@ -41,14 +42,7 @@ module _ (program : Program) (setup : Setup) (F : StandsFor program setup) where
   start_is m M = λ i. elim (M.there i) as (λ z. ℕ) [ None ↦ 0 | Some x ↦ x.start ]
 
   pub system_is : (m : ℕ) (s : System) → system_of_monitor setup m ≡ Some s → (M : MonitorStands program F.texts setup m) → M.system ≡ s
-  system_is m s h M = same M.system s (sym M.is_system ∙ h)
-    where
-      or : System → Option System → System
-      or x None = x
-      or x (Some y) = y
-
-      same : (x y : System) → Some x ≡ Some y → x ≡ y
-      same x y e = ap (or x) e
+  system_is m s h M = same_some M.system s (sym M.is_system ∙ h)
 
   pub monitors_lie : MonitorsLie program setup
   monitors_lie = record {

@@ -32,8 +32,8 @@ use Rattle.cp_model.specs.Stores.{Absent, Initialised, Ordinal, QueueHolds, Stor
 use Rattle.cp_model.specs.Types.{ArrayOf, ComponentOf, NoType, Queue, RecordOf, ResolvedType, Simple}
 use Rattle.cp_model.proofs.ExpressionReach.{IfGives, then_gives}
 use Rattle.cp_model.proofs.WriteReach.{WritesIn, bind_in, starting_writes_in}
+use Rattle.cp_model.proofs.Options.{same_some}
 use Rattle.cp_machine_model.proofs.Finding.{some_is_not_none}
-use Rattle.cp_machine_model.proofs.Layouts.{same_some}
 use Rattle.cp_machine_model.proofs.Invoking.{argument_in, put_outside}
 use Rattle.cp_typing.proofs.Locations.{same_owner_itself}
 

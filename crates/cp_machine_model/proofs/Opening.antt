@@ -16,6 +16,7 @@ use Rattle.cp_model.specs.Names.{lookup}
 use Rattle.cp_model.specs.Places.{within}
 use Rattle.cp_model.specs.Stores.{Absent, Ordinal, Store, Writes, forget, put_all}
 use Rattle.cp_model.specs.Types.{ArrayOf, ComponentOf, GlobalScope, Members, MoreMembers, NoMembers, NoType, Queue, RecordOf, ResolvedType, Simple}
+use Rattle.cp_model.proofs.Options.{same_some}
 use Rattle.cp_typing.specs.Declared.{Distinct, Each, RoutineVariable}
 use Rattle.cp_typing.specs.Judgement.{has_queues}
 use Rattle.cp_typing.specs.Needs.{result_words}
@@ -36,7 +37,6 @@ use Rattle.cp_machine_model.proofs.Declared.{absent_first, absent_later, distinc
 use Rattle.cp_machine_model.proofs.Entering.{Opened}
 use Rattle.cp_machine_model.proofs.Finding.{some_is_not_none}
 use Rattle.cp_machine_model.proofs.Heres.{found_here}
-use Rattle.cp_machine_model.proofs.Layouts.{same_some}
 use Rattle.cp_machine_model.proofs.Passing.{Has, ParameterHas, parameter_at}
 use Rattle.cp_machine_model.proofs.Owned.{local_inside}
 use Rattle.cp_machine_model.proofs.Apart.{cell_has_word}

@@ -8,6 +8,7 @@ use Rattle.cp_model.specs.Declarations as declared
 use Rattle.cp_model.specs.Locations.{ByName, OfActivation, OfMonitor, OfProcess, Path}
 use Rattle.std.specs.Str.{bytes_eq}
 use Rattle.cp_model.specs.Types.{GlobalScope, ResolvedType}
+use Rattle.cp_model.proofs.Options.{same_some}
 use Rattle.cp_typing.specs.Needs.{result_words}
 use Rattle.cp_typing.specs.Words.{words}
 use Rattle.cp_program_model.specs.Layout.{activation_words, component_words, farther, head_words, local, local_at, local_words, locals, locals_words, member_part, part}
@@ -16,7 +17,7 @@ use Rattle.cp_machine_model.specs.Addresses.{Activation, Ground, activation_at, 
 use Rattle.cp_machine_model.proofs.Apart.{InHead, head_inside, member_above, part_apart}
 use Rattle.cp_machine_model.proofs.Bounds.{member_fits, part_fits}
 use Rattle.cp_machine_model.proofs.Finding.{some_is_not_none}
-use Rattle.cp_machine_model.proofs.Layouts.{farther_some, same_some}
+use Rattle.cp_machine_model.proofs.Layouts.{farther_some}
 use Rattle.cp_typing.proofs.Names.{bytes_same}
 use Rattle.cp_machine_model.specs.Passing.{monitor_start}
 

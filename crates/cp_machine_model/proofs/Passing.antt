@@ -31,6 +31,7 @@ use Rattle.cp_model.specs.Stores.{Ordinal, Reference as Refers, Store, Value as 
 use Rattle.cp_model.specs.Types.{GlobalScope, ResolvedType, Simple}
 use Rattle.cp_model.specs.declared.state.Fault as machine
 use Rattle.cp_model.specs.declared.state.Fault.TheVariants as fault
+use Rattle.cp_model.proofs.Options.{same_some}
 use Rattle.cp_program_model.specs.Terms.{Argument, Copy, Reference as Refer, Value}
 use Rattle.cp_program_model.specs.Starts.{block, paste, word}
 use Rattle.cp_machine_model.specs.Values.{place_of, value_of}
@@ -46,7 +47,7 @@ use Rattle.cp_machine_model.proofs.Bounds.{part_fits}
 use Rattle.cp_machine_model.proofs.Copying.{copied_length, copied_outside, copied_word, leaf_unwritten, leaf_writes, leaf_written, read_below, simple_cell, simple_holds, structure_writes}
 use Rattle.cp_machine_model.proofs.Finding.{in_context_none, or_else_none, some_is_not_none}
 use Rattle.cp_machine_model.proofs.Evaluates.{ordinal_is, place_agrees, value_agrees, value_reads}
-use Rattle.cp_machine_model.proofs.Layouts.{PartsLie, same_some}
+use Rattle.cp_machine_model.proofs.Layouts.{PartsLie}
 use Rattle.cp_machine_model.proofs.Rooms.{refers}
 use Rattle.cp_machine_model.proofs.StartLeaves.{IsSimple, first_name, simple_part}
 use Rattle.cp_machine_model.proofs.Puts.{bytes_eq_turned, put_all_two}

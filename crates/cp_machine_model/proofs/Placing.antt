@@ -6,6 +6,7 @@ use Rattle.cp_model.specs.Abstract.{Class, Name, System}
 use Rattle.cp_model.specs.Declarations.{Variable}
 use Rattle.cp_model.specs.Locations.{Location, OfActivation, OfMonitor, OfProcess, Owner, root}
 use Rattle.cp_model.specs.Types.{ResolvedType}
+use Rattle.cp_model.proofs.Options.{same_some}
 use Rattle.cp_program_model.specs.Layout.{Part, component_words, head_words, right, rights}
 use Rattle.cp_program_model.specs.StandsFor.{Apart, system_of_monitor, system_of_process}
 use Rattle.cp_machine_model.specs.Addresses.{Activation, ClassLies, ComponentLies, Ground, MonitorLies, ProcessLies, component_type, in_sight, lies, scope, whole}
@@ -16,7 +17,6 @@ use Rattle.cp_machine_model.proofs.Given.{system_same}
 use Rattle.cp_machine_model.proofs.Heres.{lies_any}
 use Rattle.cp_machine_model.proofs.Holding.{live_owner}
 use Rattle.cp_machine_model.proofs.Keeping.{depth_of, right_place, right_within}
-use Rattle.cp_machine_model.proofs.Layouts.{same_some}
 use Rattle.cp_machine_model.proofs.Owned.{OwnRight}
 use Rattle.cp_machine_model.proofs.Separate.{cell_inside, cell_no_own_right, own_right_inside, separate}
 use Rattle.cp_machine_model.proofs.Stacks.{Stacked, bottom_below, monitor_seen}

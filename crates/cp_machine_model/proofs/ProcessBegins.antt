@@ -19,6 +19,7 @@ use Rattle.cp_model.specs.Step.{take_action}
 use Rattle.cp_model.specs.Stores.{Writes, put_all}
 use Rattle.cp_model.specs.Turns as turns
 use Rattle.cp_model.specs.Turns.{after_step, kind, kind_of}
+use Rattle.cp_model.proofs.Options.{same_some}
 use Rattle.cp_program_model.specs.Layout.{component_words, natural}
 use Rattle.cp_program_model.specs.Programs as op
 use Rattle.cp_program_model.specs.Programs.{Operation}
@@ -37,7 +38,6 @@ use Rattle.cp_machine_model.proofs.BeginsKept.{SameWaiting, dropped, kept_begins
 use Rattle.cp_machine_model.proofs.BeginsStarted as started
 use Rattle.cp_machine_model.proofs.Deciding.{Reaches}
 use Rattle.cp_machine_model.proofs.InitProcesses.{Bound, BothFault, BothInit, BothStart, InitOfProcess, Kept, body, both_init, here, moved, row_stands}
-use Rattle.cp_machine_model.proofs.Layouts.{same_some}
 use Rattle.cp_machine_model.proofs.OtherGround.{other_ground}
 use Rattle.cp_machine_model.proofs.OthersKept.{KeepsOwned, NotStarted, after_other_start, after_start_stored, after_started, step_started, step_stored}
 use Rattle.cp_machine_model.proofs.ProcessSteps.{moved_same, passes_same}

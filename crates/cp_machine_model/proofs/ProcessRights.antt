@@ -7,6 +7,7 @@ use Rattle.cp_model.specs.Declarations.{Variable, declarations, globals, is_comp
 use Rattle.cp_model.specs.Report.{components_of}
 use Rattle.cp_model.specs.States.{Setup, initial_variables}
 use Rattle.cp_model.specs.Types.{ComponentOf, GlobalScope, Members, ResolvedType}
+use Rattle.cp_model.proofs.Options.{same_some}
 use Rattle.cp_typing.specs.Declared.{Each, InitialVariable, IsData, IsSystem, MayBePassed, SystemParameter, sort_of}
 use Rattle.cp_typing.specs.Judgement.{IsSimple, has_queues}
 use Rattle.cp_typing.specs.StartValues.{IsIn}
@@ -18,7 +19,6 @@ use Rattle.cp_program_model.specs.StandsFor.{component_at, component_in, system_
 use Rattle.cp_machine_model.specs.Addresses.{Ground, scope}
 use Rattle.cp_machine_model.proofs.Finding.{some_is_not_none}
 use Rattle.cp_machine_model.proofs.InitOffsets.{of_filter, right_is}
-use Rattle.cp_machine_model.proofs.Layouts.{same_some}
 
 abbrev pub HasNoClassRight : GlobalScope → System → Type 0
 HasNoClassRight g s =

@@ -14,6 +14,7 @@ use Rattle.cp_model.specs.Places.{within}
 use Rattle.cp_model.specs.Report.{components_of}
 use Rattle.cp_model.specs.States.{Setup, initial_variables}
 use Rattle.cp_model.specs.Types.{ArrayOf, ComponentOf, GlobalScope, Members, MoreMembers, NoMembers, NoType, Queue, RecordOf, ResolvedType, Simple}
+use Rattle.cp_model.proofs.Options.{same_some}
 use Rattle.cp_typing.specs.Declared.{Each, InitialVariable, IsData, IsSystem, SystemParameter, SystemVariable}
 use Rattle.cp_typing.specs.Judgement.{IsSimple, has_queues}
 use Rattle.cp_typing.specs.SoundTypes.{SoundMembers, SoundType}
@@ -26,7 +27,7 @@ use Rattle.cp_program_model.specs.Layout.{distance, farther, head_words, member_
 use Rattle.cp_program_model.specs.StandsFor.{component_in, system_of_process}
 use Rattle.cp_machine_model.proofs.Finding.{some_is_not_none}
 use Rattle.cp_machine_model.proofs.InitOffsets.{of_filter}
-use Rattle.cp_machine_model.proofs.Layouts.{farther_some, same_some}
+use Rattle.cp_machine_model.proofs.Layouts.{farther_some}
 use Rattle.cp_machine_model.proofs.Naming.{initial_reported}
 use Rattle.cp_machine_model.proofs.ProcessRights.{is_process, system_at}
 

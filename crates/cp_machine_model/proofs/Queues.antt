@@ -8,6 +8,7 @@ use Rattle.cp_model.specs.Declarations.{Variable, declarations}
 use Rattle.cp_model.specs.Environments.{Environment, Frame}
 use Rattle.cp_model.specs.Locations.{ByIndex, ByName, Location, OfActivation, OfMonitor, OfProcess, Owner, Path}
 use Rattle.cp_model.specs.Types.{GlobalScope, Queue}
+use Rattle.cp_model.proofs.Options.{same_some}
 use Rattle.cp_typing.specs.Declared.{Each, RoutineParameter, RoutineVariable}
 use Rattle.cp_typing.specs.Needs.{result_words}
 use Rattle.cp_typing.specs.WellTyped.{WellTyped}
@@ -20,7 +21,6 @@ use Rattle.cp_machine_model.specs.KernelOf.{is_shared}
 use Rattle.cp_machine_model.specs.Left.{Left, Running, Runs, kept_below}
 use Rattle.cp_machine_model.proofs.CallSteps.{UnitsStand}
 use Rattle.cp_machine_model.proofs.Finding.{some_is_not_none}
-use Rattle.cp_machine_model.proofs.Layouts.{same_some}
 use Rattle.cp_machine_model.proofs.Owned.{activation_cell, component_part}
 use Rattle.cp_machine_model.proofs.Returning.{text_is}
 use Rattle.cp_machine_model.proofs.QueueTypes.{NoQueues, data_no_queue, member_no_queue, part_no_queue, process_none}

@@ -10,6 +10,7 @@ use Rattle.cp_model.specs.Report.{components_of, variable_lines}
 use Rattle.cp_model.specs.States.{Setup, initial_variables}
 use Rattle.cp_model.specs.Stores.{Store}
 use Rattle.cp_model.specs.Types.{ComponentOf, Members, ResolvedType}
+use Rattle.cp_model.proofs.Options.{same_some}
 use Rattle.cp_typing.specs.Declared.{InitialVariable, IsData, IsSystem}
 use Rattle.cp_typing.specs.Judgement.{has_queues}
 use Rattle.cp_typing.specs.StartValues.{IsIn}
@@ -50,10 +51,7 @@ filtered z (u ∷ vs) j v h = by (is_component_of z u.1.type) refl j h (λ i q. 
         → ((k : ℕ) → slice_get (filter (λ w. is_component_of z w.1.type) vs) k ≡ Some v → IsIn v vs × (is_component_of z v.1.type ≡ true))
         → IsIn v (u ∷ vs) × (is_component_of z v.1.type ≡ true)
     by true is zero h go =
-        let same : v ≡ u = sym (same_one u v h) in (inl same, ap (λ (w : Name × Variable). is_component_of z w.1.type) same ∙ is)
-      where
-        same_one : (x y : Name × Variable) → Some x ≡ Some y → x ≡ y
-        same_one x y e = ap (λ o. elim o [ None ↦ x | Some w ↦ w ]) e
+        let same : v ≡ u = sym (same_some u v h) in (inl same, ap (λ (w : Name × Variable). is_component_of z w.1.type) same ∙ is)
     by true is (suc i) h go = let r = go i h in (inr r.0, r.1)
     by false is i h go = let r = go i h in (inr r.0, r.1)
 

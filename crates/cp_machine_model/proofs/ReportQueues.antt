@@ -11,6 +11,7 @@ use Rattle.cp_model.specs.Locations.{ByIndex, ByName, Path, PathStep}
 use Rattle.cp_model.specs.Places.{within}
 use Rattle.cp_model.specs.Report.{Text, path_text}
 use Rattle.cp_model.specs.Types.{ArrayOf, ComponentOf, GlobalScope, Members, MoreMembers, NoMembers, NoType, Queue, RecordOf, ResolvedType, Simple}
+use Rattle.cp_model.proofs.Options.{same_some}
 use Rattle.cp_typing.specs.Words.{component_words, rights_in, words, words_of_members}
 use Rattle.cp_typing.proofs.Names.{bytes_same}
 use Rattle.cp_program_model.specs.Layout.{Part, distance, farther, head_words, member_part, of_class, part}
@@ -18,7 +19,7 @@ use Rattle.cp_machine_model.specs.Reports.{Visit, of_class_text, queue_visit, vi
 use Rattle.cp_machine_model.proofs.Apart.{member_above}
 use Rattle.cp_machine_model.proofs.Bounds.{part_fits, index_below}
 use Rattle.cp_machine_model.proofs.Finding.{some_is_not_none}
-use Rattle.cp_machine_model.proofs.Layouts.{farther_some, same_some}
+use Rattle.cp_machine_model.proofs.Layouts.{farther_some}
 use Rattle.cp_machine_model.proofs.StartLeaves.{type_is}
 use Rattle.cp_machine_model.proofs.ReportLines.{append_none, join_append}
 

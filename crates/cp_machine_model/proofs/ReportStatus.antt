@@ -16,6 +16,7 @@ use Rattle.cp_model.specs.Report.{Text, components_of, monitor_name, path_text, 
 use Rattle.cp_model.specs.States.{Setup}
 use Rattle.cp_model.specs.StateViews.{fault_number}
 use Rattle.cp_model.specs.Types.{GlobalScope, Queue}
+use Rattle.cp_model.proofs.Options.{same_some}
 use Rattle.cp_typing.specs.Words.{words_of_members}
 use Rattle.cp_program_model.specs.Layout.{Part, component_words, head_words}
 use Rattle.cp_program_model.specs.Programs.{Program}
@@ -30,7 +31,6 @@ use Rattle.cp_machine_model.specs.PrivateStates.{Activity}
 use Rattle.cp_machine_model.specs.Reports.{activity_text, queue_text, queue_visit, queues_text, stage_text, visit_component, visit_members}
 use Rattle.cp_machine_model.proofs.Apart.{member_above}
 use Rattle.cp_machine_model.proofs.Finding.{some_is_not_none}
-use Rattle.cp_machine_model.proofs.Layouts.{same_some}
 use Rattle.cp_machine_model.proofs.MonitorsThere.{monitors_lie}
 use Rattle.cp_machine_model.proofs.Owned.{FoundMonitor, component_part, found_monitor}
 use Rattle.cp_machine_model.proofs.ReportLines.{append_none}

@@ -11,6 +11,7 @@ use Rattle.cp_model.specs.Environments.{Frame}
 use Rattle.cp_model.specs.Locations.{ByName, Location, OfActivation, Path, same_location, under}
 use Rattle.cp_model.specs.Stores.{Ordinal, Store, put}
 use Rattle.cp_model.specs.Types.{ComponentOf}
+use Rattle.cp_model.proofs.Options.{same_some}
 use Rattle.cp_typing.specs.Needs.{result_words}
 use Rattle.cp_program_model.specs.Layout.{local, natural}
 use Rattle.cp_program_model.specs.Starts.{unset, word}
@@ -24,7 +25,6 @@ use Rattle.cp_machine_model.proofs.Finding.{some_is_not_none}
 use Rattle.cp_machine_model.proofs.Heres.{Top, found_here, top_is}
 use Rattle.cp_machine_model.proofs.Holding.{live_owner, put_apart, result_no_variable}
 use Rattle.cp_machine_model.proofs.Keeping.{KeepsData, activation_kept, depth_of, local_named, right_place}
-use Rattle.cp_machine_model.proofs.Layouts.{same_some}
 use Rattle.cp_machine_model.proofs.RunningOn.{runs_room, runs_stacked, runs_with_data}
 use Rattle.cp_machine_model.proofs.Owned.{OwnRight, reference_inside, result_inside}
 use Rattle.cp_machine_model.proofs.Separate.{cell_no_result, local_no_own_right, locals_apart}

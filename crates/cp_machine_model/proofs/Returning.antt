@@ -19,6 +19,7 @@ use Rattle.cp_model.specs.Stores.{Absent, Ordinal, Store, Value, forget}
 use Rattle.cp_model.specs.Turns.{after_step}
 use Rattle.cp_model.specs.Types.{base_of_type, named_type}
 use Rattle.cp_model.specs.declared.state.Fault.TheVariants as fault
+use Rattle.cp_model.proofs.Options.{same_some}
 use Rattle.cp_program_model.specs.Programs as op
 use Rattle.cp_program_model.specs.Layout.{local}
 use Rattle.cp_program_model.specs.Sites.{BodyOf, RoutineOf, UnitText}
@@ -36,7 +37,6 @@ use Rattle.cp_machine_model.proofs.Finding.{some_is_not_none}
 use Rattle.cp_machine_model.proofs.Heres.{depth_is, lies_behind}
 use Rattle.cp_machine_model.proofs.Holding.{SameLive, activation_below, data_below}
 use Rattle.cp_machine_model.proofs.Keeping.{activations_kept, data_kept, each_kept, keeps_given}
-use Rattle.cp_machine_model.proofs.Layouts.{same_some}
 use Rattle.cp_machine_model.proofs.LeftKept.{left_kept, left_raised}
 use Rattle.cp_machine_model.proofs.Stacks.{Stack, Stacked, stacked}
 use Rattle.cp_machine_model.proofs.Stepping.{Now, Stepped, both_step, does, faulted, gates_left, went}

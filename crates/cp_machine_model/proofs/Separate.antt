@@ -9,6 +9,7 @@ use Rattle.cp_model.specs.Abstract.{Name}
 use Rattle.cp_model.specs.Declarations as declared
 use Rattle.cp_model.specs.Locations.{ByIndex, ByName, Location, OfActivation, OfMonitor, OfProcess, Owner, Path}
 use Rattle.cp_model.specs.Types.{ResolvedType}
+use Rattle.cp_model.proofs.Options.{same_some}
 use Rattle.cp_typing.specs.Needs.{result_words}
 use Rattle.cp_typing.specs.Words.{words}
 use Rattle.cp_program_model.specs.Layout.{activation_words, component_words, head_words, local, local_words, locals, member_part}
@@ -17,7 +18,6 @@ use Rattle.cp_machine_model.specs.Addresses.{Activation, Ground, activation_at, 
 use Rattle.cp_machine_model.proofs.Apart.{InHead, head_inside, member_above, member_apart}
 use Rattle.cp_machine_model.proofs.Bounds.{member_fits, part_fits}
 use Rattle.cp_machine_model.proofs.Finding.{some_is_not_none}
-use Rattle.cp_machine_model.proofs.Layouts.{same_some}
 use Rattle.cp_machine_model.proofs.Stacks.{Stacked, bottom_below, found_apart, found_inside, monitor_seen, own_in_whole}
 use Rattle.cp_machine_model.specs.Passing.{monitor_start}
 use Rattle.cp_machine_model.proofs.Owned.{FoundActivation, FoundLocal, FoundMonitor, OwnRight, activation_cell, component_cell, component_part, found_monitor, local_apart, local_cell_inside, local_cells_apart, local_inside}

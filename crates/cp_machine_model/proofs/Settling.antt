@@ -30,7 +30,6 @@ use Rattle.cp_machine_model.proofs.Heres.{lies_any, member_lies}
 use Rattle.cp_machine_model.proofs.Holding.{without_zero}
 use Rattle.cp_machine_model.proofs.InitOffsets.{Offset, of_filter, offset_at, offset_within, right_is, right_is_no_member, right_same}
 use Rattle.cp_machine_model.proofs.Keeping.{KeepsActivation, each_kept, local_named, right_kept, right_no_variable, right_place, right_within}
-use Rattle.cp_machine_model.proofs.Layouts.{same_some}
 use Rattle.cp_machine_model.proofs.Placing.{IsRightWord, Placed, component_same}
 use Rattle.cp_machine_model.proofs.RunningOn.{runs_kept, runs_stacked}
 use Rattle.cp_machine_model.proofs.Owned.{OwnRight, reference_inside, result_inside}
@@ -41,6 +40,7 @@ use Rattle.cp_machine_model.proofs.Writing.{is_cell}
 use Rattle.cp_machine_model.proofs.Given.{KeepsGiven, all_kept, rights_kept}
 use Rattle.std.proofs.lemmas.Bool.{true≢false}
 use Rattle.cp_model.specs.CallSteps.{is_initialised}
+use Rattle.cp_model.proofs.Options.{same_some}
 
 -- The location at which a parameter of the component is stored.
 abbrev pub stored_at : Location → Name → Location

@@ -7,6 +7,7 @@ use Rattle.cp_model.specs.Declarations.{globals, reported_members}
 use Rattle.cp_model.specs.Locations.{Path}
 use Rattle.cp_model.specs.States.{Setup, monitor_count}
 use Rattle.cp_model.specs.Types.{ComponentOf, GlobalScope, Members, Queue, Simple}
+use Rattle.cp_model.proofs.Options.{same_some}
 use Rattle.cp_program_model.specs.Layout.{component_words, head_words, member_part}
 use Rattle.cp_program_model.specs.Programs as code
 use Rattle.cp_program_model.specs.Programs.{Program, StartPlan}
@@ -15,7 +16,6 @@ use Rattle.cp_program_model.specs.Starts.{AreZero, StartsComponent, carry_out, w
 use Rattle.cp_machine_model.specs.Machines.{first_shared}
 use Rattle.cp_machine_model.proofs.Apart.{IsClass, head_inside}
 use Rattle.cp_machine_model.proofs.Bounds.{member_fits}
-use Rattle.cp_machine_model.proofs.Layouts.{same_some}
 use Rattle.std.proofs.lemmas.Bool.{eq-eqb, eqb-true, true≢false}
 use Rattle.std.proofs.lemmas.Option.{slice_get_within}
 use Rattle.cp_machine_model.proofs.Tables.{one_less}

@@ -14,8 +14,8 @@ use Rattle.cp_machine_model.specs.PrivateStates as machine
 use Rattle.cp_machine_model.specs.Addresses.{Activation, AllWords, Ground, MonitorsLie, OwnWords, Sight, WhereMonitorsLie, activation_at, activation_of, activations, in_sight, scope, sees, whole, words_seen}
 use Rattle.cp_machine_model.specs.Left.{FrameFor, Left, Running, kept_below, site}
 use Rattle.cp_machine_model.proofs.Finding.{some_is_not_none}
-use Rattle.cp_machine_model.proofs.Layouts.{same_some}
 use Rattle.cp_model.specs.Locations.{OfMonitor}
+use Rattle.cp_model.proofs.Options.{same_some}
 
 -- The activations lie below `top`, each after the next one in the list, and all after the
 -- component.

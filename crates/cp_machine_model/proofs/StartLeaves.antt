@@ -16,6 +16,7 @@ use Rattle.cp_model.specs.Names.{lookup}
 use Rattle.cp_model.specs.Places.{within}
 use Rattle.cp_model.specs.Stores.{Ordinal, Store, Value, Writes, put, put_all}
 use Rattle.cp_model.specs.Types.{ArrayOf, ComponentOf, GlobalScope, Members, MoreMembers, NoMembers, NoType, Queue, RecordOf, ResolvedType, Simple}
+use Rattle.cp_model.proofs.Options.{same_some}
 use Rattle.cp_typing.specs.Declared.{Distinct}
 use Rattle.cp_typing.specs.SoundTypes.{SoundMembers, SoundType}
 use Rattle.cp_typing.specs.StartValues.{IsIn}
@@ -25,7 +26,6 @@ use Rattle.cp_typing.proofs.Names.{bytes_same}
 use Rattle.cp_typing.proofs.StartWrites.{found_in, written}
 use Rattle.cp_program_model.specs.Layout.{Part, distance, farther, member_part, part}
 use Rattle.cp_machine_model.proofs.Finding.{some_is_not_none}
-use Rattle.cp_machine_model.proofs.Layouts.{same_some}
 use Rattle.cp_typing.proofs.Locations.{location_is}
 
 -- ---- indices of an array

@@ -13,6 +13,7 @@ use Rattle.cp_model.specs.Start.{initial_writes, start}
 use Rattle.cp_model.specs.States.{Setup, initial_variables}
 use Rattle.cp_model.specs.Stores.{Absent, Value}
 use Rattle.cp_model.specs.Types.{ComponentOf, Members, NoMembers, ResolvedType}
+use Rattle.cp_model.proofs.Options.{same_some}
 use Rattle.cp_typing.specs.Declared.{Distinct, InitialVariable, IsData, IsSystem}
 use Rattle.cp_typing.specs.Judgement.{has_queues}
 use Rattle.cp_typing.specs.StartValues.{ComponentStarts, IsIn, StartsAt}
@@ -24,7 +25,6 @@ use Rattle.cp_typing.proofs.StartWrites.{found_in, numbers_apart}
 use Rattle.cp_program_model.specs.StandsFor.{component_at, component_in}
 use Rattle.cp_machine_model.proofs.Finding.{some_is_not_none}
 use Rattle.cp_machine_model.proofs.InitOffsets.{other_name}
-use Rattle.cp_machine_model.proofs.Layouts.{same_some}
 use Rattle.cp_machine_model.proofs.Naming.{initial_reported, initial_system_named, system_named}
 use Rattle.cp_machine_model.proofs.PartLeaves.{NamedMembers}
 use Rattle.cp_machine_model.proofs.ProcessRights.{is_process}

@@ -20,6 +20,7 @@ use Rattle.cp_model.specs.States.{Setup}
 use Rattle.cp_model.specs.Stores.{Absent, Initialised, Ordinal, QueueHolds}
 use Rattle.cp_model.specs.Types.{ArrayOf, ComponentOf, GlobalScope, NoType, Queue, RecordOf, ResolvedType, Simple}
 use Rattle.cp_model.proofs.StateMaps.{with_at_there}
+use Rattle.cp_model.proofs.Options.{same_some}
 use Rattle.cp_typing.specs.WellTyped.{WellTyped}
 use Rattle.cp_program_model.specs.Programs.{CodeUnit, Done, Program}
 use Rattle.cp_program_model.specs.Layout.{Part, component_words, head_words, member, member_part}
@@ -38,7 +39,6 @@ use Rattle.cp_machine_model.proofs.BodyBegins.{process_body}
 use Rattle.cp_machine_model.proofs.Apart.{InHead, IsCell, IsClass}
 use Rattle.cp_machine_model.proofs.Finding.{some_is_not_none}
 use Rattle.cp_machine_model.proofs.Keeping.{right_no_variable, right_place}
-use Rattle.cp_machine_model.proofs.Layouts.{same_some}
 use Rattle.cp_machine_model.proofs.PartLeaves.{member_cell_is_leaf, member_leaf_lies, start_value}
 use Rattle.cp_machine_model.proofs.Owned.{OwnRight, component_part}
 use Rattle.cp_machine_model.proofs.StartStores.{Owns, initial_owns, process_owns}

@@ -1,8 +1,8 @@
 -- Look-ups in a list of which one element is set, or that is mapped.
 use Rattle.std.proofs.Common.{◌≡◌, ◌<◌, ◌-◌, ℕ, zero, suc, List, [], ◌∷◌, length, map, Some, refl, ap, sym, arith}
 use Rattle.std.specs.Prelude.{slice_get, slice_set}
+use Rattle.cp_model.proofs.Options.{same_some}
 use Rattle.cp_machine_model.proofs.Finding.{some_is_not_none}
-use Rattle.cp_machine_model.proofs.Layouts.{same_some}
 
 -- The index of the element with a number, where numbers begin with 1.
 pub one_less : (n : ℕ) → suc n - 1 ≡ n

@@ -6,6 +6,7 @@ use Rattle.cp_model.specs.Components.{Component, component_named}
 use Rattle.cp_model.specs.Declarations.{declarations}
 use Rattle.cp_model.specs.Environments.{Environment, permanent_variables}
 use Rattle.cp_model.specs.Names.{lookup}
+use Rattle.cp_model.proofs.Options.{same_some}
 use Rattle.cp_typing.specs.Declared.{Distinct, SystemParameter, sort_of}
 use Rattle.cp_typing.specs.SoundTypes.{SoundType}
 use Rattle.cp_typing.specs.WellTyped.{WellTyped, text_systems}
@@ -20,7 +21,6 @@ use Rattle.cp_machine_model.specs.Calling.{parameters_start}
 use Rattle.cp_machine_model.specs.Passing.{monitor_start}
 use Rattle.cp_machine_model.proofs.Finding.{some_is_not_none}
 use Rattle.cp_machine_model.proofs.KernelAround.{process_below}
-use Rattle.cp_machine_model.proofs.Layouts.{same_some}
 use Rattle.cp_machine_model.proofs.MonitorsThere.{stands_there, start_is, system_is}
 
 -- ---- the words

@@ -7,13 +7,13 @@ use Rattle.cp_model.specs.Abstract.{Class, Sort}
 use Rattle.cp_model.specs.Locations.{Location, same_location}
 use Rattle.cp_model.specs.Stores.{Store, Value, put}
 use Rattle.cp_model.specs.Types.{ArrayOf, ComponentOf, NoType, Queue, RecordOf, ResolvedType, Simple}
+use Rattle.cp_model.proofs.Options.{same_some}
 use Rattle.cp_program_model.specs.Layout.{Part}
 use Rattle.cp_program_model.specs.Starts.{word}
 use Rattle.cp_typing.proofs.Locations.{location_is, location_itself}
 use Rattle.cp_machine_model.specs.Means.{CellMeans, MarkMeans}
 use Rattle.cp_machine_model.specs.Addresses.{Activation, Ground, in_sight, lies, scope}
 use Rattle.cp_machine_model.proofs.Apart.{IsCell, IsClass, cell_head}
-use Rattle.cp_machine_model.proofs.Layouts.{same_some}
 use Rattle.cp_machine_model.proofs.Stacks.{Stacked}
 use Rattle.cp_machine_model.proofs.Separate.{separate}
 

@@ -1,3 +1,4 @@
+pub mod Options
 pub mod Results
 pub mod Lists
 pub mod SameIntegers

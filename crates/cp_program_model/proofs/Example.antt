@@ -9,6 +9,7 @@ use Rattle.cp_model.specs.Types.{ComponentOf, GlobalScope, ResolvedType, full_ra
 use Rattle.cp_model.specs.Declarations as declared
 use Rattle.cp_model.specs.Declarations.{declarations, globals, reported_members}
 use Rattle.cp_model.specs.Locations.{Location, Owner}
+use Rattle.cp_model.proofs.Options.{same_some}
 use Rattle.cp_program_model.specs.Terms as target
 use Rattle.cp_program_model.specs.Terms.{Binary, Item, Local, Made, Member, Number, Reference, Right, Rooted, Through, Value}
 use Rattle.cp_program_model.specs.Programs as op
@@ -91,9 +92,6 @@ initial_code at =
     (23, (24, (25, op.InitMonitor (record { routine = 7; target = target.Monitor 1; arguments = []; words = 0; temps = 0 }) 24, record { name = codes "g"; system = m; is_parameter = false }, refl, refl, (refl, refl, record { own = refl; target = refl; runs = record { text = refl; unit = unit_at program 7; there = refl; fits = record { words = le _ _ refl; temps = le _ _ refl; frames = le _ _ refl }; words = refl; temps = refl }; room = le _ _ refl }, refl)), (23, (24, op.InitProcess 2 (Right 1 (target.Monitor 1) ∷ []) 0 23, record { name = codes "q"; system = p; is_parameter = false }, refl, refl, (refl, refl, refl, refl, le _ _ refl, (record { name = codes "g"; system = m; is_parameter = false }, reported_members g m, one (type_of m), refl, refl, refl, refl, refl, refl))), refl)), refl)
 
 -- ---- units
-
-same_some : {A : Type 0} (x y : A) → Some x ≡ Some y → x ≡ y
-same_some x y h = ap (λ o. elim o [ None ↦ x | Some z ↦ z ]) h
 
 abbrev is_some : {A : Type 0} → Option A → Bool
 is_some None = false

@@ -9,6 +9,7 @@ use Rattle.cp_model.specs.Declarations.{Variable, declarations, is_component}
 use Rattle.cp_model.specs.Environments.{Environment, IsConstant, IsVariable, local_variables, meaning, permanent_variables, result_variable, variable_or}
 use Rattle.cp_model.specs.Locations.{ByName, Location, Owner, root, under}
 use Rattle.cp_model.specs.Calls.{Callee, callee, own_routine, routine_named}
+use Rattle.cp_model.proofs.Options.{same_some}
 use Rattle.cp_typing.specs.Judgement.{is_structured}
 use Rattle.cp_typing.specs.Declared.{ResultFits}
 use Rattle.cp_typing.specs.StaticTypes.{place_type, place_type_meant}
@@ -28,9 +29,6 @@ use Rattle.cp_program_model.proofs.Standing.{RoutineHere}
 
 abbrev pub NoResult : Scope → Name → Type 0
 NoResult scope x = is_result scope (Plain x) ≡ false
-
-same_some : {A : Type 0} (x y : A) → Some x ≡ Some y → x ≡ y
-same_some x y h = ap (λ o. elim o [ None ↦ x | Some z ↦ z ]) h
 
 -- a local's name isn't the name of the result
 pub local_is_no_result : (o : Option (ℕ × Variable)) (v : ℕ × Variable) (b : Bool) → o ≡ Some v → elim o [ None ↦ b | Some w ↦ false ] ≡ false

@@ -8,6 +8,7 @@ use Rattle.cp_kernel.specs.KernelOf.{HasRoomForAskers, kernel_of, transcripts_of
 use Rattle.cp_kernel.specs.Turns.{parts_of}
 use Rattle.cp_kernel.specs.declared.kernel.Kernel.{Kernel}
 use Rattle.cp_model.specs.States.{numbers_from}
+use Rattle.cp_model.proofs.Options.{same_some}
 use Rattle.cp_machine_model.specs.Machines.{Machine, begin_one, end_round, kernel_turns, phased_round, phased_rounds}
 use Rattle.cp_machine_model.specs.PrivateStates.{PrivateState}
 use Rattle.cp_private.specs.States.{private_of}
@@ -21,7 +22,7 @@ use Rattle.cp_rounds.specs.Turned.{moment_of, take_turn, with_turn_taken}
 use Rattle.cp_rounds.specs.declared.moment.Moment.{Moment}
 use Rattle.cp_rounds.specs.declared.setting.Setting.{Setting}
 use Rattle.cp_rounds.proofs.AheadTurns.{fewer_bytes, part_of}
-use Rattle.cp_rounds.proofs.Lists.{below_or, below_or_from, got_at, got_below, got_set, some_is, zero_or}
+use Rattle.cp_rounds.proofs.Lists.{below_or, below_or_from, got_at, got_below, got_set, zero_or}
 use Rattle.cp_rounds.proofs.Made.{part_at, parts_count, same_machine, same_machine_with}
 use Rattle.cp_ahead.proofs.Turns.{set_apart, set_length}
 use Rattle.cp_rounds.proofs.Rounds.{Remains, mapped_length, private_turns_made, rounds_after, turned_count, turns_remain}
@@ -89,7 +90,7 @@ module _ (g : Setting) (t : ℕ) (moment : Moment) (most : ℕ) where
     made = λ j x w below e f. ⊎_elim
         (λ (h : (j ≡ i) × (z ≡ w)).
         let from : i ≤ i = omega arith in
-        let same : y ≡ x = some_is y x (sym here ∙ (was.rest i from ∙ (ap (slice_get ys) (sym h.0) ∙ e))) in
+        let same : y ≡ x = same_some y x (sym here ∙ (was.rest i from ∙ (ap (slice_get ys) (sym h.0) ∙ e))) in
         subst (λ (k : ℕ). HasTurned g t moment most k (turns_ahead ns k) x w) (sym h.0)
         (subst (λ (v : Private). HasTurned g t moment most i (turns_ahead ns i) x v) h.1
         (subst (λ (v : Private). HasTurned g t moment most i (turns_ahead ns i) v z) same

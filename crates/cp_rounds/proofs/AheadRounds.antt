@@ -10,6 +10,7 @@ use Rattle.cp_kernel.proofs.Asking.{room_kept}
 use Rattle.cp_kernel.specs.Turns.{IsTurned, Moves, parts_of}
 use Rattle.cp_kernel.specs.declared.kernel.Kernel.{Kernel}
 use Rattle.cp_model.specs.States.{numbers_from}
+use Rattle.cp_model.proofs.Options.{same_some}
 use Rattle.cp_machine_model.specs.KernelSteps.{Turning, kernel_steps}
 use Rattle.cp_machine_model.specs.Machines.{Machine, begin_one, clock, end_round, kernel_turn, kernel_turns, transcript_of}
 use Rattle.cp_machine_model.specs.PrivateStates.{PrivateState}
@@ -24,7 +25,7 @@ use Rattle.cp_rounds.specs.Turned.{moment_of}
 use Rattle.cp_rounds.specs.declared.moment.Moment.{Moment}
 use Rattle.cp_rounds.specs.declared.setting.Setting.{Setting}
 use Rattle.cp_rounds.proofs.AheadTurns.{fewer_bytes}
-use Rattle.cp_rounds.proofs.Lists.{below_or, got_at, got_below, got_set, some_is}
+use Rattle.cp_rounds.proofs.Lists.{below_or, got_at, got_below, got_set}
 use Rattle.cp_rounds.proofs.Made.{input_there, part_at, parts_count}
 use Rattle.cp_rounds.proofs.Rooms.{fewer_askers, mapped_get, moved_stages, numbered_set}
 use Rattle.cp_ahead.proofs.Turns.{set_length}
@@ -204,7 +205,7 @@ output_of xs ys same i y e =
     let below = got_below ys i y e in
     let x = got_at xs i (omega (arith, below, count)) in (
       x.0,
-      (x.1, some_is y.output x.0.output (sym (mapped_get output ys i y e) ∙ (ap (λ l. slice_get l i) same ∙ mapped_get output xs i x.0 x.1))),
+      (x.1, same_some y.output x.0.output (sym (mapped_get output ys i y e) ∙ (ap (λ l. slice_get l i) same ∙ mapped_get output xs i x.0 x.1))),
     )
 
 pub ready_ended : (most later : ℕ) (ns : List ℕ) (g : Setting) (ys zs : List Private) (k k' : Kernel) → RoundEnds g ys k zs k'

@@ -2,6 +2,7 @@
 use Rattle.std.specs.Prelude.{◌≡◌, ◌≢◌, ◌≤◌, ◌+◌, ◌-◌, ◌*◌, refl, ℕ, zero, suc, Bool, true, false, if◌then◌else◌, List, [], ◌∷◌, Some, get_or, length, map, slice_get, vec_len}
 use Rattle.std.proofs.Common.{sym, ◌∙◌, ap, subst, arith}
 use Rattle.std.proofs.lemmas.Bool.{true≢false}
+use Rattle.cp_model.proofs.Options.{same_some}
 use native.Mathlib.Nat.{mul-le-mul_right, suc-mul}
 use Rattle.cp_ahead.specs.Ahead.{HasBegun, IsAhead, IsQuiet, turn_at}
 use Rattle.cp_ahead.proofs.Turns.{map_got, turn_number}
@@ -29,7 +30,7 @@ use Rattle.cp_rounds.specs.Tasks.{AreMade, IsCourseOf, StaysQuiet, is_some}
 use Rattle.cp_rounds.specs.Turned.{moment_of, take_turn, with_turn_taken}
 use Rattle.cp_rounds.specs.declared.moment.Moment.{Moment}
 use Rattle.cp_rounds.specs.declared.setting.Setting.{Setting}
-use Rattle.cp_rounds.proofs.Lists.{got_at, got_below, some_is}
+use Rattle.cp_rounds.proofs.Lists.{got_at, got_below}
 use Rattle.cp_rounds.proofs.Made.{part_at, parts_count}
 use Rattle.cp_rounds.proofs.Rooms.{fewer_askers}
 use Rattle.cp_rounds.proofs.Rounds.{mapped_length}
@@ -66,7 +67,7 @@ pub part_of : (inputs : List Bytes) (zs : List Private) (i : ℕ) (o : PrivateSt
 part_of inputs zs i o e =
     let below = got_below (parts_of (input_of inputs) 1 zs) i o e in
     let z = got_at zs i (omega (arith, below, parts_count (input_of inputs) 1 zs)) in
-    (z.0, (z.1, some_is o (private_of z.0 (input_at inputs i)) (sym e ∙ part_at inputs i zs z.0 z.1)))
+    (z.0, (z.1, same_some o (private_of z.0 (input_at inputs i)) (sym e ∙ part_at inputs i zs z.0 z.1)))
 
 -- A process whose stage is that it has begun.
 pub begun_is : (k : Kernel) (i : ℕ) → is_begun (stage_of (kernel_of k).stages (suc i)) ≡ true → HasBegun i (kernel_of k)

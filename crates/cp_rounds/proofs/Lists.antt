@@ -1,17 +1,15 @@
 -- The items of a list that has grown by one, or that has another item in one place.
 use Rattle.std.specs.Prelude.{◌≡◌, ◌≢◌, refl, ℕ, zero, suc, ◌<◌, ◌≤◌, List, [], ◌∷◌, ◌++◌, length, Some, None, slice_get}
 use Rattle.std.proofs.Common.{sym, ap, subst, arith, ◌⊎◌, inl, inr, ⊎_elim, set, get_or}
+use Rattle.cp_model.proofs.Options.{same_some}
 
 module _ {X : Type 0} where
   pub none_some : (y : X) → None ≡ Some y → ⊥
   none_some y e = Prim.grind arith
 
-  pub some_is : (x y : X) → Some x ≡ Some y → x ≡ y
-  some_is x y e = Prim.grind arith
-
   pub got_snoc : (ys : List X) (b : X) (i : ℕ) (y : X) → slice_get (ys ++ b ∷ []) i ≡ Some y
       → (slice_get ys i ≡ Some y) ⊎ ((i ≡ length ys) × (b ≡ y))
-  got_snoc [] b zero y e = inr (refl, some_is b y e)
+  got_snoc [] b zero y e = inr (refl, same_some b y e)
   got_snoc [] b (suc i) y e = absurd (none_some y e)
   got_snoc (x ∷ ys) b zero y e = inl e
   got_snoc (x ∷ ys) b (suc i) y e =
@@ -34,7 +32,7 @@ module _ {X : Type 0} where
   pub got_set : (xs : List X) (i k : ℕ) (y x : X) → slice_get (set xs i y) k ≡ Some x
       → ((k ≡ i) × (y ≡ x)) ⊎ ((k ≢ i) × (slice_get xs k ≡ Some x))
   got_set [] i k y x e = absurd (none_some x e)
-  got_set (z ∷ xs) zero zero y x e = inl (refl, some_is y x e)
+  got_set (z ∷ xs) zero zero y x e = inl (refl, same_some y x e)
   got_set (z ∷ xs) zero (suc k) y x e = inr ((λ h. Prim.grind (arith, h)), e)
   got_set (z ∷ xs) (suc i) zero y x e = inr ((λ h. Prim.grind (arith, h)), e)
   got_set (z ∷ xs) (suc i) (suc k) y x e =

@@ -3,6 +3,7 @@ use Rattle.std.specs.Prelude.{◌≡◌, ◌≢◌, ◌≤◌, refl, ℕ, zero, 
 use Rattle.std.proofs.Common.{sym, ◌∙◌, ap, subst, arith, ◌⊎◌, inl, inr, ⊎_elim}
 use Rattle.cp_program_model.specs.Programs.{Program}
 use Rattle.cp_model.specs.States.{numbers_from}
+use Rattle.cp_model.proofs.Options.{same_some}
 use Rattle.cp_kernel.specs.KernelOf.{Bytes, kernel_of, transcripts_of, turning}
 use Rattle.cp_kernel.specs.declared.kernel.Kernel.{Kernel}
 use Rattle.cp_private.specs.States.{private_of}
@@ -19,7 +20,7 @@ use Rattle.cp_rounds.specs.MachineOf.{input_at, input_of, machine_with}
 use Rattle.cp_rounds.specs.Runs.{AreSame, RoundsMade, TurnsTaken}
 use Rattle.cp_rounds.specs.Turned.{moment_of, take_turn, with_turn_taken}
 use Rattle.cp_rounds.specs.declared.setting.Setting.{Setting}
-use Rattle.cp_rounds.proofs.Lists.{got_below, got_left, got_snoc, none_some, some_is}
+use Rattle.cp_rounds.proofs.Lists.{got_below, got_left, got_snoc, none_some}
 use Rattle.cp_ahead.proofs.Turns.{set_apart}
 use Rattle.cp_rounds.proofs.Rounds.{Remains, kernel_turn_is, longer, rounds_after, private_turns_made, set_here, turned_count, turns_apart, turns_next, turns_remain}
 
@@ -30,7 +31,7 @@ module _ (inputs : ℕ → List ℕ) where
   part_got p i [] x e = absurd (none_some x e)
   part_got p zero (y ∷ xs) x e =
       let at : p ≡ p + 0 = Prim.omega arith in
-      ap (λ (z : Private). Some (private_of z (inputs p))) (some_is y x e) ∙ ap (λ (q : ℕ). Some (private_of x (inputs q))) at
+      ap (λ (z : Private). Some (private_of z (inputs p))) (same_some y x e) ∙ ap (λ (q : ℕ). Some (private_of x (inputs q))) at
   part_got p (suc i) (y ∷ xs) x e =
       let at : suc p + i ≡ p + suc i = Prim.omega arith in
       part_got (suc p) i xs x e ∙ ap (λ (q : ℕ). Some (private_of x (inputs q))) at
@@ -43,7 +44,7 @@ module _ (inputs : ℕ → List ℕ) where
   parts_gathered p (x ∷ xs) [] n all = absurd (Prim.omega (arith, n))
   parts_gathered p (x ∷ xs) (o ∷ os) n all =
       let at : p ≡ p + 0 = Prim.omega arith in
-      let first : private_of x (inputs p) ≡ o = ap (λ (q : ℕ). private_of x (inputs q)) at ∙ sym (some_is o (private_of x (inputs (p + 0))) (all 0 x refl)) in
+      let first : private_of x (inputs p) ≡ o = ap (λ (q : ℕ). private_of x (inputs q)) at ∙ sym (same_some o (private_of x (inputs (p + 0))) (all 0 x refl)) in
       let later = parts_gathered (suc p) xs os (Prim.omega (arith, n))
       (λ i y e. let after : p + suc i ≡ suc p + i = Prim.omega arith in all (suc i) y e ∙ ap (λ (q : ℕ). Some (private_of y (inputs q))) after) in
       λ i. first i ∷ later i
@@ -139,7 +140,7 @@ got_last (z ∷ xs) x = got_last xs x
 
 mapped_get : {X Y : Type 0} (f : X → Y) (xs : List X) (i : ℕ) (x : X) → slice_get xs i ≡ Some x → slice_get (map f xs) i ≡ Some (f x)
 mapped_get f [] i x e = absurd (none_some x e)
-mapped_get {Y = Y} f (z ∷ xs) zero x e = ap (λ y. Some (f y)) (some_is z x e)
+mapped_get {Y = Y} f (z ∷ xs) zero x e = ap (λ y. Some (f y)) (same_some z x e)
 mapped_get f (z ∷ xs) (suc i) x e = mapped_get f xs i x e
 
 -- The item at an index once the private turns are made.

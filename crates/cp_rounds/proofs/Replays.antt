@@ -5,6 +5,7 @@ use Rattle.std.proofs.Common.{sym, ◌∙◌, ap, arith, cond, get_or, take}
 use Rattle.std.proofs.lemmas.List.{map-id, take_all}
 use Rattle.std.proofs.lemmas.List.Sums.{fold_more}
 use Rattle.cp_model.specs.Rounds.{Event}
+use Rattle.cp_model.proofs.Options.{same_some}
 use Rattle.cp_program_model.specs.Programs.{Program}
 use Rattle.cp_kernel.specs.KernelOf.{kernel_of, transcripts_of, turning}
 use Rattle.cp_kernel.specs.Turns.{IsTurned, parts_of}
@@ -25,7 +26,7 @@ use Rattle.cp_rounds.specs.Runs.{AreSame}
 use Rattle.cp_rounds.specs.Turned.{moment_of, woken}
 use Rattle.cp_rounds.specs.declared.moment.Moment.{Moment}
 use Rattle.cp_rounds.specs.declared.setting.Setting.{Setting}
-use Rattle.cp_rounds.proofs.Lists.{each_more, got_at, got_below, some_is}
+use Rattle.cp_rounds.proofs.Lists.{each_more, got_at, got_below}
 use Rattle.cp_rounds.proofs.Made.{part_at, same_machine}
 use Rattle.cp_rounds.proofs.Rooms.{moved_stages, numbered_set, same_stages}
 use Rattle.cp_ahead.proofs.Turns.{set_length}
@@ -47,7 +48,7 @@ one_woken wakes xs ys x y here is was =
     each_more (λ (i : ℕ) (z : Private). (x : Private) → slice_get xs i ≡ Some x → (input : List ℕ) → private_of z input ≡ woken wakes (private_of x input))
     ys y was
     (λ (w : Private) (there : slice_get xs (length ys) ≡ Some w) (input : List ℕ).
-    is input ∙ ap (λ (v : Private). woken wakes (private_of v input)) (some_is x w (sym here ∙ there)))
+    is input ∙ ap (λ (v : Private). woken wakes (private_of v input)) (same_some x w (sym here ∙ there)))
 
 woken_parts : (wakes : Bool) (inputs : ℕ → List ℕ) (p : ℕ) (xs ys : List Private) → length ys ≡ length xs → EachWoken wakes xs ys
     → parts_of inputs p ys ≡ map (woken wakes) (parts_of inputs p xs)

@@ -1,6 +1,7 @@
 -- Room for fewer askers, and the numbers of private states that change one by one.
 use Rattle.std.specs.Prelude.{◌≡◌, ◌≢◌, ◌≤◌, ◌-◌, refl, ℕ, zero, suc, List, [], ◌∷◌, ◌++◌, Some, length, map, slice_get, slice_set}
 use Rattle.std.proofs.Common.{sym, ap, ◌∙◌, arith, ⊎_elim}
+use Rattle.cp_model.proofs.Options.{same_some}
 use Rattle.cp_kernel.specs.KernelOf.{Bytes, HasRoomForAskers, kernel_of, transcripts_of}
 use Rattle.cp_kernel.specs.Turns.{Moves, parts_of}
 use Rattle.cp_kernel.specs.declared.kernel.Kernel.{Kernel}
@@ -12,7 +13,7 @@ use Rattle.cp_machine_model.specs.KernelSteps as plain
 use Rattle.cp_machine_model.specs.Machines.{next_stage}
 use Rattle.cp_machine_model.specs.PrivateStates.{PrivateState}
 use Rattle.cp_rounds.specs.Runs.{AreSame, IsSame}
-use Rattle.cp_rounds.proofs.Lists.{got_at, got_below, got_set, got_snoc, none_some, some_is}
+use Rattle.cp_rounds.proofs.Lists.{got_at, got_below, got_set, got_snoc, none_some}
 use Rattle.cp_ahead.proofs.Turns.{set_length}
 use Rattle.cp_rounds.proofs.Rounds.{mapped_length}
 
@@ -58,7 +59,7 @@ parts_same : (inputs : ℕ → List ℕ) (p i : ℕ) (xs : List Private) (x y : 
     → parts_of inputs p (slice_set xs i y) ≡ parts_of inputs p xs
 parts_same inputs p i [] x y here same = refl
 parts_same inputs p zero (z ∷ xs) x y here same =
-    ap (λ (o : PrivateState). o ∷ parts_of inputs (suc p) xs) (same.content (inputs p) ∙ ap (λ (w : Private). private_of w (inputs p)) (sym (some_is z x here)))
+    ap (λ (o : PrivateState). o ∷ parts_of inputs (suc p) xs) (same.content (inputs p) ∙ ap (λ (w : Private). private_of w (inputs p)) (sym (same_some z x here)))
 parts_same inputs p (suc i) (z ∷ xs) x y here same = ap (λ (l : List PrivateState). private_of z (inputs p) ∷ l) (parts_same inputs (suc p) i xs x y here same)
 
 pub all_same : (xs : List Private) (k k' : Kernel) → kernel_of k' ≡ kernel_of k → k'.transcripts ≡ k.transcripts → AreSame xs k xs k'
@@ -84,7 +85,7 @@ same_more xs k ys k' i y z k2 here same e f was = record {
 
 pub mapped_get : {X Y : Type 0} (f : X → Y) (xs : List X) (i : ℕ) (x : X) → slice_get xs i ≡ Some x → slice_get (map f xs) i ≡ Some (f x)
 mapped_get f [] i x e = absurd (none_some x e)
-mapped_get f (z ∷ xs) zero x e = ap (λ y. Some (f y)) (some_is z x e)
+mapped_get f (z ∷ xs) zero x e = ap (λ y. Some (f y)) (same_some z x e)
 mapped_get f (z ∷ xs) (suc i) x e = mapped_get f xs i x e
 
 pub numbers_kept : (xs ys : List Private) → map (λ (x : Private). x.number) ys ≡ map (λ (x : Private). x.number) xs → AreNumbered xs → AreNumbered ys
@@ -93,7 +94,7 @@ numbers_kept xs ys same all i y e =
     let count : length ys ≡ length xs = sym (mapped_length number ys) ∙ (ap length same ∙ mapped_length number xs) in
     let below = got_below ys i y e in
     let x = got_at xs i (Prim.omega (arith, below, count)) in
-    some_is y.number x.0.number
+    same_some y.number x.0.number
     (sym (mapped_get number ys i y e) ∙ (ap (λ (l : List ℕ). slice_get l i) same ∙ mapped_get number xs i x.0 x.1))
     ∙ all i x.0 x.1
 

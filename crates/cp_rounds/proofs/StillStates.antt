@@ -20,6 +20,7 @@ use Rattle.cp_model.specs.Parts as parts
 use Rattle.cp_model.specs.Parts.{PrivateStatus, private_status}
 use Rattle.cp_model.specs.Rounds.{run}
 use Rattle.cp_model.specs.States.{Setup, State, numbers_from, process_count}
+use Rattle.cp_model.proofs.Options.{same_some}
 use Rattle.cp_private.specs.States.{activity, private_of}
 use Rattle.cp_private.specs.declared.private.Private.{Private}
 use Rattle.cp_stillness.specs.Laws.{StillAfterMoreRounds}
@@ -31,7 +32,7 @@ use Rattle.cp_rounds.specs.Views.{IsAfter, machine_of, processes_of}
 use Rattle.cp_rounds.specs.declared.machine.Machine.{Machine}
 use Rattle.cp_rounds.proofs.After.{after_more}
 use Rattle.cp_rounds.proofs.InStates.{makes_rounds}
-use Rattle.cp_rounds.proofs.Lists.{got_at, got_below, some_is}
+use Rattle.cp_rounds.proofs.Lists.{got_at, got_below}
 use Rattle.cp_rounds.proofs.Made.{part_at, parts_count, same_machine_with}
 
 -- ---- One process
@@ -151,7 +152,7 @@ module _ (m : Machine) (i : ℕ) (x : Private) (here : slice_get m.parts.private
       by true f = rest k (Prim.grind (arith, nat_tests, f))
       by false f = λ y there.
           let same : k ≡ i = Prim.grind (arith, nat_tests, f, below) in
-          let is = some_is x y (sym here ∙ (ap (slice_get m.parts.privates.items) (sym same) ∙ there)) in
+          let is = same_some x y (sym here ∙ (ap (slice_get m.parts.privates.items) (sym same) ∙ there)) in
           subst (λ n. moves (stage_of (kernel_of m.parts.kernel).stages (suc n)) (activity y.activity) ≡ false) (sym same)
           (subst (λ (z : Private). moves (stage_of (kernel_of m.parts.kernel).stages (suc i)) (activity z.activity) ≡ false) is (sym numbered ∙ h))
 

@@ -7,15 +7,13 @@ use Rattle.cp_model.specs.declared.rules.Entity.{Entity}
 use Rattle.cp_model.specs.declared.rules.Entity.TheVariants as entity
 use Rattle.cp_model.specs.declared.rules.Member.{Member}
 use Rattle.cp_model.specs.declared.rules.Member.TheVariants as member
+use Rattle.cp_model.proofs.Options.{same_some}
 use Rattle.cp_names.specs.Tables.{AreDistinct}
 
 drop_step : (names : Names) (i : ℕ) (e : Text × Entity) → slice_get names i ≡ Some e → drop i names ≡ e ∷ drop (suc i) names
 drop_step [] zero e at = absurd (cc)
 drop_step [] (suc i) e at = absurd (cc)
-drop_step (n ∷ ns) zero e at = ap (λ m. m ∷ ns) (injected n e at)
-  where
-    injected : (x y : Text × Entity) → Some x ≡ Some y → x ≡ y
-    injected x y g = cc
+drop_step (n ∷ ns) zero e at = ap (λ m. m ∷ ns) (same_some n e at)
 drop_step (n ∷ ns) (suc i) e at = drop_step ns i e at
 
 pub members_step : (ms : Members) (names : Names) (i j : ℕ) (e : Text × Entity) → slice_get names i ≡ Some e → i + 1 ≡ j
