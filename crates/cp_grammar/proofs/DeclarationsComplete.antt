@@ -21,15 +21,15 @@ use Rattle.cp_grammar.specs.Types.{group_of, type_at}
 use Rattle.cp_grammar.specs.Statements.{Deeper, statements_from, block_of, deeper_at}
 use Rattle.cp_grammar.specs.Declarations.{constant_definition_of, parameters_of, Heading, heading_of, begins_routine, variable_group_of, some_variables_of, variables_of, body_of, routine_of, routines_of, system_from, system_type, enumeration_of, written_type, defined_by, defined_of, type_definition_of, section_by, section_of, begins_section}
 use Rattle.cp_grammar.specs.Follows.{ends_type}
-use Rattle.cp_grammar.proofs.Tokens.{is_symbol_refl, kind_of_symbol, expect_reads}
+use Rattle.cp_grammar.proofs.Tokens.{is_symbol_refl, kind_of_symbol, expect_reads, end_is_no_semicolon, close_is_no_comma}
 use Rattle.cp_grammar.proofs.Lists.{each_of, ItemReads, each_reads, some_reads}
 use Rattle.cp_grammar.proofs.NamesComplete.{identifier_reads, names_reads}
 use Rattle.cp_grammar.proofs.TypesComplete.{type_complete, group_complete}
-use Rattle.cp_grammar.proofs.StatementListsComplete.{listed_statements, statements_listed, statements_reads, end_follows, end_is_no_semicolon}
+use Rattle.cp_grammar.proofs.StatementListsComplete.{listed_statements, statements_listed, statements_reads, end_follows}
 use Rattle.cp_grammar.proofs.StatementsComplete.{readers, deeper_suc}
 use Rattle.cp_grammar.proofs.StatementsComplete as statements
 use Rattle.cp_grammar.proofs.DeclarationsShrink.{constant_definition_shrinks, variable_group_shrinks, routine_shrinks, type_definition_shrinks, section_shrinks}
-use Rattle.cp_grammar.proofs.HeadingsComplete.{Anything, begins_block, block_begins, block_is_no_name, block_is_no_section, block_is_no_var, body_begins, body_is_block, close_is_no_comma, constant_definition_reads, heading_reads, names_begin, parameters_reads, routine_begins, section_is_no_name, semicolon_is_no_parenthesis}
+use Rattle.cp_grammar.proofs.HeadingsComplete.{Anything, begins_block, block_begins, block_is_no_name, block_is_no_section, block_is_no_var, body_begins, body_is_block, constant_definition_reads, heading_reads, names_begin, parameters_reads, routine_begins, section_is_no_name, semicolon_is_no_parenthesis}
 
 -- ---- variables, bodies and routines
 

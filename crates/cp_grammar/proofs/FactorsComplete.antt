@@ -14,7 +14,7 @@ use Rattle.cp_grammar.specs.Kinds.{is_symbol}
 use Rattle.cp_grammar.specs.Reading.{Reader, kind_at, repeat, repeat_while}
 use Rattle.cp_grammar.specs.Expressions.{expression_of, expressions_from, index_of, indices_from, begins_selector, field_of, indexed_of, selector_by, selector_of, designator_of, arguments_of, optional_arguments_of, call_or_part, named_of, parenthesized_of, not_of, factor_by, factor_of, inner_at, factor_at, expression_at, designator_at, optional_arguments_at}
 use Rattle.cp_grammar.specs.Laws.{ExpressionsAreComplete}
-use Rattle.cp_grammar.proofs.Tokens.{is_symbol_refl, kind_of, kind_of_symbol, token_shrinks, expect_reads}
+use Rattle.cp_grammar.proofs.Tokens.{is_symbol_refl, kind_of, kind_of_symbol, token_shrinks, expect_reads, bracket_is_no_comma, close_is_no_comma}
 use Rattle.cp_grammar.proofs.Lists.{Each, each_imply, ItemReads, repeat_stops, repeat_goes, separated_reads, each_reads}
 use Rattle.cp_grammar.specs.Follows.{ends_expression}
 use Rattle.cp_grammar.proofs.Ends.{ends_selectors, ends_arguments}
@@ -111,14 +111,6 @@ indices_reads (s.MoreIndices at e is) all room ts rest h ends stop =
     rw one (more_indices_reads is all.1 room h.2.0 rest (length h.2.0) (record { at = at; value = e } ∷ []) h.2.2 ends stop (omega arith))
 
 -- ---- what opens a level
-
-pub close_is_no_comma : is_symbol symbol.Comma (Some (kind.Symbol symbol.CloseParenthesis)) ≡ false
-unfolding is_symbol
-close_is_no_comma = refl
-
-bracket_is_no_comma : is_symbol symbol.Comma (Some (kind.Symbol symbol.CloseBracket)) ≡ false
-unfolding is_symbol
-bracket_is_no_comma = refl
 
 module _ (f : Reader s.Expression) (ts last rest : List Token) where
   indexed_reads : (close : ℕ) (is : List PlacedIndex) → kind_at ts ≡ Some (kind.Symbol symbol.OpenBracket) → indices_from f ts ≡ Ok (is, last)

@@ -15,7 +15,7 @@ use Rattle.cp_grammar.specs.Kinds.{is_symbol, is_name}
 use Rattle.cp_grammar.specs.Reading.{kind_at, tail, optional_symbol, separated_by}
 use Rattle.cp_grammar.specs.Names.{identifier_of}
 use Rattle.cp_grammar.specs.Declarations.{constant_definition_of, parameter_group_of, some_parameters_of, parameters_of, result_type_of, Heading, heading_from, heading_of, begins_routine, begins_section}
-use Rattle.cp_grammar.proofs.Tokens.{is_symbol_refl, kind_of, kind_of_symbol, expect_reads}
+use Rattle.cp_grammar.proofs.Tokens.{is_symbol_refl, kind_of, kind_of_symbol, expect_reads, colon_is_no_comma}
 use Rattle.cp_grammar.proofs.Lists.{each_of, ItemReads, separated_reads}
 use Rattle.cp_grammar.proofs.NamesComplete.{identifier_reads, names_reads, constant_reads}
 use Rattle.cp_grammar.proofs.DeclarationsSound.{heading}
@@ -34,14 +34,6 @@ semicolon_is_no_parenthesis = refl
 colon_is_no_parenthesis : is_symbol symbol.OpenParenthesis (Some (kind.Symbol symbol.Colon)) ≡ false
 unfolding is_symbol
 colon_is_no_parenthesis = refl
-
-colon_is_no_comma : is_symbol symbol.Comma (Some (kind.Symbol symbol.Colon)) ≡ false
-unfolding is_symbol
-colon_is_no_comma = refl
-
-pub close_is_no_comma : is_symbol symbol.Comma (Some (kind.Symbol symbol.CloseParenthesis)) ≡ false
-unfolding is_symbol
-close_is_no_comma = refl
 
 close_is_no_semicolon : is_symbol symbol.Semicolon (Some (kind.Symbol symbol.CloseParenthesis)) ≡ false
 unfolding is_symbol

@@ -15,7 +15,7 @@ use Rattle.cp_grammar.specs.Names.{constants_of}
 use Rattle.cp_grammar.specs.Expressions.{begins_selector}
 use Rattle.cp_grammar.specs.Statements.{statements_from, arm_of, statement_at}
 use Rattle.cp_grammar.specs.Follows.{ends_expression, ends_statement, MayFollow}
-use Rattle.cp_grammar.proofs.Tokens.{kind_of_symbol, symbol_shrinks, expect_reads}
+use Rattle.cp_grammar.proofs.Tokens.{kind_of_symbol, symbol_shrinks, expect_reads, colon_is_no_comma}
 use Rattle.cp_grammar.proofs.Lists.{Each, each_imply, ItemReads, separated_reads}
 use Rattle.cp_grammar.proofs.NamesComplete.{constants_reads, constants_shrink}
 use Rattle.cp_grammar.proofs.StatementsSound.{arm}
@@ -57,17 +57,9 @@ pub until_follows : (x : s.Statement) → MayFollow x (Some (kind.Symbol symbol.
 unfolding is_symbol
 until_follows x = (refl, λ o. refl)
 
-pub end_is_no_semicolon : is_symbol symbol.Semicolon (Some (kind.Symbol symbol.End)) ≡ false
-unfolding is_symbol
-end_is_no_semicolon = refl
-
 pub until_is_no_semicolon : is_symbol symbol.Semicolon (Some (kind.Symbol symbol.Until)) ≡ false
 unfolding is_symbol
 until_is_no_semicolon = refl
-
-colon_is_no_comma : is_symbol symbol.Comma (Some (kind.Symbol symbol.Colon)) ≡ false
-unfolding is_symbol
-colon_is_no_comma = refl
 
 pub comma_is_no_argument : is_symbol symbol.OpenParenthesis (Some (kind.Symbol symbol.Comma)) ≡ false
 unfolding is_symbol

@@ -18,12 +18,12 @@ use Rattle.cp_grammar.specs.Expressions.{expression_of, factor_of, begins_select
 use Rattle.cp_grammar.specs.Statements.{Deeper, direction_of, statements_from, arm_of, else_part, block_of, compound_of, if_of, case_of, while_of, repeat_of, for_of, cycle_of, assign_or_perform, designated_of, init_item_of, init_of, statement_by, statement_of, deeper_at, statement_at}
 use Rattle.cp_grammar.specs.Follows.{ends_expression, ends_statement}
 use Rattle.cp_grammar.specs.Laws.{StatementsAreComplete}
-use Rattle.cp_grammar.proofs.Tokens.{is_symbol_refl, kind_of, kind_of_symbol, expect_reads}
+use Rattle.cp_grammar.proofs.Tokens.{is_symbol_refl, kind_of, kind_of_symbol, expect_reads, end_is_no_semicolon}
 use Rattle.cp_grammar.proofs.Lists.{Each, each_of, ItemReads, separated_reads}
 use Rattle.cp_grammar.proofs.NamesComplete.{identifier_reads}
 use Rattle.cp_grammar.proofs.FactorsComplete.{listed, expressions_listed, designators_complete, expression_complete, arguments_complete, name_begins}
 use Rattle.cp_grammar.proofs.StatementsShrink.{init_item_shrinks}
-use Rattle.cp_grammar.proofs.StatementListsComplete.{ArmReads, StatementReads, Stops, argument_is_no_assign, arms_listed, arms_reads, comma_is_no_argument, end_follows, end_is_no_semicolon, listed_arms, listed_statements, statement_stops, statement_then_expression, statements_listed, statements_reads, until_follows, until_is_no_semicolon}
+use Rattle.cp_grammar.proofs.StatementListsComplete.{ArmReads, StatementReads, Stops, argument_is_no_assign, arms_listed, arms_reads, comma_is_no_argument, end_follows, listed_arms, listed_statements, statement_stops, statement_then_expression, statements_listed, statements_reads, until_follows, until_is_no_semicolon}
 
 -- ---- what opens a level
 

@@ -158,6 +158,24 @@ pub no_symbol : (x : Symbol) → is_symbol x None ≡ false
 unfolding is_symbol
 no_symbol x = refl
 
+-- ---- some symbols that aren't each other
+
+pub bracket_is_no_comma : is_symbol symbol.Comma (Some (kind.Symbol symbol.CloseBracket)) ≡ false
+unfolding is_symbol
+bracket_is_no_comma = refl
+
+pub colon_is_no_comma : is_symbol symbol.Comma (Some (kind.Symbol symbol.Colon)) ≡ false
+unfolding is_symbol
+colon_is_no_comma = refl
+
+pub close_is_no_comma : is_symbol symbol.Comma (Some (kind.Symbol symbol.CloseParenthesis)) ≡ false
+unfolding is_symbol
+close_is_no_comma = refl
+
+pub end_is_no_semicolon : is_symbol symbol.Semicolon (Some (kind.Symbol symbol.End)) ≡ false
+unfolding is_symbol
+end_is_no_semicolon = refl
+
 -- ---- the head and those after it
 
 pub head : (ts : List Token) (k : Kind) → kind_at ts ≡ Some k → token k (place_at ts) ts (tail ts)

@@ -18,7 +18,7 @@ use Rattle.cp_grammar.specs.Names.{names_of}
 use Rattle.cp_grammar.specs.Types.{subrange_from, named_or_subrange, group_of, array_of, record_of, type_by, type_of, inner_type_at, type_at}
 use Rattle.cp_grammar.specs.Follows.{ends_type}
 use Rattle.cp_grammar.specs.Laws.{TypesAreComplete}
-use Rattle.cp_grammar.proofs.Tokens.{kind_of, kind_of_symbol, token_shrinks, symbol_shrinks, expect_reads}
+use Rattle.cp_grammar.proofs.Tokens.{kind_of, kind_of_symbol, token_shrinks, symbol_shrinks, expect_reads, bracket_is_no_comma, colon_is_no_comma, end_is_no_semicolon}
 use Rattle.cp_grammar.proofs.Lists.{Each, each_imply, ItemReads, separated_reads}
 use Rattle.cp_grammar.proofs.NamesComplete.{identifier_reads, identifier_shrinks, names_reads, names_shrink, constant_reads, constant_shrinks}
 use Rattle.cp_grammar.proofs.TypesSound.{group}
@@ -93,18 +93,6 @@ group_shrinks room g ts rest h = omega (
 )
 
 -- ---- lists
-
-bracket_is_no_comma : is_symbol symbol.Comma (Some (kind.Symbol symbol.CloseBracket)) ≡ false
-unfolding is_symbol
-bracket_is_no_comma = refl
-
-colon_is_no_comma : is_symbol symbol.Comma (Some (kind.Symbol symbol.Colon)) ≡ false
-unfolding is_symbol
-colon_is_no_comma = refl
-
-end_is_no_semicolon : is_symbol symbol.Semicolon (Some (kind.Symbol symbol.End)) ≡ false
-unfolding is_symbol
-end_is_no_semicolon = refl
 
 abbrev pub TypeReads : s.TypeExpression → Type 0
 TypeReads t = (room : ℕ) (ts rest : List Token) → type_expression room t ts rest → ends_type (kind_at rest) ≡ true → type_at room ts ≡ Ok (t, rest)
