@@ -2,6 +2,7 @@
 use Rattle.std.specs.Prelude.{◌≡◌, ◌≢◌, ◌+◌, ◌-◌, ◌%◌, refl, ℕ, zero, suc, Bool, true, false, if◌then◌else◌, List, [], ◌∷◌, Option, Some, None, length, map, nat_eq, slice_get, slice_set}
 use Rattle.std.proofs.Common.{sym, ◌∙◌, ap, subst, arith}
 use Rattle.std.proofs.lemmas.Bool.{eqb-true, eq-eqb, true≢false}
+use Rattle.std.proofs.lemmas.List.{length-map}
 use Rattle.cp_model.proofs.Options.{same_some}
 use Rattle.cp_program_model.specs.Programs.{Program}
 use Rattle.cp_machine_model.specs.KernelSteps.{Kernel, stage_of}
@@ -75,10 +76,6 @@ module _ {X : Type 0} where
   set_apart (x ∷ xs) (suc i) zero z ne = refl
   set_apart (x ∷ xs) (suc i) (suc j) z ne = set_apart xs i j z (λ e. ne (ap suc e))
 
-  map_length : (f : X → X) (xs : List X) → length (map f xs) ≡ length xs
-  map_length f [] = refl
-  map_length f (x ∷ xs) = ap suc (map_length f xs)
-
   -- An item of a mapped list comes from an item.
   pub map_got : (f : X → X) (xs : List X) (i : ℕ) (z : X) → slice_get (map f xs) i ≡ Some z → (x : X) × (slice_get xs i ≡ Some x) × (z ≡ f x)
   map_got f [] i z e = absurd (none_is z e)
@@ -115,7 +112,7 @@ module _ (program : Program) (tick t rounds : ℕ) (n : ℕ → ℕ) (os ys : Li
   pub end_ahead : (k : Kernel) → AreNumbered os → ((i : ℕ) → n i ≢ 0 → HasBegun i k)
       → AreAhead program tick t rounds n (map (begin_one program k) os) (map (begin_one program k) ys)
   end_ahead k numbers begun = record {
-    count = map_length (begin_one program k) ys ∙ (A.count ∙ sym (map_length (begin_one program k) os));
+    count = length-map ys (begin_one program k) ∙ (A.count ∙ sym (length-map os (begin_one program k)));
     each = λ i o y e f.
         let was = map_got (begin_one program k) os i o e in
         let got = map_got (begin_one program k) ys i y f in
@@ -137,7 +134,7 @@ module _ (program : Program) (tick t rounds : ℕ) (n : ℕ → ℕ) (os ys : Li
   pub next_ahead : (zs : List PrivateState) → HaveTurned program tick t rounds n ys zs
       → AreAhead program tick t (suc rounds) (λ i. n i - 1) (map (turn_at program tick t rounds) os) zs
   next_ahead zs made = record {
-    count = made.count ∙ (A.count ∙ sym (map_length (turn_at program tick t rounds) os));
+    count = made.count ∙ (A.count ∙ sym (length-map os (turn_at program tick t rounds)));
     each = λ i o z e f.
         let was = map_got (turn_at program tick t rounds) os i o e in
         let got = there ys zs i z (sym made.count) f in

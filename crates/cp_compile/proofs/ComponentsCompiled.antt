@@ -1,7 +1,7 @@
 -- Components are made one after another.
 use Rattle.std.proofs.Common.{◌≡◌, ◌∷◌, ◌++◌, ◌+◌, ◌∙◌, suc, Bool, true, false, ℕ, List, [], None, Some, Bor, ap, append_assoc, arith, if◌then◌else◌, length, map, refl, slice_get, subst, sym}
 use Rattle.std.proofs.lemmas.Option.{same_Some}
-use Rattle.std.proofs.lemmas.List.{append-nil}
+use Rattle.std.proofs.lemmas.List.{append-nil, length-map}
 use Rattle.cp_model.specs.Abstract as a
 use Rattle.cp_model.specs.Abstract.{Group, Name, Sort}
 use Rattle.cp_model.specs.Components.{is_component_of}
@@ -101,14 +101,10 @@ pub component_counted : (g : GlobalScope) (s : a.System) (ps : List Parameters) 
     → suc (rights_of g ps) + words_of_members g (own_members g ps vs) ≡ component_words g s
 component_counted g s ps vs rs is = rw (is.parameters, is.variables) refl
 
-pub mapped_length : {A B : Type 0} (f : A → B) (xs : List A) → length (map f xs) ≡ length xs
-mapped_length f [] = refl
-mapped_length f (x ∷ xs) = ap suc (mapped_length f xs)
-
 pub waiting_counted : (g : GlobalScope) (types : Types) (s : a.System) (ps : List Parameters) (vs : List Fields) (rs : List tree_routine.Routine) (ds : List Declared)
     (n : ℕ) → IsWritten s ps vs rs → AreDeclared types (map declared_entry ds) (parameters_of g ps) → n ≡ length ds → n + 1 ≡ waiting_words g s
 waiting_counted g types s ps vs rs ds n is declared count =
-    let same = sym (mapped_length declared_entry ds) ∙ declared_count types (map declared_entry ds) (parameters_of g ps) declared in
+    let same = sym (length-map ds declared_entry) ∙ declared_count types (map declared_entry ds) (parameters_of g ps) declared in
     rw is.parameters (omega (arith, count, same))
 
 -- A variable that is a component, with the unit of its body.
@@ -126,7 +122,7 @@ component_put of plans g firsts groups vs v i k text table n o body text_is tabl
     let rs = text.now.routines.items in
     let written : IsWritten there.0 ps ws rs = subst (λ (s : a.System). IsWritten s ps ws rs) erased (record { parameters = refl; variables = refl; routines = refl }) in
     let count : length text.now.routines.items ≡ length there.0.routines =
-    sym (mapped_length tree.routine rs) ∙ sym (mapped_length erase.routine (map tree.routine rs)) ∙ ap (λ (s : a.System). length s.routines) erased in
+    sym (length-map rs tree.routine) ∙ sym (length-map (map tree.routine rs) erase.routine) ∙ ap (λ (s : a.System). length s.routines) erased in
     let plan = i.planned k text table text_is table_is ∙ ap (plan_of_component g) erased in
     let own = is plans g of.tables.now.types there.0 ps ws rs (has_table g of.tables.now.types of.tables.now.systems.items k text table i.systems text_is table_is) written plan in
     let x : code.Owner = record { system = there.0; body = or_zero (lookup (declared_type v.0 groups) firsts) + length there.0.routines } in (

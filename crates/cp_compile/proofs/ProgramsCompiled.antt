@@ -1,5 +1,6 @@
 -- The parts of a program, put together.
 use Rattle.std.proofs.Common.{◌≡◌, ◌∷◌, ◌++◌, ◌+◌, ◌∙◌, ℕ, List, [], ap, arith, length, map, refl, subst, sym}
+use Rattle.std.proofs.lemmas.List.{length-map}
 use Rattle.cp_model.specs.Abstract as a
 use Rattle.cp_model.specs.Abstract.{Definition, System}
 use Rattle.cp_model.specs.Declarations.{Variable, declarations, define, globals, reported_members}
@@ -28,7 +29,6 @@ use Rattle.cp_compile.specs.declared.components.Owner.{Owner}
 use Rattle.cp_compile.specs.CompiledComponents.{IsInitial, IsOwner, OwnerIs}
 use Rattle.cp_compile.specs.CompiledPrograms.{ArePlansOf, IsCode, IsPlanner, text_of, text_types}
 use Rattle.cp_compile.specs.CompiledTexts.{AreNamed}
-use Rattle.cp_compile.proofs.ComponentsCompiled.{mapped_length}
 
 -- ---- Accepted texts
 
@@ -90,7 +90,7 @@ initial_owner tables known t c plans body routines o stands is made body_is rout
     owner known (globals (text_of t)) tables.types s [] t.variables.items t.routines.items stands.initial
     (record { parameters = refl; variables = refl; routines = refl }) made.initial_is in
     let count : length s.routines ≡ length t.routines.items =
-    mapped_length erase.routine (map tree.routine t.routines.items) ∙ mapped_length tree.routine t.routines.items in
+    length-map (map tree.routine t.routines.items) erase.routine ∙ length-map t.routines.items tree.routine in
     record {
       body = own.body ∙ omega (arith, body_is, routines_are, count, is.first_is);
       words = own.words;

@@ -1,6 +1,7 @@
 -- The private turns of a round while some processes are ahead, and whole rounds.
 use Rattle.std.specs.Prelude.{◌≡◌, ◌≢◌, ◌≤◌, ◌<◌, ◌+◌, ◌-◌, ◌*◌, refl, ℕ, zero, suc, true, List, [], ◌∷◌, Some, get_or, length, slice_get, slice_set, vec_len, vec_capacity}
 use Rattle.std.proofs.Common.{sym, ◌∙◌, ap, subst, arith, ⊎_elim}
+use Rattle.std.proofs.lemmas.List.{length-map}
 use native.Mathlib.Nat.{suc-mul}
 use Rattle.cp_ahead.specs.Ahead.{HaveTurned, StandAhead}
 use Rattle.cp_ahead.proofs.Rounds as ahead
@@ -25,7 +26,7 @@ use Rattle.cp_rounds.proofs.AheadTurns.{fewer_bytes, part_of}
 use Rattle.cp_rounds.proofs.Lists.{below_or, below_or_from, got_at, got_below, got_set, zero_or}
 use Rattle.cp_rounds.proofs.Made.{part_at, parts_count, same_machine, same_machine_with}
 use Rattle.cp_ahead.proofs.Turns.{set_apart, set_length}
-use Rattle.cp_rounds.proofs.Rounds.{Remains, mapped_length, private_turns_made, rounds_after, turned_count, turns_remain}
+use Rattle.cp_rounds.proofs.Rounds.{Remains, private_turns_made, rounds_after, turned_count, turns_remain}
 
 -- ---- Private turns
 
@@ -240,7 +241,7 @@ has_made_one t p m all =
       program = kept.program;
       tick = kept.tick;
       rounds = ap suc kept.rounds ∙ omega arith;
-      count = mapped_length (begin_one ended.program ended.kernel) ended.parts ∙ (kept.count ∙ turned_count t m);
+      count = length-map ended.parts (begin_one ended.program ended.kernel) ∙ (kept.count ∙ turned_count t m);
     })
 
 pub has_made : (t p n : ℕ) (m : Machine) → p ≡ length m.parts → HasMade m (phased_rounds t (numbers_from 1 p) n m) n

@@ -3,6 +3,7 @@
 use Rattle.std.specs.Prelude.{◌≡◌, ◌≢◌, ◌≤◌, ◌<◌, ◌+◌, ◌-◌, ◌*◌, refl, ℕ, zero, suc, true, List, [], ◌∷◌, ◌++◌, Some, length, map, slice_get, slice_set, Vec, vec_len, vec_capacity}
 use Rattle.std.specs.Global.{Global}
 use Rattle.std.proofs.Common.{sym, ◌∙◌, ap, subst, arith, ⊎_elim}
+use Rattle.std.proofs.lemmas.List.{length-map}
 use Rattle.cp_ahead.specs.Ahead.{StandAhead}
 use Rattle.cp_ahead.proofs.Rounds as ahead
 use Rattle.cp_kernel.specs.KernelOf.{Bytes, HasRoomForAskers, HasRoomForBytes, kernel_of, transcripts_of, turning}
@@ -29,7 +30,7 @@ use Rattle.cp_rounds.proofs.Lists.{below_or, got_at, got_below, got_set}
 use Rattle.cp_rounds.proofs.Made.{input_there, part_at, parts_count}
 use Rattle.cp_rounds.proofs.Rooms.{fewer_askers, mapped_get, moved_stages, numbered_set}
 use Rattle.cp_ahead.proofs.Turns.{set_length}
-use Rattle.cp_rounds.proofs.Rounds.{Remains, mapped_length, turns_next, turns_remain}
+use Rattle.cp_rounds.proofs.Rounds.{Remains, turns_next, turns_remain}
 
 -- The private states of a list with another item are those with another item.
 pub parts_set : (inputs : ℕ → List ℕ) (p i : ℕ) (ys : List Private) (z : Private)
@@ -201,7 +202,7 @@ pub output_of : (xs ys : List Private) → map (λ (x : Private). x.output) ys �
     → (x : Private) × ((slice_get xs i ≡ Some x) × (y.output ≡ x.output))
 output_of xs ys same i y e =
     let output = λ (x : Private). x.output in
-    let count : length ys ≡ length xs = sym (mapped_length output ys) ∙ (ap length same ∙ mapped_length output xs) in
+    let count : length ys ≡ length xs = sym (length-map ys output) ∙ (ap length same ∙ length-map xs output) in
     let below = got_below ys i y e in
     let x = got_at xs i (omega (arith, below, count)) in (
       x.0,

@@ -2,6 +2,7 @@
 use Rattle.std.specs.Prelude.{◌≡◌, ◌≢◌, ◌≤◌, ◌+◌, ◌-◌, ◌*◌, refl, ℕ, zero, suc, Bool, true, false, if◌then◌else◌, List, [], ◌∷◌, Some, get_or, length, map, slice_get, vec_len}
 use Rattle.std.proofs.Common.{sym, ◌∙◌, ap, subst, arith}
 use Rattle.std.proofs.lemmas.Bool.{true≢false}
+use Rattle.std.proofs.lemmas.List.{length-map}
 use Rattle.cp_model.proofs.Options.{same_some}
 use native.Mathlib.Nat.{mul-le-mul_right, suc-mul}
 use Rattle.cp_ahead.specs.Ahead.{HasBegun, IsAhead, IsQuiet, turn_at}
@@ -33,7 +34,6 @@ use Rattle.cp_rounds.specs.declared.setting.Setting.{Setting}
 use Rattle.cp_rounds.proofs.Lists.{got_at, got_below}
 use Rattle.cp_rounds.proofs.Made.{part_at, parts_count}
 use Rattle.cp_rounds.proofs.Rooms.{fewer_askers}
-use Rattle.cp_rounds.proofs.Rounds.{mapped_length}
 
 -- ---- Quiet processes
 
@@ -149,7 +149,7 @@ module _ (quiet : PrivateState → Bool) (turned : Moment → PrivateState → P
     transcripts = refl;
     ahead = record {
       count = parts_count (input_of g.inputs.items) 1 ys
-          ∙ (back.count ∙ sym (mapped_length turn (parts_of (input_of g.inputs.items) 1 xs) ∙ parts_count (input_of g.inputs.items) 1 xs));
+          ∙ (back.count ∙ sym (length-map (parts_of (input_of g.inputs.items) 1 xs) turn ∙ parts_count (input_of g.inputs.items) 1 xs));
       each = each;
     };
     numbers = numbers;

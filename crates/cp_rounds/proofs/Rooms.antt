@@ -1,6 +1,7 @@
 -- Room for fewer askers, and the numbers of private states that change one by one.
 use Rattle.std.specs.Prelude.{◌≡◌, ◌≢◌, ◌≤◌, ◌-◌, refl, ℕ, zero, suc, List, [], ◌∷◌, ◌++◌, Some, length, map, slice_get, slice_set}
 use Rattle.std.proofs.Common.{sym, ap, ◌∙◌, arith, ⊎_elim}
+use Rattle.std.proofs.lemmas.List.{length-map}
 use Rattle.cp_model.proofs.Options.{same_some}
 use Rattle.cp_kernel.specs.KernelOf.{Bytes, HasRoomForAskers, kernel_of, transcripts_of}
 use Rattle.cp_kernel.specs.Turns.{Moves, parts_of}
@@ -15,7 +16,6 @@ use Rattle.cp_machine_model.specs.PrivateStates.{PrivateState}
 use Rattle.cp_rounds.specs.Runs.{AreSame, IsSame}
 use Rattle.cp_rounds.proofs.Lists.{got_at, got_below, got_set, got_snoc, none_some}
 use Rattle.cp_ahead.proofs.Turns.{set_length}
-use Rattle.cp_rounds.proofs.Rounds.{mapped_length}
 
 pub fewer_askers : (k : Kernel) (n m : ℕ) → m ≤ n → HasRoomForAskers k n → HasRoomForAskers k m
 fewer_askers k n m le h = λ i d below. let room = h i d below in Prim.omega (arith, room, le)
@@ -41,15 +41,15 @@ pub moved_stages : (k after : Kernel) (p : ℕ) (written : List ℕ) → Moves k
 moved_stages k after p written moves =
     let old = k.facts.1 in
     let new = after.facts.1 in
-    let told = mapped_length (λ (v : Bytes). v.items) k.transcripts.items in
-    let told' = mapped_length (λ (v : Bytes). v.items) after.transcripts.items in
+    let told = length-map k.transcripts.items (λ (v : Bytes). v.items) in
+    let told' = length-map after.transcripts.items (λ (v : Bytes). v.items) in
     let same = ap length moves.transcripts ∙ set_length (transcripts_of k) (p - 1) _ in
     Prim.omega (arith, old, new, told, told', same)
 
 pub same_stages : (k after : Kernel) → kernel_of after ≡ kernel_of k → length after.stages.items ≡ length k.stages.items
 same_stages k after e =
-    let told = mapped_length states.stage k.stages.items in
-    let told' = mapped_length states.stage after.stages.items in
+    let told = length-map k.stages.items states.stage in
+    let told' = length-map after.stages.items states.stage in
     let same : length (map states.stage after.stages.items) ≡ length (map states.stage k.stages.items) = ap (λ (q : plain.Kernel). length q.stages) e in
     Prim.omega (arith, told, told', same)
 
@@ -91,7 +91,7 @@ mapped_get f (z ∷ xs) (suc i) x e = mapped_get f xs i x e
 pub numbers_kept : (xs ys : List Private) → map (λ (x : Private). x.number) ys ≡ map (λ (x : Private). x.number) xs → AreNumbered xs → AreNumbered ys
 numbers_kept xs ys same all i y e =
     let number : Private → ℕ = λ x. x.number in
-    let count : length ys ≡ length xs = sym (mapped_length number ys) ∙ (ap length same ∙ mapped_length number xs) in
+    let count : length ys ≡ length xs = sym (length-map ys number) ∙ (ap length same ∙ length-map xs number) in
     let below = got_below ys i y e in
     let x = got_at xs i (Prim.omega (arith, below, count)) in
     same_some y.number x.0.number
@@ -101,8 +101,8 @@ numbers_kept xs ys same all i y e =
 pub ended_stages : (k after : Kernel) → kernel_of after ≡ record (kernel_of k) { stages = map next_stage (kernel_of k).stages }
     → length after.stages.items ≡ length k.stages.items
 ended_stages k after e =
-    let told = mapped_length states.stage k.stages.items in
-    let told' = mapped_length states.stage after.stages.items in
-    let next = mapped_length next_stage (map states.stage k.stages.items) in
+    let told = length-map k.stages.items states.stage in
+    let told' = length-map after.stages.items states.stage in
+    let next = length-map (map states.stage k.stages.items) next_stage in
     let same : length (map states.stage after.stages.items) ≡ length (map next_stage (map states.stage k.stages.items)) = ap (λ (q : plain.Kernel). length q.stages) e in
     Prim.omega (arith, told, told', next, same)

@@ -2,6 +2,7 @@
 -- the kernel turn of a process touches only the kernel and the process's own part.
 use Rattle.std.specs.Prelude.{◌≡◌, ◌≢◌, ◌≤◌, ◌<◌, refl, ℕ, zero, suc, ◌+◌, ◌-◌, ◌%◌, Bool, true, false, if◌then◌else◌, List, [], ◌∷◌, ◌++◌, length, map, nat_eq, Option, Some, None, slice_get, slice_set}
 use Rattle.std.proofs.Common.{sym, ◌∙◌, ap, subst, arith}
+use Rattle.std.proofs.lemmas.List.{length-map}
 use Rattle.cp_ahead.proofs.Turns.{set_apart, set_length}
 use Rattle.cp_model.specs.States.{numbers_from}
 use Rattle.cp_machine_model.specs.KernelSteps.{kernel_steps}
@@ -28,11 +29,6 @@ module _ {X : Type 0} where
   pub longer : (xs : List X) (x : X) → length (xs ++ x ∷ []) ≡ suc (length xs)
   longer [] x = refl
   longer (z ∷ xs) x = ap suc (longer xs x)
-
-module _ {X Y : Type 0} where
-  pub mapped_length : (f : X → Y) (xs : List X) → length (map f xs) ≡ length xs
-  mapped_length f [] = refl
-  mapped_length f (x ∷ xs) = ap suc (mapped_length f xs)
 
 mapped_twice : {X Y Z : Type 0} (f : Y → Z) (g : X → Y) (xs : List X) → map f (map g xs) ≡ map (λ x. f (g x)) xs
 mapped_twice f g [] = refl
@@ -73,7 +69,7 @@ private_turns_made t n m e = by (nat_eq (suc m.rounds % m.tick) 0)
     by : (b : Bool) → private_turns t (if b then record m { parts = map wake_one m.parts } else m) (numbers_from 1 n)
         ≡ record m { parts = map (λ o. private_steps m.program (clock m) t (woken b o)) m.parts }
     by true =
-        all_turns t n (record m { parts = map wake_one m.parts }) (e ∙ sym (mapped_length wake_one m.parts))
+        all_turns t n (record m { parts = map wake_one m.parts }) (e ∙ sym (length-map m.parts wake_one))
         ∙ ap (λ (l : List PrivateState). record m { parts = l }) (mapped_twice (private_steps m.program (clock m) t) wake_one m.parts)
     by false = all_turns t n m e
 
@@ -167,4 +163,4 @@ rounds_after t (suc m) n ps a =
     ap (λ (q : ℕ). phased_rounds t ps q a) e ∙ rounds_after t m n ps (phased_round t ps a)
 
 pub turned_count : (t : ℕ) (m : Machine) → length (with_turn_taken t m).parts ≡ length m.parts
-turned_count t m = mapped_length (take_turn m.program t (moment_of m.tick m.rounds)) m.parts
+turned_count t m = length-map m.parts (take_turn m.program t (moment_of m.tick m.rounds))

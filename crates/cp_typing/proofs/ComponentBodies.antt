@@ -1,6 +1,7 @@
 -- The routines and the body of a component, after its parameters and variables.
 use Rattle.std.proofs.Common.{◌≡◌, ap₂, ℕ, zero, suc, ◌+◌, true, false, List, [], ◌++◌, Some, None, slice_get, length, map, refl, ap, sym, subst, ◌∙◌, arith, append_assoc, append-nil, codes}
 use Rattle.std.proofs.lemmas.Bool.{true≢false}
+use Rattle.std.proofs.lemmas.List.{length-map}
 use Rattle.cp_model.specs.Syntax as s
 use Rattle.cp_model.specs.Abstract as a
 use Rattle.cp_model.specs.Erase as erase
@@ -37,7 +38,7 @@ use Rattle.cp_typing.proofs.ComponentScopes.{ComponentScope, RoutinesMade, layer
 use Rattle.cp_typing.proofs.RoutineNames.{all_distinct, no_routine_named, routine_names}
 use Rattle.cp_typing.proofs.ExpressionNeeds.{Bounded}
 use Rattle.cp_typing.proofs.StatementNeeds.{statements_bounded}
-use Rattle.cp_typing.proofs.MemberNames.{new_fewer, mapped_at, mapped_length}
+use Rattle.cp_typing.proofs.MemberNames.{new_fewer, mapped_at}
 use Rattle.cp_typing.proofs.AllRoutines.{routines_made}
 use Rattle.cp_typing.proofs.RoutineNames.{routines_new}
 
@@ -68,7 +69,7 @@ module _ (G : GlobalScope → Type 0) (ys : List a.System) (y : s.System) (p : P
       let region_is : all.env.region ≡ record { sort = y.sort; part = part.Body } = ap (λ e. e.region) m.same ∙ o.region in
       let l : Layers G all.env m.more place [] =
       layers G ys (erase.system y) all.env all.env m.more m.more (0 + length y.routines) [] place m.behind (grows_same all.env all.env m.more refl refl refl refl refl) in_scope refl
-      (mapped_length erase.routine y.routines ∙ omega arith) (sym (append-nil all.env.names)) m.behind.distinct in
+      (length-map y.routines erase.routine ∙ omega arith) (sym (append-nil all.env.names)) m.behind.distinct in
       let region : RegionAs G all.env m.more place = record {
         sort = ap (λ w. erase.sort_of w.sort) region_is;
         routine = λ h. absurd (true≢false (sym h ∙ ap (λ w. is_in_routine w.part) region_is));

@@ -2,6 +2,7 @@
 use Rattle.std.proofs.Common.{◌≡◌, ℕ, suc, ◌-◌, ℤ, pos, Bool, true, false, ◌||◌, List, [], ◌∷◌, ◌++◌, Option, Some, None, if◌then◌else◌, length, map, arith, refl, ap, sym, subst, ◌∙◌, append_assoc, append-nil, length-append, codes, bytes_eq}
 use Rattle.std.specs.Option.{option_or}
 use Rattle.std.proofs.lemmas.Bool.{true≢false}
+use Rattle.std.proofs.lemmas.List.{length-map}
 use Rattle.cp_model.specs.Abstract as a
 use Rattle.cp_model.specs.Erase as erase
 use Rattle.cp_model.specs.declared.tree.Identifier.{Identifier}
@@ -28,7 +29,7 @@ use Rattle.cp_typing.proofs.DeclaredNames.{declare_new, declared_new, names_more
 use Rattle.cp_typing.proofs.RoutineNames.{all_distinct}
 use Rattle.cp_typing.proofs.TypeOrder.{all_kept}
 use Rattle.cp_typing.proofs.Stages.{last_found, Defined, Stage, first_there, no_systems, not_first, stage_named, tables_fewer, type_later, outer_more, later_on, names_fewer}
-use Rattle.cp_typing.proofs.MemberNames.{mapped_length, new_fewer}
+use Rattle.cp_typing.proofs.MemberNames.{new_fewer}
 
 abbrev Constants : Type 0
 Constants = List (Text × (a.BaseType × ℤ))
@@ -171,7 +172,7 @@ module _ (env : Environment) (g : GlobalScope) (rs : Types) (ys : List a.System)
 
   tables_own : Tables (Later g) own more
   tables_own = tables_added (Later g) env own rs row (full_range b) stage.tables refl grows_own
-      (data_row (Later g) own more row (full_range b) (refl, ap (λ n. pos (n - 1)) (mapped_length erase.name xs), type_there)
+      (data_row (Later g) own more row (full_range b) (refl, ap (λ n. pos (n - 1)) (length-map xs erase.name), type_there)
       (simple_data (Later g) row b (pos 0) (pos (length (map erase.name xs) - 1)) (pos 0) refl refl (starts_at_0 (length (map erase.name xs) - 1))))
 
   enumeration_fits : (h : GlobalScope) → IsData h (full_range b)

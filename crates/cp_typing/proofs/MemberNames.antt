@@ -1,5 +1,5 @@
 -- The routines among the names of a component, which are the members of its type.
-use Rattle.std.proofs.Common.{◌≡◌, ℕ, zero, suc, Bool, true, false, ◌||◌, List, [], ◌∷◌, ◌++◌, Option, Some, None, if◌then◌else◌, slice_get, length, map, drop, refl, ap, sym, subst, ◌∙◌, append_assoc, bytes_eq}
+use Rattle.std.proofs.Common.{◌≡◌, ℕ, zero, suc, Bool, true, false, ◌||◌, List, [], ◌∷◌, ◌++◌, Option, Some, None, if◌then◌else◌, slice_get, map, drop, refl, ap, sym, subst, ◌∙◌, append_assoc, bytes_eq}
 use Rattle.std.specs.Option.{option_or}
 use Rattle.std.proofs.lemmas.Bool.{true≢false}
 use Rattle.cp_model.specs.Abstract as a
@@ -82,10 +82,6 @@ pub mapped_at : {A B : Type 0} (f : A → B) (xs : List A) (k : ℕ) (q : B) →
 mapped_at f [] k q h = absurd (cc)
 mapped_at f (x ∷ xs) zero q h = (x, refl, some_same (Some (f x)) (f x) q refl h)
 mapped_at f (x ∷ xs) (suc k) q h = mapped_at f xs k q h
-
-pub mapped_length : {A B : Type 0} (f : A → B) (xs : List A) → length (map f xs) ≡ length xs
-mapped_length f [] = refl
-mapped_length f (x ∷ xs) = ap suc (mapped_length f xs)
 
 pub all_by_value : (z : Sort) (ds : List (Text × Variable)) → AllWritten (Some z) false ds → (x : Text) (v : Variable) → lookup x ds ≡ Some v → v.by_reference ≡ false
 all_by_value z [] h x v f = absurd (cc)
