@@ -26,9 +26,9 @@ use Rattle.cp_rounds.specs.Turned.{moment_of}
 use Rattle.cp_rounds.specs.declared.moment.Moment.{Moment}
 use Rattle.cp_rounds.specs.declared.setting.Setting.{Setting}
 use Rattle.cp_rounds.proofs.AheadTurns.{fewer_bytes}
-use Rattle.cp_rounds.proofs.Lists.{below_or, got_at, got_below, got_set}
+use Rattle.cp_rounds.proofs.Lists.{below_or, got_at, got_below, got_set, mapped_get}
 use Rattle.cp_rounds.proofs.Made.{input_there, part_at, parts_count}
-use Rattle.cp_rounds.proofs.Rooms.{fewer_askers, mapped_get, moved_stages, numbered_set}
+use Rattle.cp_rounds.proofs.Rooms.{fewer_askers, moved_stages, numbered_set}
 use Rattle.cp_ahead.proofs.Turns.{set_length}
 use Rattle.cp_rounds.proofs.Rounds.{Remains, turns_next, turns_remain}
 

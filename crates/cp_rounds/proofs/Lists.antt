@@ -1,5 +1,5 @@
 -- The items of a list that has grown by one, or that has another item in one place.
-use Rattle.std.specs.Prelude.{◌≡◌, ◌≢◌, refl, ℕ, zero, suc, ◌<◌, ◌≤◌, List, [], ◌∷◌, ◌++◌, length, Some, None, slice_get}
+use Rattle.std.specs.Prelude.{◌≡◌, ◌≢◌, refl, ℕ, zero, suc, ◌<◌, ◌≤◌, List, [], ◌∷◌, ◌++◌, length, map, Some, None, slice_get}
 use Rattle.std.proofs.Common.{sym, ap, subst, arith, ◌⊎◌, inl, inr, ⊎_elim, set, get_or}
 use Rattle.cp_model.proofs.Options.{same_some}
 
@@ -53,6 +53,11 @@ module _ {X : Type 0} where
   got_left [] ys i x e = absurd (none_some x e)
   got_left (z ∷ xs) ys zero x e = e
   got_left (z ∷ xs) ys (suc i) x e = got_left xs ys i x e
+
+pub mapped_get : {X Y : Type 0} (f : X → Y) (xs : List X) (i : ℕ) (x : X) → slice_get xs i ≡ Some x → slice_get (map f xs) i ≡ Some (f x)
+mapped_get f [] i x e = absurd (none_some x e)
+mapped_get f (z ∷ xs) zero x e = ap (λ y. Some (f y)) (same_some z x e)
+mapped_get f (z ∷ xs) (suc i) x e = mapped_get f xs i x e
 
 -- ---- Indexes
 

@@ -1,5 +1,5 @@
 -- The turns of a round, as the code makes them, are those of the machine as plain data.
-use Rattle.std.specs.Prelude.{◌≡◌, ◌≢◌, ◌≤◌, refl, ℕ, zero, suc, ◌+◌, ◌-◌, ◌/◌, ◌++◌, List, [], ◌∷◌, length, map, Some, None, slice_get, slice_set}
+use Rattle.std.specs.Prelude.{◌≡◌, ◌≢◌, ◌≤◌, refl, ℕ, zero, suc, ◌+◌, ◌-◌, ◌/◌, ◌++◌, List, [], ◌∷◌, length, Some, None, slice_get, slice_set}
 use Rattle.std.proofs.Common.{sym, ◌∙◌, ap, subst, arith, ◌⊎◌, inl, inr, ⊎_elim}
 use Rattle.cp_program_model.specs.Programs.{Program}
 use Rattle.cp_model.specs.States.{numbers_from}
@@ -20,7 +20,7 @@ use Rattle.cp_rounds.specs.MachineOf.{input_at, input_of, machine_with}
 use Rattle.cp_rounds.specs.Runs.{AreSame, RoundsMade, TurnsTaken}
 use Rattle.cp_rounds.specs.Turned.{moment_of, take_turn, with_turn_taken}
 use Rattle.cp_rounds.specs.declared.setting.Setting.{Setting}
-use Rattle.cp_rounds.proofs.Lists.{got_below, got_left, got_snoc, none_some}
+use Rattle.cp_rounds.proofs.Lists.{got_below, got_left, got_snoc, mapped_get, none_some}
 use Rattle.cp_ahead.proofs.Turns.{set_apart}
 use Rattle.cp_rounds.proofs.Rounds.{Remains, kernel_turn_is, longer, rounds_after, private_turns_made, set_here, turned_count, turns_apart, turns_next, turns_remain}
 
@@ -137,11 +137,6 @@ turn_made t m inputs i ys zs y z k k' here number take_turn each was =
 got_last : {X : Type 0} (xs : List X) (x : X) → slice_get (xs ++ x ∷ []) (length xs) ≡ Some x
 got_last [] x = refl
 got_last (z ∷ xs) x = got_last xs x
-
-mapped_get : {X Y : Type 0} (f : X → Y) (xs : List X) (i : ℕ) (x : X) → slice_get xs i ≡ Some x → slice_get (map f xs) i ≡ Some (f x)
-mapped_get f [] i x e = absurd (none_some x e)
-mapped_get {Y = Y} f (z ∷ xs) zero x e = ap (λ y. Some (f y)) (same_some z x e)
-mapped_get f (z ∷ xs) (suc i) x e = mapped_get f xs i x e
 
 -- The item at an index once the private turns are made.
 pub turned_at : (g : Setting) (t rounds i : ℕ) (xs : List Private) (k : Kernel) (x y : Private) → slice_get xs i ≡ Some x

@@ -14,7 +14,7 @@ use Rattle.cp_machine_model.specs.KernelSteps as plain
 use Rattle.cp_machine_model.specs.Machines.{next_stage}
 use Rattle.cp_machine_model.specs.PrivateStates.{PrivateState}
 use Rattle.cp_rounds.specs.Runs.{AreSame, IsSame}
-use Rattle.cp_rounds.proofs.Lists.{got_at, got_below, got_set, got_snoc, none_some}
+use Rattle.cp_rounds.proofs.Lists.{got_at, got_below, got_set, got_snoc, mapped_get}
 use Rattle.cp_ahead.proofs.Turns.{set_length}
 
 pub fewer_askers : (k : Kernel) (n m : ℕ) → m ≤ n → HasRoomForAskers k n → HasRoomForAskers k m
@@ -82,11 +82,6 @@ same_more xs k ys k' i y z k2 here same e f was = record {
 }
 
 -- ---- Numbers in a list
-
-pub mapped_get : {X Y : Type 0} (f : X → Y) (xs : List X) (i : ℕ) (x : X) → slice_get xs i ≡ Some x → slice_get (map f xs) i ≡ Some (f x)
-mapped_get f [] i x e = absurd (none_some x e)
-mapped_get f (z ∷ xs) zero x e = ap (λ y. Some (f y)) (same_some z x e)
-mapped_get f (z ∷ xs) (suc i) x e = mapped_get f xs i x e
 
 pub numbers_kept : (xs ys : List Private) → map (λ (x : Private). x.number) ys ≡ map (λ (x : Private). x.number) xs → AreNumbered xs → AreNumbered ys
 numbers_kept xs ys same all i y e =
