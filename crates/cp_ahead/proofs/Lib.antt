@@ -3,4 +3,5 @@ pub mod Numbers
 pub mod Stages
 pub mod Turns
 pub mod Rounds
+pub mod Passing
 mod Example

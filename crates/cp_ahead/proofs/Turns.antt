@@ -48,7 +48,7 @@ module _ (program : Program) (tick t : ℕ) where
       by true = refl
       by false = refl
 
-  ahead_number : (rounds n : ℕ) (o y : PrivateState) → IsAhead program tick t rounds n o y → y.number ≡ o.number
+  pub ahead_number : (rounds n : ℕ) (o y : PrivateState) → IsAhead program tick t rounds n o y → y.number ≡ o.number
   ahead_number rounds zero o y is = ap (λ x. x.number) is
   ahead_number rounds (suc n) o y (quiet, rest) =
       ahead_number (suc rounds) n (turn_at program tick t rounds o) y rest ∙ turn_number rounds o
@@ -84,6 +84,11 @@ module _ {X : Type 0} where
 
 -- ---- All processes
 
+-- Nothing begins anew for a process that has begun.
+pub begins_not : (program : Program) (k : Kernel) (i : ℕ) (o : PrivateState) → o.number ≡ suc i → HasBegun i k → begin_one program k o ≡ o
+begins_not program k i o number begun =
+    ap (begin_if program k o) (ap (stage_of k.stages) number ∙ (stage_is k.stages i ∙ begun.stage))
+
 module _ (program : Program) (tick t rounds : ℕ) (n : ℕ → ℕ) (os ys : List PrivateState) (A : AreAhead program tick t rounds n os ys) where
   -- A process that isn't ahead makes a kernel turn.
   pub turn_ahead : (i : ℕ) (z : PrivateState) → n i ≡ 0 → AreAhead program tick t rounds n (slice_set os i z) (slice_set ys i z)
@@ -103,11 +108,6 @@ module _ (program : Program) (tick t rounds : ℕ) (n : ℕ → ℕ) (os ys : Li
           let ne = λ (h : j ≡ i). true≢false (sym (eq-eqb j i h) ∙ is) in
           A.each j o y (sym (set_apart os i j z ne) ∙ e) (sym (set_apart ys i j z ne) ∙ f)
 
-  -- Nothing begins anew for a process that has begun.
-  begins_not : (k : Kernel) (i : ℕ) (o : PrivateState) → o.number ≡ suc i → HasBegun i k → begin_one program k o ≡ o
-  begins_not k i o number begun =
-      ap (begin_if program k o) (ap (stage_of k.stages) number ∙ (stage_is k.stages i ∙ begun.stage))
-
   -- A round ends.
   pub end_ahead : (k : Kernel) → AreNumbered os → ((i : ℕ) → n i ≢ 0 → HasBegun i k)
       → AreAhead program tick t rounds n (map (begin_one program k) os) (map (begin_one program k) ys)
@@ -126,8 +126,8 @@ module _ (program : Program) (tick t rounds : ℕ) (n : ℕ → ℕ) (os ys : Li
           subst (λ c. IsAhead program tick t rounds c o y) (sym none) (ends ∙ (ap (begin_one program k) same ∙ sym is))
       by i o y x z number is ends (suc c) some h =
           let started = begun i (λ e. absurd (omega (arith, e, some))) in
-          let mine = is ∙ begins_not k i x number started in
-          let other = ends ∙ begins_not k i z (ahead_number program tick t rounds (n i) x z h ∙ number) started in
+          let mine = is ∙ begins_not program k i x number started in
+          let other = ends ∙ begins_not program k i z (ahead_number program tick t rounds (n i) x z h ∙ number) started in
           subst (λ q. IsAhead program tick t rounds (n i) q y) (sym mine) (subst (λ q. IsAhead program tick t rounds (n i) x q) (sym other) h)
 
   -- The private turns of the next_ahead round are made.

@@ -231,7 +231,7 @@ pub record HasMade (m after : Machine) (n : ℕ) : Type 0 where
 has_made_none : (m : Machine) → HasMade m m 0
 has_made_none m = record { program = refl; tick = refl; rounds = omega arith; count = refl }
 
-has_made_one : (t p : ℕ) (m : Machine) → p ≡ length m.parts → HasMade m (phased_round t (numbers_from 1 p) m) 1
+pub has_made_one : (t p : ℕ) (m : Machine) → p ≡ length m.parts → HasMade m (phased_round t (numbers_from 1 p) m) 1
 has_made_one t p m all =
     let turned : Machine = with_turn_taken t m in
     let ended : Machine = kernel_turns t turned (numbers_from 1 p) in

@@ -3,8 +3,8 @@
 //! A process that has written nothing and whose next step is private has no kernel turn to make,
 //! whatever the others do (the laws are those of cp_ahead). So the threads make its private turns
 //! of several rounds one after another, and draw once for all of them. The calling thread takes all
-//! private states back, and then makes the rounds one by one, with the private turns that weren't
-//! made ahead.
+//! private states back, passes over the rounds in which all processes are ahead, and makes the others
+//! one by one, with the private turns that weren't made ahead.
 
 ghost use Rattle.std.specs.Prelude.{◌≡◌, ◌≤◌, ◌<◌, ◌+◌, ◌-◌, ℕ, false, true, length, slice_get, Some};
 ghost use Rattle.cp_kernel.specs.KernelOf.{kernel_of};
@@ -12,12 +12,13 @@ ghost use Rattle.cp_machine_model.specs.KernelSteps as plain;
 ghost use Rattle.cp_machine_model.specs.Machines.{Machine, phased_rounds};
 ghost use Rattle.cp_model.specs.States.{numbers_from};
 ghost use Rattle.cp_private.specs.Resting.{rests};
+ghost use Rattle.cp_program.specs.View as view;
 ghost use Rattle.cp_rounds.specs.Ahead.{AreBack, IsReadyAhead, IsTime, PartsAhead, turns_ahead};
 ghost use Rattle.cp_rounds.specs.Runs.{PartsAfter};
 ghost use Rattle.cp_rounds.specs.Tasks.{AreLeft, AreMade, AreTaken};
 ghost use Rattle.cp_rounds.specs.Turned.{with_turn_taken};
 
-use crate::ahead_turns::{Ahead, finish_round, make_turns};
+use crate::ahead_turns::{Ahead, finish_round, make_turns, pass_rounds};
 use crate::gate::TurnGate;
 use crate::hand::Hand;
 use crate::moment::Moment;
@@ -99,9 +100,9 @@ fn take_all_back<'a, C: Course, R: Wait, G: TurnGate>(
     hand.end_wave(rt, run);
 }
 
-// Makes the rounds, of which the private turns of the first one are made. Returns whether all
-// private turns of the others were made ahead, or had no step.
-fn finish_rounds<'a, C: Course, G: TurnGate>(
+// Makes the rounds one by one, of which the private turns of the first one are made. Returns whether
+// all private turns of the others were made ahead, or had no step.
+fn finish_one_by_one<'a, C: Course, G: TurnGate>(
     run: &Run<'a, C, G>,
     index: usize,
     moment: Moment,
@@ -140,6 +141,40 @@ fn finish_rounds<'a, C: Course, G: TurnGate>(
     computed
 }
 
+// Makes the rounds, of which the private turns of the first one are made: those in which all
+// processes are ahead at once, and the others one by one. Returns whether all private turns of the
+// others were made ahead, or had no step.
+fn finish_rounds<'a, C: Course, G: TurnGate>(
+    run: &Run<'a, C, G>,
+    index: usize,
+    ahead: &mut Ahead,
+    privates: &mut Vec<Resident>,
+    kernel: &mut Kernel,
+) -> bool
+    requires within { index + ahead.old.later < length run.now.cells.now }
+    requires ready { IsReadyAhead C.most ahead.old.later 0 ahead.old.turns.items privates.old.items
+        kernel.old }
+    ensures made { (m : Machine)
+        → m.program ≡ view.program run.now.turns.setting.now.program
+        → m.tick ≡ run.now.turns.setting.now.tick.rounds → m.rounds ≡ run.now.turns.done + index
+        → PartsAhead run.now.turns.setting.now run.now.turns.plan.turn.steps (m.rounds + 1)
+        (with_turn_taken run.now.turns.plan.turn.steps m) ahead.old.turns.items privates.old.items
+        kernel.old
+        → PartsAhead run.now.turns.setting.now run.now.turns.plan.turn.steps
+        (m.rounds + (ahead.old.later + 1))
+        (phased_rounds run.now.turns.plan.turn.steps (numbers_from 1 (length privates.old.items))
+        (ahead.old.later + 1) m) ahead.new.turns.items privates.new.items kernel.new }
+    ensures none { (i : ℕ) → turns_ahead ahead.new.turns.items i ≡ 0 }
+    ensures ready { IsReadyAhead C.most 0 (length privates.new.items) ahead.new.turns.items
+        privates.new.items kernel.new }
+    ensures count { length privates.new.items ≡ length privates.old.items }
+{
+    let passed = pass_rounds(run, ahead, privates, kernel);
+    let index = index + passed as usize;
+    let moment = run.turns.setting.moment(run.turns.done + index as u64);
+    finish_one_by_one(run, index, moment, ahead, privates, kernel)
+}
+
 /// Makes `count` rounds of a run at once, from the one at this index on, if the gate does nothing
 /// and there are threads to help. Returns whether it did. Otherwise nothing but reserved room has
 /// changed.
@@ -176,7 +211,7 @@ pub(crate) fn make_ahead<'a, C: Course, R: Wait, G: TurnGate>(
         return false;
     };
     take_all_back(rt, run, hand, &round, &mut ahead, privates, kernel);
-    let computed = finish_rounds(run, index, moment, &mut ahead, privates, kernel);
+    let computed = finish_rounds(run, index, &mut ahead, privates, kernel);
     hand.moved = true;
     hand.pace.learn(computed);
     true

@@ -6,7 +6,7 @@ ghost use Rattle.cp_machine_model.specs.Machines as plain;
 ghost use Rattle.cp_private.specs.Rooms.{HasRoomFor};
 ghost use Rattle.cp_private.specs.States.{private_of};
 ghost use Rattle.cp_program.specs.View as view;
-ghost use Rattle.cp_rounds.specs.Ahead.{IsReadyAhead, IsTime, PartsAhead};
+ghost use Rattle.cp_rounds.specs.Ahead.{IsReadyAhead, IsTime, PartsAhead, turns_ahead};
 ghost use Rattle.cp_rounds.specs.MachineOf.{input_at};
 ghost use Rattle.cp_rounds.specs.Turned.{take_turn, with_turn_taken};
 
@@ -46,6 +46,71 @@ impl Ahead {
         }
         Ok(Ahead { turns, later })
     }
+
+    // Returns how many turns all processes are ahead.
+    fn of_all(&self) -> u32
+        ensures few { result ≤ self.now.later }
+        ensures all { (i : ℕ) → i < length self.now.turns.items
+            → result ≤ turns_ahead self.now.turns.items i }
+    {
+        let mut least = self.later;
+        for i in 0..self.turns.len() {
+            least = least.min(self.turns[i]);
+        }
+        least
+    }
+
+    // Goes on to the round that comes so many rounds later.
+    fn pass(&mut self, rounds: u32)
+        requires later { rounds ≤ self.old.later }
+        ensures later { self.new.later ≡ self.old.later - rounds }
+        ensures count { length self.new.turns.items ≡ length self.old.turns.items }
+        ensures less { (i : ℕ) → turns_ahead self.new.turns.items i
+            ≡ turns_ahead self.old.turns.items i - rounds }
+    {
+        self.later -= rounds;
+        for i in 0..self.turns.len() {
+            self.turns[i] = self.turns[i].saturating_sub(rounds);
+        }
+    }
+}
+
+// Calls the gate for the kernel turns of a round in which they have nothing to do.
+fn call_gate<'a, C: Course, G: TurnGate>(run: &Run<'a, C, G>, processes: usize) {
+    for index in 0..processes {
+        run.turns.gate.kernel(index + 1);
+    }
+}
+
+/// Passes over the rounds in which all processes are ahead, once the private turns of the first one
+/// are made: nothing is left to do in them. Returns how many these are.
+pub(crate) fn pass_rounds<'a, C: Course, G: TurnGate>(
+    run: &Run<'a, C, G>,
+    ahead: &mut Ahead,
+    privates: &Vec<Resident>,
+    kernel: &Kernel,
+) -> u32
+    requires room { IsReadyAhead C.most ahead.old.later 0 ahead.old.turns.items privates.now.items
+        kernel.now }
+    ensures parts { (m : plain.Machine)
+        → PartsAhead run.now.turns.setting.now run.now.turns.plan.turn.steps (m.rounds + 1)
+        (with_turn_taken run.now.turns.plan.turn.steps m) ahead.old.turns.items privates.now.items
+        kernel.now
+        → PartsAhead run.now.turns.setting.now run.now.turns.plan.turn.steps
+        (m.rounds + (result + 1)) (with_turn_taken run.now.turns.plan.turn.steps
+        (plain.phased_rounds run.now.turns.plan.turn.steps
+        (numbers_from 1 (length privates.now.items)) result m)) ahead.new.turns.items
+        privates.now.items kernel.now }
+    ensures room { IsReadyAhead C.most ahead.new.later 0 ahead.new.turns.items privates.now.items
+        kernel.now }
+    ensures later { ahead.new.later + result ≡ ahead.old.later }
+{
+    let rounds = ahead.of_all();
+    for _round in 0..rounds {
+        call_gate(run, privates.len());
+    }
+    ahead.pass(rounds);
+    rounds
 }
 
 // Makes the kernel turn of the process at an index, unless it is ahead: then it has nothing to do

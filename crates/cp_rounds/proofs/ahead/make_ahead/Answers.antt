@@ -1,7 +1,7 @@
 use Rattle.std.proofs.Common.{◌≡◌, ◌+◌, ℕ, suc, length, refl, subst, ◌∙◌, arith}
 use Rattle.cp_machine_model.specs.Machines.{Machine, phased_rounds}
 use Rattle.cp_model.specs.States.{numbers_from}
-use Rattle.cp_rounds.specs.Ahead.{AreBack, IsTime, PartsAhead}
+use Rattle.cp_rounds.specs.Ahead.{AreBack, PartsAhead}
 use Rattle.cp_rounds.specs.MachineOf.{machine_with}
 use Rattle.cp_rounds.specs.Made.{IsReadyFor}
 use Rattle.cp_rounds.specs.Turned.{with_turn_taken}
@@ -60,8 +60,7 @@ returns-clause-made g c = λ yes.
     subst (λ (r : ℕ). PartsAhead setting t r (with_turn_taken t m) ns ys k) next
     (back_ahead g.C.Course.quiet g.C.Course.turned g.C.Course.moment g.C.Course.input most setting t run.turns.done run.turns.course run.turns.times index
     c.args.count xs ns ys k (opened.same.numbers before.numbers) back) in
-    let time : IsTime setting m c.moment-moment.result = record { program = refl; time = c.moment-moment.ensures } in
-    let made = c.finish_rounds-computed.ensures.made m time refl refl first in
+    let made = c.finish_rounds-computed.ensures.made m refl refl refl first in
     let last : PartsAhead setting t (rounds + c.args.count) (phased_rounds t (numbers_from 1 (length xs)) c.args.count m) ms zs k2 =
     subst (λ (p : ℕ). PartsAhead setting t (rounds + c.args.count) (phased_rounds t (numbers_from 1 p) c.args.count m) ms zs k2) back.count
     (subst (λ (n : ℕ). PartsAhead setting t (rounds + n) (phased_rounds t (numbers_from 1 (length ys)) n m) ms zs k2) count made) in
