@@ -38,7 +38,7 @@ state counter n = record {
 }
 
 quiet : IsQuiet counting (state 0 0)
-quiet = record { running = refl; next = refl; silent = refl }
+quiet = record { next = λ runs. refl; silent = refl }
 
 two_ahead : IsAhead counting 1 1 0 2 (state 0 0) (state 0 1)
-two_ahead = (quiet, (record { running = refl; next = refl; silent = refl }, refl))
+two_ahead = (quiet, (record { next = λ runs. refl; silent = refl }, refl))

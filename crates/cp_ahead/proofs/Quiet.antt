@@ -5,11 +5,11 @@ use Rattle.std.proofs.lemmas.Bool.{true≢false}
 use Rattle.cp_program_model.specs.Programs.{Operation, Program}
 use Rattle.cp_machine_model.specs.KernelSteps.{Turning, is_begun, is_due, join_words, kernel_steps, needs_kernel, outside, part_words, stage_of}
 use Rattle.cp_machine_model.specs.Machines.{Machine, after_kernel_turn, clock, kernel_turn, transcript_of}
-use Rattle.cp_machine_model.specs.PrivateStates.{PrivateState}
+use Rattle.cp_machine_model.specs.PrivateStates.{PrivateState, is_running}
 use Rattle.cp_machine_model.specs.Steps.{is_held, is_kernel_operation, is_private, operation_of, step_with}
 use Rattle.cp_ahead.specs.Ahead.{IsQuiet}
 
-needs_none : (o : PrivateState) (x : Option Operation) → is_private o x ≡ true → needs_kernel o x ≡ false
+pub needs_none : (o : PrivateState) (x : Option Operation) → is_private o x ≡ true → needs_kernel o x ≡ false
 needs_none o None h = absurd (true≢false (sym h))
 needs_none o (Some x) h = by (is_held o.gate) (is_kernel_operation x) h
   where
@@ -19,14 +19,17 @@ needs_none o (Some x) h = by (is_held o.gate) (is_kernel_operation x) h
     by false false h = refl
 
 not_due : (program : Program) (x : Turning) → IsQuiet program x.own → is_due program x ≡ false
-not_due program x quiet =
-    ap (λ b. if b then (if is_begun (stage_of x.kernel.stages x.own.number) then needs_kernel x.own (operation_of program x.own) else false) else false) quiet.running
-    ∙ (ap (λ b. if is_begun (stage_of x.kernel.stages x.own.number) then b else false) (needs_none x.own (operation_of program x.own) quiet.next)
-    ∙ both (is_begun (stage_of x.kernel.stages x.own.number)))
+not_due program x quiet = by (is_running x.own.activity) refl
   where
     both : (b : Bool) → (if b then false else false) ≡ false
     both true = refl
     both false = refl
+
+    by : (a : Bool) → is_running x.own.activity ≡ a
+        → (if a then (if is_begun (stage_of x.kernel.stages x.own.number) then needs_kernel x.own (operation_of program x.own) else false) else false) ≡ false
+    by true runs =
+        ap (λ b. if is_begun (stage_of x.kernel.stages x.own.number) then b else false) (quiet.next runs) ∙ both (is_begun (stage_of x.kernel.stages x.own.number))
+    by false stops = refl
 
 pub no_steps : (program : Program) (at n : ℕ) (x : Turning) → IsQuiet program x.own → kernel_steps program at n x ≡ x
 no_steps program at zero x quiet = refl

@@ -1,21 +1,20 @@
 -- Private turns that are made ahead of their rounds.
 --
--- A process that has written nothing and whose next step is private has no kernel turn to make,
--- whatever the kernel is. So its private turns of the next rounds can be made one after another,
+-- A process that has written nothing and whose next step isn't the kernel's, if it has one, has no kernel
+-- turn to make, whatever the kernel is. So its private turns of the next rounds can be made one after another,
 -- before the other processes have made their kernel turns: no kernel turn of another process can tell.
-use Rattle.std.specs.Prelude.{◌≡◌, ◌≢◌, ◌%◌, ◌/◌, ℕ, zero, suc, true, List, [], Some, length, if◌then◌else◌, get_or, map, nat_eq, slice_get}
+use Rattle.std.specs.Prelude.{◌≡◌, ◌≢◌, ◌%◌, ◌/◌, ℕ, zero, suc, true, false, List, [], Some, length, if◌then◌else◌, get_or, map, nat_eq, slice_get}
 use Rattle.cp_program_model.specs.Programs.{Program}
-use Rattle.cp_machine_model.specs.KernelSteps.{Begun, Kernel}
+use Rattle.cp_machine_model.specs.KernelSteps.{Begun, Kernel, needs_kernel}
 use Rattle.cp_machine_model.specs.Machines.{Machine, wake_one}
 use Rattle.cp_machine_model.specs.PrivateStates.{PrivateState, is_running}
-use Rattle.cp_machine_model.specs.Steps.{is_private, operation_of, private_steps}
+use Rattle.cp_machine_model.specs.Steps.{operation_of, private_steps}
 
 -- ---- One process
 
--- The next step is private, and nothing that was written is left.
+-- No step of the kernel is next, and nothing that was written is left.
 pub record IsQuiet (program : Program) (o : PrivateState) : Type 0 where
-  pub running : is_running o.activity ≡ true
-  pub next : is_private o (operation_of program o) ≡ true
+  pub next : is_running o.activity ≡ true → needs_kernel o (operation_of program o) ≡ false
   pub silent : o.output ≡ []
 
 -- What a private turn of at most t steps makes of a private state in the round after the first

@@ -1,11 +1,12 @@
 -- What the tasks of several rounds made says of a machine some of whose processes are ahead.
-use Rattle.std.specs.Prelude.{◌≡◌, ◌≢◌, ◌≤◌, ◌+◌, ◌-◌, ◌*◌, refl, ℕ, zero, suc, Bool, true, false, if◌then◌else◌, List, [], ◌∷◌, Some, get_or, length, map, slice_get, vec_len}
+use Rattle.std.specs.Prelude.{◌≡◌, ◌≢◌, ◌≤◌, ◌<◌, ◌+◌, ◌-◌, ◌*◌, refl, ℕ, zero, suc, Bool, true, false, if◌then◌else◌, List, [], ◌∷◌, Some, get_or, length, map, slice_get, vec_len}
 use Rattle.std.proofs.Common.{sym, ◌∙◌, ap, subst, arith}
 use Rattle.std.proofs.lemmas.Bool.{true≢false}
 use Rattle.std.proofs.lemmas.List.{length-map}
 use Rattle.cp_model.proofs.Options.{same_some}
 use native.Mathlib.Nat.{mul-le-mul_right, suc-mul}
 use Rattle.cp_ahead.specs.Ahead.{HasBegun, IsAhead, IsQuiet, turn_at}
+use Rattle.cp_ahead.proofs.Quiet.{needs_none}
 use Rattle.cp_ahead.proofs.Turns.{map_got, turn_number}
 use Rattle.cp_kernel.specs.KernelOf.{Bytes, HasRoomForAskers, HasRoomForBytes, kernel_of}
 use Rattle.cp_kernel.specs.Turns.{parts_of}
@@ -27,7 +28,7 @@ use Rattle.cp_rounds.specs.Made.{IsReadyFor}
 use Rattle.cp_rounds.specs.Numbers.{AreNumbered}
 use Rattle.cp_rounds.specs.Quiet.{is_quiet, is_quiet_by}
 use Rattle.cp_rounds.specs.Runs.{AreTimes}
-use Rattle.cp_rounds.specs.Tasks.{AreMade, IsCourseOf, StaysQuiet, is_some}
+use Rattle.cp_rounds.specs.Tasks.{AllFree, AreMade, AreTaken, IsCourseOf, StaysQuiet, is_some}
 use Rattle.cp_rounds.specs.Turned.{moment_of, take_turn, with_turn_taken}
 use Rattle.cp_rounds.specs.declared.moment.Moment.{Moment}
 use Rattle.cp_rounds.specs.declared.setting.Setting.{Setting}
@@ -37,29 +38,30 @@ use Rattle.cp_rounds.proofs.Rooms.{fewer_askers}
 
 -- ---- Quiet processes
 
-quiet_by : (k : Kind) (written : List ℕ) → is_quiet_by k written ≡ true → (k ≡ kind.Private) × (written ≡ [])
+abbrev is_of_kernel : Kind → Bool
+is_of_kernel kind.Private = false
+is_of_kernel kind.Kernel = true
+is_of_kernel kind.None = false
+
+quiet_by : (k : Kind) (written : List ℕ) → is_quiet_by k written ≡ true → (is_of_kernel k ≡ false) × (written ≡ [])
 quiet_by kind.Private [] h = (refl, refl)
 quiet_by kind.Private (b ∷ written) h = absurd (true≢false (sym h))
 quiet_by kind.Kernel written h = absurd (true≢false (sym h))
-quiet_by kind.None written h = absurd (true≢false (sym h))
-
-abbrev is_private_kind : Kind → Bool
-is_private_kind kind.Private = true
-is_private_kind kind.Kernel = false
-is_private_kind kind.None = false
+quiet_by kind.None [] h = (refl, refl)
+quiet_by kind.None (b ∷ written) h = absurd (true≢false (sym h))
 
 pub quiet_is : (program : Program) (o : PrivateState) → is_quiet program o ≡ true → IsQuiet program o
 quiet_is program o h =
     let both = quiet_by (kind_of program o) o.output h in
-    let found = by (is_running o.activity) (is_private o (operation_of program o)) (needs_kernel o (operation_of program o)) (ap is_private_kind both.0) in
-    record { running = found.0; next = found.1; silent = both.1 }
+    let x = operation_of program o in
+    record { next = λ runs. by (is_running o.activity) (is_private o x) (needs_kernel o x) (needs_none o x) runs both.0; silent = both.1 }
   where
-    by : (a b c : Bool) → is_private_kind (if a then (if b then kind.Private else (if c then kind.Kernel else kind.None)) else kind.None) ≡ true
-        → (a ≡ true) × (b ≡ true)
-    by true true c e = (refl, refl)
-    by true false true e = absurd (true≢false (sym e))
-    by true false false e = absurd (true≢false (sym e))
-    by false b c e = absurd (true≢false (sym e))
+    by : (a b c : Bool) → (b ≡ true → c ≡ false) → a ≡ true
+        → is_of_kernel (if a then (if b then kind.Private else (if c then kind.Kernel else kind.None)) else kind.None) ≡ false → c ≡ false
+    by true true c none runs e = none refl
+    by true false true none runs e = absurd (true≢false e)
+    by true false false none runs e = refl
+    by false b c none runs e = absurd (true≢false (sym runs))
 
 -- The private state at an index of the parts of a machine.
 pub part_of : (inputs : List Bytes) (zs : List Private) (i : ℕ) (o : PrivateState) → slice_get (parts_of (input_of inputs) 1 zs) i ≡ Some o
@@ -190,6 +192,32 @@ module _ (quiet : PrivateState → Bool) (turned : Moment → PrivateState → P
 
 pub fewer_bytes : (k : Kernel) (p n m : ℕ) → m ≤ n → HasRoomForBytes k p n → HasRoomForBytes k p m
 fewer_bytes k p n m le h = λ v e. let room = h v e in omega (arith, room, le)
+
+-- A process that rests for good has made all its turns.
+pub rests_taken : (quiet : PrivateState → Bool) (turned : Moment → PrivateState → PrivateState) (moment : ℕ → Moment) (input : List ℕ) (most round n process : ℕ)
+    (xs : List Private) (y : Private) → 0 < process → slice_get xs (process - 1) ≡ Some y → AreNumbered xs → AllFree most xs → quiet (private_of y input) ≡ true
+    → ((w : Moment) → turned w (private_of y input) ≡ private_of y input) → AreTaken (AreMade quiet turned moment round (n + 1)) input most xs process y
+rests_taken quiet turned moment input most round n process xs y some at numbers free still same = record {
+  number = let number = numbers (process - 1) y at in omega (arith, number, some);
+  comes = λ x e. subst (λ (z : Private). AreMade quiet turned moment round (n + 1) (private_of z input) (private_of y input)) (sym (is_here x e)) made;
+  room = let room = free (process - 1) y at in omega (arith, room);
+  short = λ x e. let long = ap (λ (z : Private). vec_len z.output) (is_here x e) in omega (arith, long);
+  wide = let room = free (process - 1) y at in omega (arith, room);
+}
+  where
+    is_here : (x : Private) → slice_get xs (process - 1) ≡ Some x → x ≡ y
+    is_here x e = same_some x y (sym e ∙ at)
+
+    stays : (r k : ℕ) → StaysQuiet quiet turned moment r k (private_of y input) (private_of y input)
+    stays r zero = refl
+    stays r (suc k) =
+        (still, subst (λ (o : PrivateState). StaysQuiet quiet turned moment (suc r) k o (private_of y input)) (sym (same (moment r))) (stays (suc r) k))
+
+    made : AreMade quiet turned moment round (n + 1) (private_of y input) (private_of y input)
+    made =
+        let one : suc n ≡ n + 1 = omega arith in
+        subst (λ (k : ℕ). AreMade quiet turned moment round k (private_of y input) (private_of y input)) one
+        (subst (λ (o : PrivateState). StaysQuiet quiet turned moment (suc round) n o (private_of y input)) (sym (same (moment round))) (stays (suc round) n))
 
 -- With room for more rounds there is room for fewer.
 pub ready_fewer : (most n m : ℕ) (xs : List Private) (k : Kernel) → n ≤ m → IsReadyFor most m xs k → IsReadyFor most n xs k

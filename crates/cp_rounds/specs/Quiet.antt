@@ -10,8 +10,9 @@ abbrev pub is_quiet_by : Kind → List ℕ → Bool
 is_quiet_by kind.Private [] = true
 is_quiet_by kind.Private (b ∷ written) = false
 is_quiet_by kind.Kernel written = false
-is_quiet_by kind.None written = false
+is_quiet_by kind.None [] = true
+is_quiet_by kind.None (b ∷ written) = false
 
--- The next step is private, and nothing that was written is left.
+-- No step of the kernel is next, and nothing that was written is left.
 abbrev pub is_quiet : Program → PrivateState → Bool
 is_quiet program o = is_quiet_by (kind_of program o) o.output

@@ -1,8 +1,8 @@
 //! Several rounds at once.
 //!
-//! A process that has written nothing and whose next step is private has no kernel turn to make,
-//! whatever the others do (the laws are those of cp_ahead). So the threads make its private turns
-//! of several rounds one after another, and draw once for all of them. The calling thread takes all
+//! A process that has written nothing and whose next step isn't the kernel's, if it has one, has no
+//! kernel turn to make, whatever the others do (the laws are those of cp_ahead). So the threads make
+//! its private turns of several rounds one after another, and draw once for all of them. The calling thread takes all
 //! private states back, passes over the rounds in which all processes are ahead, and makes the others
 //! one by one, with the private turns that weren't made ahead.
 
@@ -24,6 +24,7 @@ use crate::hand::Hand;
 use crate::moment::Moment;
 use crate::open_round::OpenRound;
 use crate::parts::Parts;
+use crate::quiet::rests_for_good;
 use crate::round::{open_round, shares_of};
 use crate::run::Run;
 use crate::task::Course;
@@ -46,7 +47,7 @@ fn most_turns(kernel: &Kernel, process: usize, count: u32) -> u32
 }
 
 // Takes back the private state of a process after its turns, of a round and of those that are made
-// at once with it. Returns how many turns it is ahead.
+// at once with it. Returns how many turns it is ahead: as many as may be, if none of them has a step.
 fn take_back<'a, C: Course, R: Wait, G: TurnGate>(
     rt: &R,
     run: &Run<'a, C, G>,
@@ -66,10 +67,13 @@ fn take_back<'a, C: Course, R: Wait, G: TurnGate>(
     ensures begun { 0 < result
         → plain.is_begun (plain.stage_of (kernel_of kernel.now).stages process) ≡ true }
 {
+    let most = most_turns(kernel, process, round.rounds);
     if private.private().rests(round.moment.wakes) {
+        if rests_for_good(&run.turns.setting.program, private.private()) {
+            return most - 1;
+        }
         return 0;
     }
-    let most = most_turns(kernel, process, round.rounds);
     hand.take(rt, run, round, process, most, private) - 1
 }
 
