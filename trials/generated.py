@@ -75,32 +75,35 @@ var g: m; {', '.join(names)}: p; begin init g, {', '.join(f'{name}(g)' for name 
             expect(f'{plan}', run(['run', file, '--rounds', '3', '--turn', '300', *plan]), (0, due, b''))
 
 
-def text_of_counters():
-    """A text whose processes count up to 10, 20 and so on, and call a monitor every ten iterations: what they compute in between is made several rounds at once."""
+def text_of_counters(waits=False):
+    """A text whose processes count up to 10, 20 and so on, and call a monitor every ten iterations: what they compute in between is made several rounds at once.
+    If asked to, they also wait for a tick every seven iterations."""
     names = [f'v{k}' for k in range(1, COUNTERS + 1)]
+    wait = 'if x mod 7 = 0 then wait' if waits else ''
     return f"""type m = monitor; var n: integer; procedure entry add; begin n := n + 1 end; begin n := 0 end;
 p = process(a: m; most: integer); var x: integer;
-begin x := 0; while x < most do begin x := x + 1; if x mod 10 = 0 then a.add end; display(x) end;
+begin x := 0; while x < most do begin x := x + 1; if x mod 10 = 0 then a.add; {wait} end; display(x) end;
 var g: m; {', '.join(names)}: p;
 begin init g, {', '.join(f'{name}(g, {10 * k})' for k, name in enumerate(names, 1))} end."""
 
 
 def try_counters(plans):
-    """Runs counters by each plan: at the end each has written its number, and after any number of rounds the report is that of one worker, who makes one
-    round after another."""
-    with tempfile.TemporaryDirectory() as folder:
-        file = pathlib.Path(folder) / 'text.cp'
-        file.write_text(text_of_counters())
-        status, ended, error = run(['run', file, '--rounds', '300', '--turn', '3', '--workers', '1'])
-        lines = ended.decode().splitlines()
-        written = [line for line in lines if line.startswith('out ')]
-        expect('counters at the end', (status, error, written), (0, b'', ["out ''", *(f"out '{10 * k}'" for k in range(1, COUNTERS + 1))]))
-        expect('calls of counters', f'var n = {sum(range(1, COUNTERS + 1))}' in lines, True)
-        for rounds, turn in [(9, 2), (10, 2), (13, 2), (30, 1), (31, 3), (75, 1), (300, 3)]:
-            words = ['run', file, '--rounds', str(rounds), '--turn', str(turn)]
-            single = run([*words, '--workers', '1'])
-            for plan in plans:
-                expect(f'counters, {rounds} rounds of {turn} by {plan}', run([*words, *plan]), single)
+    """Runs counters by each plan, without and with a clock that they wait for: at the end each has written its number, and after any number of rounds the report
+    is that of one worker, who makes one round after another."""
+    for waits, clock in [(False, []), (True, ['--tick', '3'])]:
+        with tempfile.TemporaryDirectory() as folder:
+            file = pathlib.Path(folder) / 'text.cp'
+            file.write_text(text_of_counters(waits))
+            status, ended, error = run(['run', file, '--rounds', '300', '--turn', '3', '--workers', '1', *clock])
+            lines = ended.decode().splitlines()
+            written = [line for line in lines if line.startswith('out ')]
+            expect('counters at the end', (status, error, written), (0, b'', ["out ''", *(f"out '{10 * k}'" for k in range(1, COUNTERS + 1))]))
+            expect('calls of counters', f'var n = {sum(range(1, COUNTERS + 1))}' in lines, True)
+            for rounds, turn in [(9, 2), (10, 2), (13, 2), (30, 1), (31, 3), (75, 1), (300, 3)]:
+                words = ['run', file, '--rounds', str(rounds), '--turn', str(turn), *clock]
+                single = run([*words, '--workers', '1'])
+                for plan in plans:
+                    expect(f'counters, {rounds} rounds of {turn} by {plan} {clock}', run([*words, *plan]), single)
 
 
 def row_of_askers():
