@@ -10,7 +10,8 @@ pub fn first_token(e: &Expression) -> usize {
         | Expression::Parenthesized { at, .. }
         | Expression::Not { at, .. }
         | Expression::Signed { at, .. } => *at,
-        Expression::Designated(d) | Expression::Call(d, _) => d.root.at,
+        Expression::Designated(d) => d.root.at,
+        Expression::Call(d, _) => d.root.at,
         Expression::Chain { first, .. } => first_token(first),
     }
 }

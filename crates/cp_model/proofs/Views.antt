@@ -15,7 +15,7 @@ use Rattle.cp_model.specs.declared.tree.Selector.TheVariants as selectors
 use Rattle.cp_model.specs.declared.tree.Selector.TheVariants.{rolls-Field, rolls-Indexed}
 use Rattle.cp_model.specs.declared.tree.Sign.{Sign}
 
-pub view_call : (d : Designator) (list : Vec Expression Global) → expression (tree.Call d list) ≡ s.Call (designator d) (expressions_of (map expression list.items))
+pub view_call : (d : Box Designator Global) (list : Vec Expression Global) → expression (tree.Call d list) ≡ s.Call (designator d.value) (expressions_of (map expression list.items))
 view_call d list =
     ap expression (sym (rolls-Call d list))
     ∙ fold-roll-Expression s.Expression s.Selector s.Designator PlacedIndex s.Operation expression_layer selector_layer designator_layer index_layer operation_layer _

@@ -79,7 +79,7 @@ abbrev pub expression_layer : Expression-F s.Expression s.Selector s.Designator 
 expression_layer (Expression-F.Number at value) = s.Number at value
 expression_layer (Expression-F.Character at ordinal) = s.Character at ordinal
 expression_layer (Expression-F.Designated d) = s.Designated d
-expression_layer (Expression-F.Call d arguments) = s.Call d (expressions_of arguments.items)
+expression_layer (Expression-F.Call d arguments) = s.Call d.value (expressions_of arguments.items)
 expression_layer (Expression-F.Parenthesized at inner) = s.Parenthesized at inner.value
 expression_layer (Expression-F.Not at operand) = s.Not at operand.value
 expression_layer (Expression-F.Signed sign at operand) = s.Signed sign at operand.value

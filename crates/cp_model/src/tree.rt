@@ -91,7 +91,7 @@ pub enum Expression {
     /// A constant, a variable or a part of one, or a function called without arguments.
     Designated(Designator),
     /// A function called with at least one argument.
-    Call(Designator, Vec<Expression>),
+    Call(Box<Designator>, Vec<Expression>),
     Parenthesized {
         at: usize,
         inner: Box<Expression>,

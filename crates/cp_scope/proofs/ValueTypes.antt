@@ -1,6 +1,6 @@
 -- The types of the values of chains, of designators that are more than a bare name, and of function
 -- results.
-use Rattle.std.proofs.Common.{◌≡◌, ◌∷◌, ◌∙◌, ◌≤◌, true, false, Global, Vec, List, [], Option, None, Some, ap, arith, length, map, refl, slice_index_or, subst, sym}
+use Rattle.std.proofs.Common.{◌≡◌, ◌∷◌, ◌∙◌, ◌≤◌, true, false, Global, Box, Vec, List, [], Option, None, Some, ap, arith, length, map, refl, slice_index_or, subst, sym}
 use Rattle.cp_model.specs.Abstract as a
 use Rattle.cp_model.specs.Abstract.{Name}
 use Rattle.cp_model.specs.Calls as calls
@@ -100,12 +100,12 @@ nothing_called scope t None of other h typed = typed
 nothing_called scope t (Some c) of other h typed = absurd h
 
 -- A call with at least one argument has a first one.
-pub first_argument : (d : Designator) (list : Vec Expression Global) (ss : List Expression) (x : Expression) → ss ≡ list.items → 1 ≤ length ss
+pub first_argument : (d : Box Designator Global) (list : Vec Expression Global) (ss : List Expression) (x : Expression) → ss ≡ list.items → 1 ≤ length ss
     → x ≡ slice_index_or ss 0 x
-    → (es : s.Expressions) × (view.expression (tree.Call d list) ≡ s.Call (view.designator d) (s.MoreExpressions (view.expression x) es))
+    → (es : s.Expressions) × (view.expression (tree.Call d list) ≡ s.Call (view.designator d.value) (s.MoreExpressions (view.expression x) es))
 first_argument d list ss x all long is =
     let found = go list.items (subst (λ ts. 1 ≤ length ts) all long) (subst (λ ts. x ≡ slice_index_or ts 0 x) all is) in
-    (found.0, view_call d list ∙ ap (s.Call (view.designator d)) found.1)
+    (found.0, view_call d list ∙ ap (s.Call (view.designator d.value)) found.1)
   where
     go : (ts : List Expression) → 1 ≤ length ts → x ≡ slice_index_or ts 0 x
         → (es : s.Expressions) × (view.expressions_of (map view.expression ts) ≡ s.MoreExpressions (view.expression x) es)

@@ -110,6 +110,7 @@ fn designator_or_call<F: Fn(Global, usize, &[Token]) -> Read<'_, Expression> + C
         return Ok((Expression::Designated(d), rest));
     }
     let (arguments, rest) = arguments(level, rest)?;
+    let d = Box::new(level.alloc, d)?;
     Ok((Expression::Call(d, arguments), rest))
 }
 

@@ -30,18 +30,18 @@ abbrev pub meant : Expression → a.Expression
 meant e = erase.expression (tree.expression e)
 
 -- A call without arguments is its designator.
-pub bare_call : (d : Designator) (es : Vec Expression Global) → length es.items < 1 → meant (written.Call d es) ≡ a.Use (erase.designator (tree.designator d))
+pub bare_call : (d : Box Designator Global) (es : Vec Expression Global) → length es.items < 1 → meant (written.Call d es) ≡ a.Use (erase.designator (tree.designator d.value))
 bare_call d es none = ap erase.expression (view_call d es) ∙ go es.items none
   where
     go : (xs : List Expression) → length xs < 1
-        → erase.expression (syntax.Call (tree.designator d) (tree.expressions_of (map tree.expression xs))) ≡ a.Use (erase.designator (tree.designator d))
+        → erase.expression (syntax.Call (tree.designator d.value) (tree.expressions_of (map tree.expression xs))) ≡ a.Use (erase.designator (tree.designator d.value))
     go [] h = refl
     go (x ∷ xs) h = absurd (omega (arith, h))
 
-pub no_bare_call : (d : Designator) (es : Vec Expression Global) → 1 ≤ length es.items → IsNoUse (meant (written.Call d es))
+pub no_bare_call : (d : Box Designator Global) (es : Vec Expression Global) → 1 ≤ length es.items → IsNoUse (meant (written.Call d es))
 no_bare_call d es some = subst (λ x. IsNoUse (erase.expression x)) (sym (view_call d es)) (go es.items some)
   where
-    go : (xs : List Expression) → 1 ≤ length xs → IsNoUse (erase.expression (syntax.Call (tree.designator d) (tree.expressions_of (map tree.expression xs))))
+    go : (xs : List Expression) → 1 ≤ length xs → IsNoUse (erase.expression (syntax.Call (tree.designator d.value) (tree.expressions_of (map tree.expression xs))))
     go [] h = absurd (omega (arith, h))
     go (x ∷ xs) h = tt
 

@@ -98,20 +98,20 @@ judge-returns-else-is_empty t c =
 pub judge-returns-in-Call : goal.judge-returns-in-Call
 judge-returns-in-Call t c =
     let env = c.args.env.now in
-    let d = designator c.in-Call.d in
+    let d = designator c.in-Call.d.value in
     let list = c.in-Call.list.items in
     let es = expressions_of (map expression list) in
     let v : expression c.args.e.now ≡ s.Call d es = rw c.in-Call.is (view_call c.in-Call.d c.in-Call.list) in
-    let count : c.len.result ≡ n.count_of es = c.len.ensures ∙ sym c.deref.ensures.len ∙ ap length c.deref.ensures.value ∙ sym (count_expressions list) in
+    let count : c.len.result ≡ n.count_of es = c.len.ensures ∙ sym c.deref-in-Call-2.ensures.len ∙ ap length c.deref-in-Call-2.ensures.value ∙ sym (count_expressions list) in
     let jc = parts.callee_of env c.args.mode d (n.count_of es) in
     let ja = x.arguments env (x.wants_in env (x.designate env d) jc) es in
-    let callee = rw count at c.judge_callee-called.ensures.callee in
-    let wanted = rw count at c.judge_callee-called.ensures.wants in
-    let given = rw (wanted, c.deref.ensures.value) at c.arguments-t.ensures in
+    let callee = rw (c.deref-in-Call.ensures, count) at c.judge_callee-called.ensures.callee in
+    let wanted = rw (c.deref-in-Call.ensures, count) at c.judge_callee-called.ensures.wants in
+    let given = rw (wanted, c.deref-in-Call-2.ensures.value) at c.arguments-t.ensures in
     let result = result_told env c.names_fit-fits.new.told c.judge_callee-called.new.told c.arguments-t.new.told c.judge_callee-called.result.callee c.arguments-t.result jc ja callee given in
     rw (v, c.answer_if.ensures, c.result.ensures) (also_told c.args.told.now c.names_fit-fits.new.told c.arguments-t.new.told c.names_fit-fits.result
     (n.c2_c5_c8_named env (x.first_operand c.args.mode) d) (result_if env c.judge_callee-called.result.callee c.arguments-t.result) (both jc ja (x.result_of env))
-    (rw c.first_operand.ensures at c.names_fit-fits.ensures) result)
+    (rw (c.first_operand.ensures, c.deref.ensures) at c.names_fit-fits.ensures) result)
 
 pub judge_use-returns : goal.judge_use-returns
 judge_use-returns t c =

@@ -7,7 +7,7 @@ use Rattle.cp_translate.proofs.components.+argument_name.Goals as goal
 
 pub returns-in-empty : goal.returns-in-empty
 returns-in-empty t c =
-    c.lone_name-in-empty.ensures
+    (rw c.deref.ensures at c.lone_name-in-empty.ensures)
     ∙ sym (ap (λ e. name_of (designator_of e))
     (ap meant c.in-Call.is ∙ bare_call c.in-Call.d c.in-Call.es (rw c.as_slice.ensures.value at c.in-empty.len_below)))
 

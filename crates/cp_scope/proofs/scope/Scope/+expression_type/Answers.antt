@@ -14,4 +14,4 @@ returns-in_ok-expression_type-in-len1-up t c =
     (λ of gives s i.
     subst (ValueIs s of) (sym (ap view.expression c.in-Call.is ∙ first.1))
     (gives s (view.expression c.first-item.result) first.0 i (c.in_ok-expression_type-in-len1-up.ensures s i)))
-    c.call_type.ensures
+    (rw c.deref-in-len1-up.ensures at c.call_type.ensures)

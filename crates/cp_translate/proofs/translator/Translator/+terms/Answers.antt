@@ -327,16 +327,16 @@ term-returns-in-Some t c =
     let before = map coded_call c.args.calls.now.items in
     let after = c.user_call.new.calls.items in
     let low = c.args.low in
-    let d = tree.designator c.in-Call.d in
+    let d = tree.designator c.in-Call.d.value in
     let es = tree.expressions_of (map tree.expression c.in-Call.es.items) in
     let v : tree.expression c.args.e.now ≡ syntax.Call d es = rw c.in-Call.is (view_call c.in-Call.d c.in-Call.es) in
     if_ok c.user_call.result
     (λ made h s scope.
     let found = called_by c.args.self.now.scope s c.in-Some.callee (callee (environment s) (erase.designator d))
-    (rw c.in-Some.is at (c.callee.ensures s scope)) in
+    (rw (c.in-Some.is, c.deref-in-len1-up.ensures) at (c.callee.ensures s scope)) in
     seen_as before after made s low (tree.expression c.args.e.now) (syntax.Call d es) v
     (subst (IsTerm before after made) (sym (called_as s (erase.designator d) (erase.expressions es) low found.callee found.is))
-    ((rw c.deref.ensures.value at h) s found.callee scope found.stands)))
+    ((rw c.deref-in-Some.ensures.value at h) s found.callee scope found.stands)))
     c.user_call.ensures
 
 pub term-returns-in-None : goal.term-returns-in-None
@@ -344,7 +344,7 @@ term-returns-in-None t c =
     let before = map coded_call c.args.calls.now.items in
     let after = c.standard_call.new.calls.items in
     let low = c.args.low in
-    let d = tree.designator c.in-Call.d in
+    let d = tree.designator c.in-Call.d.value in
     let x = erase.designator d in
     let es = tree.expressions_of (map tree.expression c.in-Call.es.items) in
     let v : tree.expression c.args.e.now ≡ syntax.Call d es = rw c.in-Call.is (view_call c.in-Call.d c.in-Call.es) in
@@ -355,11 +355,11 @@ term-returns-in-None t c =
     let rest = erase.expressions (tree.expressions_of (map tree.expression (drop 1 ss))) in
     if_ok c.standard_call.result
     (λ made h s scope.
-    let none = none_called c.args.self.now.scope s (callee (environment s) x) (rw c.in-None.is at (c.callee.ensures s scope)) in
+    let none = none_called c.args.self.now.scope s (callee (environment s) x) (rw (c.in-None.is, c.deref-in-len1-up.ensures) at (c.callee.ensures s scope)) in
     seen_as before after made s low (tree.expression c.args.e.now) (syntax.Call d es) v
     (subst (λ xs. IsTerm before after made (coded_term s (erase.call_or_name x (erase.expressions (tree.expressions_of (map tree.expression xs)))) low)) (sym split)
     (subst (IsTerm before after made) (sym (standard_as s x e rest low none))
-    (subst (λ n. IsTerm before after made (coded_standard s n (a.MoreExpressions e rest) low)) c.lone_name.ensures (h s rest scope)))))
+    (subst (λ n. IsTerm before after made (coded_standard s n (a.MoreExpressions e rest) low)) (rw c.deref-in-None.ensures at c.lone_name.ensures) (h s rest scope)))))
     c.standard_call.ensures
 
 pub term-returns-in-empty : goal.term-returns-in-empty
@@ -367,7 +367,7 @@ term-returns-in-empty t c =
     let made_of = IsTerm (map coded_call c.args.calls.now.items) c.use_term-in-empty.new.calls.items in
     let is = ap meant c.in-Call.is ∙ bare_call c.in-Call.d c.in-Call.es (rw c.as_slice.ensures.value at c.in-empty.len_below) in
     if_ok c.use_term-in-empty.result
-    (λ made h s scope. subst (λ x. made_of made (coded_term s x c.args.low)) (sym is) (h s scope)) c.use_term-in-empty.ensures
+    (λ made h s scope. subst (λ x. made_of made (coded_term s x c.args.low)) (sym is) (h s scope)) (rw c.deref.ensures at c.use_term-in-empty.ensures)
 
 pub argument_spot-returns-in-len1-up : goal.argument_spot-returns-in-len1-up
 argument_spot-returns-in-len1-up t c = λ s scope.
