@@ -7,7 +7,7 @@ use Rattle.cp_model.specs.Rules.{Accepted, first_violation}
 use Rattle.cp_model.specs.RulesJudged.{least}
 use Rattle.cp_model.specs.Spelling.{Spells}
 use Rattle.cp_model.specs.declared.rules.Violation.{Violation}
-use Rattle.cp_model.specs.declared.token.Token.{Token}
+use Rattle.cp_model.specs.Tokens.{Token}
 use Rattle.cp_scan.specs.Laws.{IsFirstCause, longest_text}
 use Rattle.cp_scan.specs.Pieces.{tokens_of}
 use Rattle.cp_scan.specs.declared.refusal.Cause.{Cause}

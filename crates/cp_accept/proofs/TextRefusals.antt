@@ -11,7 +11,7 @@ use Rattle.cp_model.specs.View as view
 use Rattle.cp_model.specs.Rules.{Accepted}
 use Rattle.cp_model.specs.declared.tree.Tree.{Tree}
 use Rattle.cp_model.specs.Spelling.{Spells}
-use Rattle.cp_model.specs.declared.token.Token.{Token}
+use Rattle.cp_model.specs.Tokens.{Token}
 use Rattle.cp_model.proofs.Options.{same_some}
 use Rattle.cp_scan.specs.Laws.{longest_text}
 use Rattle.cp_syntax.specs.Refusals.{Refused}

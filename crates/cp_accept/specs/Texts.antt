@@ -4,7 +4,7 @@ use Rattle.cp_model.specs.Syntax as s
 use Rattle.cp_model.specs.Grammar.{Reads}
 use Rattle.cp_model.specs.Rules.{Accepted, first_violation}
 use Rattle.cp_model.specs.Spelling.{Spells}
-use Rattle.cp_model.specs.declared.token.Token.{Token}
+use Rattle.cp_model.specs.Tokens.{Token}
 use Rattle.cp_scan.specs.Laws.{TellsFirstCause, longest_text}
 use Rattle.cp_scan.specs.declared.refusal.ScanError.TheVariants as scan
 use Rattle.cp_syntax.specs.Refusals.{Refused}

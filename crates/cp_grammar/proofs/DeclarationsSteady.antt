@@ -2,8 +2,8 @@
 use Rattle.std.proofs.Common.{◌≡◌, ℕ, ◌<◌, Bool, true, false, cond, List, [], ◌∷◌, ◌++◌, length, Option, Some, None, refl, ap, ◌∙◌, append_assoc, arith, length-append}
 use Rattle.cp_model.specs.Syntax as s
 use Rattle.cp_model.specs.Levels.{each_levels, names_levels, type_levels, body_levels, variable_group_levels, variables_levels, optional_levels, parameter_group_levels, parameters_levels, result_type_levels, routine_levels, system_levels, defined_levels, constant_definition_levels, type_definition_levels, section_levels}
-use Rattle.cp_model.specs.declared.token.Kind.{Kind}
-use Rattle.cp_model.specs.declared.token.Kind.TheVariants as kind
+use Rattle.cp_model.specs.Tokens.{Kind}
+use Rattle.cp_model.specs.Tokens as kind
 use Rattle.cp_model.specs.declared.token.Symbol.TheVariants as symbol
 use Rattle.cp_model.specs.declared.tree.Sort.{Sort}
 use Rattle.cp_model.specs.declared.tree.Sort.TheVariants as sort

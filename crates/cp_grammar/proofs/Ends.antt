@@ -1,8 +1,8 @@
 -- A token that ends an expression is none of the operators and selectors that would continue it.
 use Rattle.std.proofs.Common.{◌≡◌, true, false, Option, Some, None, refl}
 use Rattle.cp_model.specs.GrammarExpressions.{is_product, is_sum, is_relation, operator_symbol}
-use Rattle.cp_model.specs.declared.token.Kind.{Kind}
-use Rattle.cp_model.specs.declared.token.Kind.TheVariants as kind
+use Rattle.cp_model.specs.Tokens.{Kind}
+use Rattle.cp_model.specs.Tokens as kind
 use Rattle.cp_model.specs.declared.token.Symbol.TheVariants as symbol
 use Rattle.cp_model.specs.declared.tree.Operator.{Operator}
 use Rattle.cp_model.specs.declared.tree.Operator.TheVariants as operator

@@ -4,9 +4,9 @@ use Rattle.cp_model.specs.Languages.{symbol_at}
 use Rattle.cp_model.specs.Syntax as s
 use Rattle.cp_model.specs.Syntax.{chain_of}
 use Rattle.cp_model.specs.GrammarExpressions.{is_product, is_sum, is_relation, is_factor, is_term, is_simple, IsLeft, IsRight, operator_symbol, sign_symbol, expression}
-use Rattle.cp_model.specs.declared.token.Token.{Token}
-use Rattle.cp_model.specs.declared.token.Kind.{Kind}
-use Rattle.cp_model.specs.declared.token.Kind.TheVariants as kind
+use Rattle.cp_model.specs.Tokens.{Token}
+use Rattle.cp_model.specs.Tokens.{Kind}
+use Rattle.cp_model.specs.Tokens as kind
 use Rattle.cp_model.specs.declared.tree.Operator.{Operator}
 use Rattle.cp_model.specs.declared.tree.Operator.TheVariants as operator
 use Rattle.cp_model.specs.declared.tree.Sign.{Sign}

@@ -5,9 +5,9 @@ use Rattle.cp_model.specs.Syntax as s
 use Rattle.cp_model.specs.Syntax.{chain_of}
 use Rattle.cp_model.specs.View.{PlacedIndex, expressions_of, selectors_of, indices_of}
 use Rattle.cp_model.specs.GrammarExpressions.{is_product, is_sum, operator_symbol, sign_symbol, expression, expressions, more_expressions, designator, selectors, selector, indices, more_indices, arguments}
-use Rattle.cp_model.specs.declared.token.Token.{Token}
-use Rattle.cp_model.specs.declared.token.Kind.{Kind}
-use Rattle.cp_model.specs.declared.token.Kind.TheVariants as kind
+use Rattle.cp_model.specs.Tokens.{Token}
+use Rattle.cp_model.specs.Tokens.{Kind}
+use Rattle.cp_model.specs.Tokens as kind
 use Rattle.cp_model.specs.declared.token.Symbol.{Symbol}
 use Rattle.cp_model.specs.declared.token.Symbol.TheVariants as symbol
 use Rattle.cp_model.specs.declared.tree.Operator.{Operator}

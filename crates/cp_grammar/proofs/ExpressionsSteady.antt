@@ -5,8 +5,8 @@ use Rattle.cp_model.specs.Syntax as s
 use Rattle.cp_model.specs.Syntax.{chain_of}
 use Rattle.cp_model.specs.View.{PlacedIndex, expressions_of, selectors_of, indices_of}
 use Rattle.cp_model.specs.Levels.{each_levels, behind_levels, separated_levels, expression_levels, expressions_levels, more_expressions_levels, designator_levels, selectors_levels, selector_levels, indices_levels, more_indices_levels, arguments_levels}
-use Rattle.cp_model.specs.declared.token.Kind.{Kind}
-use Rattle.cp_model.specs.declared.token.Kind.TheVariants as kind
+use Rattle.cp_model.specs.Tokens.{Kind}
+use Rattle.cp_model.specs.Tokens as kind
 use Rattle.cp_model.specs.declared.token.Symbol.TheVariants as symbol
 use Rattle.cp_model.specs.declared.tree.Operator.{Operator}
 use Rattle.cp_model.specs.declared.tree.Sign.{Sign}

@@ -4,9 +4,9 @@ use Rattle.cp_model.specs.Languages.{symbol, symbol_at, optional, each}
 use Rattle.cp_model.specs.Syntax as s
 use Rattle.cp_model.specs.GrammarTypes.{names}
 use Rattle.cp_model.specs.Grammar.{body, parameter_group, parameters, routine_word, result_type, routine, constant_definition}
-use Rattle.cp_model.specs.declared.token.Token.{Token}
-use Rattle.cp_model.specs.declared.token.Kind.{Kind}
-use Rattle.cp_model.specs.declared.token.Kind.TheVariants as kind
+use Rattle.cp_model.specs.Tokens.{Token}
+use Rattle.cp_model.specs.Tokens.{Kind}
+use Rattle.cp_model.specs.Tokens as kind
 use Rattle.cp_model.specs.declared.token.Symbol.{Symbol}
 use Rattle.cp_model.specs.declared.token.Symbol.TheVariants as symbol
 use Rattle.cp_model.specs.declared.tree.Identifier.{Identifier}

@@ -3,8 +3,8 @@ use Rattle.std.proofs.Common.{◌≡◌, ◌<◌, ◌≤◌, false, List, length
 use Rattle.cp_model.specs.Languages.{identifier, separated_list}
 use Rattle.cp_model.specs.GrammarExpressions.{constant}
 use Rattle.cp_model.specs.GrammarTypes.{names}
-use Rattle.cp_model.specs.declared.token.Token.{Token}
-use Rattle.cp_model.specs.declared.token.Kind.TheVariants as kind
+use Rattle.cp_model.specs.Tokens.{Token}
+use Rattle.cp_model.specs.Tokens as kind
 use Rattle.cp_model.specs.declared.token.Symbol.TheVariants as symbol
 use Rattle.cp_model.specs.declared.tree.Identifier.{Identifier}
 use Rattle.cp_model.specs.declared.tree.Constant.{Constant}

@@ -1,8 +1,8 @@
 -- Names and constants are read steadily.
 use Rattle.std.proofs.Common.{◌≡◌, ℕ, ◌∷◌, Option, Some, refl}
 use Rattle.cp_model.specs.Levels.{identifier_levels, names_levels, constant_levels, constants_levels}
-use Rattle.cp_model.specs.declared.token.Kind.{Kind}
-use Rattle.cp_model.specs.declared.token.Kind.TheVariants as kind
+use Rattle.cp_model.specs.Tokens.{Kind}
+use Rattle.cp_model.specs.Tokens as kind
 use Rattle.cp_model.specs.declared.token.Symbol.TheVariants as symbol
 use Rattle.cp_model.specs.declared.tree.Constant.TheVariants as written
 use Rattle.cp_grammar.specs.Names.{identifier_by, identifier_of, names_of, negative_by, constant_by, constant_of, constants_of}

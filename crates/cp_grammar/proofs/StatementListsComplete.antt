@@ -4,9 +4,9 @@ use Rattle.cp_model.specs.Languages.{symbol_at, each_behind, separated_list}
 use Rattle.cp_model.specs.Syntax as s
 use Rattle.cp_model.specs.View.{LabelledStatement, statements_of, arms_of}
 use Rattle.cp_model.specs.GrammarStatements.{statement, statements, more_statements, arms, more_arms}
-use Rattle.cp_model.specs.declared.token.Token.{Token}
-use Rattle.cp_model.specs.declared.token.Kind.{Kind}
-use Rattle.cp_model.specs.declared.token.Kind.TheVariants as kind
+use Rattle.cp_model.specs.Tokens.{Token}
+use Rattle.cp_model.specs.Tokens.{Kind}
+use Rattle.cp_model.specs.Tokens as kind
 use Rattle.cp_model.specs.declared.token.Symbol.TheVariants as symbol
 use Rattle.cp_model.specs.declared.tree.Constant.{Constant}
 use Rattle.cp_grammar.specs.Kinds.{is_symbol}

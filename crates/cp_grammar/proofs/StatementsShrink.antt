@@ -3,8 +3,8 @@ use Rattle.std.proofs.Common.{ℕ, zero, suc, ◌≤◌, length, arith, List}
 use Rattle.cp_model.specs.Languages.{separated_list}
 use Rattle.cp_model.specs.Syntax as s
 use Rattle.cp_model.specs.GrammarStatements.{direction_symbol, init_item, statement, statements, more_statements, arms, more_arms}
-use Rattle.cp_model.specs.declared.token.Token.{Token}
-use Rattle.cp_model.specs.declared.token.Kind.TheVariants as kind
+use Rattle.cp_model.specs.Tokens.{Token}
+use Rattle.cp_model.specs.Tokens as kind
 use Rattle.cp_model.specs.declared.token.Symbol.TheVariants as symbol
 use Rattle.cp_grammar.proofs.Tokens.{token_shrinks, symbol_shrinks}
 use Rattle.cp_grammar.proofs.Lists.{separated_shrinks}

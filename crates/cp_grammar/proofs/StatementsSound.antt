@@ -6,9 +6,9 @@ use Rattle.cp_model.specs.View.{LabelledStatement, expressions_of, statements_of
 use Rattle.cp_model.specs.GrammarExpressions.{constant, expression, designator}
 use Rattle.cp_model.specs.GrammarStatements.{ends_open, direction_symbol, init_item, statement, statements, more_statements, arms, more_arms}
 use Rattle.cp_model.specs.Grammar.{body}
-use Rattle.cp_model.specs.declared.token.Token.{Token}
-use Rattle.cp_model.specs.declared.token.Kind.{Kind}
-use Rattle.cp_model.specs.declared.token.Kind.TheVariants as kind
+use Rattle.cp_model.specs.Tokens.{Token}
+use Rattle.cp_model.specs.Tokens.{Kind}
+use Rattle.cp_model.specs.Tokens as kind
 use Rattle.cp_model.specs.declared.token.Symbol.{Symbol}
 use Rattle.cp_model.specs.declared.token.Symbol.TheVariants as symbol
 use Rattle.cp_grammar.specs.Kinds.{is_symbol}

@@ -4,8 +4,8 @@ use Rattle.std.proofs.lemmas.List.{append-nil}
 use Rattle.cp_model.specs.Syntax as s
 use Rattle.cp_model.specs.View.{LabelledStatement, expressions_of, statements_of, arms_of}
 use Rattle.cp_model.specs.Levels.{behind_levels, separated_levels, constants_levels, expression_levels, init_item_levels, statement_levels, statements_levels, more_statements_levels, arms_levels, more_arms_levels}
-use Rattle.cp_model.specs.declared.token.Kind.{Kind}
-use Rattle.cp_model.specs.declared.token.Kind.TheVariants as kind
+use Rattle.cp_model.specs.Tokens.{Kind}
+use Rattle.cp_model.specs.Tokens as kind
 use Rattle.cp_model.specs.declared.token.Symbol.TheVariants as symbol
 use Rattle.cp_model.specs.declared.tree.Direction.TheVariants as direction
 use Rattle.cp_grammar.specs.Kinds.{is_symbol}

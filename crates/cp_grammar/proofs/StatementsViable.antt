@@ -6,9 +6,9 @@ use Rattle.cp_model.specs.View.{expressions_of, statements_of, arms_of}
 use Rattle.cp_model.specs.GrammarExpressions.{expression, designator}
 use Rattle.cp_model.specs.GrammarStatements.{ends_open, direction_symbol, init_item, statement, statements, arms}
 use Rattle.cp_model.specs.Grammar.{body}
-use Rattle.cp_model.specs.declared.token.Token.{Token}
-use Rattle.cp_model.specs.declared.token.Kind.{Kind}
-use Rattle.cp_model.specs.declared.token.Kind.TheVariants as kind
+use Rattle.cp_model.specs.Tokens.{Token}
+use Rattle.cp_model.specs.Tokens.{Kind}
+use Rattle.cp_model.specs.Tokens as kind
 use Rattle.cp_model.specs.declared.token.Symbol.TheVariants as symbol
 use Rattle.cp_model.specs.declared.tree.Direction.{Direction}
 use Rattle.cp_model.specs.declared.tree.Direction.TheVariants as direction

@@ -2,7 +2,7 @@
 use Rattle.std.proofs.Common.{ℕ, List, [], ◌∷◌, Option}
 use Rattle.cp_model.specs.Syntax as s
 use Rattle.cp_model.specs.Grammar.{text}
-use Rattle.cp_model.specs.declared.token.Token.{Token}
+use Rattle.cp_model.specs.Tokens.{Token}
 use Rattle.cp_model.specs.declared.token.Symbol.TheVariants as symbol
 use Rattle.cp_grammar.specs.Reading.{Reader, kind_at}
 use Rattle.cp_grammar.specs.Types.{type_at}

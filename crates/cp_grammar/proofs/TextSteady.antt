@@ -3,7 +3,7 @@ use Rattle.std.proofs.Common.{◌≡◌, ℕ, zero, suc, ◌+◌, ◌<◌, ◌++
 use Rattle.std.proofs.lemmas.List.{append-nil}
 use Rattle.cp_model.specs.Syntax as s
 use Rattle.cp_model.specs.Levels.{text_levels}
-use Rattle.cp_model.specs.declared.token.Kind.{Kind}
+use Rattle.cp_model.specs.Tokens.{Kind}
 use Rattle.cp_model.specs.declared.token.Symbol.TheVariants as symbol
 use Rattle.cp_grammar.specs.Reading.{Reader}
 use Rattle.cp_grammar.specs.Expressions.{inner_at}

@@ -4,8 +4,8 @@ use Rattle.std.proofs.lemmas.List.{append-nil}
 use Rattle.cp_model.specs.Languages.{Language}
 use Rattle.cp_model.specs.Syntax as s
 use Rattle.cp_model.specs.Grammar.{text}
-use Rattle.cp_model.specs.declared.token.Token.{Token}
-use Rattle.cp_model.specs.declared.token.Kind.{Kind}
+use Rattle.cp_model.specs.Tokens.{Token}
+use Rattle.cp_model.specs.Tokens.{Kind}
 use Rattle.cp_model.specs.declared.token.Symbol.TheVariants as symbol
 use Rattle.cp_grammar.specs.Reading.{Reader, kind_at}
 use Rattle.cp_grammar.specs.Statements.{Deeper, deeper_at}

@@ -5,9 +5,9 @@ use Rattle.cp_model.specs.Syntax as s
 use Rattle.cp_model.specs.View.{types_of, fields_of}
 use Rattle.cp_model.specs.GrammarExpressions.{constant}
 use Rattle.cp_model.specs.GrammarTypes.{type_expression, types, more_types, fields, more_fields}
-use Rattle.cp_model.specs.declared.token.Token.{Token}
-use Rattle.cp_model.specs.declared.token.Kind.{Kind}
-use Rattle.cp_model.specs.declared.token.Kind.TheVariants as kind
+use Rattle.cp_model.specs.Tokens.{Token}
+use Rattle.cp_model.specs.Tokens.{Kind}
+use Rattle.cp_model.specs.Tokens as kind
 use Rattle.cp_model.specs.declared.token.Symbol.TheVariants as symbol
 use Rattle.cp_model.specs.declared.tree.Identifier.{Identifier}
 use Rattle.cp_model.specs.declared.tree.Constant.{Constant}

@@ -3,8 +3,8 @@ use Rattle.std.proofs.Common.{◌≡◌, ℕ, suc, List, [], ◌∷◌, ◌++◌
 use Rattle.cp_model.specs.Syntax as s
 use Rattle.cp_model.specs.View.{types_of, fields_of}
 use Rattle.cp_model.specs.Levels.{behind_levels, separated_levels, names_levels, constant_levels, type_levels, types_levels, more_types_levels, fields_levels, more_fields_levels}
-use Rattle.cp_model.specs.declared.token.Kind.{Kind}
-use Rattle.cp_model.specs.declared.token.Kind.TheVariants as kind
+use Rattle.cp_model.specs.Tokens.{Kind}
+use Rattle.cp_model.specs.Tokens as kind
 use Rattle.cp_model.specs.declared.token.Symbol.TheVariants as symbol
 use Rattle.cp_model.specs.declared.tree.Identifier.{Identifier}
 use Rattle.cp_model.specs.declared.tree.Constant.{Constant}

@@ -6,7 +6,7 @@ use Rattle.cp_model.specs.GrammarExpressions.{expression, expressions, more_expr
 use Rattle.cp_model.specs.GrammarTypes.{type_expression, types, more_types, fields, more_fields}
 use Rattle.cp_model.specs.GrammarStatements.{init_item, statement, statements, more_statements, arms, more_arms}
 use Rattle.cp_model.specs.Grammar.{body, variable_group, variables, routine, system, definition, type_definition, section, text}
-use Rattle.cp_model.specs.declared.token.Token.{Token}
+use Rattle.cp_model.specs.Tokens.{Token}
 use Rattle.cp_model.specs.declared.token.Symbol.{Symbol}
 
 opens_wider : (room wide : ℕ) (f : ℕ → Language) (ts rest : List Token) → room ≤ wide → ((r w : ℕ) → r ≤ w → f r ts rest → f w ts rest)

@@ -3,8 +3,8 @@
 use Rattle.std.specs.Prelude.{◌≡◌, Bool, true, false, Option, Some}
 use Rattle.cp_model.specs.Syntax as s
 use Rattle.cp_model.specs.GrammarStatements.{ends_open}
-use Rattle.cp_model.specs.declared.token.Kind.{Kind}
-use Rattle.cp_model.specs.declared.token.Kind.TheVariants as kind
+use Rattle.cp_model.specs.Tokens.{Kind}
+use Rattle.cp_model.specs.Tokens as kind
 use Rattle.cp_model.specs.declared.token.Symbol.TheVariants as symbol
 use Rattle.cp_grammar.specs.Kinds.{is_symbol}
 

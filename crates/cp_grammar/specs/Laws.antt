@@ -6,7 +6,7 @@ use Rattle.cp_model.specs.GrammarTypes.{type_expression}
 use Rattle.cp_model.specs.GrammarStatements.{statement}
 use Rattle.cp_model.specs.Grammar.{text, Begins}
 use Rattle.cp_model.specs.Levels.{text_levels}
-use Rattle.cp_model.specs.declared.token.Token.{Token}
+use Rattle.cp_model.specs.Tokens.{Token}
 use Rattle.cp_grammar.specs.declared.stop.Stop.TheVariants.{Wrong, Deep}
 use Rattle.cp_grammar.specs.Reading.{kind_at}
 use Rattle.cp_grammar.specs.Expressions.{expression_at}

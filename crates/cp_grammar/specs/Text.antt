@@ -1,7 +1,7 @@
 -- Reading a whole text.
 use Rattle.std.specs.Prelude.{ℕ, [], Option, Some, None}
 use Rattle.cp_model.specs.Syntax as s
-use Rattle.cp_model.specs.declared.token.Kind.{Kind}
+use Rattle.cp_model.specs.Tokens.{Kind}
 use Rattle.cp_model.specs.declared.token.Symbol.TheVariants as symbol
 use Rattle.cp_grammar.specs.Reading.{Reader, ◌>>=◌, pure, refuse, by_kind, expect, repeat_while}
 use Rattle.cp_grammar.specs.Types.{type_at}

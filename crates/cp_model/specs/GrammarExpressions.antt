@@ -11,7 +11,7 @@
 use Rattle.std.specs.Prelude.{◌≡◌, ℕ, Bool, true, false}
 use Rattle.cp_model.specs.Languages.{Language, empty, never, token, anywhere, symbol, symbol_at, identifier, ◌⋅◌, ◌▸◌, opens}
 use Rattle.cp_model.specs.Syntax as s
-use Rattle.cp_model.specs.declared.token.Kind.TheVariants as kind
+use Rattle.cp_model.specs.Tokens as kind
 use Rattle.cp_model.specs.declared.token.Symbol.{Symbol}
 use Rattle.cp_model.specs.declared.token.Symbol.TheVariants as symbol
 use Rattle.cp_model.specs.declared.tree.Constant.{Constant}

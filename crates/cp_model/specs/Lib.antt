@@ -1,7 +1,8 @@
 pub mod Syntax
 pub mod View
 pub mod Characters
-pub mod Letters
+pub mod Tokens
+pub mod Kinds
 pub mod Spelling
 pub mod Languages
 pub mod GrammarExpressions

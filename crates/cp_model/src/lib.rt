@@ -1,7 +1,7 @@
 //! The types of a Concurrent Pascal text, and the definitions that everything else is proved
 //! against.
 //!
-//! The types have no behaviour: tokens (`token`), the syntax tree (`tree`), what the rules refer to
+//! The types have no behaviour: tokens (`token`, `short`), the syntax tree (`tree`), what the rules refer to
 //! (`rules`), and why a process stops (`state`). The definitions are in `specs/`. docs/language.md
 //! and docs/meaning.md describe them in words, each next to the name of its file. The laws of
 //! rounds are the contracts of functions with empty bodies (`law`).
@@ -9,6 +9,7 @@
 
 pub mod law;
 pub mod rules;
+pub mod short;
 pub mod state;
 pub mod token;
 pub mod tree;

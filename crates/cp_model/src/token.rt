@@ -3,44 +3,14 @@
 //! Which tokens a text has is defined in `specs/Spelling.antt` and described in docs/language.md,
 //! "Tokens".
 
-ghost use Rattle.std.specs.Prelude.{◌≡◌, ◌≤◌, IfOk, length, map, take};
+ghost use Rattle.std.specs.Prelude.{◌≡◌, IfOk, map};
 ghost use Rattle.cp_model.specs.Characters.{lower};
+ghost use Rattle.cp_model.specs.Kinds.{kind_of, letters_of, short_bytes};
+ghost use Rattle.cp_model.specs.Tokens as plain;
 
+use crate::short::{LONGEST_SHORT, ShortWord};
 use std::alloc::{AllocError, Global};
 use std::marker::Model;
-
-// As many bytes as make a name 16 bytes long, with its length and the variant of its letters.
-const SHORT: usize = 14;
-
-// The letters of a short name.
-#[derive(Clone, Copy)]
-struct ShortWord {
-    length: u8,
-    letters: [u8; SHORT],
-    ghost fits: { length ≤ 14 },
-}
-
-impl ShortWord {
-    fn in_lower_case(word: &[u8]) -> ShortWord
-        requires { length word.now ≤ 14 }
-        ensures { take result.length result.letters ≡ map lower word.now }
-    {
-        let mut letters = [0; SHORT];
-        for i in 0..word.len() {
-            letters[i] = word[i].to_ascii_lowercase();
-        }
-        ShortWord {
-            length: word.len() as u8,
-            letters,
-        }
-    }
-
-    fn as_bytes(&self) -> &[u8]
-        ensures { result.now ≡ take self.now.length self.now.letters }
-    {
-        &self.letters[..usize::from(self.length)]
-    }
-}
 
 // Nearly all names are short, and a text has up to half a million, so these need no allocation.
 #[derive(Drop)]
@@ -49,8 +19,8 @@ enum Letters {
     Long(Box<Vec<u8>>),
 }
 
-/// A name: a word in lower case that, in the tokens of a text, isn't reserved. Contracts see it as
-/// the list of its bytes.
+/// A name: a word in lower case that, in the tokens of a text, isn't reserved. It takes 16 bytes.
+/// Contracts see it as the list of its bytes.
 #[derive(Drop)]
 pub struct Name {
     letters: Letters,
@@ -58,7 +28,7 @@ pub struct Name {
 
 impl Model for Name {
     ghost use Rattle.std.specs.Prelude.{ℕ, List};
-    ghost use Rattle.cp_model.specs.Letters.{bytes_of};
+    ghost use Rattle.cp_model.specs.Kinds.{bytes_of};
 
     ghost Value = { List ℕ };
 
@@ -71,7 +41,7 @@ impl Name {
     pub fn new(alloc: Global, word: &[u8]) -> Result<Name, AllocError>
         ensures { IfOk result (λ name. name ≡ map lower word.now) }
     {
-        let letters = if word.len() <= SHORT {
+        let letters = if word.len() <= LONGEST_SHORT {
             Letters::Short(ShortWord::in_lower_case(word))
         } else {
             Letters::Long(Box::new(alloc, word.to_ascii_lowercase(alloc)?)?)
@@ -89,17 +59,36 @@ impl Name {
         }
     }
 
-    /// Returns a copy of the name. Fails only if memory runs out.
-    pub fn copy(&self, alloc: Global) -> Result<Name, AllocError>
-        ensures { IfOk result (λ name. name ≡ self.now) }
+    /// Returns the name of a short word.
+    #[inline(always)]
+    pub fn of_short(word: &ShortWord) -> Name
+        ensures { result ≡ short_bytes word.now }
     {
-        let letters = match &self.letters {
-            Letters::Short(word) => Letters::Short(*word),
-            Letters::Long(word) => {
-                Letters::Long(Box::new(alloc, Vec::from_slice(alloc, word.as_slice())?)?)
-            }
-        };
-        Ok(Name { letters })
+        Name {
+            letters: Letters::Short(*word),
+        }
+    }
+
+    /// Returns a name of letters in lower case, in an allocation of its own. Fails only if memory
+    /// runs out.
+    pub fn of_long(alloc: Global, letters: &[u8]) -> Result<Name, AllocError>
+        ensures { IfOk result (λ name. name ≡ letters.now) }
+    {
+        let word = Box::new(alloc, Vec::from_slice(alloc, letters)?)?;
+        Ok(Name {
+            letters: Letters::Long(word),
+        })
+    }
+
+    /// The kind of token that the name is.
+    #[inline(always)]
+    pub fn into_kind(self) -> Kind
+        ensures { kind_of result ≡ plain.Name self }
+    {
+        match self.letters {
+            Letters::Short(word) => Kind::Short(word),
+            Letters::Long(word) => Kind::Long(word),
+        }
     }
 }
 
@@ -107,8 +96,8 @@ impl Name {
 /// counted from 0.
 #[derive(Clone, Copy, Debug, PartialEq, Eq)]
 pub struct Span {
-    pub from: usize,
-    pub to: usize,
+    pub from: u32,
+    pub to: u32,
 }
 
 /// A reserved word or a mark. `(.` is read as `[`, and `.)` as `]`.
@@ -172,10 +161,14 @@ pub enum Symbol {
     DotDot,
 }
 
-/// What a token is.
+/// What a token is. The letters of a name lie beside the other kinds, and not in a [`Name`], so that
+/// a token takes 24 bytes. Contracts see a kind of `specs/Tokens.antt`, where names are one.
 #[derive(Drop)]
 pub enum Kind {
-    Name(Name),
+    /// A name of at most 14 letters.
+    Short(ShortWord),
+    /// A longer name.
+    Long(Box<Vec<u8>>),
     /// At most 32767 in the tokens of a text.
     Number(u16),
     /// The ordinal of a character constant, at most 127 in the tokens of a text.
@@ -183,9 +176,69 @@ pub enum Kind {
     Symbol(Symbol),
 }
 
-/// A token and its span in the text.
+impl Kind {
+    /// The letters of a name, or none if the token isn't one.
+    pub fn letters(&self) -> &[u8]
+        ensures { result.now ≡ letters_of (kind_of self.now) }
+    {
+        match self {
+            Kind::Short(word) => word.as_bytes(),
+            Kind::Long(word) => word.as_slice(),
+            _ => &[],
+        }
+    }
+}
+
+/// A token and its span in the text. Contracts see it as a token of `specs/Tokens.antt`.
 #[derive(Drop)]
 pub struct Token {
-    pub kind: Kind,
-    pub span: Span,
+    kind: Kind,
+    span: Span,
+}
+
+impl Model for Token {
+    ghost Value = { plain.Token };
+
+    ghost view = { λ token. record { kind = kind_of token.kind; span = token.span } };
+}
+
+impl Token {
+    /// Returns a token of this kind, with these bytes of the text.
+    #[inline(always)]
+    pub fn new(kind: Kind, span: Span) -> Token
+        ensures kind { result.kind ≡ kind_of kind }
+        ensures span { result.span ≡ span }
+    {
+        Token { kind, span }
+    }
+
+    /// What the token is.
+    #[inline(always)]
+    pub fn kind(&self) -> &Kind
+        ensures { kind_of result.now ≡ self.now.kind }
+    {
+        &self.kind
+    }
+
+    /// The bytes of the text that spell the token.
+    pub fn span(&self) -> Span
+        ensures { result ≡ self.now.span }
+    {
+        self.span
+    }
+
+    /// The place of the token's first byte.
+    #[inline(always)]
+    pub fn place(&self) -> usize
+        ensures { result ≡ self.now.span.from }
+    {
+        self.span.from as usize
+    }
+
+    /// The place after the token's last byte.
+    pub fn end(&self) -> usize
+        ensures { result ≡ self.now.span.to }
+    {
+        self.span.to as usize
+    }
 }

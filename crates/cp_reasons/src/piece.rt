@@ -2,7 +2,7 @@
 
 ghost use Rattle.std.specs.Prelude.{◌≤◌, ◌<◌, IfSome, length};
 
-use cp_model::token::{Kind, Span, Symbol, Token};
+use cp_model::token::{Kind, Symbol, Token};
 use cp_page::page::Page;
 use std::alloc::AllocError;
 
@@ -80,7 +80,7 @@ fn token_at(tokens: &[Token], at: usize) -> Option<usize>
     ensures { IfSome result (λ i. i < length tokens.now) }
 {
     for i in 0..tokens.len() {
-        if tokens[i].span.from == at {
+        if tokens[i].place() == at {
             return Some(i);
         }
     }
@@ -97,7 +97,7 @@ fn piece_length(tokens: &[Token], extent: Extent) -> usize
         is_after_dot: false,
     };
     for i in 1..tokens.len() {
-        if !reader.takes(&tokens[i].kind) {
+        if !reader.takes(tokens[i].kind()) {
             return i;
         }
     }
@@ -105,28 +105,28 @@ fn piece_length(tokens: &[Token], extent: Extent) -> usize
 }
 
 // The bytes of a text that spell a token.
-fn spelling(text: &[u8], span: Span) -> &[u8] {
-    let to = span.to.min(text.len());
-    &text[span.from.min(to)..to]
+fn spelling<'t>(text: &'t [u8], token: &Token) -> &'t [u8] {
+    let to = token.end().min(text.len());
+    &text[token.place().min(to)..to]
 }
 
 // Adds a piece. One blank stands where something is between two tokens.
 fn push_tokens(page: &mut Page, text: &[u8], tokens: &[Token]) -> Result<(), AllocError> {
     let mut shown: usize = 0;
     let mut end = match tokens.first() {
-        Some(token) => token.span.from,
+        Some(token) => token.place(),
         None => 0,
     };
     for token in tokens {
-        let spelled = spelling(text, token.span);
-        let blanks = if end < token.span.from { 1 } else { 0 };
+        let spelled = spelling(text, token);
+        let blanks = if end < token.place() { 1 } else { 0 };
         shown = shown.saturating_add(blanks).saturating_add(spelled.len());
         if WIDTH < shown {
             return page.text(" ...");
         }
         page.blanks(blanks)?;
         page.bytes(spelled)?;
-        end = token.span.to;
+        end = token.end();
     }
     Ok(())
 }

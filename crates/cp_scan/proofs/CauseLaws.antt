@@ -5,7 +5,7 @@ use Rattle.std.proofs.Math.Seq.{take-append_seam}
 use Rattle.std.proofs.lemmas.Bool.{and_parts, eqb-true, false_from_ne_true, le-ltb, lt-ltb}
 use Rattle.cp_model.specs.Characters.{is_digit, is_in_word, is_apostrophe, decimal_value}
 use Rattle.cp_model.specs.Spelling.{IsWritten, IsBadByte, IsOpenComment, IsBadCharacter, IsLargeNumber, IsLongWord, IsCharacter, Each, Stops}
-use Rattle.cp_model.specs.declared.token.Kind.TheVariants as kind
+use Rattle.cp_model.specs.Tokens as kind
 use Rattle.cp_model.specs.declared.token.Symbol.{Symbol}
 use Rattle.cp_model.specs.declared.token.Symbol.TheVariants as symbol
 use Rattle.cp_scan.specs.declared.refusal.Cause.{Cause}

@@ -7,7 +7,7 @@ use Rattle.std.proofs.lemmas.Bool.{eqb-true, le-leb, leb-true, and_parts, and_ri
 use Rattle.std.proofs.lemmas.List.{drop_at}
 use Rattle.cp_model.specs.Characters.{is_digit, is_apostrophe, is_printable, decimal_value}
 use Rattle.cp_model.specs.Spelling.{IsCharacter, IsBadCharacter, Each}
-use Rattle.cp_model.specs.declared.token.Kind.TheVariants as kind
+use Rattle.cp_model.specs.Tokens as kind
 use Rattle.cp_scan.specs.declared.refusal.Cause.TheVariants as cause
 use Rattle.cp_scan.specs.Pieces.{Piece, run, head_or_zero, coded_character, character, piece}
 use Rattle.cp_scan.proofs.Fronts.{front, Holds, by_test}

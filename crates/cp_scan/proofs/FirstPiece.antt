@@ -1,7 +1,10 @@
 -- The piece at the front of a text that isn't empty: its length, and what begins with a blank or a letter.
-use Rattle.std.proofs.Common.{◌≡◌, ℕ, ◌+◌, ◌<◌, ◌≤◌, List, [], ◌∷◌, length, drop, get_or, Option, None, Ok, Err, IfOk, Bool, true, refl, sym, ap, subst, ◌∙◌, length-drop, length-append, arith}
+use Rattle.std.proofs.Common.{◌≡◌, ℕ, ◌+◌, ◌<◌, ◌≤◌, List, [], ◌∷◌, length, drop, get_or, Option, None, Result, Ok, Err, IfOk, Bool, true, refl, sym, ap, subst, ◌∙◌, length-drop, length-append, arith}
 use Rattle.cp_model.specs.Characters.{is_blank, is_letter}
-use Rattle.cp_model.specs.declared.token.Kind.{Kind}
+use Rattle.cp_model.specs.Tokens.{Kind}
+use Rattle.cp_model.specs.declared.token.Kind.{Kind as Found}
+use Rattle.cp_scan.specs.Fronts.{front}
+use Rattle.cp_scan.specs.declared.refusal.Cause.{Cause}
 use Rattle.cp_scan.specs.Pieces.{Piece, piece, first_piece, head_or_zero, word}
 use Rattle.cp_scan.proofs.Fronts.{Holds}
 use Rattle.cp_scan.proofs.PieceLaws.{piece_holds}
@@ -34,6 +37,12 @@ piece_below text at limit some below (Ok x) is_front =
     let most = (piece_length (head_or_zero text) (drop 1 text) x.0 x.1 (sym is_front)).1 in
     let l = ap (λ (w : List ℕ). length w) (left_at text some) in
     omega arith
+
+-- and so is the place after what the code found there
+pub front_below : (text : List ℕ) (at limit : ℕ) → 0 < length text → at + length text < limit → (r : Result (Option Found × ℕ) Cause)
+    → front r ≡ first_piece text → IfOk r (λ found. at + found.1 < limit)
+front_below text at limit some below (Err c) is_front = tt
+front_below text at limit some below (Ok x) is_front = piece_below text at limit some below (front (Ok x)) is_front
 
 -- a blank is a piece
 blank_first : (rest : List ℕ) → is_blank (get_or rest 0 0) ≡ true → Ok (None, 1) ≡ first_piece rest

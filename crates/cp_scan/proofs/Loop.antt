@@ -1,8 +1,8 @@
 -- The iterations of the scanner's loop, and its end.
 use Rattle.std.proofs.Common.{◌≡◌, ℕ, suc, ◌+◌, ◌-◌, ◌<◌, ◌≤◌, List, ◌∷◌, length, drop, Option, Ok, Err, IfErr, IsErrAnd, refl, sym, ap, subst, ◌∙◌, length-drop, arith}
 use Rattle.std.proofs.lemmas.List.{drop_all, drop-drop}
-use Rattle.cp_model.specs.declared.token.Kind.{Kind}
-use Rattle.cp_model.specs.declared.token.Token.{Token}
+use Rattle.cp_model.specs.Tokens.{Kind}
+use Rattle.cp_model.specs.Tokens.{Token}
 use Rattle.cp_scan.specs.declared.refusal.Cause.{Cause}
 use Rattle.cp_scan.specs.declared.refusal.ScanError.{ScanError}
 use Rattle.cp_scan.specs.declared.refusal.ScanError.TheVariants as error

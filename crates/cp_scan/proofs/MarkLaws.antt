@@ -5,7 +5,7 @@ use Rattle.std.specs.Prelude.{◌==◌}
 use Rattle.std.proofs.lemmas.Bool.{eqb-true, or_parts, or_from}
 use Rattle.cp_model.specs.Characters.{is_blank, is_digit, is_letter, is_quote, is_apostrophe}
 use Rattle.cp_model.specs.Spelling.{IsWritten, IsBadByte, Stops, grows}
-use Rattle.cp_model.specs.declared.token.Kind.TheVariants as kind
+use Rattle.cp_model.specs.Tokens as kind
 use Rattle.cp_model.specs.declared.token.Symbol.{Symbol}
 use Rattle.cp_model.specs.declared.token.Symbol.TheVariants as symbol
 use Rattle.cp_scan.specs.declared.refusal.Cause.TheVariants as cause

@@ -5,7 +5,7 @@ use Rattle.std.proofs.Math.Seq.{take-append_seam}
 use Rattle.std.proofs.lemmas.Bool.{le-ltb, ltb-true, ltb-false}
 use Rattle.cp_model.specs.Characters.{is_digit, decimal_value}
 use Rattle.cp_model.specs.Spelling.{IsNumber, Each}
-use Rattle.cp_model.specs.declared.token.Kind.TheVariants as kind
+use Rattle.cp_model.specs.Tokens as kind
 use Rattle.cp_scan.specs.declared.refusal.Cause.TheVariants as cause
 use Rattle.cp_scan.specs.Pieces.{Piece, run, number, piece}
 use Rattle.cp_scan.proofs.Fronts.{front, Holds, by_test}

@@ -3,8 +3,8 @@
 use Rattle.std.proofs.Common.{◌≡◌, ℕ, List, ◌∷◌, ◌++◌, length, Option, Some, None, Ok, inl, inr}
 use Rattle.cp_model.specs.Characters.{is_blank, is_digit, is_letter, is_quote, is_apostrophe}
 use Rattle.cp_model.specs.Spelling.{IsPiece}
-use Rattle.cp_model.specs.declared.token.Kind.{Kind}
-use Rattle.cp_model.specs.declared.token.Kind.TheVariants as kind
+use Rattle.cp_model.specs.Tokens.{Kind}
+use Rattle.cp_model.specs.Tokens as kind
 use Rattle.cp_scan.specs.Pieces.{piece}
 use Rattle.cp_scan.proofs.CharacterLaws.{character_again, character_holds}
 use Rattle.cp_scan.proofs.Fronts.{front, Holds, by_test}

@@ -4,8 +4,8 @@ use Rattle.std.proofs.Common.{◌≡◌, ℕ, zero, suc, ◌+◌, ◌≤◌, Lis
 use Rattle.std.proofs.lemmas.List.{append-nil, drop_at}
 use Rattle.cp_model.specs.Spelling.{IsPiece, Row, Spells, SpelledUpTo}
 use Rattle.cp_model.specs.Spelling as spelling
-use Rattle.cp_model.specs.declared.token.Kind.{Kind}
-use Rattle.cp_model.specs.declared.token.Token.{Token}
+use Rattle.cp_model.specs.Tokens.{Kind}
+use Rattle.cp_model.specs.Tokens.{Token}
 use Rattle.cp_scan.specs.declared.refusal.Cause.{Cause}
 use Rattle.cp_scan.specs.Laws.{StandsIn}
 use Rattle.cp_scan.specs.Pieces.{Piece, Outcome, piece, pieces, goes_on, with_token, tokens_of}

@@ -2,8 +2,8 @@
 use Rattle.std.proofs.Common.{◌≡◌, ℕ, ◌+◌, ◌≤◌, List, [], ◌∷◌, ◌++◌, length, Option, Some, None, subst, ap, length-append, zero-add, arith}
 use Rattle.cp_model.specs.Spelling.{IsPiece, Row, Spells}
 use Rattle.cp_model.specs.Spelling as spelling
-use Rattle.cp_model.specs.declared.token.Kind.{Kind}
-use Rattle.cp_model.specs.declared.token.Token.{Token}
+use Rattle.cp_model.specs.Tokens.{Kind}
+use Rattle.cp_model.specs.Tokens.{Token}
 use Rattle.cp_scan.specs.Laws.{RisesFrom}
 use Rattle.cp_scan.proofs.Turns.{has_bytes}
 

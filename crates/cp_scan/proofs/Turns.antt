@@ -2,8 +2,8 @@
 use Rattle.std.proofs.Common.{◌≡◌, ℕ, zero, suc, ◌+◌, ◌<◌, List, [], ◌∷◌, ◌++◌, length, drop, Option, Some, None, Ok, refl, append_assoc, arith}
 use Rattle.cp_model.specs.Spelling.{IsPiece}
 use Rattle.cp_model.specs.Spelling as spelling
-use Rattle.cp_model.specs.declared.token.Kind.{Kind}
-use Rattle.cp_model.specs.declared.token.Token.{Token}
+use Rattle.cp_model.specs.Tokens.{Kind}
+use Rattle.cp_model.specs.Tokens.{Token}
 use Rattle.cp_scan.specs.Pieces.{Outcome, piece, pieces, goes_on, with_token}
 use Rattle.cp_scan.proofs.Fronts.{no_empty}
 

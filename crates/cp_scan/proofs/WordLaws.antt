@@ -4,8 +4,8 @@ use Rattle.std.proofs.Math.Seq.{take-append_seam}
 use Rattle.std.proofs.lemmas.Bool.{le-ltb, ltb-true, ltb-false, cond_both}
 use Rattle.cp_model.specs.Characters.{is_in_word, is_letter, lower}
 use Rattle.cp_model.specs.Spelling.{IsWord, IsPiece, same_text, word_among, kind_of_word, reserved_words}
-use Rattle.cp_model.specs.declared.token.Kind.{Kind}
-use Rattle.cp_model.specs.declared.token.Kind.TheVariants as kind
+use Rattle.cp_model.specs.Tokens.{Kind}
+use Rattle.cp_model.specs.Tokens as kind
 use Rattle.cp_model.specs.declared.token.Symbol.{Symbol}
 use Rattle.cp_scan.specs.declared.refusal.Cause.TheVariants as cause
 use Rattle.cp_scan.specs.Pieces.{run, word, piece}

@@ -1,7 +1,7 @@
 -- What a scan says about a text, in terms of `Spelling`.
 use Rattle.std.specs.Prelude.{◌≡◌, ℕ, ◌≤◌, ◌<◌, List, [], ◌∷◌, length, ◌⊎◌}
 use Rattle.cp_model.specs.Spelling.{Spells, SpelledUpTo, IsBadByte, IsOpenComment, IsBadCharacter, IsLargeNumber, IsLongWord}
-use Rattle.cp_model.specs.declared.token.Token.{Token}
+use Rattle.cp_model.specs.Tokens.{Token}
 use Rattle.cp_scan.specs.declared.refusal.Cause.{Cause}
 use Rattle.cp_scan.specs.declared.refusal.Cause.TheVariants as cause
 use Rattle.cp_scan.specs.declared.refusal.ScanError.{ScanError}

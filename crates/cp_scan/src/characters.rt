@@ -2,6 +2,7 @@
 //! `character` and `coded_character` of `specs/Pieces.antt` define what is read.
 
 ghost use Rattle.std.specs.Prelude.{◌≡◌};
+ghost use Rattle.cp_scan.specs.Fronts.{front};
 ghost use Rattle.cp_scan.specs.Pieces as spec;
 
 use crate::bytes::{APOSTROPHE, byte_at, digit_count, is_printable};
@@ -14,7 +15,7 @@ use cp_model::token::Kind;
 // its `'(:`.
 #[tactic(auto, unfolding(crate::specs::Pieces::coded_character))]
 fn character_by_ordinal(rest: &[u8]) -> Front
-    ensures { result ≡ spec.coded_character rest.now }
+    ensures { front result ≡ spec.coded_character rest.now }
 {
     let n = digit_count(rest);
     let value = capped_value(&rest[..n]);
@@ -32,7 +33,7 @@ fn character_by_ordinal(rest: &[u8]) -> Front
 /// Reads the rest of a character constant. The text before `rest` ends with its opening apostrophe.
 #[tactic(auto, unfolding(crate::specs::Pieces::character))]
 pub fn character(rest: &[u8]) -> Front
-    ensures { result ≡ spec.character rest.now }
+    ensures { front result ≡ spec.character rest.now }
 {
     let b = byte_at(rest, 0);
     let c = byte_at(rest, 1);

@@ -2,6 +2,7 @@
 //! read.
 
 ghost use Rattle.std.specs.Prelude.{◌≡◌};
+ghost use Rattle.cp_scan.specs.Fronts.{front};
 ghost use Rattle.cp_scan.specs.Pieces as spec;
 
 use crate::bytes::length_before_quote;
@@ -11,7 +12,7 @@ use crate::refusal::Cause;
 /// Reads the rest of a comment. The text before `rest` ends with its opening `"`.
 #[tactic(auto, unfolding(crate::specs::Pieces::comment))]
 pub fn comment(rest: &[u8]) -> Front
-    ensures { result ≡ spec.comment rest.now }
+    ensures { front result ≡ spec.comment rest.now }
 {
     let n = length_before_quote(rest);
     if n < rest.len() {

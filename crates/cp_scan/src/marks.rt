@@ -3,6 +3,7 @@
 //! it.
 
 ghost use Rattle.std.specs.Prelude.{◌≡◌};
+ghost use Rattle.cp_scan.specs.Fronts.{front};
 ghost use Rattle.cp_scan.specs.Pieces as spec;
 ghost use Rattle.cp_scan.specs.Pieces.{head_or_zero};
 
@@ -12,13 +13,13 @@ use crate::refusal::Cause;
 use cp_model::token::{Kind, Symbol};
 
 fn one(symbol: Symbol) -> Front
-    ensures { result ≡ spec.one symbol }
+    ensures { front result ≡ spec.one symbol }
 {
     Ok((Some(Kind::Symbol(symbol)), 1))
 }
 
 fn two(symbol: Symbol) -> Front
-    ensures { result ≡ spec.two symbol }
+    ensures { front result ≡ spec.two symbol }
 {
     Ok((Some(Kind::Symbol(symbol)), 2))
 }
@@ -27,7 +28,7 @@ fn two(symbol: Symbol) -> Front
 // the text.
 #[tactic(auto, unfolding(crate::specs::Pieces::longer_mark))]
 fn longer_mark(b: u8, c: u8) -> Front
-    ensures { result ≡ spec.longer_mark b c }
+    ensures { front result ≡ spec.longer_mark b c }
 {
     match (b, c) {
         (b'<', b'=') => two(Symbol::AtMost),
@@ -49,7 +50,7 @@ fn longer_mark(b: u8, c: u8) -> Front
 /// Reads the mark that begins with `b`. The text after `b` is `rest`.
 #[tactic(auto, unfolding(crate::specs::Pieces::mark))]
 pub fn mark(b: u8, rest: &[u8]) -> Front
-    ensures { result ≡ spec.mark b (head_or_zero rest.now) }
+    ensures { front result ≡ spec.mark b (head_or_zero rest.now) }
 {
     match b {
         b'+' => one(Symbol::Plus),

@@ -3,6 +3,7 @@
 
 ghost use Rattle.std.specs.Prelude.{◌≡◌, ◌≤◌, min};
 ghost use Rattle.cp_model.specs.Characters.{decimal_value};
+ghost use Rattle.cp_scan.specs.Fronts.{front};
 ghost use Rattle.cp_scan.specs.Pieces as spec;
 
 use crate::bytes::digit_count;
@@ -28,7 +29,7 @@ pub fn capped_value(digits: &[u8]) -> u32
 /// Reads the number at the front of a text.
 #[tactic(auto, unfolding(crate::specs::Pieces::number))]
 pub fn number(text: &[u8]) -> Front
-    ensures { result ≡ spec.number text.now }
+    ensures { front result ≡ spec.number text.now }
 {
     let n = digit_count(text);
     let value = capped_value(&text[..n]);

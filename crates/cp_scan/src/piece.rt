@@ -27,7 +27,8 @@ pub type Front = Result<(Option<Kind>, usize), Cause>;
 
 /// Reads the piece at the place that was reached, and goes on after it.
 pub fn read_piece(alloc: Global, text: &[u8], progress: &mut Progress) -> Result<(), ScanError>
-    requires { progress.old.at < length text.now }
+    requires some { progress.old.at < length text.now }
+    requires fits { length text.now < 2 ^ 32 }
     ensures { Takes result progress.old progress.new
         (spec.first_piece (drop progress.old.at text.now)) }
 {
@@ -56,7 +57,7 @@ fn read_other(text: &[u8], progress: &mut Progress) -> Result<(), ScanError>
     requires some { 0 < length text.now }
     requires no_blank { character.is_blank (head_or_zero text.now) ≡ false }
     requires no_word { character.is_letter (head_or_zero text.now) ≡ false }
-    requires fits { progress.old.at + length text.now < 2 ^ 64 }
+    requires fits { progress.old.at + length text.now < 2 ^ 32 }
     ensures { Takes result progress.old progress.new (spec.first_piece text.now) }
 {
     let b = text[0];

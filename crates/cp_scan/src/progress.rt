@@ -2,7 +2,9 @@
 //! `specs/Pieces.antt` defines it.
 
 ghost use Rattle.std.specs.Prelude.{◌≡◌, ◌+◌, ◌^◌, ◌<◌, Some, Ok, IfOk};
+ghost use Rattle.cp_model.specs.Kinds.{kind_of};
 ghost use Rattle.cp_scan.specs.Failures.{Takes};
+ghost use Rattle.cp_scan.specs.Fronts.{front};
 
 use crate::piece::Front;
 use crate::refusal::ScanError;
@@ -19,26 +21,27 @@ impl Progress {
     /// Appends a token of so many bytes, and goes on after it. Fails only if memory runs out.
     #[inline(always)]
     pub fn append(&mut self, kind: Kind, length: usize) -> Result<(), ScanError>
-        requires { self.old.at + length < 2 ^ 64 }
-        ensures { Takes result self.old self.new (Ok (Some kind, length)) }
+        requires { self.old.at + length < 2 ^ 32 }
+        ensures { Takes result self.old self.new (Ok (Some (kind_of kind), length)) }
     {
+        let to = self.at + length;
         let span = Span {
-            from: self.at,
-            to: self.at + length,
+            from: self.at as u32,
+            to: to as u32,
         };
-        self.tokens.push(Token { kind, span })?;
-        self.at = span.to;
+        self.tokens.push(Token::new(kind, span))?;
+        self.at = to;
         Ok(())
     }
 
     /// Goes on after the piece that was read at this place, with its token if it is one. If there is
     /// none, returns its cause.
     #[inline(always)]
-    pub fn take(&mut self, front: Front) -> Result<(), ScanError>
-        requires { IfOk front (λ read. self.old.at + read.1 < 2 ^ 64) }
-        ensures { Takes result self.old self.new front }
+    pub fn take(&mut self, piece: Front) -> Result<(), ScanError>
+        requires { IfOk piece (λ found. self.old.at + found.1 < 2 ^ 32) }
+        ensures { Takes result self.old self.new (front piece) }
     {
-        match front {
+        match piece {
             Ok((kind, length)) => match kind {
                 Some(kind) => self.append(kind, length),
                 None => {

@@ -1,9 +1,9 @@
 //! All pieces of a text from left to right, and the tokens among them. `specs/Laws.antt` defines
 //! what the contract of `scan` says about them, in terms of `Spelling` of cp_model.
 
-ghost use Rattle.std.specs.Prelude.{◌≡◌, ◌≤◌, ℕ, List, drop, length, Ok, IfOk, IfErr, OnOk, MatchResult};
+ghost use Rattle.std.specs.Prelude.{◌≡◌, ◌≤◌, ◌<◌, ◌^◌, ℕ, List, drop, length, Ok, IfOk, IfErr, OnOk, MatchResult};
 ghost use Rattle.cp_model.specs.Spelling.{Spells};
-ghost use Rattle.cp_model.specs.declared.token.Token.{Token};
+ghost use Rattle.cp_model.specs.Tokens.{Token};
 ghost use Rattle.cp_scan.specs.Failures.{Fails};
 ghost use Rattle.cp_scan.specs.Laws.{IsFirstCause, IsRefusalOrMemory, TellsFirstCause, RisesFrom, RulesOutTokens, longest_text};
 ghost use Rattle.cp_scan.specs.Pieces as spec;
@@ -54,8 +54,9 @@ pub fn scan(alloc: Global, text: &[u8]) -> Result<Vec<Token>, ScanError>
     all_tokens(alloc, text)
 }
 
-// The tokens of a text of any length, or its first cause.
+// The tokens of a text whose places fit into 32 bits, or its first cause.
 fn all_tokens(alloc: Global, text: &[u8]) -> Result<Vec<Token>, ScanError>
+    requires { length text.now < 2 ^ 32 }
     ensures tokens { IfOk result (λ tokens. spec.tokens_of text.now ≡ Ok tokens.items) }
     ensures fails { IfErr result (λ error. Fails error (spec.tokens_of text.now)) }
 {

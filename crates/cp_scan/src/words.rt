@@ -129,7 +129,7 @@ fn reserved_word(letters: &[u8]) -> Option<Symbol>
 /// Reads the word at the front of a text, and goes on after it.
 #[tactic(auto, unfolding(crate::specs::Pieces::word))]
 pub fn read_word(alloc: Global, text: &[u8], progress: &mut Progress) -> Result<(), ScanError>
-    requires { progress.old.at + length text.now < 2 ^ 64 }
+    requires { progress.old.at + length text.now < 2 ^ 32 }
     ensures { Takes result progress.old progress.new (spec.word text.now) }
 {
     let n = word_length(text);
@@ -139,6 +139,6 @@ pub fn read_word(alloc: Global, text: &[u8], progress: &mut Progress) -> Result<
     let word = Name::new(alloc, &text[..n])?;
     match reserved_word(word.as_bytes()) {
         Some(symbol) => progress.append(Kind::Symbol(symbol), n),
-        None => progress.append(Kind::Name(word), n),
+        None => progress.append(word.into_kind(), n),
     }
 }

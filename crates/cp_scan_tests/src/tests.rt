@@ -20,9 +20,9 @@ fn show_tokens(alloc: Global, tokens: &[Token]) -> Result<String, AllocError> {
         if !line.is_empty() {
             line.push(' ')?;
         }
-        let kind = shown_kind(alloc, &token.kind)?;
+        let kind = shown_kind(alloc, token.kind())?;
         line.push_str(kind.as_str())?;
-        let span = format!(in alloc; "@{}..{}", token.span.from, token.span.to)?;
+        let span = format!(in alloc; "@{}..{}", token.place(), token.end())?;
         line.push_str(span.as_str())?;
     }
     Ok(line)
@@ -30,9 +30,9 @@ fn show_tokens(alloc: Global, tokens: &[Token]) -> Result<String, AllocError> {
 
 fn shown_kind(alloc: Global, kind: &Kind) -> Result<String, AllocError> {
     match kind {
-        Kind::Name(name) => {
+        Kind::Short(_) | Kind::Long(_) => {
             let mut letters = String::new(alloc);
-            for letter in name.as_bytes() {
+            for letter in kind.letters() {
                 letters.push(char::from(*letter))?;
             }
             Ok(letters)

@@ -56,7 +56,7 @@ impl<'t> Front<'t> {
             depth: 0,
         };
         for token in self.tokens.iter().take(self.index) {
-            if let Kind::Symbol(symbol) = &token.kind {
+            if let Kind::Symbol(symbol) = token.kind() {
                 place.pass(*symbol);
             }
         }

@@ -82,13 +82,9 @@ pub fn symbol_token(symbol: Symbol, at: usize) -> Token {
 }
 
 fn token(kind: Kind, at: usize) -> Token {
-    Token {
-        kind,
-        span: Span {
-            from: at,
-            to: at.saturating_add(1),
-        },
-    }
+    let from = u32::try_from(at).unwrap_or(u32::MAX);
+    let to = from.saturating_add(1);
+    Token::new(kind, Span { from, to })
 }
 
 /// Whether some text begins with these tokens. Fails only if memory runs out.
@@ -103,7 +99,7 @@ pub fn begin_a_text(alloc: Global, tokens: &[Token], at: usize) -> Result<bool, 
 impl Candidate {
     fn kind(self, alloc: Global) -> Result<Kind, AllocError> {
         Ok(match self {
-            Candidate::Name => Kind::Name(Name::new(alloc, b"x")?),
+            Candidate::Name => Name::new(alloc, b"x")?.into_kind(),
             Candidate::Number => Kind::Number(1),
             Candidate::Character => Kind::Character(b'a'),
             Candidate::Symbol(symbol) => Kind::Symbol(symbol),

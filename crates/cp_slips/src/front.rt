@@ -21,7 +21,7 @@ pub fn is_symbol(kind: Option<&Kind>, symbol: Symbol) -> bool {
 
 /// Whether a token is a name.
 pub fn is_name(kind: Option<&Kind>) -> bool {
-    matches!(kind, Some(Kind::Name(_)))
+    matches!(kind, Some(Kind::Short(_) | Kind::Long(_)))
 }
 
 /// Whether a token is a number.
@@ -32,8 +32,8 @@ pub fn is_number(kind: Option<&Kind>) -> bool {
 /// The letters of a name, or none if a token isn't one.
 pub fn letters(kind: Option<&Kind>) -> &[u8] {
     match kind {
-        Some(Kind::Name(name)) => name.as_bytes(),
-        _ => b"",
+        Some(kind) => kind.letters(),
+        None => b"",
     }
 }
 
@@ -51,13 +51,13 @@ impl<'t> Front<'t> {
 
     /// What stands `count` tokens after the place, which is its own token if `count` is 0.
     pub fn after(&self, count: usize) -> Option<&'t Kind> {
-        Some(&self.token(count)?.kind)
+        Some(self.token(count)?.kind())
     }
 
     /// What stands `count` tokens before the place.
     pub fn before(&self, count: usize) -> Option<&'t Kind> {
         let token = self.tokens.get(self.index.checked_sub(count)?)?;
-        Some(&token.kind)
+        Some(token.kind())
     }
 
     /// Whether the token at the place is this symbol.
@@ -78,7 +78,7 @@ impl<'t> Front<'t> {
     /// The spelling of the token at the place.
     pub fn spelling(&self) -> Option<&'t [u8]> {
         let token = self.token(0)?;
-        Some(part(self.text, token.span.from, token.span.to))
+        Some(part(self.text, token.place(), token.end()))
     }
 
     /// Whether a comment stands between the token before the place and the one at it.
@@ -88,7 +88,7 @@ impl<'t> Front<'t> {
             None => 0,
         };
         let to = match self.token(0) {
-            Some(token) => token.span.from,
+            Some(token) => token.place(),
             None => self.text.len(),
         };
         part(self.text, from, to).contains(&b'"')
@@ -97,7 +97,7 @@ impl<'t> Front<'t> {
     // The place after the token with this number.
     fn end_of(&self, number: usize) -> usize {
         match self.tokens.get(number) {
-            Some(token) => token.span.to,
+            Some(token) => token.end(),
             None => 0,
         }
     }

@@ -3,7 +3,7 @@
 use crate::expected::{Expected, begin_a_text, symbol_token};
 use crate::front::Front;
 use crate::messages as m;
-use cp_model::token::{Kind, Symbol, Token};
+use cp_model::token::{Kind, Name, Symbol, Token};
 use cp_page::message::Message;
 use std::alloc::{AllocError, Global};
 
@@ -22,16 +22,14 @@ const OFTEN_MISSING: [(Symbol, Message); 10] = [
 ];
 
 fn copy(alloc: Global, token: &Token) -> Result<Token, AllocError> {
-    let kind = match &token.kind {
-        Kind::Name(name) => Kind::Name(name.copy(alloc)?),
+    let kind = match token.kind() {
+        Kind::Short(word) => Kind::Short(*word),
+        Kind::Long(word) => Name::of_long(alloc, word.as_slice())?.into_kind(),
         Kind::Number(value) => Kind::Number(*value),
         Kind::Character(ordinal) => Kind::Character(*ordinal),
         Kind::Symbol(symbol) => Kind::Symbol(*symbol),
     };
-    Ok(Token {
-        kind,
-        span: token.span,
-    })
+    Ok(Token::new(kind, token.span()))
 }
 
 // Adds a symbol, the token at the place and the one after it.

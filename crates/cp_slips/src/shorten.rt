@@ -73,7 +73,7 @@ impl Short {
     }
 
     fn add(&mut self, token: Token) -> Result<(), AllocError> {
-        let symbol = match &token.kind {
+        let symbol = match token.kind() {
             Kind::Symbol(symbol) => *symbol,
             _ => {
                 self.kept.push(token)?;

@@ -22,7 +22,7 @@ const OFTEN: [(Symbol, &str); 3] = [
 
 // The number of tokens before a place.
 fn count_before(tokens: &[Token], at: usize) -> usize {
-    tokens.iter().filter(|token| token.span.from < at).count()
+    tokens.iter().filter(|token| token.place() < at).count()
 }
 
 // The tokens of a text that has tokens.
@@ -66,7 +66,7 @@ fn habit(front: &Front<'_>, expected: &Expected) -> Option<Message> {
             Some(message) => Some(message),
             None => habit_of_word(front, expected, *symbol),
         },
-        Some(Kind::Name(_)) => habit_of_name(front, expected),
+        Some(Kind::Short(_) | Kind::Long(_)) => habit_of_name(front, expected),
         _ => None,
     }
 }
@@ -131,7 +131,7 @@ pub fn of_unexpected(alloc: Global, text: &[u8], at: usize) -> Result<Page, Allo
 }
 
 fn of_end(tokens: &[Token], expected: &Expected) -> Message {
-    let last = tokens.last().map(|token| &token.kind);
+    let last = tokens.last().map(|token| token.kind());
     if last.is_none() {
         m::EMPTY
     } else if is_symbol(last, Symbol::End) && expected.is_only(Symbol::Dot) {

@@ -1,7 +1,7 @@
 -- The iterations of the loop that reads a list, and its end.
 use Rattle.std.proofs.Common.{◌≡◌, ℕ, zero, suc, ◌+◌, ◌-◌, ◌<◌, ◌≤◌, Bool, true, false, List, [], ◌∷◌, ◌++◌, Option, Ok, refl, sym, ap, ◌∙◌, arith}
-use Rattle.cp_model.specs.declared.token.Token.{Token}
-use Rattle.cp_model.specs.declared.token.Kind.{Kind}
+use Rattle.cp_model.specs.Tokens.{Token}
+use Rattle.cp_model.specs.Tokens.{Kind}
 use Rattle.cp_grammar.specs.declared.stop.Stop.{Stop}
 use Rattle.cp_grammar.specs.declared.stop.Stop.TheVariants.{Memory, Wrong, Deep}
 use Rattle.cp_grammar.specs.Reading.{Reader, Outcome, and_then, kind_at, repeat, Fails}

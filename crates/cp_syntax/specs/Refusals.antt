@@ -3,7 +3,7 @@ use Rattle.std.specs.Prelude.{◌≡◌, ◌<◌, ◌⊎◌, ℕ, suc, List, [],
 use Rattle.cp_model.specs.Syntax as s
 use Rattle.cp_model.specs.Grammar.{Reads, Begins, BeginsWithin, text, nesting_limit}
 use Rattle.cp_model.specs.Levels.{text_levels}
-use Rattle.cp_model.specs.declared.token.Token.{Token}
+use Rattle.cp_model.specs.Tokens.{Token}
 use Rattle.cp_grammar.specs.declared.stop.Stop.{Stop}
 use Rattle.cp_grammar.specs.declared.stop.Stop.TheVariants.{Memory, Wrong, Deep}
 use Rattle.cp_syntax.specs.declared.refusal.SyntaxError.{SyntaxError}

@@ -8,7 +8,7 @@ ghost use Rattle.std.specs.Option.{is_some};
 ghost use Rattle.cp_model.specs.Syntax.{chain_of};
 ghost use Rattle.cp_model.specs.Syntax as s;
 ghost use Rattle.cp_model.specs.View as view;
-ghost use Rattle.cp_model.specs.declared.token.Kind.{Kind};
+ghost use Rattle.cp_model.specs.Tokens.{Kind};
 ghost use Rattle.cp_model.specs.declared.token.Symbol.TheVariants as symbol;
 ghost use Rattle.cp_model.specs.declared.tree.Operator as plain;
 ghost use Rattle.cp_grammar.specs.Kinds.{is_symbol};

@@ -162,7 +162,7 @@ pub fn factor_from<F: Fn(Global, usize, &[Token]) -> Read<'_, Expression> + Copy
             let ordinal = *ordinal;
             Ok((Expression::Character { at, ordinal }, after(tokens)))
         }
-        Some(Kind::Name(_)) => designator_or_call(level, tokens),
+        Some(Kind::Short(_) | Kind::Long(_)) => designator_or_call(level, tokens),
         Some(Kind::Symbol(Symbol::OpenParenthesis)) => parentheses(level, tokens),
         Some(Kind::Symbol(Symbol::Not)) => negation(level, tokens),
         _ => Err(Stop::Wrong(tokens.len())),

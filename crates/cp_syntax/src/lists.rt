@@ -1,7 +1,7 @@
 //! Items one after another, with or without symbols between them.
 
 ghost use Rattle.std.specs.Prelude.{◌≡◌, ◌∷◌, map, [], Bool, IfOk, Option};
-ghost use Rattle.cp_model.specs.declared.token.Kind.{Kind};
+ghost use Rattle.cp_model.specs.Tokens.{Kind};
 ghost use Rattle.cp_grammar.specs.Reading.{kind_at, Reader, Gives};
 ghost use Rattle.cp_grammar.specs.Reading as reading;
 

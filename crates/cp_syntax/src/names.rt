@@ -7,7 +7,7 @@ ghost use Rattle.cp_grammar.specs.Names as spec;
 use crate::lists::{Node, separated};
 use crate::tokens::{Read, after, peek, place};
 use cp_grammar::Stop;
-use cp_model::token::{Kind, Symbol, Token};
+use cp_model::token::{Kind, Name, Symbol, Token};
 use cp_model::tree::{Constant, Identifier};
 use std::alloc::Global;
 
@@ -16,16 +16,16 @@ use std::alloc::Global;
 pub fn identifier(alloc: Global, tokens: &[Token]) -> Read<'_, Identifier>
     ensures { Gives (λ x. x) result (spec.identifier_of tokens.now) }
 {
+    let at = place(tokens);
     match peek(tokens) {
-        Some(Kind::Name(name)) => {
-            let name = name.copy(alloc)?;
-            Ok((
-                Identifier {
-                    name,
-                    at: place(tokens),
-                },
-                after(tokens),
-            ))
+        // Were the two joined before the result is made, each short name would be copied once more.
+        Some(Kind::Short(word)) => {
+            let name = Name::of_short(word);
+            Ok((Identifier { name, at }, after(tokens)))
+        }
+        Some(Kind::Long(word)) => {
+            let name = Name::of_long(alloc, word.as_slice())?;
+            Ok((Identifier { name, at }, after(tokens)))
         }
         _ => Err(Stop::Wrong(tokens.len())),
     }
@@ -52,8 +52,12 @@ pub fn constant(alloc: Global, tokens: &[Token]) -> Read<'_, Constant>
             let ordinal = *ordinal;
             Ok((Constant::Character { at, ordinal }, rest))
         }
-        Some(Kind::Name(name)) => {
-            let name = name.copy(alloc)?;
+        Some(Kind::Short(word)) => {
+            let name = Name::of_short(word);
+            Ok((Constant::Named(Identifier { name, at }), rest))
+        }
+        Some(Kind::Long(word)) => {
+            let name = Name::of_long(alloc, word.as_slice())?;
             Ok((Constant::Named(Identifier { name, at }), rest))
         }
         Some(Kind::Symbol(Symbol::Minus)) => negative(at, rest),

@@ -58,5 +58,5 @@ fn place_of(tokens: &[Token], left: usize) -> Option<usize>
 {
     let index = tokens.len().checked_sub(left)?;
     let token = tokens.get(index)?;
-    Some(token.span.from)
+    Some(token.place())
 }

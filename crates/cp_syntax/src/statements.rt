@@ -238,7 +238,7 @@ pub fn statement_from<F: Fn(Global, usize, &[Token]) -> Read<'_, Statement> + Co
         (spec.statement_of (inner_at level.room) (spec.deeper_at level.room) tokens.now) }
 {
     match peek(tokens) {
-        Some(Kind::Name(_)) => assignment_or_call(level.alloc, level.room, tokens),
+        Some(Kind::Short(_) | Kind::Long(_)) => assignment_or_call(level.alloc, level.room, tokens),
         Some(Kind::Symbol(symbol)) => match symbol {
             Symbol::Begin => compound(level, tokens),
             Symbol::If => conditional(level, tokens),

@@ -1,6 +1,7 @@
 //! The next of the tokens that are left.
 
 ghost use Rattle.std.specs.Prelude.{◌≡◌, ◌==◌, Some, None, IfSome, IsNone};
+ghost use Rattle.cp_model.specs.Kinds.{kind_of};
 ghost use Rattle.cp_grammar.specs.Kinds.{code, is_symbol, is_name};
 ghost use Rattle.cp_grammar.specs.Reading.{kind_at, place_at, tail, Gives};
 ghost use Rattle.cp_grammar.specs.Reading as reading;
@@ -17,7 +18,7 @@ pub fn place(tokens: &[Token]) -> usize
 {
     match tokens {
         [] => 0,
-        [first, ..] => first.span.from,
+        [first, ..] => first.place(),
     }
 }
 
@@ -33,11 +34,11 @@ pub fn after(tokens: &[Token]) -> &[Token]
 
 /// The kind of the next token, or `None` after the last one.
 pub fn peek(tokens: &[Token]) -> Option<&Kind>
-    ensures some { IfSome result (λ kind. kind_at tokens.now ≡ Some kind.now) }
+    ensures some { IfSome result (λ kind. kind_at tokens.now ≡ Some (kind_of kind.now)) }
     ensures none { IsNone result → kind_at tokens.now ≡ None }
 {
     let first = tokens.first()?;
-    Some(&first.kind)
+    Some(first.kind())
 }
 
 /// Whether the next token is this symbol.
@@ -62,7 +63,7 @@ fn same(seen: Symbol, symbol: Symbol) -> bool
 pub fn sees_name(tokens: &[Token]) -> bool
     ensures { result ≡ is_name (kind_at tokens.now) }
 {
-    matches!(peek(tokens), Some(Kind::Name(_)))
+    matches!(peek(tokens), Some(Kind::Short(_) | Kind::Long(_)))
 }
 
 /// Takes this symbol and returns its place.

@@ -114,7 +114,7 @@ pub fn type_from<F: Fn(Global, usize, &[Token]) -> Read<'_, TypeExpression> + Co
         (spec.type_of (spec.inner_type_at level.room) tokens.now) }
 {
     match peek(tokens) {
-        Some(Kind::Name(_)) => name_or_subrange(level.alloc, tokens),
+        Some(Kind::Short(_) | Kind::Long(_)) => name_or_subrange(level.alloc, tokens),
         Some(Kind::Number(_) | Kind::Character(_) | Kind::Symbol(Symbol::Minus)) => subrange(
             level.alloc,
             tokens,

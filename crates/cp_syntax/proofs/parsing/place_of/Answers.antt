@@ -5,4 +5,4 @@ pub returns-clause-some : goal.returns-clause-some
 returns-clause-some c =
     let index = c.in_ok-index.ensures in
     let look = c.in_ok-token.ensures.lookup in
-    token_at _ _ _ _ index.0 index.1 look.3.0 look.1
+    rw c.place.ensures (token_at _ _ _ _ index.0 index.1 look.3.0 look.1)

@@ -1,6 +1,6 @@
 use Rattle.std.proofs.Common.{◌≡◌, length, map, take}
 use Rattle.cp_model.specs.Characters.{lower}
-use Rattle.cp_model.proofs.token.ShortWord.in_lower_case.Given as goal
+use Rattle.cp_model.proofs.short.ShortWord.in_lower_case.Given as goal
 
 -- the letters before this one are in lower case
 abbrev pub invariant-loop-i : goal.invariant-loop-i

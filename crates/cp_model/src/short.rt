@@ -1,0 +1,37 @@
+//! The letters of short names, which lie within a name or a token.
+
+ghost use Rattle.std.specs.Prelude.{◌≡◌, ◌≤◌, length, map, take};
+ghost use Rattle.cp_model.specs.Characters.{lower};
+
+/// The most letters of a short name: as many as let a kind of token, with them, take 16 bytes.
+pub(crate) const LONGEST_SHORT: usize = 14;
+
+/// The letters of a short name.
+#[derive(Clone, Copy)]
+pub struct ShortWord {
+    length: u8,
+    letters: [u8; LONGEST_SHORT],
+    ghost fits: { length ≤ 14 },
+}
+
+impl ShortWord {
+    pub(crate) fn in_lower_case(word: &[u8]) -> ShortWord
+        requires { length word.now ≤ 14 }
+        ensures { take result.length result.letters ≡ map lower word.now }
+    {
+        let mut letters = [0; LONGEST_SHORT];
+        for i in 0..word.len() {
+            letters[i] = word[i].to_ascii_lowercase();
+        }
+        ShortWord {
+            length: word.len() as u8,
+            letters,
+        }
+    }
+
+    pub(crate) fn as_bytes(&self) -> &[u8]
+        ensures { result.now ≡ take self.now.length self.now.letters }
+    {
+        &self.letters[..usize::from(self.length)]
+    }
+}
