@@ -2,7 +2,7 @@
 """Measures rounds by workers: private steps a second, and what workers cost where there is nothing to share.
 
 Let nothing else run meanwhile. The least time of some trials counts, each of which runs every case once, so that all meet the same
-machine. It takes a minute.
+machine. It takes three minutes.
 """
 import pathlib
 import subprocess
@@ -17,8 +17,9 @@ IDLE_TRIALS = 25
 WORKERS = 1, 2, 4
 PROCESSES = 253
 COUNTING = 'var x: integer; begin cycle x := (x + 1) mod 30000 end end'
-# The turn, the number of rounds, and the chunk.
-TURNS = [(10_000, 30, 1), (100, 2_000, 1), (100, 2_000, 16)]
+# The turn, the number of rounds, and the chunk. By four workers a run takes a third of a second, so that the 4 milliseconds in which the program starts
+# and writes its report weigh little.
+TURNS = [(10_000, 120, 1), (100, 8_000, 1), (100, 8_000, 16)]
 IDLE_ROUNDS = 20_000
 
 
