@@ -77,13 +77,9 @@ impl<'n, 't> Handing<'n, 't> {
             Statement::Init { items, .. } => self.items(items),
             Statement::Compound(list) | Statement::Cycle(list) => self.statements(list),
             Statement::If { then, .. } => self.statement(then),
-            Statement::IfElse {
-                then,
-                otherwise,
-                ..
-            } => {
-                self.statement(then)?;
-                self.statement(otherwise)
+            Statement::IfElse { branches, .. } => {
+                self.statement(&branches.0)?;
+                self.statement(&branches.1)
             }
             Statement::Case { arms, .. } => self.arms(arms),
             Statement::While { body, .. } | Statement::For { body, .. } => self.statement(body),

@@ -34,7 +34,7 @@ pub fn statement_place(s: &Statement) -> Option<usize> {
     match s {
         Statement::Empty => None,
         Statement::Assign(a) => Some(a.target.root.at),
-        Statement::Call(d, _) => Some(d.root.at),
+        Statement::Call(c) => Some(c.procedure.root.at),
         Statement::Init { at, .. } => Some(*at),
         Statement::For { header, .. } => Some(header.variable.at),
         Statement::If { condition: e, .. }

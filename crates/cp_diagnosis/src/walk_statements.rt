@@ -3,7 +3,7 @@
 use crate::finder::Finder;
 use crate::site::{Call, Mark, NameRole, Pair, Purpose};
 use crate::walk_declarations::constant_place;
-use cp_model::tree::{Arm, Constant, Expression, InitItem, Statement};
+use cp_model::tree::{Arm, Constant, Designator, Expression, InitItem, Statement};
 
 impl<'t> Finder<'t> {
     #[cycle(statements)]
@@ -23,15 +23,7 @@ impl<'t> Finder<'t> {
                 self.pair(a.at, Pair::Sides(&a.target, &a.value));
                 self.expression(&a.value);
             }
-            Statement::Call(d, list) => {
-                self.designator(
-                    d,
-                    NameRole::Procedure(list.len()),
-                    Call::Procedure(list.len()),
-                );
-                self.purposes(d, list);
-                self.expressions(list);
-            }
+            Statement::Call(c) => self.procedure_call(&c.procedure, &c.arguments),
             Statement::Compound(list) | Statement::Cycle(list) => self.statements(list),
             Statement::Init { at, items } => {
                 self.mark(*at, Mark::Init);
@@ -48,6 +40,16 @@ impl<'t> Finder<'t> {
         }
     }
 
+    fn procedure_call(&mut self, d: &'t Designator, list: &'t [Expression]) {
+        self.designator(
+            d,
+            NameRole::Procedure(list.len()),
+            Call::Procedure(list.len()),
+        );
+        self.purposes(d, list);
+        self.expressions(list);
+    }
+
     // Walks over a statement that tests a value.
     #[cycle(statements)]
     fn control_statement(&mut self, s: &'t Statement) {
@@ -58,12 +60,11 @@ impl<'t> Finder<'t> {
             }
             Statement::IfElse {
                 condition,
-                then,
-                otherwise,
+                branches,
             } => {
                 self.expression_for(condition, Purpose::Condition);
-                self.statement(then);
-                self.statement(otherwise);
+                self.statement(&branches.0);
+                self.statement(&branches.1);
             }
             Statement::Case { selector, arms } => {
                 self.expression_for(selector, Purpose::Selector);

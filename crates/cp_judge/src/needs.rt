@@ -147,16 +147,18 @@ pub fn need_of_statement(env: &Environment, s: &Statement) -> usize
         Statement::Assign(a) => {
             need_of_designator(env, &a.target).max(need_of_expression(env, &a.value))
         }
-        Statement::Call(d, list) => need_of_designator(env, d).max(need_of_expressions(env, list)),
+        Statement::Call(call) => {
+            need_of_designator(env, &call.procedure).max(need_of_expressions(env, &call.arguments))
+        }
         Statement::Compound(list) => need_of_statements(env, list),
         Statement::If { condition, then } => need_of_branch(env, then, condition),
         Statement::IfElse {
             condition,
-            then,
-            otherwise,
+            branches,
         } => {
-            let branches = need_of_statement(env, then).max(need_of_statement(env, otherwise));
-            need_of_expression(env, condition).max(branches)
+            let then = need_of_statement(env, &branches.0);
+            let either = then.max(need_of_statement(env, &branches.1));
+            need_of_expression(env, condition).max(either)
         }
         Statement::Case { selector, arms } => {
             need_of_expression(env, selector).max(need_of_arms(env, arms))

@@ -31,16 +31,15 @@ pub fn statement(
     match s {
         Statement::Empty => {}
         Statement::Assign(a) => judge_assignment(env, told, &a.target, a.at, &a.value),
-        Statement::Call(d, list) => judge_call(env, told, d, list),
+        Statement::Call(call) => judge_call(env, told, &call.procedure, &call.arguments),
         Statement::Compound(list) => statements(env, alloc, told, list)?,
         Statement::If { condition: e, then } => judge_branch(env, alloc, told, then, e)?,
         Statement::IfElse {
             condition: e,
-            then,
-            otherwise,
+            branches,
         } => {
-            judge_branch(env, alloc, told, then, e)?;
-            statement(env, alloc, told, otherwise)?;
+            judge_branch(env, alloc, told, &branches.0, e)?;
+            statement(env, alloc, told, &branches.1)?;
         }
         Statement::Case { selector: e, arms } => judge_case(env, alloc, told, arms, e)?,
         Statement::While { condition: e, body } => judge_branch(env, alloc, told, body, e)?,

@@ -13,16 +13,16 @@ use Rattle.cp_model.specs.declared.tree.Statement.TheFolds.{fold-roll-Statement,
 pub view_if : (e : Box Expression Global) (x : Box Statement Global) → statement (tree.If e x) ≡ s.If (expression e.value) (statement x.value)
 view_if e x = ap statement (sym (rolls-If e x)) ∙ fold-roll-Statement s.Statement LabelledStatement statement_layer arm_layer _
 
-pub view_if_else : (e : Box Expression Global) (x y : Box Statement Global) → statement (tree.IfElse e x y) ≡ s.IfElse (expression e.value) (statement x.value) (statement y.value)
-view_if_else e x y = ap statement (sym (rolls-IfElse e x y)) ∙ fold-roll-Statement s.Statement LabelledStatement statement_layer arm_layer _
+pub view_if_else : (e : Box Expression Global) (b : Box (Statement × Statement) Global) → statement (tree.IfElse e b) ≡ s.IfElse (expression e.value) (statement b.value.0) (statement b.value.1)
+view_if_else e b = ap statement (sym (rolls-IfElse e b)) ∙ fold-roll-Statement s.Statement LabelledStatement statement_layer arm_layer _
 
-pub view_case : (e : Box Expression Global) (as' : Vec Arm Global) → statement (tree.Case e as') ≡ s.Case (expression e.value) (arms_of (map arm as'.items))
+pub view_case : (e : Box Expression Global) (as' : Box (Vec Arm Global) Global) → statement (tree.Case e as') ≡ s.Case (expression e.value) (arms_of (map arm as'.value.items))
 view_case e as' = ap statement (sym (rolls-Case e as')) ∙ fold-roll-Statement s.Statement LabelledStatement statement_layer arm_layer _
 
 pub view_while : (e : Box Expression Global) (x : Box Statement Global) → statement (tree.While e x) ≡ s.While (expression e.value) (statement x.value)
 view_while e x = ap statement (sym (rolls-While e x)) ∙ fold-roll-Statement s.Statement LabelledStatement statement_layer arm_layer _
 
-pub view_repeat : (l : Vec Statement Global) (e : Box Expression Global) → statement (tree.Repeat l e) ≡ s.Repeat (statements_of (map statement l.items)) (expression e.value)
+pub view_repeat : (l : Box (Vec Statement Global) Global) (e : Box Expression Global) → statement (tree.Repeat l e) ≡ s.Repeat (statements_of (map statement l.value.items)) (expression e.value)
 view_repeat l e = ap statement (sym (rolls-Repeat l e)) ∙ fold-roll-Statement s.Statement LabelledStatement statement_layer arm_layer _
 
 pub view_for : (h : Box ForHeader Global) (x : Box Statement Global)
@@ -32,5 +32,5 @@ view_for h x = ap statement (sym (rolls-For h x)) ∙ fold-roll-Statement s.Stat
 pub view_arm : (a : Arm) → arm a ≡ record { labels = a.labels.items; body = statement a.body }
 view_arm = fold_out-Arm s.Statement LabelledStatement statement_layer arm_layer
 
-pub view_cycle : (l : Vec Statement Global) → statement (tree.Cycle l) ≡ s.Cycle (statements_of (map statement l.items))
+pub view_cycle : (l : Box (Vec Statement Global) Global) → statement (tree.Cycle l) ≡ s.Cycle (statements_of (map statement l.value.items))
 view_cycle l = ap statement (sym (rolls-Cycle l)) ∙ fold-roll-Statement s.Statement LabelledStatement statement_layer arm_layer _

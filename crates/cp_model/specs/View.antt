@@ -134,16 +134,16 @@ init_item i = record { component = i.component; arguments = expressions_of (map 
 abbrev pub statement_layer : Statement-F s.Statement LabelledStatement → s.Statement
 statement_layer Statement-F.Empty = s.Empty
 statement_layer (Statement-F.Assign a) = s.Assign (designator a.value.target) a.value.at (expression a.value.value)
-statement_layer (Statement-F.Call d arguments) = s.Perform (designator d.value) (expressions_of (map expression arguments.items))
-statement_layer (Statement-F.Compound list) = s.Compound (statements_of list.items)
+statement_layer (Statement-F.Call c) = s.Perform (designator c.value.procedure) (expressions_of (map expression c.value.arguments.items))
+statement_layer (Statement-F.Compound list) = s.Compound (statements_of list.value.items)
 statement_layer (Statement-F.If condition body) = s.If (expression condition.value) body.value
-statement_layer (Statement-F.IfElse condition body otherwise) = s.IfElse (expression condition.value) body.value otherwise.value
-statement_layer (Statement-F.Case selector arms) = s.Case (expression selector.value) (arms_of arms.items)
+statement_layer (Statement-F.IfElse condition branches) = s.IfElse (expression condition.value) branches.value.0 branches.value.1
+statement_layer (Statement-F.Case selector arms) = s.Case (expression selector.value) (arms_of arms.value.items)
 statement_layer (Statement-F.While condition body) = s.While (expression condition.value) body.value
-statement_layer (Statement-F.Repeat list condition) = s.Repeat (statements_of list.items) (expression condition.value)
+statement_layer (Statement-F.Repeat list condition) = s.Repeat (statements_of list.value.items) (expression condition.value)
 statement_layer (Statement-F.For h body) = s.For h.value.variable (expression h.value.from) h.value.direction (expression h.value.last) body.value
-statement_layer (Statement-F.Cycle list) = s.Cycle (statements_of list.items)
-statement_layer (Statement-F.Init at items) = s.Init at (map init_item items.items)
+statement_layer (Statement-F.Cycle list) = s.Cycle (statements_of list.value.items)
+statement_layer (Statement-F.Init at items) = s.Init at (map init_item items.value.items)
 
 abbrev pub arm_layer : Arm-F s.Statement LabelledStatement → LabelledStatement
 arm_layer a = record { labels = a.labels.items; body = a.body }

@@ -171,46 +171,52 @@ pub struct ForHeader {
     pub last: Expression,
 }
 
-/// A statement. Its larger parts are boxed, since an empty one takes as much as any other, and a
-/// text can have a million of them.
+/// A call of a procedure, with or without arguments.
+#[derive(Drop)]
+pub struct ProcedureCall {
+    pub procedure: Designator,
+    pub arguments: Vec<Expression>,
+}
+
+/// A statement. Its parts and lists are boxed, so that it takes 24 bytes: an empty one takes as much
+/// as any other, and a text can have a million of them.
 #[cycle(statements)]
 #[derive(Drop)]
 pub enum Statement {
     Empty,
     Assign(Box<Assignment>),
-    /// A procedure call, with or without arguments.
-    Call(Box<Designator>, Vec<Expression>),
-    Compound(Vec<Statement>),
+    Call(Box<ProcedureCall>),
+    Compound(Box<Vec<Statement>>),
     If {
         condition: Box<Expression>,
         then: Box<Statement>,
     },
     IfElse {
         condition: Box<Expression>,
-        then: Box<Statement>,
-        otherwise: Box<Statement>,
+        /// The statement after `then`, and the one after `else`.
+        branches: Box<(Statement, Statement)>,
     },
     Case {
         selector: Box<Expression>,
-        arms: Vec<Arm>,
+        arms: Box<Vec<Arm>>,
     },
     While {
         condition: Box<Expression>,
         body: Box<Statement>,
     },
     Repeat {
-        body: Vec<Statement>,
+        body: Box<Vec<Statement>>,
         condition: Box<Expression>,
     },
     For {
         header: Box<ForHeader>,
         body: Box<Statement>,
     },
-    Cycle(Vec<Statement>),
+    Cycle(Box<Vec<Statement>>),
     /// The place is that of the word `init`. There is at least one item.
     Init {
         at: usize,
-        items: Vec<InitItem>,
+        items: Box<Vec<InitItem>>,
     },
 }
 

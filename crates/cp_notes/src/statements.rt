@@ -73,7 +73,7 @@ impl<'t> Walk<'t> {
         match s {
             Statement::Empty => Ok(()),
             Statement::Assign(a) => self.assignment(&a.target, &a.value),
-            Statement::Call(d, list) => self.procedure_call(d, list),
+            Statement::Call(c) => self.procedure_call(&c.procedure, &c.arguments),
             Statement::Compound(list) => self.statements(list),
             Statement::Init { items, .. } => self.init_items(items),
             _ => self.selected(s),
@@ -93,20 +93,19 @@ impl<'t> Walk<'t> {
             }
             Statement::IfElse {
                 condition,
-                then,
-                otherwise,
+                branches,
             } => {
                 self.expression(condition)?;
                 match self.holds(condition) {
-                    Some(true) => return self.statement(then),
-                    Some(false) => return self.statement(otherwise),
+                    Some(true) => return self.statement(&branches.0),
+                    Some(false) => return self.statement(&branches.1),
                     None => {}
                 }
                 let branch = self.enter();
-                self.statement(then)?;
+                self.statement(&branches.0)?;
                 let flow = self.flow;
                 self.back(branch);
-                self.statement(otherwise)?;
+                self.statement(&branches.1)?;
                 self.leave(branch, flow.or(self.flow));
                 Ok(())
             }

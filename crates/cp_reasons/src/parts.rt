@@ -40,12 +40,11 @@ impl<'t> Parts<'t> {
             }
             Statement::IfElse {
                 condition,
-                then,
-                otherwise,
+                branches,
             } => {
                 self.add_expression(condition)?;
-                self.add_statement(then)?;
-                self.add_statement(otherwise)
+                self.add_statement(&branches.0)?;
+                self.add_statement(&branches.1)
             }
             Statement::Case { selector, arms } => {
                 self.add_expression(selector)?;
@@ -84,12 +83,12 @@ impl<'t> Parts<'t> {
                 self.add_designator(&a.target)?;
                 self.add_expression(&a.value)
             }
-            Statement::Call(d, arguments) => {
-                self.add_designator(d)?;
-                self.add_expressions(arguments)
+            Statement::Call(c) => {
+                self.add_designator(&c.procedure)?;
+                self.add_expressions(&c.arguments)
             }
             Statement::Init { items, .. } => {
-                for item in items {
+                for item in items.iter() {
                     self.add_expressions(&item.arguments)?;
                 }
                 Ok(())

@@ -14,8 +14,9 @@ fn is_queue(arguments: &[Expression], queue: &[u8]) -> bool {
 
 fn continues(s: &Statement, queue: &[u8]) -> bool {
     match s {
-        Statement::Call(d, arguments) => {
-            d.root.name.as_bytes() == b"continue".as_slice() && is_queue(arguments, queue)
+        Statement::Call(c) => {
+            c.procedure.root.name.as_bytes() == b"continue".as_slice()
+                && is_queue(&c.arguments, queue)
         }
         _ => false,
     }

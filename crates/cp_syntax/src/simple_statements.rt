@@ -13,7 +13,7 @@ use crate::lists::{Node, separated};
 use crate::names::identifier;
 use crate::tokens::{Read, after, place, sees};
 use cp_model::token::{Symbol, Token};
-use cp_model::tree::{Assignment, InitItem, Statement};
+use cp_model::tree::{Assignment, InitItem, ProcedureCall, Statement};
 use std::alloc::Global;
 
 /// Reads an assignment or a call of a procedure.
@@ -33,7 +33,11 @@ pub fn assignment_or_call(alloc: Global, room: usize, tokens: &[Token]) -> Read<
         return Ok((Statement::Assign(Box::new(alloc, assignment)?), left));
     }
     let (arguments, rest) = optional_arguments(alloc, room, rest)?;
-    Ok((Statement::Call(Box::new(alloc, d)?, arguments), rest))
+    let call = ProcedureCall {
+        procedure: d,
+        arguments,
+    };
+    Ok((Statement::Call(Box::new(alloc, call)?), rest))
 }
 
 /// Reads the word `init` and the components after it.
@@ -44,6 +48,7 @@ pub fn init(alloc: Global, room: usize, tokens: &[Token]) -> Read<'_, Statement>
     let at = place(tokens);
     let parser = Parser { alloc, room };
     let (items, rest) = separated(alloc, parser, Symbol::Comma, after(tokens))?;
+    let items = Box::new(alloc, items)?;
     Ok((Statement::Init { at, items }, rest))
 }
 

@@ -103,7 +103,8 @@ fn compound<F: Fn(Global, usize, &[Token]) -> Read<'_, Statement> + Copy>(
         (spec.compound_of (spec.deeper_at level.room) tokens.now) }
 {
     let (body, rest) = block_from(level, tokens)?;
-    Ok((Statement::Compound(body.statements), rest))
+    let statements = Box::new(level.alloc, body.statements)?;
+    Ok((Statement::Compound(statements), rest))
 }
 
 /// Reads an `if`. An `else` belongs to the statement that is being read when it comes: the
@@ -121,17 +122,16 @@ fn conditional<F: Fn(Global, usize, &[Token]) -> Read<'_, Statement> + Copy>(
     let condition = Box::new(level.alloc, condition)?;
     let (_, rest) = expect(rest, Symbol::Then)?;
     let (then, rest) = read_at(inner, rest)?;
-    let then = Box::new(level.alloc, then)?;
     if !sees(rest, Symbol::Else) {
+        let then = Box::new(level.alloc, then)?;
         return Ok((Statement::If { condition, then }, rest));
     }
     let (otherwise, rest) = read_at(inner, after(rest))?;
-    let otherwise = Box::new(level.alloc, otherwise)?;
+    let branches = Box::new(level.alloc, (then, otherwise))?;
     Ok((
         Statement::IfElse {
             condition,
-            then,
-            otherwise,
+            branches,
         },
         rest,
     ))
@@ -151,6 +151,7 @@ fn case<F: Fn(Global, usize, &[Token]) -> Read<'_, Statement> + Copy>(
     let (_, rest) = expect(rest, Symbol::Of)?;
     let (arms, rest) = separated(level.alloc, inner, Symbol::Semicolon, rest)?;
     let (_, rest) = expect(rest, Symbol::End)?;
+    let arms = Box::new(level.alloc, arms)?;
     Ok((Statement::Case { selector, arms }, rest))
 }
 
@@ -184,6 +185,7 @@ fn repeat_loop<F: Fn(Global, usize, &[Token]) -> Read<'_, Statement> + Copy>(
     let (_, rest) = expect(rest, Symbol::Until)?;
     let (condition, rest) = expression(inner.alloc, inner.room, rest)?;
     let condition = Box::new(level.alloc, condition)?;
+    let body = Box::new(level.alloc, body)?;
     Ok((Statement::Repeat { body, condition }, rest))
 }
 
@@ -224,6 +226,7 @@ fn cycle<F: Fn(Global, usize, &[Token]) -> Read<'_, Statement> + Copy>(
 {
     let (body, rest) = statements(inner(level, tokens)?, after(tokens))?;
     let (_, rest) = expect(rest, Symbol::End)?;
+    let body = Box::new(level.alloc, body)?;
     Ok((Statement::Cycle(body), rest))
 }
 

@@ -21,7 +21,7 @@ fn place(s: &Statement) -> Option<usize> {
     match s {
         Statement::Empty => None,
         Statement::Assign(a) => Some(a.target.root.at),
-        Statement::Call(d, _) => Some(d.root.at),
+        Statement::Call(call) => Some(call.procedure.root.at),
         Statement::Compound(list) | Statement::Cycle(list) => first_place(list),
         Statement::If { condition, .. }
         | Statement::IfElse { condition, .. }

@@ -36,7 +36,7 @@ impl<'s, 't> Translator<'s, 't> {
         match s {
             Statement::Empty => Ok(next),
             Statement::Assign(a) => self.assign(&a.target, &a.value, low, next, emitter),
-            Statement::Call(d, es) => self.perform(d, es, low, next, emitter),
+            Statement::Call(c) => self.perform(&c.procedure, &c.arguments, low, next, emitter),
             Statement::Compound(list) => self.statements(list, low, next, emitter),
             Statement::If { condition, then } => {
                 let yes = self.statement(then, low, next, emitter)?;
@@ -44,11 +44,10 @@ impl<'s, 't> Translator<'s, 't> {
             }
             Statement::IfElse {
                 condition,
-                then,
-                otherwise,
+                branches,
             } => {
-                let no = self.statement(otherwise, low, next, emitter)?;
-                let yes = self.statement(then, low, next, emitter)?;
+                let no = self.statement(&branches.1, low, next, emitter)?;
+                let yes = self.statement(&branches.0, low, next, emitter)?;
                 self.test(condition, low, yes, no, emitter)
             }
             Statement::Case { selector, arms } => self.case(arms, selector, low, next, emitter),

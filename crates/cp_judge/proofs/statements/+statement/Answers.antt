@@ -60,22 +60,22 @@ pub statement-returns-in_ok-statement-in-IfElse : goal.statement-returns-in_ok-s
 statement-returns-in_ok-statement-in-IfElse t c =
     let env = c.args.env.now in
     let e = expression c.in-IfElse.e.value in
-    let x = statement c.in-IfElse.then.value in
-    let y = statement c.in-IfElse.otherwise.value in
-    let v : statement c.args.s.now ≡ s.IfElse e x y = rw c.in-IfElse.is (view_if_else c.in-IfElse.e c.in-IfElse.then c.in-IfElse.otherwise) in
+    let x = statement c.in-IfElse.branches.value.0 in
+    let y = statement c.in-IfElse.branches.value.1 in
+    let v : statement c.args.s.now ≡ s.IfElse e x y = rw c.in-IfElse.is (view_if_else c.in-IfElse.e c.in-IfElse.branches) in
     then_told c.args.told.now c.judge_branch-in-IfElse.new.told c.statement.new.told (violations_of (st.c2_condition env e) ++ st.statement env x) (st.statement env y)
     (st.statement env (statement c.args.s.now)) (rw (c.deref-in-IfElse.ensures, c.deref-in-IfElse-2.ensures) at c.in_ok-judge_branch-in-IfElse.ensures)
     (rw c.deref-in-IfElse-3.ensures at c.in_ok-statement-in-IfElse.ensures) (ap (st.statement env) v)
 
 pub statement-returns-in_ok-judge_case-in-Case : goal.statement-returns-in_ok-judge_case-in-Case
 statement-returns-in_ok-judge_case-in-Case t c =
-    let v : statement c.args.s.now ≡ s.Case (expression c.in-Case.e.value) (arms_of (map arm c.in-Case.arms.items)) = rw c.in-Case.is (view_case c.in-Case.e c.in-Case.arms) in
-    (rw (c.deref-in-Case.ensures.value, c.deref-in-Case-2.ensures) at c.in_ok-judge_case-in-Case.ensures) ∙ ap (λ x. least c.args.told.now (st.statement c.args.env.now x)) (sym v)
+    let v : statement c.args.s.now ≡ s.Case (expression c.in-Case.e.value) (arms_of (map arm c.in-Case.arms.value.items)) = rw c.in-Case.is (view_case c.in-Case.e c.in-Case.arms) in
+    (rw (c.deref-in-Case-2.ensures.value, c.deref-in-Case.ensures, c.deref-in-Case-3.ensures) at c.in_ok-judge_case-in-Case.ensures) ∙ ap (λ x. least c.args.told.now (st.statement c.args.env.now x)) (sym v)
 
 pub statement-returns-in_ok-judge_repeat-in-Repeat : goal.statement-returns-in_ok-judge_repeat-in-Repeat
 statement-returns-in_ok-judge_repeat-in-Repeat t c =
-    let v : statement c.args.s.now ≡ s.Repeat (statements_of (map statement c.in-Repeat.body.items)) (expression c.in-Repeat.e.value) = rw c.in-Repeat.is (view_repeat c.in-Repeat.body c.in-Repeat.e) in
-    (rw (c.deref-in-Repeat.ensures.value, c.deref-in-Repeat-2.ensures) at c.in_ok-judge_repeat-in-Repeat.ensures) ∙ ap (λ x. least c.args.told.now (st.statement c.args.env.now x)) (sym v)
+    let v : statement c.args.s.now ≡ s.Repeat (statements_of (map statement c.in-Repeat.body.value.items)) (expression c.in-Repeat.e.value) = rw c.in-Repeat.is (view_repeat c.in-Repeat.body c.in-Repeat.e) in
+    (rw (c.deref-in-Repeat-2.ensures.value, c.deref-in-Repeat.ensures, c.deref-in-Repeat-3.ensures) at c.in_ok-judge_repeat-in-Repeat.ensures) ∙ ap (λ x. least c.args.told.now (st.statement c.args.env.now x)) (sym v)
 
 pub statement-returns-in_ok-judge_for-in-For : goal.statement-returns-in_ok-judge_for-in-For
 statement-returns-in_ok-judge_for-in-For t c =

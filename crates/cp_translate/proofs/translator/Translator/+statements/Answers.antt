@@ -169,12 +169,12 @@ cycle-returns t c = λ next s scope.
 pub statement-returns-in-Cycle : goal.statement-returns-in-Cycle
 statement-returns-in-Cycle t c =
     let old = c.args.emitter.now in
-    let l = tree.statements_of (map tree.statement c.in-Cycle.list.items) in
+    let l = tree.statements_of (map tree.statement c.in-Cycle.list.value.items) in
     let v : tree.statement c.args.s.now ≡ syntax.Cycle l = rw c.in-Cycle.is (view_cycle c.in-Cycle.list) in
     if_ok c.cycle.result
     (λ place h s scope.
     subst (λ x. Enters old c.cycle.new.emitter place (emitted s (erase.statement x) c.args.low (place_of old) c.args.next)) (sym v)
-    ((rw c.deref-in-Cycle.ensures.value at h) c.args.next s scope))
+    ((rw (c.deref-in-Cycle-2.ensures.value, c.deref-in-Cycle.ensures) at h) c.args.next s scope))
     c.cycle.ensures
 
 pub case-returns : goal.case-returns
@@ -196,23 +196,23 @@ case-returns t c =
 pub statement-returns-in-Case : goal.statement-returns-in-Case
 statement-returns-in-Case t c =
     let old = c.args.emitter.now in
-    let all = tree.arms_of (map tree.arm c.in-Case.arms.items) in
+    let all = tree.arms_of (map tree.arm c.in-Case.arms.value.items) in
     let e = tree.expression c.in-Case.selector.value in
     let v : tree.statement c.args.s.now ≡ syntax.Case e all = rw c.in-Case.is (view_case c.in-Case.selector c.in-Case.arms) in
     if_ok c.case.result
     (λ place h s scope.
     subst (λ x. Enters old c.case.new.emitter place (emitted s (erase.statement x) c.args.low (place_of old) c.args.next)) (sym v)
-    ((rw (c.deref-in-Case.ensures.value, c.deref-in-Case-2.ensures) at h) s scope))
+    ((rw (c.deref-in-Case-2.ensures.value, c.deref-in-Case.ensures, c.deref-in-Case-3.ensures) at h) s scope))
     c.case.ensures
 
 pub statement-returns-in_ok-yes-in-IfElse : goal.statement-returns-in_ok-yes-in-IfElse
 statement-returns-in_ok-yes-in-IfElse t c =
     let old = c.args.emitter.now in
     let e = tree.expression c.in-IfElse.condition.value in
-    let x = tree.statement c.in-IfElse.then.value in
-    let y = tree.statement c.in-IfElse.otherwise.value in
+    let x = tree.statement c.in-IfElse.branches.value.0 in
+    let y = tree.statement c.in-IfElse.branches.value.1 in
     let v : tree.statement c.args.s.now ≡ syntax.IfElse e x y =
-    rw c.in-IfElse.is (view_if_else c.in-IfElse.condition c.in-IfElse.then c.in-IfElse.otherwise) in
+    rw c.in-IfElse.is (view_if_else c.in-IfElse.condition c.in-IfElse.branches) in
     if_ok c.test-in-IfElse.result
     (λ place h s scope.
     let d = erase.expression e in
