@@ -4,7 +4,10 @@ ghost use Rattle.std.specs.Prelude.{◌≡◌, ◌≤◌, length, map, take};
 ghost use Rattle.cp_model.specs.Characters.{lower};
 
 /// The most letters of a short name: as many as let a kind of token, with them, take 16 bytes.
-pub(crate) const LONGEST_SHORT: usize = 14;
+pub const LONGEST_SHORT: usize = 14;
+
+/// As many letters as the front of a text is looked at together: two words of the machine.
+pub const FRONT: usize = 16;
 
 /// The letters of a short name.
 #[derive(Clone, Copy)]
@@ -25,6 +28,22 @@ impl ShortWord {
         }
         ShortWord {
             length: word.len() as u8,
+            letters,
+        }
+    }
+
+    /// Returns the word of the first `length` of these letters.
+    #[inline(always)]
+    pub fn of_front(front: &[u8; FRONT], length: usize) -> ShortWord
+        requires { length ≤ 14 }
+        ensures { take result.length result.letters ≡ take length front.now }
+    {
+        let mut letters = [0; LONGEST_SHORT];
+        for i in 0..LONGEST_SHORT {
+            letters[i] = front[i];
+        }
+        ShortWord {
+            length: length as u8,
             letters,
         }
     }

@@ -2,8 +2,7 @@
 use Rattle.std.proofs.Common.{◌≡◌, ℕ, ◌+◌, ◌<◌, ◌≤◌, List, [], ◌∷◌, length, drop, get_or, Option, None, Result, Ok, Err, IfOk, Bool, true, refl, sym, ap, subst, ◌∙◌, length-drop, length-append, arith}
 use Rattle.cp_model.specs.Characters.{is_blank, is_letter}
 use Rattle.cp_model.specs.Tokens.{Kind}
-use Rattle.cp_model.specs.declared.token.Kind.{Kind as Found}
-use Rattle.cp_scan.specs.Fronts.{front}
+use Rattle.cp_scan.specs.Fronts.{separator_piece, token_piece}
 use Rattle.cp_scan.specs.declared.refusal.Cause.{Cause}
 use Rattle.cp_scan.specs.Pieces.{Piece, piece, first_piece, head_or_zero, word}
 use Rattle.cp_scan.proofs.Fronts.{Holds}
@@ -39,10 +38,15 @@ piece_below text at limit some below (Ok x) is_front =
     omega arith
 
 -- and so is the place after what the code found there
-pub front_below : (text : List ℕ) (at limit : ℕ) → 0 < length text → at + length text < limit → (r : Result (Option Found × ℕ) Cause)
-    → front r ≡ first_piece text → IfOk r (λ found. at + found.1 < limit)
-front_below text at limit some below (Err c) is_front = tt
-front_below text at limit some below (Ok x) is_front = piece_below text at limit some below (front (Ok x)) is_front
+pub token_below : {A : Type 0} (text : List ℕ) (at limit : ℕ) → 0 < length text → at + length text < limit → (kind : A → Kind) (r : Result (A × ℕ) Cause)
+    → token_piece kind r ≡ first_piece text → IfOk r (λ found. at + found.1 < limit)
+token_below text at limit some below kind (Err c) is_front = tt
+token_below text at limit some below kind (Ok x) is_front = piece_below text at limit some below (token_piece kind (Ok x)) is_front
+
+pub separator_below : (text : List ℕ) (at limit : ℕ) → 0 < length text → at + length text < limit → (r : Result ℕ Cause)
+    → separator_piece r ≡ first_piece text → IfOk r (λ n. at + n < limit)
+separator_below text at limit some below (Err c) is_front = tt
+separator_below text at limit some below (Ok n) is_front = piece_below text at limit some below (separator_piece (Ok n)) is_front
 
 -- a blank is a piece
 blank_first : (rest : List ℕ) → is_blank (get_or rest 0 0) ≡ true → Ok (None, 1) ≡ first_piece rest

@@ -17,4 +17,5 @@ pub mod Sound
 pub mod Spans
 pub mod Turns
 pub mod Values
+pub mod WordFronts
 pub mod WordLaws

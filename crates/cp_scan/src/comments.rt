@@ -2,21 +2,20 @@
 //! read.
 
 ghost use Rattle.std.specs.Prelude.{◌≡◌};
-ghost use Rattle.cp_scan.specs.Fronts.{front};
+ghost use Rattle.cp_scan.specs.Fronts.{separator_piece};
 ghost use Rattle.cp_scan.specs.Pieces as spec;
 
 use crate::bytes::length_before_quote;
-use crate::piece::Front;
 use crate::refusal::Cause;
 
-/// Reads the rest of a comment. The text before `rest` ends with its opening `"`.
+/// Reads the rest of a comment, and returns the number of the bytes of all of it. The text before `rest` ends with its opening `"`.
 #[tactic(auto, unfolding(crate::specs::Pieces::comment))]
-pub fn comment(rest: &[u8]) -> Front
-    ensures { front result ≡ spec.comment rest.now }
+pub fn comment(rest: &[u8]) -> Result<usize, Cause>
+    ensures { separator_piece result ≡ spec.comment rest.now }
 {
     let n = length_before_quote(rest);
     if n < rest.len() {
-        Ok((None, n + 2))
+        Ok(n + 2)
     } else {
         Err(Cause::Comment)
     }

@@ -3,32 +3,33 @@
 //! it.
 
 ghost use Rattle.std.specs.Prelude.{◌≡◌};
-ghost use Rattle.cp_scan.specs.Fronts.{front};
+ghost use Rattle.cp_model.specs.Tokens as plain;
+ghost use Rattle.cp_scan.specs.Fronts.{token_piece};
 ghost use Rattle.cp_scan.specs.Pieces as spec;
 ghost use Rattle.cp_scan.specs.Pieces.{head_or_zero};
 
 use crate::bytes::byte_at;
-use crate::piece::Front;
+use crate::piece::Found;
 use crate::refusal::Cause;
-use cp_model::token::{Kind, Symbol};
+use cp_model::token::Symbol;
 
-fn one(symbol: Symbol) -> Front
-    ensures { front result ≡ spec.one symbol }
+fn one(symbol: Symbol) -> Found<Symbol>
+    ensures { token_piece plain.Symbol result ≡ spec.one symbol }
 {
-    Ok((Some(Kind::Symbol(symbol)), 1))
+    Ok((symbol, 1))
 }
 
-fn two(symbol: Symbol) -> Front
-    ensures { front result ≡ spec.two symbol }
+fn two(symbol: Symbol) -> Found<Symbol>
+    ensures { token_piece plain.Symbol result ≡ spec.two symbol }
 {
-    Ok((Some(Kind::Symbol(symbol)), 2))
+    Ok((symbol, 2))
 }
 
 // Reads a mark that starts like a longer one. The byte after `b` is `c`, or `c` is 0 at the end of
 // the text.
 #[tactic(auto, unfolding(crate::specs::Pieces::longer_mark))]
-fn longer_mark(b: u8, c: u8) -> Front
-    ensures { front result ≡ spec.longer_mark b c }
+fn longer_mark(b: u8, c: u8) -> Found<Symbol>
+    ensures { token_piece plain.Symbol result ≡ spec.longer_mark b c }
 {
     match (b, c) {
         (b'<', b'=') => two(Symbol::AtMost),
@@ -49,8 +50,8 @@ fn longer_mark(b: u8, c: u8) -> Front
 
 /// Reads the mark that begins with `b`. The text after `b` is `rest`.
 #[tactic(auto, unfolding(crate::specs::Pieces::mark))]
-pub fn mark(b: u8, rest: &[u8]) -> Front
-    ensures { front result ≡ spec.mark b (head_or_zero rest.now) }
+pub fn mark(b: u8, rest: &[u8]) -> Found<Symbol>
+    ensures { token_piece plain.Symbol result ≡ spec.mark b (head_or_zero rest.now) }
 {
     match b {
         b'+' => one(Symbol::Plus),

@@ -3,13 +3,13 @@
 
 ghost use Rattle.std.specs.Prelude.{◌≡◌, ◌≤◌, min};
 ghost use Rattle.cp_model.specs.Characters.{decimal_value};
-ghost use Rattle.cp_scan.specs.Fronts.{front};
+ghost use Rattle.cp_model.specs.Tokens as plain;
+ghost use Rattle.cp_scan.specs.Fronts.{token_piece};
 ghost use Rattle.cp_scan.specs.Pieces as spec;
 
 use crate::bytes::digit_count;
-use crate::piece::Front;
+use crate::piece::Found;
 use crate::refusal::Cause;
-use cp_model::token::Kind;
 
 // The largest number that a text may contain.
 const GREATEST_NUMBER: u32 = 32767;
@@ -28,13 +28,13 @@ pub fn capped_value(digits: &[u8]) -> u32
 
 /// Reads the number at the front of a text.
 #[tactic(auto, unfolding(crate::specs::Pieces::number))]
-pub fn number(text: &[u8]) -> Front
-    ensures { front result ≡ spec.number text.now }
+pub fn number(text: &[u8]) -> Found<u16>
+    ensures { token_piece plain.Number result ≡ spec.number text.now }
 {
     let n = digit_count(text);
     let value = capped_value(&text[..n]);
     if value > GREATEST_NUMBER {
         return Err(Cause::Number);
     }
-    Ok((Some(Kind::Number(value as u16)), n))
+    Ok((value as u16, n))
 }

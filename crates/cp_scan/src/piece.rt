@@ -1,8 +1,5 @@
 //! The piece at a place of a text, a token or a separator, by its first byte. `piece` of
 //! `specs/Pieces.antt` defines what is read.
-//!
-//! Each sort of piece is taken by a call of its own. If they came together before, the room for a
-//! name, which only words need, would be copied for each of them.
 
 ghost use Rattle.std.specs.Prelude.{◌≡◌, ◌+◌, ◌^◌, ◌<◌, ◌≤◌, false, length, drop};
 ghost use Rattle.cp_model.specs.Characters as character;
@@ -21,9 +18,9 @@ use crate::words::read_word;
 use cp_model::token::Kind;
 use std::alloc::Global;
 
-/// The piece at the front of a text: the kind of a token, or `None` for a separator, and the number
-/// of its bytes. Or else the cause why no piece begins there.
-pub type Front = Result<(Option<Kind>, usize), Cause>;
+/// What a token at the front of a text holds and the number of its bytes, or the cause why no piece
+/// begins there.
+pub type Found<A> = Result<(A, usize), Cause>;
 
 /// Reads the piece at the place that was reached, and goes on after it.
 pub fn read_piece(alloc: Global, text: &[u8], progress: &mut Progress) -> Result<(), ScanError>
@@ -35,7 +32,8 @@ pub fn read_piece(alloc: Global, text: &[u8], progress: &mut Progress) -> Result
     let rest = rest_from(text, progress.at);
     let b = rest[0];
     if is_blank(b) {
-        return progress.take(Ok((None, 1)));
+        progress.pass(1);
+        return Ok(());
     }
     if is_letter(b) {
         read_word(alloc, rest, progress)
@@ -63,11 +61,26 @@ fn read_other(text: &[u8], progress: &mut Progress) -> Result<(), ScanError>
     let b = text[0];
     let rest = &text[1..];
     if is_digit(b) {
-        return progress.take(number(text));
+        return match number(text) {
+            Ok((value, length)) => progress.append(Kind::Number(value), length),
+            Err(cause) => Err(progress.refusal(cause)),
+        };
     }
     match b {
-        b'"' => progress.take(comment(rest)),
-        b'\'' => progress.take(character(rest)),
-        _ => progress.take(mark(b, rest)),
+        b'"' => match comment(rest) {
+            Ok(length) => {
+                progress.pass(length);
+                Ok(())
+            }
+            Err(cause) => Err(progress.refusal(cause)),
+        },
+        b'\'' => match character(rest) {
+            Ok((ordinal, length)) => progress.append(Kind::Character(ordinal), length),
+            Err(cause) => Err(progress.refusal(cause)),
+        },
+        _ => match mark(b, rest) {
+            Ok((symbol, length)) => progress.append(Kind::Symbol(symbol), length),
+            Err(cause) => Err(progress.refusal(cause)),
+        },
     }
 }

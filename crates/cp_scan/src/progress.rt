@@ -1,13 +1,12 @@
 //! The tokens of a text up to a place, and what each piece adds to them. `step` of
 //! `specs/Pieces.antt` defines it.
 
-ghost use Rattle.std.specs.Prelude.{◌≡◌, ◌+◌, ◌^◌, ◌<◌, Some, Ok, IfOk};
+ghost use Rattle.std.specs.Prelude.{◌≡◌, ◌+◌, ◌^◌, ◌<◌, Some, Ok};
 ghost use Rattle.cp_model.specs.Kinds.{kind_of};
 ghost use Rattle.cp_scan.specs.Failures.{Takes};
-ghost use Rattle.cp_scan.specs.Fronts.{front};
+ghost use Rattle.cp_scan.specs.declared.refusal.ScanError.TheVariants.{Refused};
 
-use crate::piece::Front;
-use crate::refusal::ScanError;
+use crate::refusal::{Cause, ScanError};
 use cp_model::token::{Kind, Span, Token};
 
 /// The tokens of a text up to the place `at`.
@@ -34,22 +33,19 @@ impl Progress {
         Ok(())
     }
 
-    /// Goes on after the piece that was read at this place, with its token if it is one. If there is
-    /// none, returns its cause.
+    /// Goes on after a separator of so many bytes.
     #[inline(always)]
-    pub fn take(&mut self, piece: Front) -> Result<(), ScanError>
-        requires { IfOk piece (λ found. self.old.at + found.1 < 2 ^ 32) }
-        ensures { Takes result self.old self.new (front piece) }
+    pub fn pass(&mut self, length: usize)
+        requires { self.old.at + length < 2 ^ 32 }
+        ensures { self.new ≡ record self.old { at = self.old.at + length } }
     {
-        match piece {
-            Ok((kind, length)) => match kind {
-                Some(kind) => self.append(kind, length),
-                None => {
-                    self.at += length;
-                    Ok(())
-                }
-            },
-            Err(cause) => Err(ScanError::Refused { cause, at: self.at }),
-        }
+        self.at += length;
+    }
+
+    /// The refusal of what stands at this place.
+    pub fn refusal(&self, cause: Cause) -> ScanError
+        ensures { result ≡ Refused cause self.now.at }
+    {
+        ScanError::Refused { cause, at: self.at }
     }
 }

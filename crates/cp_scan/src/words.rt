@@ -1,15 +1,17 @@
 //! Words in lower case: reserved words, according to the table in `Spelling` of cp_model, and
 //! names. `word` of `specs/Pieces.antt` defines what is read.
 
-ghost use Rattle.std.specs.Prelude.{◌≡◌, ◌+◌, ◌^◌, ◌<◌, ◌∷◌, ℕ, List, map, length};
+ghost use Rattle.std.specs.Prelude.{◌≡◌, ◌+◌, ◌^◌, ◌<◌, ◌≤◌, ◌∷◌, ℕ, List, Ok, Some, map, length, take};
+ghost use Rattle.cp_model.specs.Characters.{lower};
 ghost use Rattle.cp_model.specs.Spelling as spelling;
 ghost use Rattle.cp_scan.specs.Failures.{Takes};
 ghost use Rattle.cp_scan.specs.Pieces as spec;
-ghost use Rattle.cp_scan.specs.Words.{kind_or_name};
+ghost use Rattle.cp_scan.specs.Words.{IsFront, kind_or_name};
 
 use crate::bytes::word_length;
 use crate::progress::Progress;
 use crate::refusal::{Cause, ScanError};
+use cp_model::short::{FRONT, LONGEST_SHORT, ShortWord};
 use cp_model::token::{Kind, Name, Symbol};
 use std::alloc::Global;
 
@@ -126,6 +128,55 @@ fn reserved_word(letters: &[u8]) -> Option<Symbol>
     }
 }
 
+// The letters at the front of a text that is long enough, in lower case.
+fn lower_front(text: &[u8]) -> [u8; FRONT]
+    requires { 16 ≤ length text.now }
+    ensures { take 16 result ≡ map lower (take 16 text.now) }
+{
+    let mut letters = [0; FRONT];
+    for i in 0..FRONT {
+        letters[i] = text[i].to_ascii_lowercase();
+    }
+    letters
+}
+
+// The letters of a short text in lower case.
+fn lower_end(text: &[u8]) -> [u8; FRONT]
+    requires { length text.now < 16 }
+    ensures { take (length text.now) result ≡ map lower text.now }
+{
+    let mut letters = [0; FRONT];
+    for i in 0..text.len() {
+        letters[i] = text[i].to_ascii_lowercase();
+    }
+    letters
+}
+
+// The letters at the front of a text in lower case, with room for any short word.
+fn front_in_lower_case(text: &[u8]) -> [u8; FRONT]
+    ensures { IsFront text.now result }
+{
+    // So many at once take no longer than one.
+    if FRONT <= text.len() {
+        lower_front(text)
+    } else {
+        lower_end(text)
+    }
+}
+
+// Reads a word of more letters than a short one has.
+fn read_long_word(alloc: Global, word: &[u8], progress: &mut Progress) -> Result<(), ScanError>
+    requires { progress.old.at + length word.now < 2 ^ 32 }
+    ensures { Takes result progress.old progress.new
+        (Ok (Some (spelling.kind_of_word (map lower word.now)), length word.now)) }
+{
+    let name = Name::new(alloc, word)?;
+    match reserved_word(name.as_bytes()) {
+        Some(symbol) => progress.append(Kind::Symbol(symbol), word.len()),
+        None => progress.append(name.into_kind(), word.len()),
+    }
+}
+
 /// Reads the word at the front of a text, and goes on after it.
 #[tactic(auto, unfolding(crate::specs::Pieces::word))]
 pub fn read_word(alloc: Global, text: &[u8], progress: &mut Progress) -> Result<(), ScanError>
@@ -134,11 +185,14 @@ pub fn read_word(alloc: Global, text: &[u8], progress: &mut Progress) -> Result<
 {
     let n = word_length(text);
     if n > LONGEST_WORD {
-        return progress.take(Err(Cause::Word));
+        return Err(progress.refusal(Cause::Word));
     }
-    let word = Name::new(alloc, &text[..n])?;
-    match reserved_word(word.as_bytes()) {
+    if n > LONGEST_SHORT {
+        return read_long_word(alloc, &text[..n], progress);
+    }
+    let letters = front_in_lower_case(text);
+    match reserved_word(&letters[..n]) {
         Some(symbol) => progress.append(Kind::Symbol(symbol), n),
-        None => progress.append(word.into_kind(), n),
+        None => progress.append(Kind::Short(ShortWord::of_front(&letters, n)), n),
     }
 }
