@@ -310,6 +310,29 @@ impl<'t> Environment<'t> {
         }
     }
 
+    /// Makes room for so many more names.
+    pub fn reserve_names(&mut self, count: usize) -> Result<(), AllocError>
+        ensures { self.new ≡ self.old }
+    {
+        self.names.reserve(count)
+    }
+
+    /// Makes room for so many more types, tables of members and system types.
+    pub fn reserve_types(&mut self, count: usize) -> Result<(), AllocError>
+        ensures { self.new ≡ self.old }
+    {
+        self.types.reserve(count)?;
+        self.members.reserve(count)?;
+        self.systems.reserve(count)
+    }
+
+    /// Makes room for so many more routines.
+    pub fn reserve_routines(&mut self, count: usize) -> Result<(), AllocError>
+        ensures { self.new ≡ self.old }
+    {
+        self.routines.reserve(count)
+    }
+
     /// Declares a name, unless it is visible already, and returns whether it wasn't.
     pub fn declare(&mut self, x: &'t Identifier, entity: Entity) -> Result<bool, AllocError>
         ensures new { IfOk result

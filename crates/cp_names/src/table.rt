@@ -45,6 +45,14 @@ impl<'t, A: Copy> NameTable<'t, A> {
         self.entries.len()
     }
 
+    /// Makes room for so many more names, so that the table isn't moved while they are added. Fails
+    /// only if memory runs out.
+    pub fn reserve(&mut self, count: usize) -> Result<(), AllocError>
+        ensures { self.new ≡ self.old }
+    {
+        self.entries.reserve(count)
+    }
+
     // What the name with a number stands for, if there is one.
     fn value_at(&self, number: Option<usize>) -> Option<A>
         ensures { result ≡ value_at self.now number }

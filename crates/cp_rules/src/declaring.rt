@@ -16,6 +16,7 @@ impl<'t> Checker<'t> {
         ensures { OnOk result
             (self.new ≡ after self.old (d.declare_all self.old.env entity names.now)) }
     {
+        self.environment.reserve_names(names.len())?;
         for x in names {
             self.declare(x, entity)?;
         }

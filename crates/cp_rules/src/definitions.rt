@@ -2,18 +2,18 @@
 
 ghost use Rattle.std.specs.Prelude.{◌≡◌, ℕ, IfOk, OnOk, length, map, pos, ◌-◌};
 ghost use Rattle.cp_model.specs.Rules as rules;
+ghost use Rattle.cp_model.specs.RulesDeclarations as d;
 ghost use Rattle.cp_model.specs.RulesEnvironment as r;
 ghost use Rattle.cp_model.specs.View as view;
 ghost use Rattle.cp_rules.specs.Checking.{after};
 ghost use Rattle.cp_rules.specs.Definitions.{constant_entity, define_constants, define_sections, define_types, type_entity};
-ghost use Rattle.cp_rules.specs.Headings.{lent};
 
 use crate::checker::{Checker, Judged};
 use cp_model::rules::{Entity, Position, Structure, TypeRow};
 use cp_model::tree::{
     ConstantDefinition, Defined, Identifier, Section, TypeDefinition, TypeExpression,
 };
-use std::alloc::{AllocError, Global};
+use std::alloc::AllocError;
 
 fn constant_entity(of: Judged<(usize, i32)>) -> Entity
     ensures { result ≡ constant_entity of }
@@ -56,21 +56,6 @@ fn enumeration(t: usize, count: usize) -> Result<TypeRow, AllocError>
     })
 }
 
-// The values of an enumeration, and what they stand for.
-fn values<'t>(
-    alloc: Global,
-    t: usize,
-    names: &'t [Identifier],
-) -> Result<Vec<(&'t Identifier, Entity)>, AllocError>
-    ensures { IfOk result (λ values. map lent values.items ≡ rules.values t 0 names.now) }
-{
-    let mut values = Vec::new(alloc);
-    for (i, x) in names.iter().enumerate() {
-        values.push((x, Entity::Constant(t, ordinal(i)?)))?;
-    }
-    Ok(values)
-}
-
 impl<'t> Checker<'t> {
     fn define_constant(&mut self, d: &'t ConstantDefinition) -> Result<(), AllocError>
         ensures { OnOk result
@@ -80,6 +65,18 @@ impl<'t> Checker<'t> {
         self.declare(&d.name, Entity::UnfinishedConstant)?;
         let value = self.constant(&d.value);
         self.set_from(outside, constant_entity(value));
+        Ok(())
+    }
+
+    // Declares the values of an enumeration, numbered from 0. C1: one is already visible.
+    fn declare_values(&mut self, t: usize, names: &'t [Identifier]) -> Result<(), AllocError>
+        ensures { OnOk result
+            (self.new ≡ after self.old (d.declare_each self.old.env (rules.values t 0 names.now))) }
+    {
+        self.environment.reserve_names(names.len())?;
+        for (i, x) in names.iter().enumerate() {
+            self.declare(x, Entity::Constant(t, ordinal(i)?))?;
+        }
         Ok(())
     }
 
@@ -95,10 +92,9 @@ impl<'t> Checker<'t> {
         let t = self.environment.type_count();
         let row = enumeration(t, names.len())?;
         self.add_type(row)?;
-        let values = values(self.alloc, t, names)?;
         // What its name stands for makes no difference to its values.
         self.declare(x, Entity::Type(t))?;
-        self.declare_each(&values)
+        self.declare_values(t, names)
     }
 
     fn define_type(&mut self, x: &'t Identifier, t: &'t TypeExpression) -> Result<(), AllocError>
@@ -139,6 +135,8 @@ impl<'t> Checker<'t> {
             (self.new ≡ after self.old
             (define_types self.old.env (map view.type_definition list.now))) }
     {
+        self.environment.reserve_names(list.len())?;
+        self.environment.reserve_types(list.len())?;
         for d in list {
             self.define(d)?;
         }

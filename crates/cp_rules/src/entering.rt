@@ -41,18 +41,6 @@ impl<'t> Checker<'t> {
         Ok(())
     }
 
-    /// Declares each of these names as the entity beside it. C1: one is already visible. Fails only
-    /// if memory runs out.
-    pub fn declare_each(&mut self, names: &[(&'t Identifier, Entity)]) -> Result<(), AllocError>
-        ensures { OnOk result
-            (self.new ≡ after self.old (d.declare_each self.old.env (map lent names.now))) }
-    {
-        for (x, entity) in names {
-            self.declare(x, *entity)?;
-        }
-        Ok(())
-    }
-
     /// Judges statements, one after another. Fails only if memory runs out.
     pub fn statements(&mut self, list: &[Statement]) -> Result<(), AllocError>
         ensures { OnOk result

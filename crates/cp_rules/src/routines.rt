@@ -127,6 +127,8 @@ impl<'t> Checker<'t> {
         ensures { OnOk result
             (self.new ≡ after self.old (d.routines self.old.env sort (map view.routine list.now))) }
     {
+        self.environment.reserve_names(list.len())?;
+        self.environment.reserve_routines(list.len())?;
         for routine in list {
             self.routine(sort, routine)?;
         }

@@ -90,6 +90,7 @@ impl<'t> Checker<'t> {
             (λ n. Declares self.old self.new n
             (d.variables self.old.env position (map view.variables groups.now))) }
     {
+        self.environment.reserve_names(groups.len())?;
         let mut words = 0;
         for group in groups {
             let more = self.variable_group(position, group)?;

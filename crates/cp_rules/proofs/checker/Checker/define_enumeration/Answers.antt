@@ -15,8 +15,7 @@ returns c =
     c.in_ok-add_type.ensures.1
     ∙ ap (λ row. let st : State = record old { env = add_type old.env row } in st)
     c.in_ok-row.ensures in
-    let valued = rw (c.deref.ensures.value, c.in_ok-values.ensures) at c.declare_each.ensures in
-    on_ok c.declare_each.result
-    (λ valued. enumeration_defined old c.add_type.new.self c.declare.new.self c.declare_each.new.self
+    on_ok c.declare_values.result
+    (λ valued. enumeration_defined old c.add_type.new.self c.declare.new.self c.declare_values.new.self
     c.args.x.now c.args.names.now t number made c.in_ok-declare.ensures valued)
-    valued
+    c.declare_values.ensures
