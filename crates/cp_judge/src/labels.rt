@@ -1,6 +1,8 @@
 //! The labels of a `case`.
 
-ghost use Rattle.std.specs.Prelude.{◌≡◌, ◌++◌, [], ◌∷◌, IfOk, OnOk, map, not, Option, None, Some};
+ghost use Rattle.std.specs.Prelude.{◌≡◌, ◌++◌, [], ◌∷◌, IfOk, OnOk, map, not, Option, None, Some, Decides};
+ghost use Rattle.std.specs.List.Sorted.{IsSorted};
+ghost use Rattle.std.specs.Ordering.{int_cmp};
 ghost use Rattle.cp_model.specs.RulesJudged.{least, then_judge, guard, violations_of};
 ghost use Rattle.cp_model.specs.RulesStatements as st;
 ghost use Rattle.cp_model.specs.RulesTypes as types;
@@ -21,22 +23,32 @@ use std::marker::Model;
 /// any order.
 #[derive(Drop)]
 pub struct Labels {
-    seen: BTreeSet<(usize, i32)>,
+    // Most labels have one base type and come in ascending order, which costs least.
+    base: usize,
+    ascending: Vec<i32>,
+    // The labels of other base types, and those that came out of order.
+    others: BTreeSet<(usize, i32)>,
 }
 
 impl Model for Labels {
     ghost Value = { spec.Labels };
 
-    ghost view = { λ s. s.seen.keys };
+    ghost view = { λ s. spec.labels_of s.base s.ascending.items ++ s.others.keys };
+
+    ghost invariant = { λ s. IsSorted int_cmp s.ascending.items
+        × spec.NoneGreater s.base s.ascending.items s.others.keys };
 }
 
 impl Labels {
-    /// Returns an empty set of labels.
-    pub fn new(alloc: Global) -> Labels
+    /// Returns an empty set of labels. It is fastest for ascending labels of the base type
+    /// `base`.
+    pub fn new(alloc: Global, base: usize) -> Labels
         ensures { result ≡ spec.no_labels }
     {
         Labels {
-            seen: BTreeSet::new(alloc),
+            base,
+            ascending: Vec::new(alloc),
+            others: BTreeSet::new(alloc),
         }
     }
 
@@ -45,7 +57,27 @@ impl Labels {
         ensures new { IfOk result (λ new. new ≡ not (st.is_among label self.old)) }
         ensures added { OnOk result (spec.SameLabels self.new (st.with_label self.old label)) }
     {
-        Ok(self.seen.insert(label)?)
+        if label.0 == self.base {
+            if is_greatest(&self.ascending, label.1) {
+                self.ascending.push(label.1)?;
+                return Ok(true);
+            }
+            if self.ascending.binary_search(&label.1).is_ok() {
+                return Ok(false);
+            }
+        }
+        Ok(self.others.insert(label)?)
+    }
+}
+
+// Whether an ordinal is greater than all that came in ascending order.
+fn is_greatest(ascending: &[i32], ordinal: i32) -> bool
+    ensures { IsSorted int_cmp ascending.now
+        → Decides result (spec.IsGreatest ordinal ascending.now) }
+{
+    match ascending.last() {
+        Some(last) => *last < ordinal,
+        None => true,
     }
 }
 

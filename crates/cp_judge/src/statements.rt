@@ -159,7 +159,7 @@ fn judge_arms(
         (told.new ≡ least told.old
         (st.arms env.now base [] (view.arms_of (map view.arm list.now)))) }
 {
-    let mut seen = Labels::new(alloc);
+    let mut seen = Labels::new(alloc, base.unwrap_or(0));
     for a in list {
         judge_labels(env, told, base, &mut seen, &a.labels)?;
         statement(env, alloc, told, &a.body)?;
