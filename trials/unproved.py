@@ -6,7 +6,7 @@
 `rt try` compiles the sources, and hands a module to clang. A copy of the kit, of links but for that clang and the prover, keeps the module and ends there. The
 module is then compiled and linked as `rt run` does it. It has tests of all that is proved of a built program; --bare leaves them out, and inlines what the compiler of a proved
 program inlines. So its steps take as many instructions as those of the proved program, to four in a hundred: that program keeps tests for divisors
-that are 0.
+that are 0. Times differ more, since a proved program keeps in registers much that this one copies through memory.
 """
 import pathlib
 import re
