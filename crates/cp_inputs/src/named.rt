@@ -71,8 +71,13 @@ impl<'a, T: Drop> From<AllocFailed<T>> for InputError<'a> {
 // The processes of an accepted text by number, from 2.
 fn processes<'t>(alloc: Global, tree: &'t Tree) -> Result<Vec<Field<'t>>, Refusal> {
     judge(alloc, tree)?;
+    Ok(declared_processes(alloc, tree)?)
+}
+
+// The processes that a text declares, from number 2 on.
+fn declared_processes<'t>(alloc: Global, tree: &'t Tree) -> Result<Vec<Field<'t>>, AllocError> {
     let tables = tables_of(alloc, tree)?;
-    Ok(components(alloc, &tables, Sort::Process)?)
+    components(alloc, &tables, Sort::Process)
 }
 
 // The index of the process with this name, from 0: its number less one.
