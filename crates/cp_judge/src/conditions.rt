@@ -11,7 +11,8 @@ ghost use Rattle.cp_model.specs.View.{designator, expression, selector, selector
 ghost use Rattle.cp_judge.specs.StatementParts as parts;
 ghost use Rattle.cp_judge.specs.Tells.{Tells, TellsOf};
 
-use crate::environment::{BOOLEAN, Environment, is_base};
+use crate::bases::{BOOLEAN, is_base};
+use crate::environment::Environment;
 use crate::expressions::judge;
 use crate::names::{anywhere, judge_name, outside_definition, queue_in_place};
 use crate::places::first_token;

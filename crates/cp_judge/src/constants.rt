@@ -6,7 +6,8 @@ ghost use Rattle.cp_model.specs.RulesJudged.{also, breaks, violation};
 ghost use Rattle.cp_model.specs.declared.rules.Rule.TheVariants as rules;
 ghost use Rattle.cp_judge.specs.Tells.{TellsFirst};
 
-use crate::environment::{CHAR, Environment, INTEGER};
+use crate::bases::{CHAR, INTEGER};
+use crate::environment::Environment;
 use crate::names::resolve;
 use crate::telling::{Told, fail_with_violation, unless_holds};
 use cp_model::rules::{Entity, Rule, Violation};

@@ -1,5 +1,4 @@
-//! The environment in which a part of a text is judged: the visible names, and the tables of types
-//! and routines.
+//! The environment in which a part of a text is judged: its names, and its types and routines.
 
 ghost use Rattle.std.specs.Prelude.{◌≡◌, [], ℕ, IfOk, OnOk, Option, None, Some, List, drop, get_or, is_some, length, not, option_map, slice_get, take};
 ghost use Rattle.cp_model.specs.Names.{lookup};
@@ -15,21 +14,6 @@ use cp_model::tree::{Identifier, Sort};
 use cp_names::NameTable;
 use std::alloc::{AllocError, Global};
 use std::marker::Model;
-
-/// The number of the type integer. Those of boolean, char and queue follow.
-pub const INTEGER: usize = 0;
-
-pub const BOOLEAN: usize = 1;
-
-pub const CHAR: usize = 2;
-
-pub const QUEUE: usize = 3;
-
-// The region of the statements of the initial process.
-const PROCESS_BODY: Region = Region {
-    sort: Sort::Process,
-    part: Part::Body,
-};
 
 /// The visible names and what they stand for.
 pub type Scope<'t> = NameTable<'t, Entity>;
@@ -65,16 +49,6 @@ impl<'t> Model for Environment<'t> {
       monitors = e.monitors;
       region = e.region;
     } };
-}
-
-/// Whether `base` is the base type `wanted`.
-pub fn is_base(wanted: usize, base: Option<usize>) -> bool
-    ensures { result ≡ r.is_base wanted base }
-{
-    match base {
-        Some(base) => wanted == base,
-        None => false,
-    }
 }
 
 fn is_structured(structure: Structure) -> bool
@@ -306,7 +280,10 @@ impl<'t> Environment<'t> {
             systems: Vec::new(alloc),
             processes: 1,
             monitors: 0,
-            region: PROCESS_BODY,
+            region: Region {
+                sort: Sort::Process,
+                part: Part::Body,
+            },
         }
     }
 

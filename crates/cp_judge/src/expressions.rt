@@ -15,9 +15,10 @@ ghost use Rattle.cp_judge.specs.Callees.{wants_of, result_if, TellsCallee};
 ghost use Rattle.cp_judge.specs.ExpressionParts as parts;
 ghost use Rattle.cp_judge.specs.Tells.{Tells, TellsOf, TellsBoth};
 
+use crate::bases::{BOOLEAN, CHAR, INTEGER};
 use crate::callees::{Called, Callee, Wants, function, want, wants_of_call};
 use crate::designators::{names_fit, no_indexed_value};
-use crate::environment::{BOOLEAN, CHAR, Environment, INTEGER};
+use crate::environment::Environment;
 use crate::members::member;
 use crate::names::{array, element};
 use crate::operands::{first_operand, has_form, has_type, mode as mode_of, operand, operands};

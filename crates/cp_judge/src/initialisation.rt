@@ -11,9 +11,10 @@ ghost use Rattle.cp_model.specs.View.{designator, expression, expressions_of, in
 ghost use Rattle.cp_judge.specs.InitParts as parts;
 ghost use Rattle.cp_judge.specs.Tells.{Tells};
 
+use crate::bases::INTEGER;
 use crate::callees::parameter;
 use crate::designators::names_fit;
-use crate::environment::{Environment, INTEGER};
+use crate::environment::Environment;
 use crate::expressions::{self, judge};
 use crate::names::{anywhere, find_entity, is_in_routine, judge_name, queue_in_place};
 use crate::places::{first_token, last_name};

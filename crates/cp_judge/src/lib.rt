@@ -8,6 +8,7 @@
 #![tactic(auto)]
 
 mod assignments;
+pub mod bases;
 pub mod callees;
 mod conditions;
 pub mod constants;

@@ -8,7 +8,8 @@ ghost use Rattle.cp_model.specs.View.{expression};
 ghost use Rattle.cp_judge.specs.Arguments.{form_rules, type_rule, is_standard_type};
 ghost use Rattle.cp_judge.specs.Tells.{Tells, TellsOf};
 
-use crate::environment::{BOOLEAN, CHAR, Environment, INTEGER, QUEUE, is_base};
+use crate::bases::{BOOLEAN, CHAR, INTEGER, QUEUE, is_base};
+use crate::environment::Environment;
 use crate::places::first_token;
 use crate::telling::{Told, tell_violation};
 use crate::values::variable;

@@ -5,8 +5,8 @@ ghost use Rattle.cp_model.specs.RulesEnvironment as r;
 ghost use Rattle.cp_model.specs.RulesNames as n;
 ghost use Rattle.cp_judge.specs.Callees.{wants_of, callee_if, TellsWherever};
 
+use crate::bases::{BOOLEAN, CHAR, INTEGER};
 use crate::callees::{Callee, Wants};
-use crate::environment::{BOOLEAN, CHAR, INTEGER};
 use crate::telling::{Told, tell_violation};
 use cp_model::rules::{Gives, Rule, Standard, Want};
 use cp_model::tree::Identifier;

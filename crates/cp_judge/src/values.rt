@@ -9,8 +9,9 @@ ghost use Rattle.cp_judge.specs.ExpressionParts.{judge_use};
 ghost use Rattle.cp_judge.specs.Tells.{Tells, TellsOf};
 ghost use Rattle.cp_judge.specs.Designated.{designator_if, designator_in, is_plain};
 
+use crate::bases::INTEGER;
 use crate::callees::function;
-use crate::environment::{Environment, INTEGER};
+use crate::environment::Environment;
 use crate::names::{anywhere, find_entity, outside_definition, sort_rule};
 use crate::places::{first_name, first_token, last_name};
 use crate::telling::{Told, tell_violation, unless_holds};

@@ -4,7 +4,8 @@ ghost use Rattle.std.specs.Prelude.{◌≡◌, IfOk, OnOk, true};
 ghost use Rattle.cp_model.specs.RulesEnvironment as r;
 ghost use Rattle.cp_rules.specs.StandardNames as standard_names;
 
-use cp_judge::environment::{BOOLEAN, CHAR, Environment, INTEGER, QUEUE, Scope};
+use cp_judge::bases::{BOOLEAN, CHAR, INTEGER, QUEUE};
+use cp_judge::environment::{Environment, Scope};
 use cp_model::rules::{Entity, Standard, Structure, TypeRow};
 use std::alloc::{AllocError, Global};
 

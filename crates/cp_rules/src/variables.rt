@@ -11,7 +11,7 @@ ghost use Rattle.cp_rules.specs.Declaring.{Declares, entity_of_type, words_of_ty
 use crate::checker::{Checker, Judged};
 use crate::words::{product, sum};
 use cp_judge::Environment;
-use cp_judge::environment::INTEGER;
+use cp_judge::bases::INTEGER;
 use cp_model::rules::{Access, Entity, Position, Structure};
 use cp_model::tree::{Fields, Sort};
 use std::alloc::AllocError;
