@@ -1,7 +1,10 @@
 -- What the commands promise about the bytes that they read and write.
 use Rattle.std.specs.Prelude.{◌≡◌, ℕ, Bool, true, false, List, [], ◌∷◌, ◌++◌, Option, Some, Result, Ok, IfSome, codes}
 use Rattle.std.specs.Io.KnownBytes.{Appends, Keeps}
+use Rattle.cp_model.specs.Declarations.{globals}
 use Rattle.cp_model.specs.Syntax as s
+use Rattle.cp_model.specs.View as view
+use Rattle.cp_model.specs.declared.tree.Tree as tree
 use Rattle.cp_model.specs.Erase as erase
 use Rattle.cp_model.specs.Input.{cut}
 use Rattle.cp_model.specs.Report.{IsReportWithChains, report}
@@ -9,8 +12,12 @@ use Rattle.cp_model.specs.Rounds as r
 use Rattle.cp_model.specs.Start.{start}
 use Rattle.cp_model.specs.States.{Setup, State}
 use Rattle.cp_machine_model.specs.InState.{IsIn}
+use Rattle.cp_program.specs.declared.program.Program.{Program}
 use Rattle.cp_rounds.specs.Views.{machine_of}
 use Rattle.cp_rounds.specs.declared.machine.Machine.{Machine}
+use Rattle.cp_check.specs.Checked.{IsProgramOf}
+use Rattle.cp_scope.specs.Texts.{TablesStand}
+use Rattle.cp_scope.specs.declared.tables.Tables.{Tables}
 use Rattle.cp_accept.specs.declared.refusal.Refusal.{Refusal}
 use Rattle.cp_plan.specs.declared.run.Run.{Run}
 use Rattle.cp_execute.specs.declared.execute.Job.{Job}
@@ -39,6 +46,14 @@ abbrev pub IsDue : Run → s.Tree → List ℕ → List ℕ → Type 0
 IsDue run t input bytes =
     let setup = setup_of t input run.tick.rounds in
     IsReportOf run.chains setup (r.run setup run.plan.turn.steps run.rounds (start setup)) bytes
+
+-- The tables are those of the text of this tree.
+abbrev pub AreTablesOf : tree.Tree → Tables → Type 0
+AreTablesOf t tables = TablesStand (globals (erase.abstract (view.tree t))) tables t
+
+-- The same of every text of which this is the program, with these tables.
+abbrev pub IsDueOf : Run → Program → Tables → List ℕ → List ℕ → Type 0
+IsDueOf run program tables input bytes = (t : tree.Tree) → IsProgramOf (view.tree t) program → AreTablesOf t tables → IsDue run (view.tree t) input bytes
 
 abbrev pub acceptance : List ℕ
 acceptance = codes "accepted" ++ 10 ∷ []

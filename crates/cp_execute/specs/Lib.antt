@@ -1,3 +1,3 @@
-pub mod MachineReports
 pub mod Executed
 pub mod Replayed
+pub mod MachineReports

@@ -1,13 +1,15 @@
 //! Replaying a program: from its input and the bytes of an order to its report.
 
 ghost use Rattle.std.specs.Prelude.{◌≡◌, IfErr, IfOk, Ok, length};
-ghost use Rattle.cp_check.specs.Checked.{IsCompiled};
+ghost use Rattle.cp_check.specs.Checked.{IsProgramOf};
 ghost use Rattle.cp_model.specs.Rules.{Accepted};
 ghost use Rattle.cp_model.specs.View as view;
 ghost use Rattle.cp_orders.specs.Reading.{AllWithin};
 ghost use Rattle.cp_orders.specs.Rounds.{rounds_of};
 ghost use Rattle.cp_program.specs.View as program_view;
 ghost use Rattle.cp_rounds.specs.Views.{KeepsText, processes_of};
+ghost use Rattle.cp_execute.specs.Executed.{AreTablesOf};
+ghost use Rattle.cp_execute.specs.MachineReports.{ReportsReplay};
 ghost use Rattle.cp_execute.specs.Replayed.{IsDueAfter, IsReplayed, MakesReplays, RefusesOrder, RefusesOrderFor, judge_order_of};
 
 use crate::running::{machine_at_start, report_of};
@@ -19,7 +21,9 @@ use cp_orders::orders::Orders;
 use cp_orders::reading::read_orders;
 use cp_plan::run::Replay;
 use cp_plan::turn::Turn;
+use cp_program::program::Program;
 use cp_rounds::machine::Machine;
+use cp_scope::Tables;
 use std::alloc::{AllocError, Global};
 
 // Makes the rounds of an order on a machine that has made none.
@@ -49,27 +53,65 @@ fn orders_of(alloc: Global, order: &[u8], processes: usize) -> Result<Orders, Re
     Ok(orders)
 }
 
-// Replays a compiled text in a known order and returns the report.
-fn replay_of(
+// Makes the rounds of an order on a machine at its start and returns the report.
+fn replay_machine(
+    alloc: Global,
+    machine: &mut Machine,
+    orders: &Orders,
+    replay: &Replay,
+) -> Result<Vec<u8>, AllocError>
+    requires first { machine.old.rounds ≡ 0 }
+    requires within { AllWithin (processes_of machine.old) (rounds_of orders.now) }
+    ensures { IfOk result (λ bytes. ReportsReplay replay.now (rounds_of orders.now)
+        machine.old machine.new bytes.items) }
+{
+    replay_rounds(machine, orders, replay.turn)?;
+    report_of(alloc, machine, replay.chains)
+}
+
+// Replays the program of a text, which has these tables, in a known order and returns the report.
+fn replay_program(
     alloc: Global,
     tree: &Tree,
-    text: CompiledText,
+    program: Program,
+    tables: &Tables<'_>,
     input: &[u8],
     orders: &Orders,
     replay: &Replay,
 ) -> Result<Vec<u8>, AllocError>
-    requires text { IsCompiled tree.now text }
-    requires within { AllWithin (length (program_view.program text.program).processes)
+    requires program { IsProgramOf (view.tree tree.now) program }
+    requires tables { AreTablesOf tree.now tables.now }
+    requires within { AllWithin (length (program_view.program program).processes)
         (rounds_of orders.now) }
     ensures { IfOk result (λ bytes. IsDueAfter replay.now (view.tree tree.now) input.now
         (rounds_of orders.now) bytes.items) }
 {
     reports();
     waits();
-    let CompiledText { program, tables } = text;
-    let mut machine = machine_at_start(alloc, program, &tables, input, replay.tick)?;
-    replay_rounds(&mut machine, orders, replay.turn)?;
-    report_of(alloc, &machine, replay.chains)
+    let mut machine = machine_at_start(alloc, program, tables, input, replay.tick)?;
+    replay_machine(alloc, &mut machine, orders, replay)
+}
+
+// Replays the program of a text, which has these tables, in the order of these bytes and returns
+// the report.
+fn replay_text(
+    alloc: Global,
+    tree: &Tree,
+    program: Program,
+    tables: &Tables<'_>,
+    input: &[u8],
+    order: &[u8],
+    replay: &Replay,
+) -> Result<Vec<u8>, Refusal>
+    requires program { IsProgramOf (view.tree tree.now) program }
+    requires tables { AreTablesOf tree.now tables.now }
+    ensures report { IfOk result
+        (λ bytes. IsReplayed replay.now (view.tree tree.now) input.now order.now bytes.items) }
+    ensures refused { IfErr result (RefusesOrder (view.tree tree.now) order.now) }
+{
+    let orders = orders_of(alloc, order, program.processes())?;
+    let bytes = replay_program(alloc, tree, program, tables, input, &orders, replay)?;
+    Ok(bytes)
 }
 
 /// Replays the program of an accepted text and returns the report.
@@ -89,8 +131,6 @@ pub(crate) fn report_after_replay(
         (λ bytes. IsReplayed replay.now (view.tree tree.now) input.now order.now bytes.items) }
     ensures refused { IfErr result (RefusesOrder (view.tree tree.now) order.now) }
 {
-    let text = compile_accepted(alloc, tree)?;
-    let orders = orders_of(alloc, order, text.program.processes())?;
-    let bytes = replay_of(alloc, tree, text, input, &orders, replay)?;
-    Ok(bytes)
+    let CompiledText { program, tables } = compile_accepted(alloc, tree)?;
+    replay_text(alloc, tree, program, &tables, input, order, replay)
 }

@@ -1,13 +1,13 @@
 //! Running a program: from its input to its report.
 
-ghost use Rattle.std.specs.Prelude.{◌≡◌, false, IfErr, IfOk};
+ghost use Rattle.std.specs.Prelude.{◌≡◌, IfErr, IfOk};
 ghost use Rattle.cp_check.specs.Checked.{IsProgramOf};
 ghost use Rattle.cp_model.specs.Rules.{Accepted};
 ghost use Rattle.cp_model.specs.Syntax as s;
 ghost use Rattle.cp_model.specs.View as view;
-ghost use Rattle.cp_rounds.specs.Views.{machine_of};
-ghost use Rattle.cp_execute.specs.Executed.{IsAtStart, IsDue, setup_of};
-ghost use Rattle.cp_execute.specs.MachineReports.{IsReport};
+ghost use Rattle.cp_rounds.specs.Views.{KeepsText, machine_of};
+ghost use Rattle.cp_execute.specs.Executed.{IsAtStart, IsDue, IsDueOf, setup_of};
+ghost use Rattle.cp_execute.specs.MachineReports.{IsReport, ReportsRun};
 ghost use Rattle.cp_accept.specs.declared.refusal.Refusal.TheVariants as refusal;
 
 use cp_accept::cutting::cut_input;
@@ -67,6 +67,46 @@ pub fn machine_at_start<'r, 't>(
     Machine::new(alloc, program, tables, inputs, tick)
 }
 
+// Makes the rounds of a run on a machine at its start and returns the report.
+fn run_machine<H: Threads + Wait + Sync, G: TurnGate>(
+    rt: &H,
+    alloc: Global,
+    machine: &mut Machine,
+    run: &Run,
+    gate: &G,
+) -> Result<Vec<u8>, Refusal>
+    requires first { machine.old.rounds ≡ 0 }
+    ensures report { IfOk result
+        (λ bytes. ReportsRun run.now machine.old machine.new bytes.items) }
+    ensures text { KeepsText machine.old machine.new }
+    ensures memory { IfErr result (λ e. e ≡ refusal.Memory) }
+{
+    if machine.run(rt, run.rounds, &run.plan, gate).is_err() {
+        return Err(Refusal::Memory);
+    }
+    Ok(report_of(alloc, machine, run.chains)?)
+}
+
+// Runs the program of a text with these tables and returns the report.
+fn run_program<H: Threads + Wait + Sync, G: TurnGate>(
+    rt: &H,
+    alloc: Global,
+    program: Program,
+    tables: &Tables<'_>,
+    input: &[u8],
+    run: &Run,
+    gate: &G,
+) -> Result<Vec<u8>, Refusal>
+    ensures report { IfOk result
+        (λ bytes. IsDueOf run.now program tables.now input.now bytes.items) }
+    ensures memory { IfErr result (λ e. e ≡ refusal.Memory) }
+{
+    reports();
+    waits();
+    let mut machine = machine_at_start(alloc, program, tables, input, run.tick)?;
+    run_machine(rt, alloc, &mut machine, run, gate)
+}
+
 /// Runs the program of an accepted text and returns the report.
 ///
 /// # Errors
@@ -85,14 +125,6 @@ pub(crate) fn report_after_run<H: Threads + Wait + Sync, G: TurnGate>(
         (λ bytes. IsDue run.now (view.tree tree.now) input.now bytes.items) }
     ensures memory { IfErr result (λ e. e ≡ refusal.Memory) }
 {
-    reports();
-    waits();
-    let compiled = compile_accepted(alloc, tree)?;
-    let CompiledText { program, tables } = compiled;
-    let mut machine = machine_at_start(alloc, program, &tables, input, run.tick)?;
-    if machine.run(rt, run.rounds, &run.plan, gate).is_err() {
-        return Err(Refusal::Memory);
-    }
-    let bytes = report_of(alloc, &machine, run.chains)?;
-    Ok(bytes)
+    let CompiledText { program, tables } = compile_accepted(alloc, tree)?;
+    run_program(rt, alloc, program, &tables, input, run, gate)
 }

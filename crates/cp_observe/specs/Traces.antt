@@ -6,9 +6,10 @@ use Rattle.cp_model.specs.Start.{start}
 use Rattle.cp_machine_model.specs.InState.{IsIn}
 use Rattle.cp_rounds.specs.Views.{halted_of}
 use Rattle.cp_rounds.specs.declared.halted.Halted.{Halted}
+use Rattle.cp_rounds.specs.declared.machine.Machine.{Machine}
 use Rattle.cp_plan.specs.declared.trace.Tracing.{Tracing}
 use Rattle.cp_accept.specs.Cutting.{judge_input}
-use Rattle.cp_execute.specs.Executed.{setup_of}
+use Rattle.cp_execute.specs.Executed.{IsAtStart, setup_of}
 use Rattle.cp_accept.specs.Texts.{IsAccepted}
 
 -- The machine is in the state that one processor reaches by so many rounds from the start.
@@ -16,6 +17,10 @@ abbrev pub IsTraced : Tracing → s.Tree → List ℕ → Halted → Type 0
 IsTraced how t input machine =
     let setup = setup_of t input how.tick.rounds in
     IsIn (halted_of machine) setup (run setup how.plan.turn.steps how.rounds (start setup))
+
+-- The same, if the machine was at its start.
+abbrev pub IsTracedFrom : Tracing → Machine → Halted → Type 0
+IsTracedFrom how first machine = (t : s.Tree) (input : List ℕ) → IsAtStart (setup_of t input how.tick.rounds) first → IsTraced how t input machine
 
 -- If the text is known, then it is accepted. If the input is known too, it isn't refused, and the
 -- machine has made all rounds.

@@ -14,10 +14,12 @@ use cp_accept::checking::accept;
 use cp_accept::refusal::Refusal;
 use cp_accept::sources::{read_accepted, read_input};
 use cp_check::checking::tables_of;
+use cp_model::tree::Tree;
 use cp_plan::trace::Tracing;
 use cp_report::roster::Roster;
 use cp_rounds::gate::TurnGate;
 use cp_rounds::halted::Halted;
+use cp_scope::Tables;
 use std::alloc::{AllocError, Global};
 use std::io::{Read, Write};
 use std::sync::Wait;
@@ -33,6 +35,26 @@ fn first_unknown<'a>(roster: &Roster, names: &[&'a str]) -> Result<Option<&'a st
     Ok(None)
 }
 
+// The same of the processes and monitors in the tables of a text.
+fn unknown_in_tables<'a>(
+    alloc: Global,
+    tables: &Tables<'_>,
+    names: &[&'a str],
+) -> Result<Option<&'a str>, AllocError> {
+    let roster = Roster::of(alloc, tables)?;
+    first_unknown(&roster, names)
+}
+
+// The same of those of an accepted text.
+fn unknown_in_tree<'a>(
+    alloc: Global,
+    tree: &Tree,
+    names: &[&'a str],
+) -> Result<Option<&'a str>, AllocError> {
+    let tables = tables_of(alloc, tree)?;
+    unknown_in_tables(alloc, &tables, names)
+}
+
 /// Returns the first of these names that no process and no monitor of a text has, if there is one.
 ///
 /// # Errors
@@ -44,9 +66,7 @@ pub fn unknown_name<'a>(
     names: &[&'a str],
 ) -> Result<Option<&'a str>, Refusal> {
     let tree = accept(alloc, text)?;
-    let tables = tables_of(alloc, &tree)?;
-    let roster = Roster::of(alloc, &tables)?;
-    Ok(first_unknown(&roster, names)?)
+    Ok(unknown_in_tree(alloc, &tree, names)?)
 }
 
 /// Runs the text of one reader on the input of another, and writes in the form of the trace what

@@ -2,6 +2,7 @@
 
 ghost use Rattle.std.specs.Prelude.{IfOk};
 ghost use Rattle.cp_observe.specs.Forms.{IsToldOf};
+ghost use Rattle.cp_plan.specs.declared.outcome.OutcomeForm.TheVariants as forms;
 
 use cp_accept::sources::Text;
 use cp_outcome::transcript::transcript;
@@ -13,6 +14,19 @@ use cp_reasons::waits::waits;
 use cp_report::outcome::outcome;
 use cp_rounds::machine::Machine;
 use std::alloc::{AllocError, Global};
+
+// Returns the report of a machine with the verdict on it and the reasons for that.
+fn report_with_reasons<'t>(
+    alloc: Global,
+    text: &'t Text,
+    machine: &Machine<'_, 't>,
+    verdict: Verdict,
+) -> Result<Vec<u8>, AllocError>
+    ensures { IfOk result (λ bytes. IsToldOf forms.Verdict machine.now verdict bytes.items) }
+{
+    let reasons = reasons(alloc, &text.bytes, &text.tree, machine)?;
+    outcome(alloc, machine, verdict, reasons.as_bytes())
+}
 
 /// Returns what is written of a machine that runs the program of a text, and of the verdict on it.
 ///
@@ -29,10 +43,7 @@ pub(crate) fn told<'t>(
     ensures { IfOk result (λ bytes. IsToldOf form machine.now verdict bytes.items) }
 {
     match form {
-        OutcomeForm::Verdict => {
-            let reasons = reasons(alloc, &text.bytes, &text.tree, machine)?;
-            outcome(alloc, machine, verdict, reasons.as_bytes())
-        }
+        OutcomeForm::Verdict => report_with_reasons(alloc, text, machine, verdict),
         OutcomeForm::Transcript(process) => transcript(alloc, machine, process),
         OutcomeForm::Dot => waits(alloc, &text.bytes, &text.tree, machine),
         OutcomeForm::Json => object(alloc, &text.bytes, &text.tree, machine, verdict),

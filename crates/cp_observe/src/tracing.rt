@@ -3,9 +3,8 @@
 ghost use Rattle.std.specs.Prelude.{◌≡◌, IfErr, IfOk, OnOk};
 ghost use Rattle.cp_model.specs.Rules.{Accepted};
 ghost use Rattle.cp_model.specs.View as view;
-ghost use Rattle.cp_rounds.specs.InStates.{MakesRounds};
 ghost use Rattle.cp_trace.specs.Writing.{Extends, IsMemoryOrWrite, WritesTrace};
-ghost use Rattle.cp_observe.specs.Traces.{IsTraced};
+ghost use Rattle.cp_observe.specs.Traces.{IsTraced, IsTracedFrom};
 
 use cp_accept::refusal::Refusal;
 use cp_check::checking::{CompiledText, compile_accepted};
@@ -15,40 +14,33 @@ use cp_plan::trace::Tracing;
 use cp_rounds::gate::TurnGate;
 use cp_rounds::halted::Halted;
 use cp_rounds::machine::Machine;
-use cp_trace::rounds::trace_rounds;
-use cp_trace::tracer::Tracer;
+use cp_trace::rounds::trace;
 use std::alloc::Global;
 use std::io::Write;
 use std::sync::Wait;
 use std::thread::Threads;
 
-// Makes all rounds of a machine at its start, and writes what is told of each.
-fn trace_all<'t, H: Threads + Wait + Sync, W: Write, G: TurnGate>(
+// Makes all rounds of a machine at its start, writes what is told of each, and returns the machine
+// after the last one.
+fn trace_machine<'t, H: Threads + Wait + Sync, W: Write, G: TurnGate>(
     rt: &H,
     alloc: Global,
     tree: &'t Tree,
-    machine: &mut Machine<'_, 't>,
+    mut machine: Machine<'_, 't>,
     only: &[&str],
     how: &Tracing,
     gate: &G,
     out: &mut W,
-) -> Result<(), Refusal>
-    requires first { machine.old.rounds ≡ 0 }
-    ensures state { OnOk result
-        (MakesRounds how.now.plan.turn.steps how.now.rounds machine.old machine.new) }
+) -> Result<Halted, Refusal>
+    requires first { machine.rounds ≡ 0 }
+    ensures state { IfOk result (IsTracedFrom how.now machine.entry) }
     ensures told { OnOk result
         (WritesTrace how.now.form (W.contents out.old) (W.contents out.new)) }
     ensures written { Extends (W.contents out.old) (W.contents out.new) }
     ensures fault { IfErr result IsMemoryOrWrite }
 {
-    let untold = how.from.saturating_sub(1).min(how.rounds);
-    if machine.run(rt, untold, &how.plan, gate).is_err() {
-        return Err(Refusal::Memory);
-    }
-    let told = how.rounds - untold;
-    let mut tracer = Tracer::of(alloc, how.form, machine.tables(), tree, machine, told, only)?;
-    trace_rounds(rt, alloc, machine, &mut tracer, told, &how.plan, gate, out)?;
-    Ok(())
+    trace(rt, alloc, tree, &mut machine, only, how, gate, out)?;
+    Ok(machine.halt())
 }
 
 /// Runs the program of an accepted text, writes what is told of each round from the first that is
@@ -78,7 +70,6 @@ pub(crate) fn machine_after_trace<H: Threads + Wait + Sync, W: Write, G: TurnGat
 {
     let compiled = compile_accepted(alloc, tree)?;
     let CompiledText { program, tables } = compiled;
-    let mut machine = machine_at_start(alloc, program, &tables, input, how.tick)?;
-    trace_all(rt, alloc, tree, &mut machine, only, how, gate, out)?;
-    Ok(machine.halt())
+    let machine = machine_at_start(alloc, program, &tables, input, how.tick)?;
+    trace_machine(rt, alloc, tree, machine, only, how, gate, out)
 }

@@ -33,22 +33,22 @@ fn outcome_of<'t, H: Threads + Wait + Sync, G: TurnGate>(
     rt: &H,
     alloc: Global,
     text: &'t Text,
-    machine: &mut Machine<'_, 't>,
+    mut machine: Machine<'_, 't>,
     how: &UntilStill,
     form: OutcomeForm<u32>,
     gate: &G,
 ) -> Result<Outcome, Refusal>
-    requires first { machine.old.rounds ≡ 0 }
+    requires first { machine.rounds ≡ 0 }
     ensures outcome { IfOk result (λ outcome. (t : s.Tree) (input : List ℕ)
-        → IsAtStart (setup_of t input how.now.tick.rounds) machine.old
+        → IsAtStart (setup_of t input how.now.tick.rounds) machine.entry
         → IsOutcome how.now form t input outcome.verdict outcome.bytes.items) }
     ensures memory { IfErr result (λ e. e ≡ refusal.Memory) }
 {
     let Ok(_rounds) = machine.run_until_still(rt, how.limit, &how.plan, gate) else {
         return Err(Refusal::Memory);
     };
-    let verdict = verdict_on(machine);
-    let bytes = told(alloc, text, machine, verdict, form)?;
+    let verdict = verdict_on(&machine);
+    let bytes = told(alloc, text, &machine, verdict, form)?;
     Ok(Outcome { verdict, bytes })
 }
 
@@ -73,6 +73,6 @@ pub(crate) fn outcome_after_run<H: Threads + Wait + Sync, G: TurnGate>(
 {
     let compiled = compile_accepted(alloc, &text.tree)?;
     let CompiledText { program, tables } = compiled;
-    let mut machine = machine_at_start(alloc, program, &tables, input, how.tick)?;
-    outcome_of(rt, alloc, text, &mut machine, how, form, gate)
+    let machine = machine_at_start(alloc, program, &tables, input, how.tick)?;
+    outcome_of(rt, alloc, text, machine, how, form, gate)
 }

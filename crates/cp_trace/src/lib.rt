@@ -1,7 +1,7 @@
 //! A trace: what becomes of each process and monitor of a machine, round by round.
 //!
 //! - `tracer`: follows a machine, and tells of it in one of four forms.
-//! - `rounds`: makes rounds, and writes what a tracer tells of them.
+//! - `rounds`: makes the rounds of a machine, and writes what a tracer tells of them.
 //! - `members`: of whom is told.
 //! - `trace`: what was seen of a machine, and what changed since: of a `process`, of a `monitor`, and
 //!   of the `values` of variables, whose places are their `shapes`. `vocabulary`: names in place of
@@ -30,6 +30,6 @@ mod shapes;
 mod svg;
 mod timeline;
 mod trace;
-pub mod tracer;
+mod tracer;
 mod values;
 mod vocabulary;

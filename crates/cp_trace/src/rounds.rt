@@ -10,7 +10,9 @@ ghost use Rattle.cp_accept.specs.declared.refusal.Refusal.TheVariants as refusal
 use crate::tracer::Tracer;
 use cp_accept::refusal::Refusal;
 use cp_accept::writing::write_result;
+use cp_model::tree::Tree;
 use cp_plan::plan::Plan;
+use cp_plan::trace::Tracing;
 use cp_rounds::gate::TurnGate;
 use cp_rounds::machine::Machine;
 use std::alloc::{AllocError, Global};
@@ -58,12 +60,8 @@ fn write_if_long<W: Write>(out: &mut W, buffer: &mut Vec<u8>) -> Result<(), Refu
     Ok(())
 }
 
-/// Makes rounds, and writes what is told of them.
-///
-/// # Errors
-///
-/// M if memory runs out, I2 if a write fails.
-pub fn trace_rounds<H: Threads + Wait + Sync, W: Write, G: TurnGate>(
+// Makes rounds, and writes what is told of them.
+fn trace_rounds<H: Threads + Wait + Sync, W: Write, G: TurnGate>(
     rt: &H,
     alloc: Global,
     machine: &mut Machine,
@@ -90,4 +88,38 @@ pub fn trace_rounds<H: Threads + Wait + Sync, W: Write, G: TurnGate>(
     tracer.finish(&mut buffer)?;
     write_result(out, &buffer)?;
     Ok(())
+}
+
+/// Makes all rounds of a machine at its start, and writes what is told of each from the first that
+/// is told. Tells of the processes and monitors with the names in `only`, or of all if there are
+/// none. The machine runs the program of a text with this tree.
+///
+/// # Errors
+///
+/// M if memory runs out, I2 if a write fails.
+pub fn trace<'t, H: Threads + Wait + Sync, W: Write, G: TurnGate>(
+    rt: &H,
+    alloc: Global,
+    tree: &'t Tree,
+    machine: &mut Machine<'_, 't>,
+    only: &[&str],
+    how: &Tracing,
+    gate: &G,
+    out: &mut W,
+) -> Result<(), Refusal>
+    requires first { machine.old.rounds ≡ 0 }
+    ensures state { OnOk result
+        (MakesRounds how.now.plan.turn.steps how.now.rounds machine.old machine.new) }
+    ensures told { OnOk result
+        (WritesTrace how.now.form (W.contents out.old) (W.contents out.new)) }
+    ensures written { Extends (W.contents out.old) (W.contents out.new) }
+    ensures fault { IfErr result IsMemoryOrWrite }
+{
+    let untold = how.from.saturating_sub(1).min(how.rounds);
+    if machine.run(rt, untold, &how.plan, gate).is_err() {
+        return Err(Refusal::Memory);
+    }
+    let told = how.rounds - untold;
+    let mut tracer = Tracer::of(alloc, how.form, machine.tables(), tree, machine, told, only)?;
+    trace_rounds(rt, alloc, machine, &mut tracer, told, &how.plan, gate, out)
 }

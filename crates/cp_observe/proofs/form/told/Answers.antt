@@ -1,6 +1,5 @@
 use Rattle.std.proofs.Common.{IfOk, subst, sym}
 use Rattle.cp_observe.specs.Forms.{IsToldOf}
-use Rattle.cp_plan.specs.declared.outcome.OutcomeForm.{OutcomeForm}
 use Rattle.cp_observe.proofs.form.told.Goals as goal
 
 pub returns-in-Transcript : goal.returns-in-Transcript

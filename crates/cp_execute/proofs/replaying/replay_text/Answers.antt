@@ -6,25 +6,25 @@ use Rattle.cp_program.specs.View as program_view
 use Rattle.cp_program_model.specs.StandsFor.{StandsFor}
 use Rattle.cp_execute.specs.Executed.{setup_of}
 use Rattle.cp_execute.specs.Replayed.{RefusesOrderFor, judge_order, judge_order_of}
-use Rattle.cp_execute.proofs.replaying.report_after_replay.Goals as goal
+use Rattle.cp_execute.proofs.replaying.replay_text.Goals as goal
 
 pub returns-in_err-orders-clause-refused : goal.returns-in_err-orders-clause-refused
 returns-in_err-orders-clause-refused c =
-    let p = err_from_is_err_and c.from_residual-in_err-orders.result c.from_residual-in_err-orders.ensures.1 in
+    let p = err_from_is_err_and c.from_residual.result c.from_residual.ensures.1 in
     let t = view.tree c.args.tree.now in
-    let stands : StandsFor (program_view.program c.in_ok-text.text.program) (setup_of t [] 1) = c.in_ok-text.ensures.program (setup_of t [] 1) refl in
+    let stands : StandsFor (program_view.program c.args.program) (setup_of t [] 1) = c.requires.program (setup_of t [] 1) refl in
     let count = c.processes.ensures ∙ stands.process_rows in
     rw (p.1, p.2) (subst (λ n. RefusesOrderFor n c.args.order.now c.in_err-orders.field-0.0) count c.in_err-orders.ensures.refused)
 
-pub replay_of-requires-clause-within : goal.replay_of-requires-clause-within
-replay_of-requires-clause-within c = rw c.processes.ensures at c.in_ok-orders.ensures.within
+pub replay_program-requires-clause-within : goal.replay_program-requires-clause-within
+replay_program-requires-clause-within c = rw c.processes.ensures at c.in_ok-orders.ensures.within
 
 pub returns-clause-report : goal.returns-clause-report
 returns-clause-report c =
     let t = view.tree c.args.tree.now in
     let order = c.args.order.now in
     let rounds = rounds_of c.in_ok-orders.orders in
-    let stands : StandsFor (program_view.program c.in_ok-text.text.program) (setup_of t [] 1) = c.in_ok-text.ensures.program (setup_of t [] 1) refl in
+    let stands : StandsFor (program_view.program c.args.program) (setup_of t [] 1) = c.requires.program (setup_of t [] 1) refl in
     let count = c.processes.ensures ∙ stands.process_rows in
     let told : judge_order t order ≡ Ok rounds = subst (λ n. judge_order_of n order ≡ Ok rounds) count c.in_ok-orders.ensures.order in
     (rounds, told, c.in_ok-bytes.ensures)

@@ -1,12 +1,13 @@
-use Rattle.std.proofs.Common.{◌≡◌, ◌∙◌, ◌+◌, ◌-◌, ℕ, ap, arith, subst, sym}
-use Rattle.std.proofs.lemmas.Result.{err_from_is_err_and}
+use Rattle.std.proofs.Common.{◌≡◌, ◌∙◌, ◌+◌, ◌-◌, ℕ, OnOk, ap, arith, subst, sym}
 use Rattle.cp_machine_model.specs.Machines as plain
 use Rattle.cp_model.specs.States.{numbers_from}
-use Rattle.cp_model.proofs.Results.{from_ok}
+use Rattle.cp_model.proofs.Results.{from_ok, if_ok}
 use Rattle.cp_rounds.specs.InStates.{MakesRounds}
 use Rattle.cp_rounds.specs.Views.{machine_of, processes_of}
+use Rattle.cp_plan.specs.declared.trace.TraceForm.{TraceForm}
+use Rattle.cp_trace.specs.Writing.{WritesTrace}
 use Rattle.cp_trace.proofs.RoundsMade.{more_made, rounds_count}
-use Rattle.cp_observe.proofs.tracing.trace_all.Goals as goal
+use Rattle.cp_trace.proofs.rounds.trace.Goals as goal
 
 pub trace_rounds-requires-clause-count : goal.trace_rounds-requires-clause-count
 trace_rounds-requires-clause-count g c =
@@ -24,12 +25,15 @@ returns-clause-state g c =
     let t = how.plan.turn.steps in
     let n = c.min-untold.result in
     let first = from_ok c.run.result (sym c.if-is_err.ensures.value) c.run.ensures.state in
-    let told = c.in_ok-trace_rounds.ensures.state in
-    let all = more_made t n (how.rounds - n) c.args.machine.now c.run.new.self c.trace_rounds.new.machine first told in
     let sum : n + (how.rounds - n) ≡ how.rounds = Prim.omega (arith, c.min-untold.ensures) in
-    subst (λ (k : ℕ). MakesRounds t k c.args.machine.now c.trace_rounds.new.machine) sum all
+    if_ok c.trace_rounds.result
+    (λ done told.
+    let all = more_made t n (how.rounds - n) c.args.machine.now c.run.new.self c.trace_rounds.new.machine first told in
+    subst (λ (k : ℕ). MakesRounds t k c.args.machine.now c.trace_rounds.new.machine) sum all)
+    c.trace_rounds.ensures.state
 
-pub returns-in_err-trace_rounds-clause-fault : goal.returns-in_err-trace_rounds-clause-fault
-returns-in_err-trace_rounds-clause-fault g c =
-    let p = err_from_is_err_and c.from_residual-in_err-trace_rounds.result c.from_residual-in_err-trace_rounds.ensures.1 in
-    rw (p.1, p.2) c.in_err-trace_rounds.ensures.fault
+pub returns-clause-told : goal.returns-clause-told
+returns-clause-told g c =
+    let out = g.W.Write.contents in
+    subst (λ (f : TraceForm). OnOk c.trace_rounds.result (WritesTrace f (out c.args.out.now) (out c.trace_rounds.new.out)))
+    c.in_ok-tracer.ensures c.trace_rounds.ensures.told

@@ -16,32 +16,32 @@ use Rattle.cp_execute.specs.Executed.{setup_of}
 use Rattle.cp_execute.specs.Replayed.{timed}
 use Rattle.cp_execute.proofs.Replays.{replay_calm}
 use Rattle.cp_execute.proofs.Starts.{lent, reported}
-use Rattle.cp_execute.proofs.replaying.replay_of.Goals as goal
+use Rattle.cp_execute.proofs.replaying.replay_program.Goals as goal
 
-pub replay_rounds-requires-clause-within : goal.replay_rounds-requires-clause-within
-replay_rounds-requires-clause-within c =
+pub replay_machine-requires-clause-within : goal.replay_machine-requires-clause-within
+replay_machine-requires-clause-within c =
     let t = view.tree c.args.tree.now in
     let setup = setup_of t c.args.input.now c.args.replay.now.tick.rounds in
-    let program = program_view.program c.args.text.program in
-    let stands : StandsFor program setup = c.requires.text.program setup refl in
+    let program = program_view.program c.args.program in
+    let stands : StandsFor program setup = c.requires.program setup refl in
     let machine = c.in_ok-machine.machine in
-    let I : IsIn (machine_of machine) setup (start setup) = c.in_ok-machine.ensures.state t c.requires.text.program in
+    let I : IsIn (machine_of machine) setup (start setup) = c.in_ok-machine.ensures.state t c.requires.program in
     let count = stands.process_rows ∙ sym (process_count_is machine setup (start setup) I) in
     subst (λ n. AllWithin n (rounds_of c.args.orders.now)) count c.requires.within
 
 pub returns : goal.returns
 returns c =
-    if_ok c.report_of.result
-    (λ bytes is.
+    if_ok c.replay_machine.result
+    (λ bytes done.
     let how = c.args.replay.now in
     let t = view.tree c.args.tree.now in
     let setup = setup_of t c.args.input.now how.tick.rounds in
-    let machine = c.replay_rounds.new.machine in
-    let begun : IsIn (machine_of c.in_ok-machine.machine) setup (start setup) = c.in_ok-machine.ensures.state t c.requires.text.program in
-    let stand = lent (globals setup.tree) c.args.tree.now _ c.in_ok-machine.machine machine c.requires.text.tables c.in_ok-machine.ensures.tables c.in_ok-replay_rounds.ensures.text in
+    let machine = c.replay_machine.new.machine in
+    let begun : IsIn (machine_of c.in_ok-machine.machine) setup (start setup) = c.in_ok-machine.ensures.state t c.requires.program in
+    let stand = lent (globals setup.tree) c.args.tree.now _ c.in_ok-machine.machine machine c.requires.tables c.in_ok-machine.ensures.tables done.1 in
     let rounds = timed how.turn.steps (rounds_of c.args.orders.now) in
     let s = replay setup (start setup) rounds in
-    let I : IsIn (machine_of machine) setup s = c.in_ok-replay_rounds.ensures.state setup (start setup) begun in
+    let I : IsIn (machine_of machine) setup s = done.0 setup (start setup) begun in
     reported how.chains machine.tables.now (machine_of machine) setup c.args.tree.now s bytes.items
-    c.reports.ensures.read c.waits.ensures.report I (replay_calm setup rounds (start setup) (start_calm setup)) refl stand is)
-    c.report_of.ensures
+    c.reports.ensures.read c.waits.ensures.report I (replay_calm setup rounds (start setup) (start_calm setup)) refl stand done.2)
+    c.replay_machine.ensures
