@@ -5,6 +5,7 @@ ghost use Rattle.cp_program.specs.View as view;
 
 use crate::texts::{compiled, tree_of};
 use cp_check::checking::CompiledText;
+use cp_model::tree::Tree;
 use cp_plan::tick::Tick;
 use cp_private::private::Activity;
 use cp_program::program::Program;
@@ -35,8 +36,9 @@ fn machine_with<'r, 't>(
     tables: &'r Tables<'t>,
     tick: u32,
 ) -> Result<Machine<'r, 't>, Fail> {
+    let tick = Tick::new(tick)?;
     let inputs = inputs_for(alloc, &program)?;
-    Ok(Machine::new(alloc, program, tables, inputs, Tick::new(tick)?)?)
+    Ok(Machine::new(alloc, program, tables, inputs, tick)?)
 }
 
 // Returns the machine of a compiled text, with a tick of one round and without input.
@@ -48,8 +50,21 @@ pub(crate) fn machine_of<'r, 't>(
     machine_with(alloc, program, tables, 1)
 }
 
-// Tests the program and the tables of a text. A test that owned them and its machine would have to
-// give up all of them wherever it can fail, and take minutes to prove.
+// Tests the program and the tables of a tree. A function that owns a tree, its program and tables or
+// its machine has to give up all of them wherever it can fail, and takes minutes to prove: so each
+// of these owns one, and lends it to the next.
+fn on_tree<T: Drop, F: Copy + Fn(Program, &Tables<'_>) -> Result<T, Fail>>(
+    alloc: Global,
+    tree: &Tree,
+    test: F,
+) -> Result<T, Fail>
+    requires { F.IsAlwaysCallable test }
+{
+    let CompiledText { program, tables } = compiled(alloc, tree)?;
+    test(program, &tables)
+}
+
+// Tests the program and the tables of a text.
 pub(crate) fn on_program<T: Drop, F: Copy + Fn(Program, &Tables<'_>) -> Result<T, Fail>>(
     alloc: Global,
     text: &str,
@@ -58,8 +73,34 @@ pub(crate) fn on_program<T: Drop, F: Copy + Fn(Program, &Tables<'_>) -> Result<T
     requires { F.IsAlwaysCallable test }
 {
     let tree = tree_of(alloc, text)?;
-    let CompiledText { program, tables } = compiled(alloc, &tree)?;
-    test(program, &tables)
+    on_tree(alloc, &tree, test)
+}
+
+// Tests the machine of a program, without input.
+fn on_machine_of<T: Drop, F: Copy + Fn(&mut Machine<'_, '_>) -> Result<T, Fail>>(
+    alloc: Global,
+    program: Program,
+    tables: &Tables<'_>,
+    tick: u32,
+    test: F,
+) -> Result<T, Fail>
+    requires { F.IsAlwaysCallable test }
+{
+    let mut machine = machine_with(alloc, program, tables, tick)?;
+    test(&mut machine)
+}
+
+// Tests the machine of a tree, without input.
+fn on_machine_of_tree<T: Drop, F: Copy + Fn(&mut Machine<'_, '_>) -> Result<T, Fail>>(
+    alloc: Global,
+    tree: &Tree,
+    tick: u32,
+    test: F,
+) -> Result<T, Fail>
+    requires { F.IsAlwaysCallable test }
+{
+    let CompiledText { program, tables } = compiled(alloc, tree)?;
+    on_machine_of(alloc, program, &tables, tick, test)
 }
 
 // Tests the machine of a text, without input.
@@ -72,9 +113,7 @@ pub(crate) fn on_machine_with<T: Drop, F: Copy + Fn(&mut Machine<'_, '_>) -> Res
     requires { F.IsAlwaysCallable test }
 {
     let tree = tree_of(alloc, text)?;
-    let CompiledText { program, tables } = compiled(alloc, &tree)?;
-    let mut machine = machine_with(alloc, program, &tables, tick)?;
-    test(&mut machine)
+    on_machine_of_tree(alloc, &tree, tick, test)
 }
 
 // Tests the machine of a text, with a tick of one round and without input.
