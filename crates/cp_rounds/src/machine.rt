@@ -11,7 +11,7 @@ ghost use Rattle.cp_rounds.specs.Views.{IsAfter, KeepsText, machine_of, processe
 
 use crate::gate::TurnGate;
 use crate::parts::Parts;
-use crate::run::make_rounds_of;
+use crate::run::{Rounds, make_rounds_of};
 use crate::setting::Setting;
 use crate::starting::first_parts;
 use cp_machine_model::law;
@@ -139,16 +139,13 @@ impl<'r, 't> Machine<'r, 't> {
     {
         let none = Parts::none(self.alloc);
         let parts = mem::replace(&mut self.parts, none);
-        let (parts, made) = make_rounds_of(
-            rt,
-            self.alloc,
-            rounds,
-            &self.setting,
-            self.rounds,
+        let asked = Rounds {
+            setting: &self.setting,
+            done: self.rounds,
             plan,
             gate,
-            parts,
-        );
+        };
+        let (parts, made) = make_rounds_of(rt, self.alloc, rounds, &asked, parts);
         self.parts = parts;
         match made {
             Ok(()) => {

@@ -130,8 +130,8 @@ fn slots_of(plan: &Plan) -> usize {
     plan.chunk.min(plan.wave) as usize
 }
 
-// Starts the threads of a run, and makes its rounds. The stop is called when it returns, so that all
-// threads end.
+// Starts the threads of a run, and makes its rounds. The stop is called when it returns, so that
+// all threads end.
 fn make_rounds_at<'s, 'a, E, C: Course + Send + Sync, R: Threads + Wait + Sync, G: TurnGate>(
     rt: &'s R,
     scope: &'s Scope<'s, E>,
@@ -229,6 +229,16 @@ fn make_rounds_kept<
     )
 }
 
+/// Rounds to make: what their machine runs, how many it has made before, how each is made, and what
+/// is called before each turn.
+#[derive(Clone, Copy)]
+pub struct Rounds<'a, G> {
+    pub setting: &'a Setting,
+    pub done: u64,
+    pub plan: &'a Plan,
+    pub gate: &'a G,
+}
+
 // Makes a round for each cell, at a desk and by threads for these rounds.
 fn make_rounds_by_threads<C: Course + Send + Sync, R: Threads + Wait + Sync, G: TurnGate>(
     rt: &R,
@@ -236,26 +246,31 @@ fn make_rounds_by_threads<C: Course + Send + Sync, R: Threads + Wait + Sync, G: 
     cells: &[OnceLock<Start>],
     sheets: &[OnceLock<Sheet>],
     waves: usize,
-    setting: &Setting,
-    done: u64,
-    plan: &Plan,
-    gate: &G,
+    rounds: &Rounds<'_, G>,
     parts: Parts,
 ) -> (Parts, Result<(), usize>)
     requires some { 0 < length cells.now }
     requires cells { AreNamed C.cell cells.now }
     requires sheets { AreNamed C.sheet sheets.now }
     requires room { length cells.now * waves < length sheets.now }
-    requires times { AreTimes C.moment setting.now done }
-    requires few { done + length cells.now < 2 ^ 64 }
-    requires course { IsCourseOf C.quiet C.turned C.input C.most setting.now plan.now.turn.steps }
+    requires times { AreTimes C.moment rounds.now.setting.now rounds.now.done }
+    requires few { rounds.now.done + length cells.now < 2 ^ 64 }
+    requires course { IsCourseOf C.quiet C.turned C.input C.most rounds.now.setting.now
+        rounds.now.plan.now.turn.steps }
     ensures made { IfOk result.1
-        (λ _. PartsAfter setting.now plan.now.turn.steps done (length cells.now) parts result.0) }
+        (λ _. PartsAfter rounds.now.setting.now rounds.now.plan.now.turn.steps rounds.now.done
+        (length cells.now) parts result.0) }
     ensures partly { IfErr result.1
-        (λ n. (n < length cells.now)
-        × PartsAfter setting.now plan.now.turn.steps done n parts result.0) }
+        (λ n. (n < length cells.now) × PartsAfter rounds.now.setting.now
+        rounds.now.plan.now.turn.steps rounds.now.done n parts result.0) }
     ensures count { length result.0.privates.items ≡ length parts.privates.items }
 {
+    let Rounds {
+        setting,
+        done,
+        plan,
+        gate,
+    } = *rounds;
     let processes = parts.privates.len();
     let plan = drawn_plan(plan, processes, gate.does_nothing());
     let threads = plan.threads(processes);
@@ -313,8 +328,8 @@ fn empty_sheets(
     empty_cells(alloc, count)
 }
 
-/// Makes `rounds` more rounds after the first `done`, by the threads of a plan, which are started
-/// once. All threads have ended when it returns.
+/// Makes this many rounds, by the threads of their plan, which are started once. All threads have
+/// ended when it returns.
 ///
 /// # Errors
 ///
@@ -322,29 +337,25 @@ fn empty_sheets(
 pub fn make_rounds_of<R: Threads + Wait + Sync, G: TurnGate>(
     rt: &R,
     alloc: Global,
-    rounds: usize,
-    setting: &Setting,
-    done: u64,
-    plan: &Plan,
-    gate: &G,
+    count: usize,
+    rounds: &Rounds<'_, G>,
     parts: Parts,
 ) -> (Parts, Result<(), usize>)
-    requires some { 0 < rounds }
-    requires few { done + rounds < 2 ^ 64 }
-    ensures made { IfOk result.1
-        (λ _. PartsAfter setting.now plan.now.turn.steps done rounds parts result.0) }
+    requires some { 0 < count }
+    requires few { rounds.now.done + count < 2 ^ 64 }
+    ensures made { IfOk result.1 (λ _. PartsAfter rounds.now.setting.now
+        rounds.now.plan.now.turn.steps rounds.now.done count parts result.0) }
     ensures partly { IfErr result.1
-        (λ n. (n < rounds) × PartsAfter setting.now plan.now.turn.steps done n parts result.0) }
+        (λ n. (n < count) × PartsAfter rounds.now.setting.now rounds.now.plan.now.turn.steps
+        rounds.now.done n parts result.0) }
     ensures count { length result.0.privates.items ≡ length parts.privates.items }
 {
-    let waves = plan.waves(parts.privates.len());
-    let Ok(cells) = empty_cells(alloc, rounds) else {
+    let waves = rounds.plan.waves(parts.privates.len());
+    let Ok(cells) = empty_cells(alloc, count) else {
         return (parts, Err(0));
     };
-    let Ok(sheets) = empty_sheets(alloc, rounds, waves) else {
+    let Ok(sheets) = empty_sheets(alloc, count, waves) else {
         return (parts, Err(0));
     };
-    make_rounds_by_threads::<Brand, R, G>(
-        rt, alloc, &cells, &sheets, waves, setting, done, plan, gate, parts,
-    )
+    make_rounds_by_threads::<Brand, R, G>(rt, alloc, &cells, &sheets, waves, rounds, parts)
 }

@@ -7,6 +7,6 @@ pub returns-clause-made : goal.returns-clause-made
 returns-clause-made g c =
     let parts = c.args.parts in
     let after = c.make_rounds_by_threads.result in
-    let all : length c.deref.result.now ≡ c.args.rounds = search rules in
-    subst (λ (n : ℕ). IfOk after.1 (λ x. PartsAfter c.args.setting.now c.args.plan.now.turn.steps c.args.done n parts after.0)) all
+    let all : length c.deref.result.now ≡ c.args.count = search rules in
+    subst (λ (n : ℕ). IfOk after.1 (λ x. PartsAfter c.args.rounds.now.setting.now c.args.rounds.now.plan.now.turn.steps c.args.rounds.now.done n parts after.0)) all
     c.make_rounds_by_threads.ensures.made

@@ -8,11 +8,11 @@ use Rattle.cp_rounds.proofs.run.make_rounds_of.Given as goal
 
 abbrev pub ghosts-make_rounds_by_threads-C-Course : goal.ghosts-make_rounds_by_threads-C-Course
 ghosts-make_rounds_by_threads-C-Course g a = record {
-  quiet = is_quiet (view.program a.setting.now.program);
-  turned = plain.take_turn (view.program a.setting.now.program) a.plan.now.turn.steps;
-  moment = λ i. plain.moment_of a.setting.now.tick.rounds (a.done + i);
-  input = input_at a.setting.now.inputs.items;
-  most = 11 * a.plan.now.turn.steps;
+  quiet = is_quiet (view.program a.rounds.now.setting.now.program);
+  turned = plain.take_turn (view.program a.rounds.now.setting.now.program) a.rounds.now.plan.now.turn.steps;
+  moment = λ i. plain.moment_of a.rounds.now.setting.now.tick.rounds (a.rounds.now.done + i);
+  input = input_at a.rounds.now.setting.now.inputs.items;
+  most = 11 * a.rounds.now.plan.now.turn.steps;
   cell = λ i. name_of (slice_get a.cells.now i);
 }
 
