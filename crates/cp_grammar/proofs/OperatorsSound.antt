@@ -10,6 +10,7 @@ use Rattle.cp_model.specs.declared.tree.Operator.{Operator}
 use Rattle.cp_model.specs.declared.tree.Operator.TheVariants as operator
 use Rattle.cp_model.specs.declared.tree.Sign.{Sign}
 use Rattle.cp_model.specs.declared.tree.Sign.TheVariants as sign
+use Rattle.cp_model.proofs.Options.{same_some}
 use Rattle.cp_grammar.specs.Expressions.{product_operator, sum_operator, relation_operator, sign_of}
 
 -- ---- what the operators of a class require and form
@@ -29,47 +30,44 @@ pub record Table (operators : Option Kind → Option Operator) (class : Operator
   pub right : (o : Operator) (b : s.Expression) → class o ≡ true → R b → IsRight o b
   pub makes : (o : Operator) (a : s.Expression) (at : ℕ) (b : s.Expression) → class o ≡ true → L (s.Binary a o at b)
 
-some_is : {A : Type 0} (x y : A) → Some x ≡ Some y → x ≡ y
-some_is x y e = cc
-
 abbrev Marked : (Operator → Bool) → Option Kind → Operator → Type 0
 Marked class k o = (k ≡ Some (kind.Symbol (operator_symbol o))) × (class o ≡ true)
 
 product_kind : (k : Option Kind) (o : Operator) → product_operator k ≡ Some o → Marked is_product k o
 product_kind (Some (kind.Symbol symbol.Star)) o h =
-    subst (Marked is_product (Some (kind.Symbol symbol.Star))) (some_is operator.Multiply o h) (refl, refl)
+    subst (Marked is_product (Some (kind.Symbol symbol.Star))) (same_some operator.Multiply o h) (refl, refl)
 product_kind (Some (kind.Symbol symbol.Div)) o h =
-    subst (Marked is_product (Some (kind.Symbol symbol.Div))) (some_is operator.Divide o h) (refl, refl)
+    subst (Marked is_product (Some (kind.Symbol symbol.Div))) (same_some operator.Divide o h) (refl, refl)
 product_kind (Some (kind.Symbol symbol.Mod)) o h =
-    subst (Marked is_product (Some (kind.Symbol symbol.Mod))) (some_is operator.Modulo o h) (refl, refl)
+    subst (Marked is_product (Some (kind.Symbol symbol.Mod))) (same_some operator.Modulo o h) (refl, refl)
 product_kind (Some (kind.Symbol symbol.Ampersand)) o h =
-    subst (Marked is_product (Some (kind.Symbol symbol.Ampersand))) (some_is operator.And o h) (refl, refl)
+    subst (Marked is_product (Some (kind.Symbol symbol.Ampersand))) (same_some operator.And o h) (refl, refl)
 product_kind _ o h = absurd cc
 
 sum_kind : (k : Option Kind) (o : Operator) → sum_operator k ≡ Some o → Marked is_sum k o
-sum_kind (Some (kind.Symbol symbol.Plus)) o h = subst (Marked is_sum (Some (kind.Symbol symbol.Plus))) (some_is operator.Add o h) (refl, refl)
-sum_kind (Some (kind.Symbol symbol.Minus)) o h = subst (Marked is_sum (Some (kind.Symbol symbol.Minus))) (some_is operator.Subtract o h) (refl, refl)
-sum_kind (Some (kind.Symbol symbol.Or)) o h = subst (Marked is_sum (Some (kind.Symbol symbol.Or))) (some_is operator.Or o h) (refl, refl)
+sum_kind (Some (kind.Symbol symbol.Plus)) o h = subst (Marked is_sum (Some (kind.Symbol symbol.Plus))) (same_some operator.Add o h) (refl, refl)
+sum_kind (Some (kind.Symbol symbol.Minus)) o h = subst (Marked is_sum (Some (kind.Symbol symbol.Minus))) (same_some operator.Subtract o h) (refl, refl)
+sum_kind (Some (kind.Symbol symbol.Or)) o h = subst (Marked is_sum (Some (kind.Symbol symbol.Or))) (same_some operator.Or o h) (refl, refl)
 sum_kind _ o h = absurd cc
 
 pub relation_kind : (k : Option Kind) (o : Operator) → relation_operator k ≡ Some o → Marked is_relation k o
 relation_kind (Some (kind.Symbol symbol.Equal)) o h =
-    subst (Marked is_relation (Some (kind.Symbol symbol.Equal))) (some_is operator.Equal o h) (refl, refl)
+    subst (Marked is_relation (Some (kind.Symbol symbol.Equal))) (same_some operator.Equal o h) (refl, refl)
 relation_kind (Some (kind.Symbol symbol.Unequal)) o h =
-    subst (Marked is_relation (Some (kind.Symbol symbol.Unequal))) (some_is operator.Unequal o h) (refl, refl)
+    subst (Marked is_relation (Some (kind.Symbol symbol.Unequal))) (same_some operator.Unequal o h) (refl, refl)
 relation_kind (Some (kind.Symbol symbol.Less)) o h =
-    subst (Marked is_relation (Some (kind.Symbol symbol.Less))) (some_is operator.Less o h) (refl, refl)
+    subst (Marked is_relation (Some (kind.Symbol symbol.Less))) (same_some operator.Less o h) (refl, refl)
 relation_kind (Some (kind.Symbol symbol.Greater)) o h =
-    subst (Marked is_relation (Some (kind.Symbol symbol.Greater))) (some_is operator.Greater o h) (refl, refl)
+    subst (Marked is_relation (Some (kind.Symbol symbol.Greater))) (same_some operator.Greater o h) (refl, refl)
 relation_kind (Some (kind.Symbol symbol.AtMost)) o h =
-    subst (Marked is_relation (Some (kind.Symbol symbol.AtMost))) (some_is operator.AtMost o h) (refl, refl)
+    subst (Marked is_relation (Some (kind.Symbol symbol.AtMost))) (same_some operator.AtMost o h) (refl, refl)
 relation_kind (Some (kind.Symbol symbol.AtLeast)) o h =
-    subst (Marked is_relation (Some (kind.Symbol symbol.AtLeast))) (some_is operator.AtLeast o h) (refl, refl)
+    subst (Marked is_relation (Some (kind.Symbol symbol.AtLeast))) (same_some operator.AtLeast o h) (refl, refl)
 relation_kind _ o h = absurd cc
 
 pub sign_kind : (k : Option Kind) (x : Sign) → sign_of k ≡ Some x → k ≡ Some (kind.Symbol (sign_symbol x))
-sign_kind (Some (kind.Symbol symbol.Plus)) x h = ap (λ (x : Sign). Some (kind.Symbol (sign_symbol x))) (some_is sign.Plus x h)
-sign_kind (Some (kind.Symbol symbol.Minus)) x h = ap (λ (x : Sign). Some (kind.Symbol (sign_symbol x))) (some_is sign.Minus x h)
+sign_kind (Some (kind.Symbol symbol.Plus)) x h = ap (λ (x : Sign). Some (kind.Symbol (sign_symbol x))) (same_some sign.Plus x h)
+sign_kind (Some (kind.Symbol symbol.Minus)) x h = ap (λ (x : Sign). Some (kind.Symbol (sign_symbol x))) (same_some sign.Minus x h)
 sign_kind _ x h = absurd cc
 
 product_left : (o : Operator) (a : s.Expression) → is_product o ≡ true → IsTerm a → IsLeft o a

@@ -4,14 +4,12 @@ use Rattle.std.specs.Prelude.{option_map}
 use Rattle.std.proofs.lemmas.Option.{slice_get-map}
 use Rattle.std.proofs.lemmas.List.{append-nil, map-set}
 use Rattle.cp_machine_model.specs.Machines.{transcript_of}
+use Rattle.cp_model.proofs.Options.{same_some}
 use Rattle.std.specs.Prelude.{Vec}
 use Rattle.std.specs.Global.{Global}
 use Rattle.cp_kernel.specs.KernelOf.{Bytes}
 use Rattle.cp_kernel.specs.Turns.{Moves}
 use Rattle.cp_kernel.specs.declared.kernel.Kernel.{Kernel}
-
-some_is : {X : Type 0} (x y : X) → Some x ≡ Some y → x ≡ y
-some_is x y e = ap (λ o. elim o [ None ↦ x | Some z ↦ z ]) e
 
 abbrev bytes_by : (x : Option (List ℕ)) → List ℕ
 bytes_by None = []
@@ -47,7 +45,7 @@ got_other (z ∷ xs) (suc i) (suc k) y apart = got_other xs i k y (λ e. apart (
 
 pub got_same : {X : Type 0} (xs : List X) (i : ℕ) (y x : X) → slice_get (slice_set xs i y) i ≡ Some x → y ≡ x
 got_same [] i y x e = absurd (cc)
-got_same (z ∷ xs) zero y x e = some_is y x e
+got_same (z ∷ xs) zero y x e = same_some y x e
 got_same (z ∷ xs) (suc i) y x e = got_same xs i y x e
 
 -- What is moved is the same if the transcripts before are the same.

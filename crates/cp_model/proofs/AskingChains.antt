@@ -4,9 +4,7 @@ use Rattle.std.proofs.Common.{ap, arith, subst, sym, ◌∙◌}
 use Rattle.cp_model.specs.States.{Setup, State, processes}
 use Rattle.cp_model.specs.Chains.{IsAskingChain, chain_from, chain_within, holder_asked}
 use Rattle.cp_model.specs.Report.{AreChainLines, BeginsWithChain, IsReportWithChains, Text, chain_lines_within, is_asking, report, report_with_chains_within, with_chain}
-
-some_is : {A : Type 0} {x y : A} → Some x ≡ Some y → x ≡ y
-some_is h = Prim.cc
+use Rattle.cp_model.proofs.Options.{same_some}
 
 chain_begins : (s : State) (p q : ℕ) (rs : List ℕ) → IsAskingChain s p (q ∷ rs) → q ≡ p
 chain_begins s p q [] h = h.0
@@ -25,7 +23,7 @@ chain_within_is_asking_chain n s p ps h = go n p ps (holder_asked s (s.status p)
 
     go : (n p : ℕ) (ps : List ℕ) (o : Option ℕ) → holder_asked s (s.status p) ≡ o → chain_from n s p o ≡ Some ps
         → IsAskingChain s p ps
-    go n p ps None e h = subst (λ l. IsAskingChain s p l) (some_is h) (refl, e)
+    go n p ps None e h = subst (λ l. IsAskingChain s p l) (same_some _ _ h) (refl, e)
     go zero p ps (Some q) e h = absurd (Prim.grind arith)
     go (suc n) p ps (Some q) e h =
         with_rest (chain_from n s q (holder_asked s (s.status q))) h (λ rs f. go n q rs (holder_asked s (s.status q)) refl f)
@@ -33,7 +31,7 @@ chain_within_is_asking_chain n s p ps h = go n p ps (holder_asked s (s.status p)
         with_rest : (o : Option (List ℕ)) → option_map (λ rs. p ∷ rs) o ≡ Some ps
             → ((rs : List ℕ) → o ≡ Some rs → IsAskingChain s q rs) → IsAskingChain s p ps
         with_rest None h rest = absurd (Prim.grind arith)
-        with_rest (Some rs) h rest = subst (λ l. IsAskingChain s p l) (some_is h) (longer p q rs e (rest rs refl))
+        with_rest (Some rs) h rest = subst (λ l. IsAskingChain s p l) (same_some _ _ h) (longer p q rs e (rest rs refl))
 
 pub asking_chain_is_one : (s : State) (p : ℕ) (ps qs : List ℕ) → IsAskingChain s p ps → IsAskingChain s p qs → ps ≡ qs
 asking_chain_is_one s p [] qs c d = absurd c
@@ -42,7 +40,7 @@ asking_chain_is_one s p (a ∷ []) (b ∷ []) c d = ap (λ x. x ∷ []) (c.0 ∙
 asking_chain_is_one s p (a ∷ []) (b ∷ q ∷ qs) c d = let e = sym c.1 ∙ d.1 in absurd (Prim.grind arith)
 asking_chain_is_one s p (a ∷ r ∷ rs) (b ∷ []) c d = let e = sym d.1 ∙ c.1 in absurd (Prim.grind arith)
 asking_chain_is_one s p (a ∷ r ∷ rs) (b ∷ q ∷ qs) c d =
-    let same : q ≡ r = some_is (sym d.1 ∙ c.1) in
+    let same : q ≡ r = same_some _ _ (sym d.1 ∙ c.1) in
     ap (λ x. x ∷ r ∷ rs) (c.0 ∙ sym d.0)
     ∙ ap (λ l. b ∷ l) (asking_chain_is_one s r (r ∷ rs) (q ∷ qs) c.2 (subst (λ x. IsAskingChain s x (q ∷ qs)) same d.2))
 
@@ -50,7 +48,7 @@ asking_chain_is_one s p (a ∷ r ∷ rs) (b ∷ q ∷ qs) c d =
 
 chain_lines_are : (n : ℕ) (s : State) (ps : List ℕ) (text : Text) → chain_lines_within n s ps ≡ Some text
     → AreChainLines s ps text
-chain_lines_are n s [] text h = sym (some_is h)
+chain_lines_are n s [] text h = sym (same_some _ _ h)
 chain_lines_are n s (p ∷ ps) text h = go (is_asking (s.status p)) h (chain_lines_are n s ps)
   where
     Rest : Option Text → Type 0
@@ -61,7 +59,7 @@ chain_lines_are n s (p ∷ ps) text h = go (is_asking (s.status p)) h (chain_lin
     joined None o e more h = absurd (Prim.grind arith)
     joined (Some chain) None e more h = absurd (Prim.grind arith)
     joined (Some chain) (Some rest) e more h =
-        (chain, (rest, chain_within_is_asking_chain n s p chain e, more rest refl, sym (some_is h)))
+        (chain, (rest, chain_within_is_asking_chain n s p chain e, more rest refl, sym (same_some _ _ h)))
 
     go : (b : Bool)
         → (if b then with_chain (chain_within n s p) (chain_lines_within n s ps) else chain_lines_within n s ps) ≡ Some text
@@ -76,4 +74,4 @@ report_within_is_report n setup s text h = go (chain_lines_within n s (processes
     go : (o : Option Text) → chain_lines_within n s (processes setup) ≡ o
         → option_map (λ lines. report setup s ++ lines) o ≡ Some text → IsReportWithChains setup s text
     go None e h = absurd (Prim.grind arith)
-    go (Some lines) e h = (lines, (chain_lines_are n s (processes setup) lines e, sym (some_is h)))
+    go (Some lines) e h = (lines, (chain_lines_are n s (processes setup) lines e, sym (same_some _ _ h)))

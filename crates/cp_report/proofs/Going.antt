@@ -10,6 +10,7 @@ use Rattle.cp_model.specs.Leaves.{integers_from}
 use Rattle.cp_model.specs.Locations.{ByIndex, ByName, Path}
 use Rattle.cp_model.specs.Report.{Text, path_text}
 use Rattle.cp_model.specs.Types.{GlobalScope, Members, MoreMembers, NoMembers, ResolvedType}
+use Rattle.cp_model.proofs.Options.{same_some}
 use Rattle.cp_typing.specs.Words.{words, words_of_members}
 use Rattle.cp_machine_model.specs.Reports.{Visit, visit_elements, visit_members, visit_type}
 use Rattle.cp_scope.specs.Standing.{AreMembers, Stands, row_at}
@@ -67,9 +68,6 @@ rest_stands types old mid c d left later rest step path stack deep parts same S 
     below [] h = tt
     below (e ∷ cs) h = omega (arith, h, deep)
 
-same_list : {A : Type 0} (a b : A) → Some a ≡ Some b → a ≡ b
-same_list a b e = ap (λ o. elim o [ None ↦ a | Some r ↦ r ]) e
-
 abbrev Goes : Tables → Visit → Cursor → Walk → Walk → Text → Text → GlobalScope → List Left → Left → Type 0
 Goes tables v c old new out after g rest l =
     AllStand tables.types old.path.items (c ∷ reverse old.stack.items) (l ∷ rest)
@@ -105,7 +103,7 @@ member_goes tables v c old mid new out after es x of enters path stack at row ne
 
     by : (l : Left) → Goes tables v c old new out after g rest l
     by (MembersLeft p ms) S =
-        let same = same_list S.0.parts.0 es (sym S.0.parts.1 ∙ row) in
+        let same = same_some S.0.parts.0 es (sym S.0.parts.1 ∙ row) in
         with_members p ms (subst (λ fs. AreMembers tables.types fs ms) (ap (drop c.next) same ∙ next) S.0.parts.2) S
     by (ElementsLeft p is t) S = absurd (nothing (sym (ap members_in S.0.parts.3) ∙ row))
       where
@@ -208,7 +206,7 @@ element_goes tables v c old mid new out after low high of enters path stack at t
         nothing : Some S.0.parts.0 ≡ None → ⊥
         nothing e = cc
     by (ElementsLeft p is t) S =
-        let same = same_list (row.Array S.0.parts.0 S.0.parts.1 S.0.parts.2) (row.Array low high of) (sym S.0.parts.3 ∙ there) in
+        let same = same_some (row.Array S.0.parts.0 S.0.parts.1 S.0.parts.2) (row.Array low high of) (sym S.0.parts.3 ∙ there) in
         let of_it = subst (ElementsOf tables.types c is t) same (S.0.parts.4, S.0.parts.5) in
         with_elements p is t of_it.0 (of_it.1 ∙ next) S
 
@@ -224,7 +222,7 @@ no_element tables v c old out low high of there past g left rest scope S = by le
         nothing : Some S.0.parts.0 ≡ None → ⊥
         nothing e = cc
     by (ElementsLeft p is t) S =
-        let same = same_list (row.Array S.0.parts.0 S.0.parts.1 S.0.parts.2) (row.Array low high of) (sym S.0.parts.3 ∙ there) in
+        let same = same_some (row.Array S.0.parts.0 S.0.parts.1 S.0.parts.2) (row.Array low high of) (sym S.0.parts.3 ∙ there) in
         let of_it = subst (ElementsOf tables.types c is t) same (S.0.parts.4, S.0.parts.5) in
         let none = of_it.1 ∙ none_counted (count_between low high) c.next low past in
         record {
@@ -243,7 +241,7 @@ no_element tables v c old out low high of there past g left rest scope S = by le
 -- The item at an index comes first in what is left from there.
 pub drop_got : {A B : Type 0} (f : A → B) (xs : List A) (i : ℕ) (x : A) → slice_get xs i ≡ Some x → drop i (map f xs) ≡ f x ∷ drop (suc i) (map f xs)
 drop_got f [] i x h = absurd (cc)
-drop_got f (y ∷ xs) zero x h = ap (λ z. f z ∷ map f xs) (same_list y x h)
+drop_got f (y ∷ xs) zero x h = ap (λ z. f z ∷ map f xs) (same_some y x h)
 drop_got f (y ∷ xs) (suc i) x h = drop_got f xs i x h
 
 -- A simple type and a queue have no parts.
