@@ -9,8 +9,8 @@ import pathlib, re, sys, textwrap
 DOCS = pathlib.Path(__file__).resolve().parent
 EXAMPLES = DOCS / 'examples'
 TARGET = DOCS.parent / 'crates' / 'cp_explain' / 'src' / 'pages.rt'
-HEAD = '''//! The pages of `explain RULE`, written by `docs/make_pages.py` from docs/rules.md, docs/faults.md and
-//! their examples.
+HEAD = '''//! The pages of `explain RULE`, written by `docs/make_pages.py` from docs/rules.md, docs/faults.md
+//! and their examples.
 
 /// A page: the rule or the fault, and what is told of it.
 #[derive(Clone, Copy)]

@@ -163,7 +163,8 @@ def write_rows():
     path = CRATES / 'cp_rows'
     write(path / 'proofs' / 'Lib.antt', ''.join(f'mod {title}Computed\n' for title, _, _ in modules))
     write(path / 'specs' / 'Lib.antt', ''.join(f'pub mod {title}\n' for title in ['Answers'] + [title for title, _, _ in modules]))
-    code = ['//! The worked texts of the folder `worked`: each function says of one folder that the definitions give its answers.',
+    code = ['//! The worked texts of the folder `worked`: each function says of one folder that the definitions',
+            '//! give its answers.',
             '//!', '//! Written by worked/make_rows.py.', '']
     code += [f'ghost use Rattle.cp_rows.specs.{title}.{{{title}}};' for title, _, _ in modules]
     for title, name, _ in modules:

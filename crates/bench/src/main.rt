@@ -1,6 +1,6 @@
 //! Does a part of cpm's work over and over, for the scripts of `bench/` to measure: `bench PART N`
-//! works N times, once by default, on the text on standard input. PART is `scan` or `compile`, which
-//! doesn't judge the text.
+//! works N times, once by default, on the text on standard input. PART is `scan` or `compile`,
+//! which doesn't judge the text.
 #![tactic(auto)]
 
 mod compiling;

@@ -1,14 +1,15 @@
 //! From the bytes of readers to an accepted text and a fit input, or to a refusal.
 //!
 //! - `reading`: reads bytes. `checking`: parses a text and judges its tree.
-//! - `cutting`: checks an input and cuts it into the inputs of the processes. `joining`: joins the inputs
-//!   of all processes, with a byte 28 behind each.
+//! - `cutting`: checks an input and cuts it into the inputs of the processes. `joining`: joins the
+//!   inputs of all processes, with a byte 28 behind each.
 //! - `sources`: reads a text that is accepted, and an input that is fit.
 //! - `refusal`: why a command has no result. `writing`: writes the result of one.
 //!
-//! `specs/Refusals.antt` and `specs/Texts.antt` define what each refusal means, `specs/Cutting.antt` which
-//! inputs are fit, `specs/Joining.antt` the joined input, `specs/KnownRefusals.antt` what a refusal says of bytes that are known, and
-//! `specs/Takings.antt` how much is read.
+//! `specs/Refusals.antt` and `specs/Texts.antt` define what each refusal means,
+//! `specs/Cutting.antt` which inputs are fit, `specs/Joining.antt` the joined input,
+//! `specs/KnownRefusals.antt` what a refusal says of bytes that are known, and `specs/Takings.antt`
+//! how much is read.
 #![tactic(auto)]
 
 pub mod checking;

@@ -20,8 +20,8 @@ const MOST_RIGHTS: usize = 100_000;
 /// A component of a program.
 #[derive(Drop)]
 pub(crate) struct Instance<'t> {
-    /// The names of the components that hold it, and its own, with `.` between them. The name of the
-    /// initial process stands before no other.
+    /// The names of the components that hold it, and its own, with `.` between them. The name of
+    /// the initial process stands before no other.
     pub path: Vec<u8>,
     /// The name of its type. The initial process has none.
     pub of: Option<&'t Identifier>,

@@ -143,8 +143,8 @@ fn lay_components<'t>(
 }
 
 /// Compiles a text with these tables to a program. For an accepted text and the tables that stand
-/// for it, it is the program that the definition `compile` of `cp_program_model` makes, which stands
-/// for the text. Each operation has an origin.
+/// for it, it is the program that the definition `compile` of `cp_program_model` makes, which
+/// stands for the text. Each operation has an origin.
 ///
 /// # Errors
 ///

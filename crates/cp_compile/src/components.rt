@@ -27,8 +27,8 @@ pub struct Owner {
     pub plan: u32,
 }
 
-/// What the components of a text are made from: its tables, the first unit of each type by name, and
-/// the number of the plan of the first system type.
+/// What the components of a text are made from: its tables, the first unit of each type by name,
+/// and the number of the plan of the first system type.
 #[derive(Clone, Copy)]
 pub struct InitialCompiler<'s, 't> {
     pub tables: &'s Tables<'t>,

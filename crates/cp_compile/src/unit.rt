@@ -16,8 +16,8 @@ use cp_scope::Scope;
 use cp_translate::Translator;
 use std::alloc::{AllocError, Global};
 
-/// Compiles the statements `body` to a unit, which stands at the place `origin` of the text. It ends
-/// with the operation `last`, and its activations start by the plan `starts`.
+/// Compiles the statements `body` to a unit, which stands at the place `origin` of the text. It
+/// ends with the operation `last`, and its activations start by the plan `starts`.
 pub fn compile_unit(
     alloc: Global,
     scope: &Scope,

@@ -2,8 +2,9 @@
 //!
 //! `finder` and the walks find what stands at the place (`site`), and `choice` and `choice_types`
 //! pick the message for that (`messages`). `agreement` tells the types that don't agree, `counts`
-//! the arguments that a call takes, `members` what can stand after a `.`, and `spelling` what a name
-//! may have meant. `diagnosis` puts these together. What names are declared as is cp_declared's.
+//! the arguments that a call takes, `members` what can stand after a `.`, and `spelling` what a
+//! name may have meant. `diagnosis` puts these together. What names are declared as is
+//! cp_declared's.
 //!
 //! All of this is words, and tested.
 #![tactic(auto)]

@@ -6,14 +6,15 @@
 //! - `need`: the words, temps and frames that an operation or a unit needs.
 //! - `call`: the calls of a statement's terms.
 //! - `table`: where a `case` leads.
-//! - `plan`: the plans so far, and what they are made from. `pieces`: what the pieces of a plan are.
+//! - `plan`: the plans so far, and what they are made from. `pieces`: what the pieces of a plan
+//!   are.
 //! - `parts`: the plans of parts that lie one after another. `type_plans`: the plans of types.
 //! - `starts`: plans for the start values of the words of activations and components.
 //! - `draft`: a plan in progress, which is made from its end.
 //! - `members`: what plans are made from.
 //!
-//! Each function equals one of `cp_program_model`'s definitions, on the plain data that `cp_program` makes
-//! of operations.
+//! Each function equals one of `cp_program_model`'s definitions, on the plain data that
+//! `cp_program` makes of operations.
 #![tactic(auto)]
 
 pub mod call;

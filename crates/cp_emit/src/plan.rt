@@ -23,8 +23,8 @@ use cp_program::program::{StartPiece, StartPlan};
 use cp_scope::{Tables, small_number, small_sum};
 use std::alloc::{AllocError, Global};
 
-/// The numbers of the plans of a type: for words that may be anything before, and for words that are
-/// 0 before.
+/// The numbers of the plans of a type: for words that may be anything before, and for words that
+/// are 0 before.
 #[derive(Clone, Copy, Debug)]
 pub struct TypePlans {
     pub plain: u32,

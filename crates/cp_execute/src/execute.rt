@@ -85,8 +85,8 @@ fn run_text<H: Threads + Wait + Sync, R: Read, S: Read, W: Write, G: TurnGate>(
 /// For the text I1, S, Y or C, then for the input of a run I1, I4 or I3. Also M, and I2 if a write
 /// fails. After I2 a prefix of what was due has been written, and after any other refusal nothing.
 /// If the text is accepted and the input isn't refused with I4 or I3, only M, I1 or I2 is possible.
-/// Each reader is read to its end or through byte 1,048,577, and no further. A check reads no input,
-/// and neither does a run whose text is refused.
+/// Each reader is read to its end or through byte 1,048,577, and no further. A check reads no
+/// input, and neither does a run whose text is refused.
 pub fn execute<H: Threads + Wait + Sync, R: Read, S: Read, W: Write, G: TurnGate>(
     rt: &H,
     alloc: Global,

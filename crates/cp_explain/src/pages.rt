@@ -1,5 +1,5 @@
-//! The pages of `explain RULE`, written by `docs/make_pages.py` from docs/rules.md, docs/faults.md and
-//! their examples.
+//! The pages of `explain RULE`, written by `docs/make_pages.py` from docs/rules.md, docs/faults.md
+//! and their examples.
 
 /// A page: the rule or the fault, and what is told of it.
 #[derive(Clone, Copy)]

@@ -140,8 +140,8 @@ fn read_inputs<'a, R: Read>(
 ///
 /// # Errors
 ///
-/// `Refused` with S, Y or C if the text isn't accepted, `NoProcess` if it has no such process, and M
-/// if memory runs out.
+/// `Refused` with S, Y or C if the text isn't accepted, `NoProcess` if it has no such process, and
+/// M if memory runs out.
 pub fn process_number<'a>(
     alloc: Global,
     text: &[u8],

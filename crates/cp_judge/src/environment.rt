@@ -21,7 +21,8 @@ pub type Scope<'t> = NameTable<'t, Entity>;
 /// The fields of a record type, or the routines of a system type, by their names.
 pub type Members<'t> = NameTable<'t, Member>;
 
-/// What is known where a part of a text is judged. Contracts see the environment of the definitions.
+/// What is known where a part of a text is judged. Contracts see the environment of the
+/// definitions.
 #[derive(Drop)]
 pub struct Environment<'t> {
     names: Scope<'t>,
@@ -319,7 +320,8 @@ impl<'t> Environment<'t> {
         self.names.add_if_new(x.name.as_bytes(), entity)
     }
 
-    /// Lets the names that were declared after the first `mark` ones stand for `entity` from now on.
+    /// Lets the names that were declared after the first `mark` ones stand for `entity` from now
+    /// on.
     pub fn set_from(&mut self, mark: usize, entity: Entity)
         ensures { self.new ≡ r.with_names (with_values_from mark entity self.old.names) self.old }
     {

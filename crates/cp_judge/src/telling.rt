@@ -20,8 +20,8 @@ enum Kept {
 
 /// The violations that were told. Contracts see the earliest.
 ///
-/// `Told::earliest` keeps no other and takes no memory. `Told::all` lists them too, each as often as
-/// it was told.
+/// `Told::earliest` keeps no other and takes no memory. `Told::all` lists them too, each as often
+/// as it was told.
 #[derive(Drop)]
 pub struct Told {
     earliest: Option<Violation>,

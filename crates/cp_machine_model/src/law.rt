@@ -75,8 +75,8 @@ pub fn replays()
 
 /// The gates of each state that a machine is in make a hierarchy, by the places of the monitors'
 /// types in the text, so no processes wait for each other in a circle. The chain that is read off a
-/// machine's kernel is the asking chain of the state, which ends. Between rounds, the report with the
-/// lines of these chains is that of the state.
+/// machine's kernel is the asking chain of the state, which ends. Between rounds, the report with
+/// the lines of these chains is that of the state.
 pub fn waits()
     ensures hierarchy { StatesMakeHierarchies }
     ensures chain { ChainIsChain }

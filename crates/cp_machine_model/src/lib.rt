@@ -1,5 +1,5 @@
-//! The machine that runs compiled programs, as plain data, and the laws that its steps, its rounds and
-//! its report are those of the meaning.
+//! The machine that runs compiled programs, as plain data, and the laws that its steps, its rounds
+//! and its report are those of the meaning.
 //!
 //! `specs/` has the definitions, from the bottom up:
 //!

@@ -22,7 +22,8 @@ pub fn one_processor()
     ensures phased_from_start { PhasedRoundIsSequentialFromStart }
 {}
 
-/// The invariant holds at the start, and each part of a round keeps it, whatever the text and the order of events.
+/// The invariant holds at the start, and each part of a round keeps it, whatever the text and the
+/// order of events.
 pub fn invariant()
     ensures start { InvariantAtStart }
     ensures private_step { PrivateStepKeepsInvariant }

@@ -1,10 +1,10 @@
 //! The types of a Concurrent Pascal text, and the definitions that everything else is proved
 //! against.
 //!
-//! The types have no behaviour: tokens (`token`, `short`), the syntax tree (`tree`), what the rules refer to
-//! (`rules`), and why a process stops (`state`). The definitions are in `specs/`. docs/language.md
-//! and docs/meaning.md describe them in words, each next to the name of its file. The laws of
-//! rounds are the contracts of functions with empty bodies (`law`).
+//! The types have no behaviour: tokens (`token`, `short`), the syntax tree (`tree`), what the rules
+//! refer to (`rules`), and why a process stops (`state`). The definitions are in `specs/`.
+//! docs/language.md and docs/meaning.md describe them in words, each next to the name of its file.
+//! The laws of rounds are the contracts of functions with empty bodies (`law`).
 #![tactic(auto)]
 
 pub mod law;

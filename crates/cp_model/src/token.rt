@@ -161,8 +161,8 @@ pub enum Symbol {
     DotDot,
 }
 
-/// What a token is. The letters of a name lie beside the other kinds, and not in a [`Name`], so that
-/// a token takes 24 bytes. Contracts see a kind of `specs/Tokens.antt`, where names are one.
+/// What a token is. The letters of a name lie beside the other kinds, and not in a [`Name`], so
+/// that a token takes 24 bytes. Contracts see a kind of `specs/Tokens.antt`, where names are one.
 #[derive(Drop)]
 pub enum Kind {
     /// A name of at most 14 letters.

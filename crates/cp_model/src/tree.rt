@@ -178,8 +178,8 @@ pub struct ProcedureCall {
     pub arguments: Vec<Expression>,
 }
 
-/// A statement. Its parts and lists are boxed, so that it takes 24 bytes: an empty one takes as much
-/// as any other, and a text can have a million of them.
+/// A statement. Its parts and lists are boxed, so that it takes 24 bytes: an empty one takes as
+/// much as any other, and a text can have a million of them.
 #[cycle(statements)]
 #[derive(Drop)]
 pub enum Statement {

@@ -1,5 +1,5 @@
-//! Outcomes: read and check a text, run it on an input until nothing can move, and write what became
-//! of it.
+//! Outcomes: read and check a text, run it on an input until nothing can move, and write what
+//! became of it.
 
 ghost use Rattle.std.specs.Prelude.{◌≡◌, IfErr, IfOk, IfSome};
 ghost use Rattle.std.specs.Io.KnownBytes.{Keeps};

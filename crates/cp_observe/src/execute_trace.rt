@@ -71,8 +71,8 @@ pub fn unknown_name<'a>(
 
 /// Runs the text of one reader on the input of another, and writes in the form of the trace what
 /// became of its processes and monitors, from the first round that is told. Returns the machine
-/// after the last round. Tells of those with the names in `only`, or of all if there are none. Takes
-/// memory that doesn't grow with the rounds.
+/// after the last round. Tells of those with the names in `only`, or of all if there are none.
+/// Takes memory that doesn't grow with the rounds.
 ///
 /// # Errors
 ///

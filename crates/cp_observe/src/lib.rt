@@ -1,11 +1,12 @@
 //! From an accepted text and an input to the bytes of an outcome or a trace.
 //!
 //! - `execute_outcome`: runs until nothing can move. `execute_trace`: what each round changed.
-//! - `until_still`, `tracing`: builds the program of an accepted text, runs it, and makes the outcome
-//!   or the trace. `form`: what is written of an outcome.
+//! - `until_still`, `tracing`: builds the program of an accepted text, runs it, and makes the
+//!   outcome or the trace. `form`: what is written of an outcome.
 //!
 //! Reading, judging and refusals are cp_accept's, and the machine at its start is cp_execute's.
-//! `specs/Outcomes.antt` with `specs/Forms.antt`, and `specs/Traces.antt` define what a result means.
+//! `specs/Outcomes.antt` with `specs/Forms.antt`, and `specs/Traces.antt` define what a result
+//! means.
 #![tactic(auto)]
 
 pub mod execute_outcome;

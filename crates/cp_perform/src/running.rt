@@ -137,8 +137,8 @@ fn find_names<'a, F: Read + Drop, I: Read + Drop>(
     Ok(())
 }
 
-/// Runs a text, and prints what became in each round of the processes and monitors with these names,
-/// or of all if there are none.
+/// Runs a text, and prints what became in each round of the processes and monitors with these
+/// names, or of all if there are none.
 pub(crate) fn trace<'a, H: Clock + Eprint + Files + Input + Print + Threads + Wait + Sync>(
     rt: &H,
     alloc: Global,

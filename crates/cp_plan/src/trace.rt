@@ -16,8 +16,8 @@ pub enum TraceForm {
     Svg,
 }
 
-/// The parameters of a trace: the number of rounds, the first round that is told, in which form, how
-/// each is made, and how often the clock ticks.
+/// The parameters of a trace: the number of rounds, the first round that is told, in which form,
+/// how each is made, and how often the clock ticks.
 #[derive(Clone, Copy, Debug)]
 pub struct Tracing {
     pub rounds: u32,

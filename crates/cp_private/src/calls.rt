@@ -106,7 +106,8 @@ impl Private {
         self.call_here(program, shared, outside, call, link)
     }
 
-    /// Does the same as `call`. It is inlined: where there are no shared words, nothing asks for them.
+    /// Does the same as `call`. It is inlined: where there are no shared words, nothing asks for
+    /// them.
     #[inline(always)]
     pub(crate) fn call_here(
         &mut self,

@@ -1,8 +1,8 @@
 //! How plans are carried out.
 //!
 //! A part of a plan starts by a plan of its own. The walk comes back from each part but a last one,
-//! from which nothing is left to do. The compiler puts the heaviest part last, so that any other has
-//! at most half of the words, and the walk is never deeper than the number of words has bits.
+//! from which nothing is left to do. The compiler puts the heaviest part last, so that any other
+//! has at most half of the words, and the walk is never deeper than the number of words has bits.
 
 ghost use Rattle.std.specs.Prelude.{◌≡◌, ◌+◌, ◌<◌, ◌^◌, ◌++◌, ℕ, ℤ, List, IfSome, length, take};
 ghost use Rattle.cp_program_model.specs.Programs as code;

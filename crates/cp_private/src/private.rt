@@ -57,8 +57,8 @@ pub struct Private {
     pub(crate) activity: Activity,
     /// The number of its next operation.
     pub(crate) counter: u32,
-    /// The number of the operation of its last call, `delay` or `wait`, which is the one after which
-    /// it waits, if it waits. No step reads it.
+    /// The number of the operation of its last call, `delay` or `wait`, which is the one after
+    /// which it waits, if it waits. No step reads it.
     pub(crate) pause: u32,
     /// The innermost gate that the process holds, or 0.
     pub(crate) gate: u32,

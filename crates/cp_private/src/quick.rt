@@ -286,7 +286,8 @@ impl Private {
         Some(frame.gate)
     }
 
-    /// Makes the step of an operation, if that takes no more than registers. Otherwise changes nothing.
+    /// Makes the step of an operation, if that takes no more than registers. Otherwise changes
+    /// nothing.
     #[inline(always)]
     pub(crate) fn take_quick_step<W: Words>(
         &mut self,

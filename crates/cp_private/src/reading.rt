@@ -75,8 +75,8 @@ impl Private {
             (plain.view_of (outside_of outside.now own) (join self.now input shared.now))
             (view.term term.now) }
     {
-        // In a step of the kernel most words are shared. To look for them in registers too would make
-        // a private call so large that the compiler doesn't inline it.
+        // In a step of the kernel most words are shared. To look for them in registers too would
+        // make a private call so large that the compiler doesn't inline it.
         if !shared.is_empty() {
             return term.value_here(&self.reach(shared, outside));
         }

@@ -172,8 +172,8 @@ impl Private {
         self.gate == 0
     }
 
-    // Makes a private call. Returns whether one more step may be private. Within the loop over steps
-    // it would take registers from all other steps.
+    // Makes a private call. Returns whether one more step may be private. Within the loop over
+    // steps it would take registers from all other steps.
     #[inline(never)]
     fn take_call(&mut self, program: &Program, outside: &Outside, call: &Call, link: Back) -> bool
         requires { IsReady self.old }
@@ -194,8 +194,8 @@ impl Private {
         false
     }
 
-    // Makes the next step of a process that is ready, which is that of the operation, if the step is
-    // private. Returns whether one more step may be private.
+    // Makes the next step of a process that is ready, which is that of the operation, if the step
+    // is private. Returns whether one more step may be private.
     #[inline(always)]
     fn take_step_of(&mut self, operation: &Operation, program: &Program, outside: &Outside) -> bool
         requires alone { IsAlone outside.now }

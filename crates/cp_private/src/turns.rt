@@ -21,8 +21,8 @@ use cp_program::operation::Operation;
 use cp_program::program::Program;
 use cp_program::reach::AllWords;
 
-// Makes `count` steps, as long as the next one is private. It isn't inlined: in a function with more
-// than this loop LLVM leaves tests of the steps' own results.
+// Makes `count` steps, as long as the next one is private. It isn't inlined: in a function with
+// more than this loop LLVM leaves tests of the steps' own results.
 #[inline(never)]
 fn take_steps(program: &Program, private: &mut Private, outside: &Outside, count: u32)
     requires alone { IsAlone outside.now }

@@ -1,5 +1,5 @@
-//! Arithmetic that finds a result in range, or nothing where there is a fault, so that it is found in
-//! registers.
+//! Arithmetic that finds a result in range, or nothing where there is a fault, so that it is found
+//! in registers.
 
 ghost use Rattle.std.specs.Prelude.{◌≡◌, IfSome, Ok};
 ghost use Rattle.cp_program_model.specs.Functions as functions;

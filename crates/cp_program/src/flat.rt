@@ -5,8 +5,8 @@
 //! its negation, the word at a flat spot or of a `var` parameter, or the value of a call.
 //!
 //! These functions find what those of `evaluation` find, in a result that fits registers, or find
-//! nothing where a term or spot goes deeper, has a fault or needs a word that `W` doesn't find: then
-//! `evaluation` is asked.
+//! nothing where a term or spot goes deeper, has a fault or needs a word that `W` doesn't find:
+//! then `evaluation` is asked.
 
 ghost use Rattle.std.specs.Prelude.{◌≡◌, ℕ, ◌+◌, ◌<◌, ◌^◌, ◌++◌, ◌∷◌, [], IfSome, Ok, map};
 ghost use Rattle.cp_program_model.specs.Terms as terms;
@@ -61,7 +61,8 @@ impl Operand {
         }
     }
 
-    // The same of the rarer ones. It isn't inlined, so that `near_value` of terms is small enough to be.
+    // The same of the rarer ones. It isn't inlined, so that `near_value` of terms is small enough
+    // to be.
     #[inline(never)]
     fn rarer_value<W: Words>(&self, memory: &Memory, shared: &[i32]) -> Option<i32>
         ensures { (clock : ℕ) → IfSome result (λ n. values.value_of
@@ -79,8 +80,8 @@ impl Operand {
     }
 }
 
-// The value of a chain whose first operands have the value `first`, if the others are flat. It isn't
-// inlined, so that a term of one operator saves no registers.
+// The value of a chain whose first operands have the value `first`, if the others are flat. It
+// isn't inlined, so that a term of one operator saves no registers.
 #[inline(never)]
 fn long_flat_value<W: Words>(
     first: i32,
@@ -159,8 +160,8 @@ impl Term {
         ensures { (clock : ℕ) → IfSome result (λ n. values.value_of
             (view_with memory.now shared.now clock) (view.term self.now) ≡ Ok n) }
     {
-        // Each way to find the first operand leaves by itself if nothing is found, so that there is no
-        // option to look into afterwards.
+        // Each way to find the first operand leaves by itself if nothing is found, so that there is
+        // no option to look into afterwards.
         let first = match &self.first {
             Operand::Number(n) => *n,
             Operand::Local(at) => memory.near_local::<W>(shared, *at)?,
@@ -193,8 +194,8 @@ impl Term {
         }
     }
 
-    /// Does the same as `near_value`. It takes less room where it is inlined, and a call if there are
-    /// operators.
+    /// Does the same as `near_value`. It takes less room where it is inlined, and a call if there
+    /// are operators.
     #[inline(always)]
     pub fn near_argument<W: Words>(&self, memory: &Memory, shared: &[i32]) -> Option<i32>
         ensures { (clock : ℕ) → IfSome result (λ n. values.value_of

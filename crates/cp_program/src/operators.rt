@@ -46,8 +46,8 @@ fn difference_of(operator: Operator, left: i32, right: i32) -> Option<i32>
 }
 
 impl Application {
-    // The value of a sum, difference, product, quotient or remainder of `left`, the value so far, and
-    // a flat operand.
+    // The value of a sum, difference, product, quotient or remainder of `left`, the value so far,
+    // and a flat operand.
     #[inline(always)]
     fn arithmetic_value_after<W: Words>(
         &self,

@@ -1,10 +1,10 @@
 //! Several rounds at once.
 //!
 //! A process that has written nothing and whose next step isn't the kernel's, if it has one, has no
-//! kernel turn to make, whatever the others do (the laws are those of cp_ahead). So the threads make
-//! its private turns of several rounds one after another, and draw once for all of them. The calling thread takes all
-//! private states back, passes over the rounds in which all processes are ahead, and makes the others
-//! one by one, with the private turns that weren't made ahead.
+//! kernel turn to make, whatever the others do (the laws are those of cp_ahead). So the threads
+//! make its private turns of several rounds one after another, and draw once for all of them. The
+//! calling thread takes all private states back, passes over the rounds in which all processes are
+//! ahead, and makes the others one by one, with the private turns that weren't made ahead.
 
 ghost use Rattle.std.specs.Prelude.{◌≡◌, ◌≤◌, ◌<◌, ◌+◌, ◌-◌, ℕ, false, true, length, slice_get, Some};
 ghost use Rattle.cp_kernel.specs.KernelOf.{kernel_of};
@@ -47,7 +47,8 @@ fn most_turns(kernel: &Kernel, process: usize, count: u32) -> u32
 }
 
 // Takes back the private state of a process after its turns, of a round and of those that are made
-// at once with it. Returns how many turns it is ahead: as many as may be, if none of them has a step.
+// at once with it. Returns how many turns it is ahead: as many as may be, if none of them has a
+// step.
 fn take_back<'a, C: Course, R: Wait, G: TurnGate>(
     rt: &R,
     run: &Run<'a, C, G>,
@@ -77,8 +78,8 @@ fn take_back<'a, C: Course, R: Wait, G: TurnGate>(
     hand.take(rt, run, round, process, most, private) - 1
 }
 
-// Takes back the private states of all processes after their turns, of a round and of those that are
-// made at once with it.
+// Takes back the private states of all processes after their turns, of a round and of those that
+// are made at once with it.
 fn take_all_back<'a, C: Course, R: Wait, G: TurnGate>(
     rt: &R,
     run: &Run<'a, C, G>,
@@ -104,8 +105,8 @@ fn take_all_back<'a, C: Course, R: Wait, G: TurnGate>(
     hand.end_wave(rt, run);
 }
 
-// Makes the rounds one by one, of which the private turns of the first one are made. Returns whether
-// all private turns of the others were made ahead, or had no step.
+// Makes the rounds one by one, of which the private turns of the first one are made. Returns
+// whether all private turns of the others were made ahead, or had no step.
 fn finish_one_by_one<'a, C: Course, G: TurnGate>(
     run: &Run<'a, C, G>,
     index: usize,

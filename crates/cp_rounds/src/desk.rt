@@ -16,9 +16,10 @@ use std::alloc::{AllocError, Global};
 use std::mem;
 use std::sync::{Mutex, Wait};
 
-// Of which chunks the threads hear, if each has so many processes: of those before a number that has
-// none of these bits, so that some eight processes are laid before they hear of them. Each time they
-// do, those that sleep are woken, and whoever counts up a number that others look at waits for them.
+// Of which chunks the threads hear, if each has so many processes: of those before a number that
+// has none of these bits, so that some eight processes are laid before they hear of them. Each time
+// they do, those that sleep are woken, and whoever counts up a number that others look at waits for
+// them.
 fn unheard(processes: usize) -> usize {
     match processes {
         0..=1 => 7,
@@ -31,9 +32,9 @@ fn unheard(processes: usize) -> usize {
 /// The tasks of a chunk in order of process.
 pub type Tasks<'a, C> = Vec<Slot<'a, C>>;
 
-/// Returns room for the tasks of a chunk of this many processes. Behind the last slot stays room for
-/// one more, so that no cache line holds words of two chunks, whose turns may be made at the same
-/// time.
+/// Returns room for the tasks of a chunk of this many processes. Behind the last slot stays room
+/// for one more, so that no cache line holds words of two chunks, whose turns may be made at the
+/// same time.
 ///
 /// # Errors
 ///
@@ -120,8 +121,8 @@ impl<'a, C: Course> Desk<'a, C> {
         self.laid.raise(laid as u64);
     }
 
-    // Puts the turn of a process into its slot, and lays the tasks of its chunk if it is the last of
-    // them. Returns the place of the next task.
+    // Puts the turn of a process into its slot, and lays the tasks of its chunk if it is the last
+    // of them. Returns the place of the next task.
     #[inline(always)]
     fn put<R: Wait>(
         &self,
@@ -202,8 +203,8 @@ impl<'a, C: Course> Desk<'a, C> {
         Some(tray)
     }
 
-    /// Takes the tasks of a chunk in exchange for room for as many, if their turns are made. Returns
-    /// whether they are.
+    /// Takes the tasks of a chunk in exchange for room for as many, if their turns are made.
+    /// Returns whether they are.
     pub fn exchange(&self, chunk: usize, tasks: &mut Tasks<'a, C>) -> bool {
         let Some(tray) = self.trays.get(chunk) else {
             return false;

@@ -47,8 +47,8 @@ fn finish_wave<'a, C: Course, R: Wait, G: TurnGate>(
 }
 
 impl<'a, C: Course> Hand<'a, C> {
-    /// Returns a hand with room for the tasks of a chunk of this many processes, for rounds that begin
-    /// at a pace.
+    /// Returns a hand with room for the tasks of a chunk of this many processes, for rounds that
+    /// begin at a pace.
     ///
     /// # Errors
     ///

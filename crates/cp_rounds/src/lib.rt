@@ -1,23 +1,24 @@
 //! The machine: rounds and runs by threads, and what can be read of the machine between them.
 //!
-//! A round or a run makes of the machine what the definitions of cp_machine_model make of it as plain data,
-//! for every plan and any schedule of the threads (`specs/Views.antt` defines the plain data). By
-//! the laws of cp_machine_model, the machine is then in the next state of the meaning
+//! A round or a run makes of the machine what the definitions of cp_machine_model make of it as
+//! plain data, for every plan and any schedule of the threads (`specs/Views.antt` defines the plain
+//! data). By the laws of cp_machine_model, the machine is then in the next state of the meaning
 //! (`specs/InStates.antt`).
 //!
-//! - `machine`, `reading`, `chain`, `stillness`, `until_still`, `halted`: the public calls. `starting`: how a machine starts.
+//! - `machine`, `reading`, `chain`, `stillness`, `until_still`, `halted`: the public calls.
+//!   `starting`: how a machine starts.
 //! - `state`, `place`: what they tell of processes and variables.
 //! - `setting`, `parts`, `moment`: what no round changes, what rounds change, and the time of a
 //!   round.
 //! - `gate`: what is called before each turn.
 //! - `turns`, `closing`: a private turn, and the end of a round.
-//! - `run`, `round`, `open_round`, `sharing`: rounds by threads that are kept, which draw the chunks
-//!   of each wave from its board, and how the turns are shared out.
-//! - `desk`, `slot`, `task`, `desk_turns`, `cursor`: private turns on their way between threads, and
-//!   how the threads make them.
+//! - `run`, `round`, `open_round`, `sharing`: rounds by threads that are kept, which draw the
+//!   chunks of each wave from its board, and how the turns are shared out.
+//! - `desk`, `slot`, `task`, `desk_turns`, `cursor`: private turns on their way between threads,
+//!   and how the threads make them.
 //! - `ahead`, `ahead_turns`, `quiet`, `pace`: several rounds at once, while processes only compute.
-//! - `hand`, `finishing`: what the calling thread holds in a round, how it takes private states back,
-//!   and how it finishes their turns.
+//! - `hand`, `finishing`: what the calling thread holds in a round, how it takes private states
+//!   back, and how it finishes their turns.
 //! - `replay`, `copies`, `events`: one round in any order of events, on the calling thread.
 #![tactic(auto)]
 

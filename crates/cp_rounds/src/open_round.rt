@@ -17,7 +17,8 @@ pub struct OpenRound<'a, C: Course> {
     /// The private states at its start, for proofs only.
     pub(crate) start: Start,
     /// Shows threads that this is its start. There is none if the calling thread makes all private
-    /// turns, since to write the cell of a round wakes all who wait for it, by a call of the system.
+    /// turns, since to write the cell of a round wakes all who wait for it, by a call of the
+    /// system.
     pub(crate) token: Option<OnceToken<'a, Start>>,
     /// Its index in the run.
     pub(crate) index: usize,

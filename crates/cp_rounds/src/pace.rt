@@ -18,8 +18,8 @@ const FIRST_ALONE: u32 = 8;
 // After how many rounds one by one, at most, two are tried at once again.
 const MOST_ALONE: u32 = 64;
 
-// Returns how many bytes are reserved for a round: for what each process writes, and for all of them
-// as askers of each gate.
+// Returns how many bytes are reserved for a round: for what each process writes, and for all of
+// them as askers of each gate.
 fn bytes_a_round(program: &Program, turn: Turn) -> u64 {
     let written = 22 * u64::from(turn.steps());
     let asked = (program.monitors() as u64).saturating_mul(4);

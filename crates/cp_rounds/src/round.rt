@@ -194,8 +194,8 @@ fn lay_turns<'a, C: Course, R: Wait, G: TurnGate>(
     desk.put_all(rt, plan, round, of_all, privates, &mut hand.tasks);
 }
 
-// Lets the threads draw the private turns of the round at this index, wave by wave, and returns what
-// shows them its start, unless the calling thread makes them alone.
+// Lets the threads draw the private turns of the round at this index, wave by wave, and returns
+// what shows them its start, unless the calling thread makes them alone.
 fn let_draw<'a, C: Course, R: Wait, G: TurnGate>(
     rt: &R,
     run: &Run<'a, C, G>,
@@ -222,8 +222,8 @@ fn let_draw<'a, C: Course, R: Wait, G: TurnGate>(
     Ok(Some(token))
 }
 
-// Returns for how many rounds room is reserved: for the largest number that is ever made at once, as
-// soon as many are, since room that grows little by little is copied each time.
+// Returns for how many rounds room is reserved: for the largest number that is ever made at once,
+// as soon as many are, since room that grows little by little is copied each time.
 fn rounds_of_room(pace: &Pace, rounds: u32) -> u32
     ensures { rounds ≤ result }
 {

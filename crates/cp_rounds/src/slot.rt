@@ -33,8 +33,8 @@ impl<'a, C: Course> Slot<'a, C> {
         })
     }
 
-    /// Lays the turn of a process in a round, which is still to be made, and leaves the spare private
-    /// state in the place of its own, where it doesn't rest.
+    /// Lays the turn of a process in a round, which is still to be made, and leaves the spare
+    /// private state in the place of its own, where it doesn't rest.
     #[inline(always)]
     pub fn lay(&mut self, round: &OpenRound<'a, C>, process: usize, private: &mut Resident)
         requires number { private.old.number ≡ process }

@@ -89,8 +89,8 @@ pub struct Task<'a, C: Course> {
 }
 
 impl<'a, C: Course> Task<'a, C> {
-    /// Returns the turn of a process in a round, which is still to be made, with those of the rounds
-    /// that are made at once. `start` shows that this is the start of the round.
+    /// Returns the turn of a process in a round, which is still to be made, with those of the
+    /// rounds that are made at once. `start` shows that this is the start of the round.
     pub fn new(
         round: &OpenRound<'a, C>,
         start: &OnceToken<'a, Start>,

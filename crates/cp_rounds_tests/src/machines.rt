@@ -50,9 +50,9 @@ pub(crate) fn machine_of<'r, 't>(
     machine_with(alloc, program, tables, 1)
 }
 
-// Tests the program and the tables of a tree. A function that owns a tree, its program and tables or
-// its machine has to give up all of them wherever it can fail, and takes minutes to prove: so each
-// of these owns one, and lends it to the next.
+// Tests the program and the tables of a tree. A function that owns a tree, its program and tables
+// or its machine has to give up all of them wherever it can fail, and takes minutes to prove: so
+// each of these owns one, and lends it to the next.
 fn on_tree<T: Drop, F: Copy + Fn(Program, &Tables<'_>) -> Result<T, Fail>>(
     alloc: Global,
     tree: &Tree,

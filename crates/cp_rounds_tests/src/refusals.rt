@@ -1,8 +1,8 @@
 //! The state of a machine after memory or a thread was refused.
 //!
 //! A program that is too large is always refused. Allocations and thread starts succeed in a plain
-//! run. If one is made to fail, as `trials/refusals.py` has a library do that is loaded before the C
-//! library, the last three tests report it and look at the machine.
+//! run. If one is made to fail, as `trials/refusals.py` has a library do that is loaded before the
+//! C library, the last three tests report it and look at the machine.
 
 use crate::description::describe;
 use crate::machines::{activity, has_written, inputs_for, on_machine, on_program};

@@ -77,8 +77,8 @@ fn a_run_has_more_rounds_than_share_their_threads(rt: HostRuntime) -> Result<(),
 }
 
 // Two processes compute, and call a monitor every ten iterations: 4 times and 9 times. Several
-// rounds are made at once in between, and the calls and the output fall into the middle of them. Word
-// 0 of a monitor is its mark.
+// rounds are made at once in between, and the calls and the output fall into the middle of them.
+// Word 0 of a monitor is its mark.
 #[test]
 fn processes_that_compute_meet_a_monitor_now_and_then(rt: HostRuntime) -> Result<(), Fail> {
     let text = "type m = monitor; var n: integer;
@@ -123,7 +123,8 @@ fn a_run_stops_between_any_two_rounds(rt: HostRuntime) -> Result<(), Fail> {
     expect(&rt, rt.alloc(), text, &stops)
 }
 
-// Makes a round. Returns whether process 0 has ended, with the word and the transcript of process 1.
+// Makes a round. Returns whether process 0 has ended, with the word and the transcript of process
+// 1.
 fn reads_0_as_1<R: Threads + Wait + Sync>(rt: &R, machine: &mut Machine) -> Result<bool, Fail> {
     Way::new(true, 1, 1, 1).make(rt, machine, 1, 10, &Open)?;
     let state = activity(machine, 0)?;

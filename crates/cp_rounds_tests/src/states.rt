@@ -14,8 +14,8 @@ use std::test::Fail;
 use std::thread::Threads;
 
 // `b` is delayed in round 2. Then `c` finds the queue taken, and `d` asks for the gate that `c`
-// holds for good. The words of `m` are its mark, `x` and `q`, and those of the processes their mark,
-// their right and `y`.
+// holds for good. The words of `m` are its mark, `x` and `q`, and those of the processes their
+// mark, their right and `y`.
 const TAKEN: &str = "type m = monitor; var x: integer; q: queue;
       procedure entry w(n: integer); begin x := n; delay(q) end;
     begin end;

@@ -1,4 +1,5 @@
-//! The worked texts of the folder `worked`: each function says of one folder that the definitions give its answers.
+//! The worked texts of the folder `worked`: each function says of one folder that the definitions
+//! give its answers.
 //!
 //! Written by worked/make_rows.py.
 

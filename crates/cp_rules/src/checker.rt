@@ -86,7 +86,8 @@ impl<'t> Checker<'t> {
         self.environment.name_count()
     }
 
-    /// Lets the names that were declared after the first `mark` ones stand for `entity` from now on.
+    /// Lets the names that were declared after the first `mark` ones stand for `entity` from now
+    /// on.
     pub fn set_from(&mut self, mark: usize, entity: Entity)
         ensures { self.new ≡ with_set self.old mark entity }
     {

@@ -8,7 +8,8 @@ ghost use Rattle.cp_scan.specs.Pieces as spec;
 use crate::bytes::length_before_quote;
 use crate::refusal::Cause;
 
-/// Reads the rest of a comment, and returns the number of the bytes of all of it. The text before `rest` ends with its opening `"`.
+/// Reads the rest of a comment, and returns the number of the bytes of all of it. The text before
+/// `rest` ends with its opening `"`.
 #[tactic(auto, unfolding(crate::specs::Pieces::comment))]
 pub fn comment(rest: &[u8]) -> Result<usize, Cause>
     ensures { separator_piece result ≡ spec.comment rest.now }

@@ -1,8 +1,8 @@
 //! Counts and 32-bit numbers.
 //!
-//! The tables of a text and its program have numbers of 32 bits: of words, operations, units, temps,
-//! frames and ordinals. A text for which they aren't enough has no room, as if memory ran out, so the
-//! error is the same.
+//! The tables of a text and its program have numbers of 32 bits: of words, operations, units,
+//! temps, frames and ordinals. A text for which they aren't enough has no room, as if memory ran
+//! out, so the error is the same.
 
 ghost use Rattle.std.specs.Prelude.{◌≡◌, ◌+◌, IfOk};
 ghost use Rattle.cp_model.specs.Integers as integers;

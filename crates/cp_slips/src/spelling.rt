@@ -93,7 +93,8 @@ fn of_cause(text: &[u8], at: usize, cause: Cause) -> Message {
     }
 }
 
-/// Explains why a text has no tokens, after the heading, without the hint. Fails only if memory runs out.
+/// Explains why a text has no tokens, after the heading, without the hint. Fails only if memory
+/// runs out.
 pub fn of_spelling(
     alloc: Global,
     text: &[u8],

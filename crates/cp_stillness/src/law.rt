@@ -9,8 +9,8 @@ pub fn turns()
     ensures turns { StillTurnsChangeNothing }
 {}
 
-/// Rounds of a still state, whole or as any lists of events of the processes, change nothing but the
-/// count of rounds.
+/// Rounds of a still state, whole or as any lists of events of the processes, change nothing but
+/// the count of rounds.
 pub fn rounds()
     ensures events { StillEventsChangeNothing }
     ensures round { StillRoundChangesNothing }

@@ -77,8 +77,8 @@ impl Bar {
         }
     }
 
-    // Returns the name of the monitor that is asked for or delayed in, that of the holder of a gate,
-    // or the number of a fault. Other cells have nothing of the kind.
+    // Returns the name of the monitor that is asked for or delayed in, that of the holder of a
+    // gate, or the number of a fault. Other cells have nothing of the kind.
     fn about(&self, alloc: Global, roster: &Roster<'_>) -> Result<Option<Page>, AllocError> {
         let mut page = Page::new(alloc);
         match self.cell {
@@ -103,9 +103,9 @@ impl Bar {
         Ok(words)
     }
 
-    /// Returns what stands on it, in at most so many characters: of a gate the name or the number of
-    /// its holder, of other cells the words or what they are about. Nothing does if none is short
-    /// enough, or if the colour says all.
+    /// Returns what stands on it, in at most so many characters: of a gate the name or the number
+    /// of its holder, of other cells the words or what they are about. Nothing does if none is
+    /// short enough, or if the colour says all.
     pub(crate) fn caption(
         &self,
         alloc: Global,

@@ -3,12 +3,12 @@
 //! - `tracer`: follows a machine, and tells of it in one of four forms.
 //! - `rounds`: makes the rounds of a machine, and writes what a tracer tells of them.
 //! - `members`: of whom is told.
-//! - `trace`: what was seen of a machine, and what changed since: of a `process`, of a `monitor`, and
-//!   of the `values` of variables, whose places are their `shapes`. `vocabulary`: names in place of
-//!   numbers.
+//! - `trace`: what was seen of a machine, and what changed since: of a `process`, of a `monitor`,
+//!   and of the `values` of variables, whose places are their `shapes`. `vocabulary`: names in
+//!   place of numbers.
 //! - `changes`: what changed; as `lines` for people, as `objects` for programs.
-//! - `grid`: what each process and monitor is after each of some rounds; as a `timeline` of text, and
-//!   in `svg` as a picture of `bars`, with its `markup` and `colours`.
+//! - `grid`: what each process and monitor is after each of some rounds; as a `timeline` of text,
+//!   and in `svg` as a picture of `bars`, with its `markup` and `colours`.
 //!
 //! What is seen of a machine takes memory once: it doesn't grow with the rounds. All of this serves
 //! people, and is tested. `specs/Telling.antt` and `specs/Tracers.antt` say what is

@@ -116,8 +116,8 @@ fn lines(alloc: Global, all: &[Changes<'_>]) -> Result<Vec<u8>, AllocError> {
     Ok(lines)
 }
 
-/// Adds the number of a round and, below it, a line for each process and monitor that changed in it.
-/// Adds nothing if none did.
+/// Adds the number of a round and, below it, a line for each process and monitor that changed in
+/// it. Adds nothing if none did.
 ///
 /// # Errors
 ///

@@ -70,8 +70,8 @@ impl SeenMonitor {
         self.askers.extend_from_slice(askers)
     }
 
-    /// Returns what changed since the monitor was seen last: its gate, its askers, and its variables
-    /// and queues at these places. It has then been seen.
+    /// Returns what changed since the monitor was seen last: its gate, its askers, and its
+    /// variables and queues at these places. It has then been seen.
     pub(crate) fn changes<'a, 't: 'a>(
         &mut self,
         alloc: Global,

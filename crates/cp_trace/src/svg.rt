@@ -133,7 +133,8 @@ impl<'t> Picture<'t> {
         )
     }
 
-    // Adds the number of the round in a column above it, and a line from there down through the rows.
+    // Adds the number of the round in a column above it, and a line from there down through the
+    // rows.
     fn push_mark(&self, page: &mut Page, column: usize, top: usize) -> Result<(), AllocError> {
         let mut number = Page::new(self.grid.alloc);
         number.number(self.grid.round(column) as usize)?;

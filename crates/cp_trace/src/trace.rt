@@ -72,9 +72,9 @@ pub struct Trace<'r, 't> {
 
 impl<'r, 't> Trace<'r, 't> {
     /// Returns the trace of a machine from what it is now. The machine runs the program of a text
-    /// with this tree and these tables. The trace tells of the processes and monitors with the names
-    /// in `only`, or of all if there are no names; a name that no process or monitor has stands for
-    /// none.
+    /// with this tree and these tables. The trace tells of the processes and monitors with the
+    /// names in `only`, or of all if there are no names; a name that no process or monitor has
+    /// stands for none.
     ///
     /// # Errors
     ///

@@ -1,8 +1,8 @@
 //! Translates expressions, designators and statements to operations.
 //!
 //! A `Translator` has the scope of a unit. Whatever the tree, the result of each function equals
-//! that of a function of `cp_program_model`'s definitions (`CodedTerms.antt`, `CodedStatements.antt`), in
-//! each scope that its tables stand for:
+//! that of a function of `cp_program_model`'s definitions (`CodedTerms.antt`,
+//! `CodedStatements.antt`), in each scope that its tables stand for:
 //!
 //! - `expressions`: terms and spots, and the calls to make before them, in order
 //!   (`specs/Translated.antt`). Expressions, designators and arguments contain one another.

@@ -63,7 +63,8 @@ impl<'s, 't> Translator<'s, 't> {
         emitter.emit(calls, display, origin)
     }
 
-    // Makes the spot of the variable that is passed to a standard procedure, and the calls before it.
+    // Makes the spot of the variable that is passed to a standard procedure, and the calls before
+    // it.
     fn passed_spot(&self, e: &Expression, low: u32) -> Result<(Spot, Vec<CodedCall>), AllocError>
         ensures { IfOk result (λ p. (s : code.Scope) → IsScope self.now.scope s
             → let c = coded_variable s (erase.expression (tree.expression e.now)) low in

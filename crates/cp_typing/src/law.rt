@@ -10,7 +10,8 @@ pub fn accepted_texts_are_well_typed()
     ensures { AcceptedTextsAreWellTyped }
 {}
 
-/// Places and values have their static types (`specs/StaticTypes.antt`), whatever the text and the store.
+/// Places and values have their static types (`specs/StaticTypes.antt`), whatever the text and the
+/// store.
 pub fn static_types()
     ensures places { PlacesHaveStaticTypes }
     ensures values { ValuesHaveStaticTypes }
