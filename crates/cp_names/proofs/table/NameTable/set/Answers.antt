@@ -1,15 +1,12 @@
-use Rattle.std.proofs.Common.{◌≡◌, ◌∙◌, ℕ, List, Option, None, Ok, Err, OnOk, Result, ap, sym}
+use Rattle.std.proofs.Common.{◌≡◌, ◌∙◌, ℕ, List, Option, None, ap, sym}
 use Rattle.std.proofs.lemmas.Option.{slice_get_within}
+use Rattle.std.proofs.lemmas.Result.{on_ok_weaker}
 use Rattle.cp_model.specs.Names.{lookup}
 use Rattle.cp_model.specs.RulesEnvironment.{Text}
 use Rattle.cp_names.specs.Tables.{number_of, value_at}
 use Rattle.cp_names.proofs.Numbers.{lookup_by_number, number_finds}
 use Rattle.cp_names.proofs.Replaced.{lookup-more, lookup-with_value}
 use Rattle.cp_names.proofs.table.NameTable.set.Goals as goal
-
-on_ok : {A E P Q : Type 0} (r : Result A E) → (P → Q) → OnOk r P → OnOk r Q
-on_ok (Ok x) f h = f h
-on_ok (Err e) f h = h
 
 -- A name without a number stands for nothing.
 absent : {A : Type 0} (x : Text) (es : List (Text × A)) (o : Option ℕ) → o ≡ number_of x es → o ≡ None → lookup x es ≡ None
@@ -26,7 +23,7 @@ replace-requires g c =
 pub returns-in-None : goal.returns-in-None
 returns-in-None g c =
     let new = absent c.args.name.now c.args.self.now c.number.result c.number.ensures c.in-None.is in
-    on_ok c.add.result (λ more x. rw more (lookup-more c.args.name.now x c.args.value c.args.self.now new)) c.add.ensures
+    on_ok_weaker c.add.result (λ more x. rw more (lookup-more c.args.name.now x c.args.value c.args.self.now new)) c.add.ensures
 
 pub returns-in-Some : goal.returns-in-Some
 returns-in-Some g c = λ x.
