@@ -1,5 +1,5 @@
 -- The violations of the whole are those of its parts.
-use Rattle.std.proofs.Common.{Bool, ◌&&◌, ◌≡◌, [], ◌∷◌, ◌++◌, Option, Some, None, Result, Ok, Err, OnOk, refl, ap, sym, ◌∙◌, subst}
+use Rattle.std.proofs.Common.{Bool, ◌&&◌, ◌≡◌, [], ◌∷◌, ◌++◌, Option, Some, None, Result, Ok, Err, refl, ap, sym, ◌∙◌, subst}
 use Rattle.cp_model.specs.declared.rules.Violation.{Violation}
 use Rattle.cp_model.specs.RulesJudged.{Judged, Sound, Broken, Violations, violations_of, earlier, least, then_judge, both, also}
 use Rattle.cp_model.proofs.Options.{same_some}
@@ -81,8 +81,3 @@ rest_told t0 t1 vs ws all h e = ap (λ t. least t ws) h ∙ sym (least_append t0
 -- one part after another makes the whole
 pub then_told : (t0 t1 t2 : Option Violation) (vs ws all : Violations) → t1 ≡ least t0 vs → t2 ≡ least t1 ws → all ≡ vs ++ ws → t2 ≡ least t0 all
 then_told t0 t1 t2 vs ws all h g e = more_told t0 t1 t2 vs ws h g ∙ ap (least t0) (sym e)
-
--- what holds for each result that isn't an error
-pub on_ok : {A E : Type 0} {P Q : Type 0} (r : Result A E) → (Q → P) → OnOk r Q → OnOk r P
-on_ok (Ok x) f h = f h
-on_ok (Err e) f h = h

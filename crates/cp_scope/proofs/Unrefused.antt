@@ -1,9 +1,5 @@
--- What holds of a result that isn't refused.
-use Rattle.std.proofs.Common.{◌≡◌, Option, None, Some, Result, Ok, Err, OnOk, true, false, is_some, refl}
-
-pub on_ok : {A E P Q : Type 0} (r : Result A E) → (P → Q) → OnOk r P → OnOk r Q
-on_ok (Ok x) f h = f h
-on_ok (Err e) f h = h
+-- An option that is or isn't there.
+use Rattle.std.proofs.Common.{◌≡◌, Option, None, Some, true, false, is_some, refl}
 
 pub none_if_not_some : {A : Type 0} (o : Option A) → is_some o ≡ false → o ≡ None
 none_if_not_some None h = refl

@@ -1,6 +1,6 @@
 use Rattle.std.proofs.Common.{rules, ◌≡◌, ◌∙◌, true, false, ap, sym}
+use Rattle.std.proofs.lemmas.Result.{on_ok_weaker}
 use Rattle.cp_program_model.specs.Programs as code
-use Rattle.cp_scope.proofs.Unrefused.{on_ok}
 use Rattle.cp_emit.proofs.TypesPlanned.{no_repeats, some_repeats}
 use Rattle.cp_emit.proofs.type_plans.repeat.Goals as goal
 
@@ -12,7 +12,7 @@ returns-then-is_once c = λ known none.
 pub returns-else-is_once : goal.returns-else-is_once
 returns-else-is_once c =
     let several : c.is_once.result ≡ false = search rules in
-    on_ok c.repeat.result
+    on_ok_weaker c.repeat.result
     (λ made known none.
     made known ∙ ap (code.Repeat 0 c.args.size c.args.count) none ∙ some_repeats c.args.size c.args.count (sym c.is_once.ensures ∙ several))
     c.repeat.ensures

@@ -1,10 +1,9 @@
 use Rattle.std.proofs.Common.{◌≡◌, ◌∙◌, ℕ, List, Ok, Some, subst, inl, inr}
 use Rattle.std.proofs.KnownBytes.{Keeps-refl}
-use Rattle.std.proofs.lemmas.Result.{err_from_is_err_and}
+use Rattle.std.proofs.lemmas.Result.{err_from_is_err_and, on_ok_weaker}
 use Rattle.cp_model.specs.Syntax as s
 use Rattle.cp_model.specs.View as view
 use Rattle.cp_model.proofs.Results.{if_err, on_err}
-use Rattle.cp_judge.proofs.Tells.{on_ok}
 use Rattle.cp_accept.specs.Cutting.{judge_input}
 use Rattle.cp_execute.specs.Executed.{IsDue}
 use Rattle.cp_accept.specs.Takings.{concern}
@@ -114,7 +113,7 @@ returns-in_err-report-clause-input g c =
 
 pub returns-clause-reports : goal.returns-clause-reports
 returns-clause-reports g c =
-    on_ok c.write_result.result
+    on_ok_weaker c.write_result.result
     (λ written xs text.
     let m = made g c xs text in
     (view.tree c.in_ok-tree.tree, m.0, λ ys input. let d = m.1 ys input in (d.0, c.in_ok-report.report.items, d.1, written)))

@@ -1,8 +1,7 @@
 use Rattle.std.proofs.KnownBytes.{Keeps-refl}
-use Rattle.std.proofs.lemmas.Result.{err_from_is_err_and}
+use Rattle.std.proofs.lemmas.Result.{err_from_is_err_and, on_ok_weaker}
 use Rattle.cp_model.specs.View as view
 use Rattle.cp_model.proofs.Results.{if_err, on_err}
-use Rattle.cp_judge.proofs.Tells.{on_ok}
 use Rattle.cp_execute.specs.Replayed.{IsReplayed, RefusesOrder}
 use Rattle.cp_accept.specs.Refusals.{of_read}
 use Rattle.cp_accept.specs.Takings.{concern}
@@ -162,7 +161,7 @@ pub returns-clause-done : goal.returns-clause-done
 returns-clause-done g c =
     let made : IsReplayed c.args.replay.now (view.tree c.in_ok-tree.tree) c.in_ok-bytes.bytes.items c.in_ok-events.events.items c.in_ok-report.report.items =
     rw (c.deref.ensures.value, c.deref-2.ensures.value) at c.in_ok-report.ensures.report in
-    on_ok c.write_result.result
+    on_ok_weaker c.write_result.result
     (λ written. replay_due c.args.replay.now (g.R.Read.remaining c.args.text.now) (g.S.Read.remaining c.args.input.now) (g.O.Read.remaining c.args.order.now) (view.tree c.in_ok-tree.tree)
     c.in_ok-bytes.bytes.items c.in_ok-events.events.items c.in_ok-report.report.items _ c.in_ok-tree.ensures.text c.in_ok-bytes.ensures.input
     c.in_ok-bytes.ensures.judged c.in_ok-events.ensures.bytes made written)

@@ -3,6 +3,7 @@
 -- Only memory can stop the walk, and then nothing is claimed.
 use Rattle.std.proofs.Common.{◌≡◌, ◌+◌, ◌++◌, ◌∷◌, [], map, drop, ap, sym, ◌∙◌}
 use Rattle.std.proofs.lemmas.List.{at_drop_more}
+use Rattle.std.proofs.lemmas.Result.{on_ok_weaker}
 use Rattle.cp_model.specs.Syntax as s
 use Rattle.cp_model.specs.RulesJudged.{least, violations_of}
 use Rattle.cp_model.specs.RulesStatements as st
@@ -10,13 +11,13 @@ use Rattle.cp_model.specs.View.{expression, statement, statements_of, arm, arms_
 use Rattle.cp_judge.specs.StatementParts as parts
 use Rattle.cp_judge.proofs.LabelsTold.{arms_told, base_told}
 use Rattle.cp_model.proofs.StatementViews.{view_if, view_if_else, view_case, view_while, view_repeat, view_for, view_arm}
-use Rattle.cp_judge.proofs.Tells.{more_told, then_told, rest_told, on_ok}
+use Rattle.cp_judge.proofs.Tells.{more_told, then_told, rest_told}
 use Rattle.cp_judge.proofs.statements.+statement.Goals as goal
 
 pub judge_branch-returns : goal.judge_branch-returns
 judge_branch-returns t c =
     let env = c.args.env.now in
-    on_ok c.statement.result
+    on_ok_weaker c.statement.result
     (more_told c.args.told.now c.condition.new.told c.statement.new.told (violations_of (st.c2_condition env (expression c.args.e.now))) (st.statement env (statement c.args.body.now))
     c.condition.ensures.0)
     c.statement.ensures
@@ -26,7 +27,7 @@ judge_for-returns t c =
     let env = c.args.env.now in
     let h = c.args.header.now in
     let header = parts.for_header env h.variable (expression h.from) (expression h.last) in
-    on_ok c.statement.result
+    on_ok_weaker c.statement.result
     (more_told c.args.told.now c.for_header.new.told c.statement.new.told header (st.statement env (statement c.args.body.now)) c.for_header.ensures)
     c.statement.ensures
 
@@ -35,7 +36,7 @@ judge_case-returns t c =
     let env = c.args.env.now in
     let j = st.c2_selector env (expression c.args.e.now) in
     let base = base_told env c.selector-t.result j c.selector-t.ensures.1 in
-    on_ok c.judge_arms.result
+    on_ok_weaker c.judge_arms.result
     (more_told c.args.told.now c.selector-t.new.told c.judge_arms.new.told (violations_of j) (st.arms env (st.selector_base env j) [] (arms_of (map arm c.args.arms.now)))
     c.selector-t.ensures.0)
     (rw (c.selector_base.ensures, base) at c.judge_arms.ensures)

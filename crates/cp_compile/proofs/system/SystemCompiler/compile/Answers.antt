@@ -1,7 +1,7 @@
 use Rattle.std.proofs.Common.{subst, sym}
+use Rattle.std.proofs.lemmas.Result.{on_ok_weaker}
 use Rattle.cp_program_model.specs.Compile.{with_body, with_routines}
 use Rattle.cp_scope.specs.Systems.{routines_of}
-use Rattle.cp_scope.proofs.Unrefused.{on_ok}
 use Rattle.cp_emit.specs.Planning.{known_of}
 use Rattle.cp_compile.specs.Compiles.{IsCompiled}
 use Rattle.cp_compile.proofs.system.SystemCompiler.compile.Goals as goal
@@ -9,7 +9,7 @@ use Rattle.cp_compile.proofs.system.SystemCompiler.compile.Goals as goal
 pub returns-clause-code : goal.returns-clause-code
 returns-clause-code c =
     let new = c.body.new.emitter in
-    on_ok c.body.result
+    on_ok_weaker c.body.result
     (λ made g s firsts d i first sort_is all body_is is.
     let rs = routines_of c.args.routines.now in
     subst (λ n. IsCompiled (known_of c.args.self.now.planner.now) new (with_body g s firsts n (with_routines g s firsts n s.routines d))) first
@@ -20,6 +20,6 @@ returns-clause-code c =
 
 pub returns-clause-origin : goal.returns-clause-origin
 returns-clause-origin c =
-    on_ok c.body.result
+    on_ok_weaker c.body.result
     (λ added g s firsts i all. (c.routines.new.emitter.origins.items, c.in_ok-routines.ensures.origins g s firsts i all, added g s firsts i))
     c.body.ensures.origin

@@ -1,10 +1,10 @@
 use Rattle.std.proofs.Common.{◌∙◌, Some, ap, map}
+use Rattle.std.proofs.lemmas.Result.{on_ok_weaker}
 use Rattle.cp_model.specs.Erase as erase
 use Rattle.cp_model.specs.View as tree
 use Rattle.cp_program_model.specs.Programs.{Return}
 use Rattle.cp_model.specs.Declarations.{declarations}
 use Rattle.cp_scope.specs.Variables.{declared_entry}
-use Rattle.cp_scope.proofs.Unrefused.{on_ok}
 use Rattle.cp_emit.specs.Planning.{known_of}
 use Rattle.cp_program.specs.View as view
 use Rattle.cp_compile.proofs.SystemsCompiled.{function_written, planner_knows, result_written, routine_compiled, scope_made, unit_scope}
@@ -17,7 +17,7 @@ returns-clause-code c =
     let r = erase.routine (tree.routine text) in
     let table = c.args.table.now in
     let is = c.is_some-is_function.ensures in
-    on_ok c.compile_unit.result
+    on_ok_weaker c.compile_unit.result
     (λ made g s firsts d i stands so.
     let planned = rw (c.deref.ensures.value, c.deref-2.ensures.value) at c.in_ok-starts.ensures in
     let declared = planner_knows of g s firsts i in
@@ -32,7 +32,7 @@ pub returns-clause-origin : goal.returns-clause-origin
 returns-clause-origin c =
     let of = c.args.self.now in
     let r = erase.routine (tree.routine c.args.text.now) in
-    on_ok c.compile_unit.result
+    on_ok_weaker c.compile_unit.result
     (λ added g s firsts i stands.
     added (unit_scope of g s firsts (Some r)) (scope_made of g s firsts i c.new-scope.result (Some c.args.table) (Some r) c.new-scope.ensures stands))
     c.compile_unit.ensures.origin

@@ -1,4 +1,5 @@
 use Rattle.std.proofs.Common.{rules, ◌≡◌, ◌+◌, ◌<◌, ◌≤◌, ◌∙◌, ap, sym, take, arith}
+use Rattle.std.proofs.lemmas.Result.{on_ok_weaker}
 use Rattle.cp_program_model.specs.Plans.{fill_before, pieces_before}
 use Rattle.cp_program_model.specs.Programs as code
 use Rattle.cp_program.specs.declared.program.StartPiece.{StartPiece}
@@ -6,7 +7,6 @@ use Rattle.cp_program.specs.declared.program.StartPiece.TheVariants as start
 use Rattle.cp_program.specs.View as view
 use Rattle.cp_program.proofs.PlansKnown.{no_plan_below, plan_below}
 use Rattle.cp_program.proofs.Wide.{narrow}
-use Rattle.cp_scope.proofs.Unrefused.{on_ok}
 use Rattle.cp_emit.specs.Drafts.{plan_of}
 use Rattle.cp_emit.proofs.draft.Draft.piece.Goals as goal
 
@@ -18,7 +18,7 @@ returns-in_ok-small_sum-in-Fill c =
     let v = c.in-Fill.value in
     let is : c.args.piece ≡ start.Fill behind n v = search rules in
     let same : narrow v ≡ v = search rules in
-    on_ok c.fill.result
+    on_ok_weaker c.fill.result
     (λ made known gone.
     let rest = plan_of known c.args.self.now in
     made known ∙ ap (λ z. fill_before z n (narrow v) rest) c.in_ok-small_sum-in-Fill.ensures ∙ ap (λ z. fill_before (at + behind) n z rest) same
@@ -30,7 +30,7 @@ returns-in_ok-small_sum-in-Repeat c =
     let at = c.args.at in
     let behind = c.in-Repeat.behind in
     let is : c.args.piece ≡ start.Repeat behind c.in-Repeat.size c.in-Repeat.count = search rules in
-    on_ok c.repeat.result
+    on_ok_weaker c.repeat.result
     (λ made known gone.
     let rest = plan_of known c.args.self.now in
     made known ∙ ap (λ z. code.Repeat z c.in-Repeat.size c.in-Repeat.count rest) c.in_ok-small_sum-in-Repeat.ensures
@@ -44,7 +44,7 @@ returns-then-plan-below c =
     let plan = c.in-Part.plan in
     let is : c.args.piece ≡ start.Part behind plan = search rules in
     let below : plan < c.args.below = omega arith in
-    on_ok c.part.result
+    on_ok_weaker c.part.result
     (λ made known gone.
     let rest = plan_of known c.args.self.now in
     made known ∙ ap (λ z. code.Part z (view.plan_at known plan) rest) c.in_ok-at-in-Part.ensures
@@ -59,7 +59,7 @@ returns-else-plan-below c =
     let plan = c.in-Part.plan in
     let is : c.args.piece ≡ start.Part behind plan = search rules in
     let past : c.args.below ≤ plan = omega arith in
-    on_ok c.part-else-plan-below.result
+    on_ok_weaker c.part-else-plan-below.result
     (λ made known gone.
     let rest = plan_of known c.args.self.now in
     made known ∙ ap (λ z. code.Part z (view.plan_at known c.args.none) rest) c.in_ok-at-in-Part.ensures

@@ -1,7 +1,7 @@
 use Rattle.std.proofs.Common.{rules, ◌≡◌, ◌∙◌, true, false, ap, length, sym, take}
+use Rattle.std.proofs.lemmas.Result.{on_ok_weaker}
 use Rattle.cp_program_model.specs.Plans.{is_short, pieces_before}
 use Rattle.cp_program.specs.View.{plan_at}
-use Rattle.cp_scope.proofs.Unrefused.{on_ok}
 use Rattle.cp_emit.specs.Drafts.{plan_of}
 use Rattle.cp_emit.specs.Planning.{known_of}
 use Rattle.cp_emit.proofs.PartsPlanned.{no_plan_past, put_part, put_pieces}
@@ -15,7 +15,7 @@ returns-in_ok-none c =
     let few : c.is_short.result ≡ true = search rules in
     let short : is_short p ≡ true = sym (c.is_short.ensures (take c.args.part.plan known) ∙ ap is_short c.starts-pieces.ensures) ∙ few in
     let none : c.in_ok-none.none ≡ length c.args.self.now.plans.items = search rules in
-    on_ok c.pieces.result
+    on_ok_weaker c.pieces.result
     (λ made. made known (no_plan_past c.args.self.now.plans.items c.in_ok-none.none none) ∙ ap (λ q. pieces_before c.args.part.at q rest) c.starts-pieces.ensures ∙ sym (put_pieces c.args.part.at p rest short))
     c.pieces.ensures
 
@@ -26,4 +26,4 @@ returns-else-is_short c =
     let rest = plan_of known c.args.draft.now in
     let many : c.is_short.result ≡ false = search rules in
     let long : is_short p ≡ false = sym (c.is_short.ensures (take c.args.part.plan known) ∙ ap is_short c.starts-pieces.ensures) ∙ many in
-    on_ok c.part.result (λ made. made known ∙ sym (put_part c.args.part.at p rest long)) c.part.ensures
+    on_ok_weaker c.part.result (λ made. made known ∙ sym (put_part c.args.part.at p rest long)) c.part.ensures

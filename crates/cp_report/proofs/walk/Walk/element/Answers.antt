@@ -1,10 +1,10 @@
 use Rattle.std.proofs.Common.{rules, ◌≡◌, ◌+◌, ◌++◌, ◌∷◌, [], of_z, to_z, w64, pos, ap, ◌∙◌, arith}
 use Rattle.std.specs.Prelude.{◌+ℤ◌, codes, take}
+use Rattle.std.proofs.lemmas.Result.{on_ok_weaker}
 use Rattle.cp_model.specs.Decimal.{decimal}
 use Rattle.cp_model.specs.Integers.{count_between}
 use Rattle.cp_report.specs.Tellings.{visit_of}
 use Rattle.cp_report.specs.Walks.{cursor}
-use Rattle.cp_scope.proofs.Unrefused.{on_ok}
 use Rattle.cp_report.proofs.Going.{element_goes, no_element}
 use Rattle.cp_report.proofs.walk.Walk.element.Goals as goal
 
@@ -21,7 +21,7 @@ returns c =
     let mid = c.leave_rest.new.self in
     let count : c.count_between.result ≡ count_between c.args.low c.args.high = search rules in
     let index : to_z w64 (of_z w64 c.index_at.result) ≡ c.args.low +ℤ pos k.next = search rules in
-    on_ok c.enter.result
+    on_ok_weaker c.enter.result
     (λ E.
     element_goes c.args.tables.now (visit_of c.args.telling.now) k old mid c.enter.new.self c.args.out.now.items c.enter.new.out.items c.args.low c.args.high c.args.element E
     (ap (λ p. p.items) c.leave_rest.ensures.path ∙ (c.in_ok-name_element.ensures.path ∙ ap (λ i. take k.path old.path.items ++ (codes "[" ++ (decimal i ++ codes "]"))) index))

@@ -1,7 +1,7 @@
 use Rattle.std.proofs.Common.{rules, ◌≡◌, [], refl}
+use Rattle.std.proofs.lemmas.Result.{on_ok_weaker}
 use Rattle.cp_report.specs.Tellings.{visit_of}
 use Rattle.cp_report.specs.declared.walk.Walk.{Walk}
-use Rattle.cp_scope.proofs.Unrefused.{on_ok}
 use Rattle.cp_report.proofs.Visiting.{visited}
 use Rattle.cp_report.proofs.walk.Walk.variable.Goals as goal
 
@@ -13,7 +13,7 @@ returns c =
     let start : Walk = record { stack = c.clear.new.self; path = c.extend_from_slice.new.self; at = old.at; places = old.places } in
     let none : start.stack.items ≡ [] = search rules in
     let named : start.path.items ≡ c.args.name.now = search rules in
-    on_ok c.finish.result
+    on_ok_weaker c.finish.result
     (λ F.
     visited tables v c.args.name.now c.args.row old.at start c.enter.new.self c.finish.new.self c.args.out.now.items c.enter.new.out.items c.finish.new.out.items none named refl
     c.in_ok-enter.ensures F)

@@ -1,4 +1,5 @@
 use Rattle.std.proofs.Common.{◌≡◌, ◌-◌, ℕ, suc, List, [], ◌∷◌, ap, length, map, pos, refl, subst}
+use Rattle.std.proofs.lemmas.Result.{on_ok_weaker}
 use Rattle.cp_model.specs.Abstract as a
 use Rattle.cp_model.specs.Abstract.{Name}
 use Rattle.cp_model.specs.Declarations.{define}
@@ -6,7 +7,6 @@ use Rattle.cp_model.specs.Erase as erase
 use Rattle.cp_model.specs.Types.{GlobalScope, ResolvedType, Simple}
 use Rattle.cp_model.specs.declared.tree.Identifier.{Identifier}
 use Rattle.cp_scope.specs.Outer.{OuterStands, with_type, with_values}
-use Rattle.cp_scope.proofs.Unrefused.{on_ok}
 use Rattle.cp_scope.proofs.outer.Outer.define_enumeration.Goals as goal
 
 same_length : (xs : List Identifier) → length (map erase.name xs) ≡ length xs
@@ -23,7 +23,7 @@ returns c =
     let x = c.args.x.now.name in
     let y = c.as_bytes-name.result.now in
     let last = c.saturating_sub-last.result in
-    on_ok c.add_values.result
+    on_ok_weaker c.add_values.result
     (λ defines g scope.
     subst (OuterStands c.add_values.new.self)
     (enumeration_is g x y c.args.values.now last _ c.as_bytes-name.ensures c.saturating_sub-last.ensures c.in_ok-enumeration.ensures)

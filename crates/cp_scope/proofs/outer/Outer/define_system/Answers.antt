@@ -1,5 +1,5 @@
+use Rattle.std.proofs.lemmas.Result.{on_ok_weaker}
 use Rattle.cp_scope.proofs.Standing.{kept_scope}
-use Rattle.cp_scope.proofs.Unrefused.{on_ok}
 use Rattle.cp_scope.specs.Outer.{component_of}
 use Rattle.cp_scope.proofs.outer.Outer.define_system.Goals as goal
 
@@ -7,6 +7,6 @@ pub returns : goal.returns
 returns c =
     let old = c.args.self.now in
     let made = c.in_ok-of.ensures in
-    on_ok c.add_type.result
+    on_ok_weaker c.add_type.result
     (λ names g scope. names g (component_of c.args.system.now g) (kept_scope old.types c.component.new.self made.keeps old.names g scope) (made.stands g scope))
     (rw c.as_bytes.ensures at c.add_type.ensures)
