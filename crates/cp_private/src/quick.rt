@@ -59,7 +59,8 @@ impl Private {
         next: &u32,
     ) -> bool
         requires { IsAddressable shared.old }
-        ensures step { result ≡ true → Makes (λ w o. plain.set_within o low.now high.now at n next.now)
+        ensures step { result ≡ true
+            → Makes (λ w o. plain.set_within o low.now high.now at n next.now)
             self.old shared.old self.new shared.new NoEffect }
         ensures same { result ≡ false → Stays self.old shared.old self.new shared.new }
         ensures kept { KeepsRest self.old shared.old self.new shared.new }
@@ -113,7 +114,8 @@ impl Private {
         next: &u32,
     ) -> bool
         requires { IsAddressable shared.old }
-        ensures step { result ≡ true → Makes (λ w o. plain.with_place w o (terms.Rooted (terms.Local at.now)) (λ at.
+        ensures step { result ≡ true
+            → Makes (λ w o. plain.with_place w o (terms.Rooted (terms.Local at.now)) (λ at.
             plain.with_value w o (view.term value.now) (λ n.
             plain.set_within o low.now high.now at n next.now)))
             self.old shared.old self.new shared.new NoEffect }
@@ -139,7 +141,8 @@ impl Private {
         next: &u32,
     ) -> bool
         requires { IsAddressable shared.old }
-        ensures step { result ≡ true → Makes (λ w o. plain.with_place w o (terms.Rooted (terms.Member at.now)) (λ at.
+        ensures step { result ≡ true
+            → Makes (λ w o. plain.with_place w o (terms.Rooted (terms.Member at.now)) (λ at.
             plain.with_value w o (view.term value.now) (λ n.
             plain.set_within o low.now high.now at n next.now)))
             self.old shared.old self.new shared.new NoEffect }
@@ -164,7 +167,8 @@ impl Private {
         next: &u32,
     ) -> bool
         requires { IsAddressable shared.old }
-        ensures step { result ≡ true → Makes (λ w o. plain.with_value w o (view.term value.now) (λ n.
+        ensures step { result ≡ true
+            → Makes (λ w o. plain.with_value w o (view.term value.now) (λ n.
             plain.set_within o low.now high.now o.base n next.now))
             self.old shared.old self.new shared.new NoEffect }
         ensures same { result ≡ false → Stays self.old shared.old self.new shared.new }
@@ -181,7 +185,8 @@ impl Private {
     #[inline(always)]
     fn test_quickly<W: Words>(&mut self, shared: &[i32], value: &Term, yes: &u32, no: &u32) -> bool
         requires { IsAddressable shared.now }
-        ensures step { result ≡ true → Makes (λ w o. plain.with_value w o (view.term value.now) (λ n.
+        ensures step { result ≡ true
+            → Makes (λ w o. plain.with_value w o (view.term value.now) (λ n.
             private_outcome (go_to (if same_integer n (pos 1) then yes.now else no.now) o)))
             self.old shared.now self.new shared.now NoEffect }
         ensures same { result ≡ false → Stays self.old shared.now self.new shared.now }
@@ -228,7 +233,8 @@ impl Private {
     #[inline(always)]
     fn count_quickly<W: Words>(&mut self, shared: &mut [i32], counting: &Counting) -> bool
         requires { IsAddressable shared.old }
-        ensures step { result ≡ true → Makes (λ w o. plain.next_count w o (view.counting counting.now)
+        ensures step { result ≡ true
+            → Makes (λ w o. plain.next_count w o (view.counting counting.now)
             (word o.temps (o.temp + counting.now.temp))
             (word o.temps (o.temp + counting.now.temp + 1)))
             self.old shared.old self.new shared.new NoEffect }

@@ -140,10 +140,11 @@ fn make_rounds_at<'s, 'a, E, C: Course + Send + Sync, R: Threads + Wait + Sync, 
 ) -> (Parts, Result<(), usize>)
     requires some { 0 < length run.now.cells.now }
     ensures made { IfOk result.1 (λ _. PartsAfter run.now.turns.setting.now
-        run.now.turns.plan.turn.steps run.now.turns.done (length run.now.cells.now) parts result.0) }
+        run.now.turns.plan.turn.steps run.now.turns.done (length run.now.cells.now)
+        parts result.0) }
     ensures partly { IfErr result.1 (λ n. (n < length run.now.cells.now)
-        × PartsAfter run.now.turns.setting.now run.now.turns.plan.turn.steps run.now.turns.done n parts
-        result.0) }
+        × PartsAfter run.now.turns.setting.now run.now.turns.plan.turn.steps
+        run.now.turns.done n parts result.0) }
     ensures count { length result.0.privates.items ≡ length parts.privates.items }
 {
     settings_are_shared();

@@ -134,7 +134,8 @@ impl<'a, C: Course> Task<'a, C> {
         requires course { IsCourseOf C.quiet C.turned C.input C.most setting.now turn.steps }
         requires time { moment ≡ C.moment (self.old.round + self.old.made) }
         requires quiet { self.old.made ≢ 0 → (input : List ℕ)
-            → is_quiet (view.program setting.now.program) (private_of self.old.private input) ≡ true }
+            → is_quiet (view.program setting.now.program) (private_of self.old.private input)
+            ≡ true }
         requires few { self.old.made < 2 ^ 32 - 1 }
         ensures made { self.new.made ≡ self.old.made + 1 }
     {
