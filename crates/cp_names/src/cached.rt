@@ -1,10 +1,10 @@
 //! The numbers of short names, by their keys.
 //!
-//! A direct-mapped cache may stand before the map. It holds at most one key for each remainder, the
-//! first that came, so that most keys are found by one comparison. The others are found in the map,
-//! so that no choice of names makes a look-up slower than one more comparison.
+//! A direct-mapped cache may stand before the map. It holds at most one key for each remainder, of
+//! several the last that came, and most keys are found there by one comparison. The others are found
+//! in the map, so that no choice of names makes a look-up slower than one more comparison.
 
-ghost use Rattle.std.specs.Prelude.{◌≡◌, ℕ, IfOk, IfSome, OnOk, OnErr, None, Some};
+ghost use Rattle.std.specs.Prelude.{◌≡◌, ◌≢◌, ℕ, IfOk, false, IfSome, OnOk, OnErr, None, Some};
 ghost use Rattle.cp_names.specs.Caches.{ChangesKey, KeepsCache, number_in, slot_of};
 
 use std::alloc::{AllocError, Global};
@@ -14,6 +14,9 @@ use std::marker::Model;
 // The number of slots of a cache. It is a prime number, since the keys of names that are much alike
 // differ by powers of 38.
 const SLOTS: usize = 509;
+
+// The keys of so many first names keep their slots: the standard names come first.
+const KEPT: usize = 32;
 
 // A key and the number that it has. A slot without a number is empty.
 #[derive(Clone, Copy)]
@@ -47,16 +50,21 @@ fn slot_of(key: u64) -> usize
     (key % SLOTS as u64) as usize
 }
 
-// Lets a cache say that a key has a number, or has none, unless the slot holds another key.
+// Whether a slot is given to a key that now has this number, or has none.
+fn takes(slot: Slot, key: u64, number: Option<usize>) -> bool
+    ensures { result ≡ false → slot.key ≢ key }
+{
+    let is_kept = matches!(slot.number, Some(first) if first < KEPT);
+    slot.key == key || (number.is_some() && !is_kept)
+}
+
+// Lets a cache say that a key has a number, or has none.
 fn change(cache: &mut Vec<Slot>, key: u64, number: Option<usize>)
     ensures { KeepsCache cache.old.items cache.new.items key number }
 {
     let at = slot_of(key);
-    if at < cache.len() {
-        let slot = cache[at];
-        if slot.key == key || slot.number.is_none() {
-            cache[at] = Slot { key, number };
-        }
+    if at < cache.len() && takes(cache[at], key, number) {
+        cache[at] = Slot { key, number };
     }
 }
 
