@@ -118,15 +118,18 @@ def named_texts(path):
     return {text: f'{path.stem}_{texts.index(text) + 1}_text' for text in texts if texts.count(text) > 1}
 
 
+def import_used(module, names, lines):
+    """The line that imports those of a module's names that some lines use, if there are any."""
+    words = re.split(r'[\s(){}]+', re.sub(r'"[^"]*"', '', ' '.join(lines)))
+    used = [name for name in names if name.strip('◌') in words]
+    return [f'use {module}.{{{", ".join(used)}}}'] if used else []
+
+
 def write_module(folder):
     """One folder: its texts and statements, their proof, and the public function that states them."""
     name, title = folder.name, folder.name.capitalize()
     texts = {path: named_texts(path) for path in sorted(folder.glob('*.txt'))}
-    lines = [f'-- Worked texts and their answers: {name}. Written by worked/make_rows.py.',
-             'use Rattle.std.specs.Prelude.{◌≡◌, true, false, [], ◌∷◌, ◌++◌, codes}',
-             *(['use Rattle.cp_model.specs.Report.{Text}'] if any(texts.values()) else []),
-             'use Rattle.cp_rows.specs.Answers.{check_answer, run_answer, replay_answer, consumed_answer}', '']
-    names = []
+    lines, names = [], []
     for path, named in texts.items():
         for text, own in named.items():
             lines += [f'abbrev pub {own} : Text', f'{own} = {as_bytes(text)}', '']
@@ -135,7 +138,11 @@ def write_module(folder):
             names.append(own)
             lines += [f'abbrev pub {own} : Type 0', f'{own} = {statement(named.get(text) or as_bytes(text), head, answer)}', '']
     lines += [f'abbrev pub {title} : Type 0', f'{title} = ' + ' × '.join(names), '']
-    write(CRATES / 'cp_rows' / 'specs' / f'{title}.antt', '\n'.join(lines))
+    uses = [*import_used('Rattle.std.specs.Prelude', ['◌≡◌', 'true', 'false', '[]', '◌∷◌', '◌++◌', 'codes'], lines),
+            *import_used('Rattle.cp_model.specs.Report', ['Text'], lines),
+            *import_used('Rattle.cp_rows.specs.Answers', ['check_answer', 'run_answer', 'replay_answer', 'consumed_answer'], lines)]
+    heading = f'-- Worked texts and their answers: {name}. Written by worked/make_rows.py.'
+    write(CRATES / 'cp_rows' / 'specs' / f'{title}.antt', '\n'.join([heading, *uses, '', *lines]))
     write_proofs('cp_rows', name, title, {own: 'refl' for own in names})
     return title, name, len(names)
 

@@ -1,6 +1,6 @@
 -- Worked texts and their answers: calls. Written by worked/make_rows.py.
-use Rattle.std.specs.Prelude.{◌≡◌, true, false, [], ◌∷◌, ◌++◌, codes}
-use Rattle.cp_rows.specs.Answers.{check_answer, run_answer, replay_answer, consumed_answer}
+use Rattle.std.specs.Prelude.{◌≡◌, codes}
+use Rattle.cp_rows.specs.Answers.{check_answer}
 
 abbrev pub a_routine_without_entry_1 : Type 0
 a_routine_without_entry_1 = check_answer (codes "type c = class; procedure h; begin end; begin end; var x: c; begin x.h(1) end.") ≡ (codes "refused C2 at 69")

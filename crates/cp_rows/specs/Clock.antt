@@ -1,7 +1,7 @@
 -- Worked texts and their answers: clock. Written by worked/make_rows.py.
-use Rattle.std.specs.Prelude.{◌≡◌, true, false, [], ◌∷◌, ◌++◌, codes}
+use Rattle.std.specs.Prelude.{◌≡◌, false, [], codes}
 use Rattle.cp_model.specs.Report.{Text}
-use Rattle.cp_rows.specs.Answers.{check_answer, run_answer, replay_answer, consumed_answer}
+use Rattle.cp_rows.specs.Answers.{run_answer, replay_answer}
 
 abbrev pub waiting_for_a_tick_1_text : Text
 waiting_for_a_tick_1_text = (codes "begin display(realtime); wait; display(realtime) end.")

@@ -1,6 +1,6 @@
 -- Worked texts and their answers: components. Written by worked/make_rows.py.
-use Rattle.std.specs.Prelude.{◌≡◌, true, false, [], ◌∷◌, ◌++◌, codes}
-use Rattle.cp_rows.specs.Answers.{check_answer, run_answer, replay_answer, consumed_answer}
+use Rattle.std.specs.Prelude.{◌≡◌, codes}
+use Rattle.cp_rows.specs.Answers.{check_answer}
 
 abbrev pub arguments_of_init_1 : Type 0
 arguments_of_init_1 = check_answer (codes "type m = monitor; begin end; p = process(g: m); begin end; var g: m; b: p; k: integer; begin init g; init b(g) end.") ≡ (codes "accepted\n")

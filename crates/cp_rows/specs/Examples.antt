@@ -1,7 +1,7 @@
 -- Worked texts and their answers: examples. Written by worked/make_rows.py.
-use Rattle.std.specs.Prelude.{◌≡◌, true, false, [], ◌∷◌, ◌++◌, codes}
+use Rattle.std.specs.Prelude.{◌≡◌, false, [], codes}
 use Rattle.cp_model.specs.Report.{Text}
-use Rattle.cp_rows.specs.Answers.{check_answer, run_answer, replay_answer, consumed_answer}
+use Rattle.cp_rows.specs.Answers.{check_answer, run_answer, replay_answer}
 
 abbrev pub buffer_1_text : Text
 buffer_1_text = (codes "\"A bounded buffer: three slots, used in a ring, between two producers and a consumer.\n\n   cpm run buffer.cp --rounds 6\n\n A producer that finds the buffer full delays itself, and so does the consumer that\n finds it empty. A queue holds one process at most, so each producer has its own.\n `continue` ends the routine that calls it and hands the monitor to the process that\n it wakes. That one finds what it waited for, whoever else asks for the monitor.\n\n In the report q is delayed in senders[2], for the `d` of p filled the third slot before\n it came (`length = 3`). r has the monitor (`held 3`) and takes the next character in\n round 7. With 11 rounds the producers have ended, and r waits for ever for one more.\"\ntype buffer = monitor;\n  var slots: array [0..2] of char; head, length: integer;\n    senders: array [1..2] of queue; receiver: queue;\n\n  procedure entry put(c: char; me: integer);\n  begin\n    if length = 3 then delay(senders[me]);\n    slots[(head + length) mod 3] := c;\n    length := length + 1;\n    continue(receiver)\n  end;\n\n  procedure entry get(var c: char);\n  begin\n    if length = 0 then delay(receiver);\n    c := slots[head];\n    head := (head + 1) mod 3;\n    length := length - 1;\n    if empty(senders[1]) then continue(senders[2]) else continue(senders[1])\n  end;\n\n  begin head := 0; length := 0 end;\n\nproducer = process(b: buffer; me: integer; first, last: char);\n  var c: char;\n  begin\n    for c := first to last do b.put(c, me)\n  end;\n\nconsumer = process(b: buffer);\n  var c: char;\n  begin\n    cycle b.get(c); display(c) end\n  end;\n\nvar b: buffer; p: producer; r: consumer; q: producer;\n\nbegin\n  init b, p(b, 1, 'a', 'd'), r(b), q(b, 2, 'p', 's')\nend.\n")

@@ -1,7 +1,7 @@
 -- Worked texts and their answers: meaning. Written by worked/make_rows.py.
-use Rattle.std.specs.Prelude.{◌≡◌, true, false, [], ◌∷◌, ◌++◌, codes}
+use Rattle.std.specs.Prelude.{◌≡◌, true, false, [], codes}
 use Rattle.cp_model.specs.Report.{Text}
-use Rattle.cp_rows.specs.Answers.{check_answer, run_answer, replay_answer, consumed_answer}
+use Rattle.cp_rows.specs.Answers.{run_answer, consumed_answer}
 
 abbrev pub a_call_that_makes_calls_1 : Type 0
 a_call_that_makes_calls_1 = run_answer 1 100 1 false [] (codes "var a: integer;\nfunction f(k: integer): integer; begin display(k); f := k * 10 end;\nfunction h(k: integer): integer; var s: integer;\nbegin display(k); s := f(k + 1) - f(k + 2); display(f(7) div 10); h := s + k end;\nbegin a := f(1) + h(2) end.") ≡ (codes "rounds 1\nprocess 1 initial ended\nout '123477'\nvar a = 2\n")

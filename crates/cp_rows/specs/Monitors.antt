@@ -1,7 +1,7 @@
 -- Worked texts and their answers: monitors. Written by worked/make_rows.py.
-use Rattle.std.specs.Prelude.{◌≡◌, true, false, [], ◌∷◌, ◌++◌, codes}
+use Rattle.std.specs.Prelude.{◌≡◌, true, false, [], codes}
 use Rattle.cp_model.specs.Report.{Text}
-use Rattle.cp_rows.specs.Answers.{check_answer, run_answer, replay_answer, consumed_answer}
+use Rattle.cp_rows.specs.Answers.{check_answer, run_answer}
 
 abbrev pub a_chain_of_askers_1_text : Text
 a_chain_of_askers_1_text = (codes "type n = monitor; var x: integer;\n  procedure entry w; begin x := 1 div x end; begin end;\nm = monitor(i: n); procedure entry e; begin i.w end; begin end;\npn = process(i: n); begin i.w end;\npm = process(a: m); begin a.e end;\nvar h: n; g: m; b: pn; c, d: pm;\nbegin init h, g(h), b(h), c(g), d(g) end.")

@@ -1,6 +1,6 @@
 -- Worked texts and their answers: names. Written by worked/make_rows.py.
-use Rattle.std.specs.Prelude.{◌≡◌, true, false, [], ◌∷◌, ◌++◌, codes}
-use Rattle.cp_rows.specs.Answers.{check_answer, run_answer, replay_answer, consumed_answer}
+use Rattle.std.specs.Prelude.{◌≡◌, codes}
+use Rattle.cp_rows.specs.Answers.{check_answer}
 
 abbrev pub declared_twice_1 : Type 0
 declared_twice_1 = check_answer (codes "var a, a: integer; begin end.") ≡ (codes "refused C1 at 7")

@@ -1,6 +1,6 @@
 -- Worked texts and their answers: nesting. Written by worked/make_rows.py.
-use Rattle.std.specs.Prelude.{◌≡◌, true, false, [], ◌∷◌, ◌++◌, codes}
-use Rattle.cp_rows.specs.Answers.{check_answer, run_answer, replay_answer, consumed_answer}
+use Rattle.std.specs.Prelude.{◌≡◌, false, [], codes}
+use Rattle.cp_rows.specs.Answers.{check_answer, run_answer}
 
 abbrev pub a_word_of_64_letters_1 : Type 0
 a_word_of_64_letters_1 = check_answer (codes "var aaaaaaaaaaaaaaaaaaaaaaaaaaaaaaaaaaaaaaaaaaaaaaaaaaaaaaaaaaaaaaaa: integer; begin end.") ≡ (codes "accepted\n")

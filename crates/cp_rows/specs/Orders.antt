@@ -1,7 +1,7 @@
 -- Worked texts and their answers: orders. Written by worked/make_rows.py.
-use Rattle.std.specs.Prelude.{◌≡◌, true, false, [], ◌∷◌, ◌++◌, codes}
+use Rattle.std.specs.Prelude.{◌≡◌, false, [], codes}
 use Rattle.cp_model.specs.Report.{Text}
-use Rattle.cp_rows.specs.Answers.{check_answer, run_answer, replay_answer, consumed_answer}
+use Rattle.cp_rows.specs.Answers.{replay_answer}
 
 abbrev pub a_lawful_order_1 : Type 0
 a_lawful_order_1 = replay_answer 3 1 false [] (codes "P2 P1 P1 P2 P1 P2 K1 K2\nP2 P1 P1 P2 P1 P2 K1 K2\n") (codes "type m = monitor; var x: integer;\n  procedure entry e; begin x := 9 end; begin end;\np = process(a: m); var v: integer;\n  begin v := 1; v := 2; v := 3; a.e end;\nvar g: m; b: p;\nbegin init g, b(g) end.") ≡ (codes "rounds 2\nprocess 1 initial ended\nout ''\nprocess 2 b ready\nout ''\nvar v = 3\nmonitor g free askers -\nvar x = 9\n")

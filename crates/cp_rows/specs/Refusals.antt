@@ -1,7 +1,7 @@
 -- Worked texts and their answers: refusals. Written by worked/make_rows.py.
-use Rattle.std.specs.Prelude.{◌≡◌, true, false, [], ◌∷◌, ◌++◌, codes}
+use Rattle.std.specs.Prelude.{◌≡◌, false, [], codes}
 use Rattle.cp_model.specs.Report.{Text}
-use Rattle.cp_rows.specs.Answers.{check_answer, run_answer, replay_answer, consumed_answer}
+use Rattle.cp_rows.specs.Answers.{check_answer, run_answer}
 
 abbrev pub byte_1 : Type 0
 byte_1 = check_answer (codes "begin !") ≡ (codes "refused S1 at 6")

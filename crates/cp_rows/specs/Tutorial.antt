@@ -1,7 +1,7 @@
 -- Worked texts and their answers: tutorial. Written by worked/make_rows.py.
 use Rattle.std.specs.Prelude.{◌≡◌, true, false, [], ◌∷◌, ◌++◌, codes}
 use Rattle.cp_model.specs.Report.{Text}
-use Rattle.cp_rows.specs.Answers.{check_answer, run_answer, replay_answer, consumed_answer}
+use Rattle.cp_rows.specs.Answers.{check_answer, run_answer}
 
 abbrev pub a_small_operating_system_1_text : Text
 a_small_operating_system_1_text = (codes "\"A small operating system: cards are read, jobs run, and lines are printed, all at the same time.\n\n A card has 4 characters, and a job is all cards up to one that begins with `$`. A page of\n 2 cards is what travels from the card reader to the job, and from the job to the printer.\"\n\nconst card_length = 4; page_length = 2; em = '(:25:)'; newline = '(:10:)';\n\ntype card = array [1..card_length] of char;\n\npage = record cards: array [1..page_length] of card; used: integer; last: boolean end;\n\n\"The devices: only the process that owns one uses it.\"\n\ncard_reader = class;\n\n  procedure entry read(var c: card);\n  var i: integer;\n  begin\n    for i := 1 to card_length do accept(c[i])\n  end;\n\n  begin end;\n\nline_printer = class;\n  var column: integer;\n\n  procedure entry print(c: card);\n  var i: integer;\n  begin\n    for i := 1 to card_length do display(c[i]);\n    column := (column + 1) mod 2;\n    if column = 0 then display(newline)\n  end;\n\n  procedure entry eject;\n  begin\n    if column > 0 then display(newline);\n    display('-');\n    display(newline);\n    column := 0\n  end;\n\n  begin column := 0 end;\n\n\"What joins the processes.\"\n\npage_buffer = monitor;\n  var contents: page; full: boolean; sender, receiver: queue;\n\n  procedure entry send(p: page);\n  begin\n    if full then delay(sender);\n    contents := p;\n    full := true;\n    continue(receiver)\n  end;\n\n  procedure entry receive(var p: page);\n  begin\n    if not full then delay(receiver);\n    p := contents;\n    full := false;\n    continue(sender)\n  end;\n\n  begin full := false end;\n\n\"Cards to pages, and back.\"\n\nwriter = class(out: page_buffer);\n  var p: page;\n\n  procedure entry write(c: card);\n  begin\n    p.used := p.used + 1;\n    p.cards[p.used] := c;\n    if p.used = page_length then\n    begin\n      out.send(p);\n      p.used := 0\n    end\n  end;\n\n  procedure entry close;\n  begin\n    p.last := true;\n    out.send(p);\n    p.used := 0;\n    p.last := false\n  end;\n\n  begin p.used := 0; p.last := false end;\n\nreader = class(source: page_buffer);\n  var p: page; read_so_far: integer; fresh: boolean;\n\n  \"Gives the next card of a job, or says that there are no more.\"\n  procedure entry read(var c: card; var ended: boolean);\n  begin\n    if fresh or (read_so_far = p.used) & not p.last then\n    begin\n      source.receive(p);\n      read_so_far := 0;\n      fresh := false\n    end;\n    ended := read_so_far = p.used;\n    if ended then fresh := true\n    else begin\n      read_so_far := read_so_far + 1;\n      c := p.cards[read_so_far]\n    end\n  end;\n\n  begin fresh := true; read_so_far := 0 end;\n\n\"The three processes.\"\n\ncard_process = process(out: page_buffer);\n  var r: card_reader; w: writer; c: card;\n  begin\n    init r, w(out);\n    r.read(c);\n    while c[1] <> em do\n    begin\n      while (c[1] <> '$') & (c[1] <> em) do\n      begin\n        w.write(c);\n        r.read(c)\n      end;\n      w.close;\n      if c[1] = '$' then r.read(c)\n    end\n  end;\n\njob_process = process(source, out: page_buffer);\n  var r: reader; w: writer; c: card; ended: boolean; count: integer;\n  begin\n    init r(source), w(out);\n    cycle\n      count := 0;\n      r.read(c, ended);\n      while not ended do\n      begin\n        count := count + 1;\n        w.write(c);\n        r.read(c, ended)\n      end;\n      c[1] := '='; c[2] := chr(ord('0') + count); c[3] := '='; c[4] := '=';\n      w.write(c);\n      w.close\n    end\n  end;\n\nprinter_process = process(source: page_buffer);\n  var r: reader; l: line_printer; c: card; ended: boolean;\n  begin\n    init r(source), l;\n    cycle\n      r.read(c, ended);\n      if ended then l.eject else l.print(c)\n    end\n  end;\n\nvar b1, b2: page_buffer; cards: card_process; job: job_process; printer: printer_process;\n\nbegin init b1, b2, cards(b1), job(b1, b2), printer(b2) end.\n")

@@ -1,6 +1,6 @@
 -- Worked texts and their answers: types. Written by worked/make_rows.py.
-use Rattle.std.specs.Prelude.{◌≡◌, true, false, [], ◌∷◌, ◌++◌, codes}
-use Rattle.cp_rows.specs.Answers.{check_answer, run_answer, replay_answer, consumed_answer}
+use Rattle.std.specs.Prelude.{◌≡◌, codes}
+use Rattle.cp_rows.specs.Answers.{check_answer}
 
 abbrev pub arrays_broken_inside_1 : Type 0
 arrays_broken_inside_1 = check_answer (codes "var x: array [y] of queue; begin end.") ≡ (codes "refused C8 at 7")

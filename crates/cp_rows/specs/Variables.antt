@@ -1,6 +1,6 @@
 -- Worked texts and their answers: variables. Written by worked/make_rows.py.
-use Rattle.std.specs.Prelude.{◌≡◌, true, false, [], ◌∷◌, ◌++◌, codes}
-use Rattle.cp_rows.specs.Answers.{check_answer, run_answer, replay_answer, consumed_answer}
+use Rattle.std.specs.Prelude.{◌≡◌, codes}
+use Rattle.cp_rows.specs.Answers.{check_answer}
 
 abbrev pub parts_and_values_1 : Type 0
 parts_and_values_1 = check_answer (codes "var v: record x: integer end; begin display(v.x.y) end.") ≡ (codes "refused C2 at 47")

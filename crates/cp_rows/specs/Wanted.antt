@@ -1,6 +1,6 @@
 -- Worked texts and their answers: wanted. Written by worked/make_rows.py.
-use Rattle.std.specs.Prelude.{◌≡◌, true, false, [], ◌∷◌, ◌++◌, codes}
-use Rattle.cp_rows.specs.Answers.{check_answer, run_answer, replay_answer, consumed_answer}
+use Rattle.std.specs.Prelude.{◌≡◌, codes}
+use Rattle.cp_rows.specs.Answers.{check_answer}
 
 abbrev pub a_type_where_a_variable_is_wanted_1 : Type 0
 a_type_where_a_variable_is_wanted_1 = check_answer (codes "begin char[1] := 1 end.") ≡ (codes "refused C10 at 6")
