@@ -7,7 +7,7 @@ use Rattle.cp_machine_model.specs.InState.{IsIn}
 use Rattle.cp_machine_model.specs.KernelOf.{kernel_ground}
 use Rattle.cp_model.specs.Configurations as status
 use Rattle.cp_model.specs.Configurations.{Status}
-use Rattle.cp_model.specs.States.{Setup, State, numbers_from, process_count, processes}
+use Rattle.cp_model.specs.States.{Setup, State, numbers_from, process_count}
 use Rattle.cp_rounds.specs.ProcessStates.{StatusMeans, state_at}
 use Rattle.cp_rounds.specs.Views.{machine_of, processes_of}
 use Rattle.cp_rounds.specs.declared.machine.Machine.{Machine}

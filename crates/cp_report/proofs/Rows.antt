@@ -1,5 +1,5 @@
 -- The types that rows stand for.
-use Rattle.std.proofs.Common.{◌≡◌, ℕ, ℤ, List, map, Some, None, refl, ap, sym, subst, ◌∙◌}
+use Rattle.std.proofs.Common.{◌≡◌, ℕ, ℤ, List, map, Some, refl, ap, sym, subst, ◌∙◌}
 use Rattle.std.specs.Prelude.{Vec}
 use Rattle.std.specs.Borrow.{Bor}
 use Rattle.std.specs.Global.{Global}

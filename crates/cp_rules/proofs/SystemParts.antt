@@ -14,7 +14,7 @@ use Rattle.cp_model.specs.RulesStatements.{statements}
 use Rattle.cp_model.specs.RulesTypes.{cap_words}
 use Rattle.cp_model.specs.RulesDeclarations as d
 use Rattle.cp_model.specs.Rules.{define_system, routine_members, variable_position}
-use Rattle.cp_rules.specs.Checking.{State, after, declared_name, telling, with_set}
+use Rattle.cp_rules.specs.Checking.{State, after, declared_name, telling}
 use Rattle.cp_rules.specs.Declaring.{Declares}
 use Rattle.cp_rules.specs.Headings.{Collected, Heads, collection, nothing, with_part}
 use Rattle.cp_rules.specs.Systems.{HeadsSystem, JudgesParts, added_system, heading_of, inside, parts, row_as, with_finished, words_of}

@@ -1,4 +1,4 @@
-use Rattle.std.proofs.Common.{rules, ◌≡◌, ◌+◌, false, true, ap, arith, sym, ◌∙◌}
+use Rattle.std.proofs.Common.{rules, ◌≡◌, false, true, ap, arith, sym, ◌∙◌}
 use Rattle.cp_outcome.specs.Verdicts.{has_no_fault, sound}
 use Rattle.cp_outcome.proofs.Testing.{all_do, fault_is_told, one_does_not, one_more}
 use Rattle.cp_outcome.proofs.verdict.none_has_faulted.Goals as goal

@@ -1,4 +1,4 @@
-use Rattle.std.proofs.Common.{◌≡◌, ◌∙◌, ◌+◌, ℕ, arith, refl, subst, take}
+use Rattle.std.proofs.Common.{◌≡◌, ◌∙◌, ℕ, arith, refl, subst, take}
 use Rattle.cp_rounds.specs.InStates.{MakesRounds}
 use Rattle.cp_trace.specs.Telling.{Adds}
 use Rattle.cp_trace.specs.Tracers.{IsPart, IsTrace, form_of}
