@@ -4,13 +4,12 @@ use Rattle.std.proofs.lemmas.Map.Lookups.{exact_unsigned}
 use Rattle.std.proofs.lemmas.Map.Text.{btree_map_updates_str}
 use Rattle.std.proofs.lemmas.Option.{same_Some}
 use Rattle.std.proofs.lemmas.Slice.Eq.{bytes_eq-Decides}
-use Rattle.std.specs.BTreeMap.{UpdatesBy, get_by}
+use Rattle.std.specs.BTreeMap.{Updates, UpdatesBy, get_by}
 use Rattle.std.specs.Cmp.{Equal-is, nat_cmp_is}
 use Rattle.std.specs.Cmp.Lexicographic.{slice_cmp}
 use Rattle.std.specs.Ordering.{is_eq, nat_cmp}
 use Rattle.std.specs.Str.{bytes_eq}
 use Rattle.cp_model.specs.RulesEnvironment.{Text}
-use Rattle.cp_names.specs.Caches.{ChangesKey, number_in}
 use Rattle.cp_names.specs.Indices.{Changes, key_of, number_by_key}
 use Rattle.cp_names.specs.declared.index.Index.{Index}
 use Rattle.cp_names.proofs.Keys.{same_key}
@@ -37,12 +36,12 @@ equal_keys x y k q xk yk = go (is_eq (nat_cmp k q)) (bytes_eq x y) refl refl
         let same : k ≡ q = same_Some k q (sym xk ∙ ap key_of ((bytes_eq-Decides x y).0 g) ∙ yk) in
         sym h ∙ (Equal-is (nat_cmp k q)).1 (sym (nat_cmp_is k q Equal same))
 
-pub changed_short : (m n : Index) (x : Text) (k : ℕ) (w : Option ℕ) → key_of x ≡ Some k → ChangesKey m.short n.short k w → n.long ≡ m.long
+pub changed_short : (m n : Index) (x : Text) (k : ℕ) (w : Option ℕ) → key_of x ≡ Some k → Updates nat_cmp m.short n.short k w → n.long ≡ m.long
     → Changes m n x w
 changed_short m n x k w xk updates same y = go (key_of y) refl
   where
     go : (p : Option ℕ) → key_of y ≡ p → number_by_key n y p ≡ cond (bytes_eq x y) w (number_by_key m y p)
-    go (Some q) yk = updates q ∙ ap (λ b. cond b w (number_in m.short q)) (equal_keys x y k q xk yk)
+    go (Some q) yk = updates.0 q ∙ ap (λ b. cond b w (get_by (nat_cmp q) m.short)) (equal_keys x y k q xk yk)
     go None yk =
         ap (λ long. get_by (λ z. slice_cmp nat_cmp y z.now) long) same
         ∙ sym (ap (λ b. cond b w (number_by_key m y None)) (apart x y (Some k) None xk yk (λ h. absurd (cc))))
@@ -54,5 +53,5 @@ changed_long m n x w xk updates same y = go (key_of y) refl
     go : (p : Option ℕ) → key_of y ≡ p → number_by_key n y p ≡ cond (bytes_eq x y) w (number_by_key m y p)
     go None yk = btree_map_updates_str x m.long n.long w updates y
     go (Some q) yk =
-        ap (λ short. number_in short q) same
+        ap (get_by (nat_cmp q)) same
         ∙ sym (ap (λ b. cond b w (number_by_key m y (Some q))) (apart x y None (Some q) xk yk (λ h. absurd (cc))))

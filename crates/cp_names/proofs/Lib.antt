@@ -4,4 +4,3 @@ pub mod IndexKept
 pub mod Replaced
 pub mod Keys
 pub mod Changed
-pub mod CacheKept

@@ -5,7 +5,6 @@ use Rattle.std.specs.Cmp.Lexicographic.{slice_cmp}
 use Rattle.std.specs.Ordering.{nat_cmp}
 use Rattle.std.specs.Str.{bytes_eq}
 use Rattle.cp_model.specs.RulesEnvironment.{Text}
-use Rattle.cp_names.specs.Caches.{number_in}
 use Rattle.cp_names.specs.declared.index.Index.{Index}
 
 -- The digit that a letter of a short name stands for, from 1 to 37: small letters, digits and the underscore.
@@ -33,7 +32,7 @@ abbrev pub key_of : Text → Option ℕ
 key_of = with_letters (Some 0)
 
 abbrev pub number_by_key : Index → Text → Option ℕ → Option ℕ
-number_by_key m x (Some k) = number_in m.short k
+number_by_key m x (Some k) = get_by (nat_cmp k) m.short
 number_by_key m x None = get_by (λ y. slice_cmp nat_cmp x y.now) m.long
 
 -- The number of a name.

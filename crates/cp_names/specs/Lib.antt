@@ -1,3 +1,2 @@
 pub mod Tables
 pub mod Indices
-pub mod Caches

@@ -7,7 +7,6 @@ ghost use Rattle.std.specs.Prelude.{◌≡◌, IfOk, OnOk, OnErr, None, Some};
 ghost use Rattle.cp_model.specs.RulesEnvironment.{Text};
 ghost use Rattle.cp_names.specs.Indices.{Changes, Keeps, digit_of, key_of, number_at};
 
-use crate::cached::CachedMap;
 use std::alloc::{AllocError, Global};
 use std::collections::BTreeMap;
 
@@ -17,7 +16,7 @@ const LARGEST_WITH_ROOM: u64 = 485_440_633_518_672_409;
 /// The numbers of names. Contracts see what number each name has.
 #[derive(Drop)]
 pub struct Index<'t> {
-    short: CachedMap,
+    short: BTreeMap<u64, usize>,
     long: BTreeMap<&'t [u8], usize>,
 }
 
@@ -54,19 +53,9 @@ impl<'t> Index<'t> {
         ensures { (x : Text) → number_at result x ≡ None }
     {
         Index {
-            short: CachedMap::new(alloc),
+            short: BTreeMap::new(alloc),
             long: BTreeMap::new(alloc),
         }
-    }
-
-    /// Returns an index without names, with a cache for short names. Fails only if memory runs out.
-    pub fn with_cache(alloc: Global) -> Result<Index<'t>, AllocError>
-        ensures { IfOk result (λ index. (x : Text) → number_at index x ≡ None) }
-    {
-        Ok(Index {
-            short: CachedMap::with_cache(alloc)?,
-            long: BTreeMap::new(alloc),
-        })
     }
 
     /// The number of a name, if it has one.
@@ -74,7 +63,7 @@ impl<'t> Index<'t> {
         ensures { result ≡ number_at self.now name.now }
     {
         match key(name) {
-            Some(key) => self.short.get(key),
+            Some(key) => self.short.get(&key).copied(),
             None => self.long.get(name).copied(),
         }
     }
@@ -88,7 +77,7 @@ impl<'t> Index<'t> {
         ensures keeps { OnErr result (Keeps self.old self.new) }
     {
         match key(name) {
-            Some(key) => self.short.insert(key, number),
+            Some(key) => Ok(self.short.insert(key, number)?),
             None => Ok(self.long.insert(name, number)?),
         }
     }
@@ -98,10 +87,8 @@ impl<'t> Index<'t> {
         ensures { Changes self.old self.new name.now None }
     {
         match key(name) {
-            Some(key) => self.short.remove(key),
-            None => {
-                self.long.remove(name);
-            }
-        }
+            Some(key) => self.short.remove(&key),
+            None => self.long.remove(name),
+        };
     }
 }

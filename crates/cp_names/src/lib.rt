@@ -1,11 +1,9 @@
 //! Tables of names: what the names of a text stand for, in the order of their declarations.
 //!
-//! A name is found by comparison, in time that grows with the logarithm of the number of names, or
-//! at once if it is in the cache that a table may have. A hash table alone would be faster, but a
-//! text could be written whose names all collide.
+//! A name is found by comparison, in time that grows with the logarithm of the number of names. A
+//! hash table would be faster, but a text could be written whose names all collide.
 #![tactic(auto)]
 
-mod cached;
 mod index;
 mod table;
 

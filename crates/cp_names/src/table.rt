@@ -37,17 +37,6 @@ impl<'t, A: Copy> NameTable<'t, A> {
         }
     }
 
-    /// Returns a table without names, with a cache of 12 KB by which most short names are found at
-    /// once. Fails only if memory runs out.
-    pub fn with_cache(alloc: Global) -> Result<NameTable<'t, A>, AllocError>
-        ensures { IfOk result (λ table. table ≡ []) }
-    {
-        Ok(NameTable {
-            entries: Vec::new(alloc),
-            numbers: Index::with_cache(alloc)?,
-        })
-    }
-
     /// The number of names.
     pub fn len(&self) -> usize
         ensures count { result ≡ length self.now }

@@ -85,7 +85,7 @@ fn add_procedures(names: &mut Scope) -> Result<(), AllocError>
 fn names<'t>(alloc: Global) -> Result<Scope<'t>, AllocError>
     ensures { IfOk result (λ names. names ≡ r.standard_names) }
 {
-    let mut names = Scope::with_cache(alloc)?;
+    let mut names = Scope::new(alloc);
     add_types(&mut names)?;
     add_constants(&mut names)?;
     add_functions(&mut names)?;

@@ -1,14 +1,11 @@
 use Rattle.std.proofs.Common.{Some, refl, sym, ◌∙◌}
-use Rattle.std.proofs.lemmas.Result.{on_ok_weaker}
 use Rattle.cp_names.proofs.Changed.{changed_long, changed_short}
 use Rattle.cp_names.proofs.index.Index.insert.Goals as goal
 
-pub returns-in-Some-clause-changes : goal.returns-in-Some-clause-changes
-returns-in-Some-clause-changes c =
-    on_ok_weaker c.insert.result
-    (λ changes. changed_short c.args.self.now (record { short = c.insert.new.self; long = c.args.self.now.long }) c.args.name.now c.in-Some.key (Some c.args.number)
-    (sym c.key.ensures ∙ c.in-Some.is) changes refl)
-    c.insert.ensures.updates
+pub returns-in_ok-insert-in-Some-clause-changes : goal.returns-in_ok-insert-in-Some-clause-changes
+returns-in_ok-insert-in-Some-clause-changes c =
+    changed_short c.args.self.now (record { short = c.insert.new.self; long = c.args.self.now.long }) c.args.name.now c.in-Some.key (Some c.args.number)
+    (sym c.key.ensures ∙ c.in-Some.is) c.in_ok-insert-in-Some.ensures.updates refl
 
 pub returns-in_ok-insert-in-None-clause-changes : goal.returns-in_ok-insert-in-None-clause-changes
 returns-in_ok-insert-in-None-clause-changes c =

@@ -5,7 +5,7 @@ use Rattle.cp_names.proofs.index.Index.remove.Goals as goal
 pub returns-in-Some : goal.returns-in-Some
 returns-in-Some c =
     changed_short c.args.self.now (record { short = c.remove.new.self; long = c.args.self.now.long }) c.args.name.now c.in-Some.key None
-    (sym c.key.ensures ∙ c.in-Some.is) c.remove.ensures refl
+    (sym c.key.ensures ∙ c.in-Some.is) c.remove.ensures.updates refl
 
 pub returns-in-None : goal.returns-in-None
 returns-in-None c =
