@@ -9,3 +9,4 @@ pub mod LabelsTold
 pub mod NeedsOfChains
 pub mod Covers
 pub mod PlainVariables
+pub mod ScopeFound

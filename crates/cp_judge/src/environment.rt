@@ -7,6 +7,7 @@ ghost use Rattle.cp_model.specs.RulesTypes as types;
 ghost use Rattle.cp_judge.specs.Environments.{with_members, with_parameters, with_routine, with_system};
 ghost use Rattle.cp_names.specs.Tables.{AreDistinct, entry_view, with_values_from};
 
+use crate::scope::Scope;
 use cp_model::rules::{
     Entity, Member, ParameterRow, Part, Region, Returns, RoutineRow, Structure, SystemRow, TypeRow,
 };
@@ -14,9 +15,6 @@ use cp_model::tree::{Identifier, Sort};
 use cp_names::NameTable;
 use std::alloc::{AllocError, Global};
 use std::marker::Model;
-
-/// The visible names and what they stand for.
-pub type Scope<'t> = NameTable<'t, Entity>;
 
 /// The fields of a record type, or the routines of a system type, by their names.
 pub type Members<'t> = NameTable<'t, Member>;

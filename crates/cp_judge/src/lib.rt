@@ -25,6 +25,7 @@ mod operands;
 pub mod places;
 mod procedures;
 mod roots;
+pub mod scope;
 mod standard;
 pub mod statements;
 pub mod telling;

@@ -4,8 +4,9 @@ ghost use Rattle.std.specs.Prelude.{◌≡◌, IfOk, OnOk, true};
 ghost use Rattle.cp_model.specs.RulesEnvironment as r;
 ghost use Rattle.cp_rules.specs.StandardNames as standard_names;
 
+use cp_judge::Environment;
 use cp_judge::bases::{BOOLEAN, CHAR, INTEGER, QUEUE};
-use cp_judge::environment::{Environment, Scope};
+use cp_judge::scope::Scope;
 use cp_model::rules::{Entity, Standard, Structure, TypeRow};
 use std::alloc::{AllocError, Global};
 
@@ -85,7 +86,7 @@ fn add_procedures(names: &mut Scope) -> Result<(), AllocError>
 fn names<'t>(alloc: Global) -> Result<Scope<'t>, AllocError>
     ensures { IfOk result (λ names. names ≡ r.standard_names) }
 {
-    let mut names = Scope::new(alloc);
+    let mut names = Scope::new(alloc)?;
     add_types(&mut names)?;
     add_constants(&mut names)?;
     add_functions(&mut names)?;
