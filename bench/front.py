@@ -87,7 +87,9 @@ def row(plain, folder, what, text, status):
     file.write_text(text)
     programs = [CPM, 'check', file], [plain, file]
     ours, other = (instructions(words, status)[0] for words in programs)
-    spent = [min(seconds(words, status) for _ in range(TRIALS)) for words in programs]
+    # In turn, so that both meet the same load of a shared machine.
+    trials = [[seconds(words, status) for words in programs] for _ in range(TRIALS)]
+    spent = [min(times) for times in zip(*trials)]
     cells = f'{ours / 1e6:.0f}', f'{other / 1e6:.0f}', f'{ours / other:.2f}', *(f'{seconds:.3f}' for seconds in spent), f'{spent[0] / spent[1]:.2f}'
     print(' | '.join([what, *cells]), flush=True)
     return [what, *cells]

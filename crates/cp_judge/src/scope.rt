@@ -1,8 +1,8 @@
 //! The visible names, and what they stand for.
 //!
-//! A table finds names by comparison, in as many steps as its logarithm has. Most names are found
-//! by a hint instead: for some letters of a name, the number of a name that has the same ones. A
-//! hint that leads to another name says nothing, and the table is asked.
+//! A table finds a name by comparisons, whose number grows with the logarithm of the number of
+//! names. Most names are found by a hint instead: the length and three letters of a name lead to the
+//! number of a name with the same ones. If that is another name, the table is asked.
 
 ghost use Rattle.std.specs.Prelude.{◌≡◌, ◌++◌, ◌∷◌, [], None, Some, IfOk, IfSome, OnOk, is_some, length, not, option_map, slice_get, take};
 ghost use Rattle.cp_model.specs.Names.{lookup};
@@ -16,7 +16,7 @@ use std::marker::Model;
 // The number of hints, a prime.
 const HINTS: usize = 509;
 
-// So many first names keep their hints. The standard names are among them.
+// So many names, the first ones, keep their hints: the standard names are among them.
 const KEPT: usize = 32;
 
 /// The visible names and what they stand for, in the order of their declarations. No name occurs
