@@ -1,6 +1,6 @@
 //! Items one after another, with or without symbols between them.
 
-ghost use Rattle.std.specs.Prelude.{◌≡◌, ◌∷◌, map, [], Bool, IfOk, Option};
+ghost use Rattle.std.specs.Prelude.{◌≡◌, ◌++◌, ◌∷◌, map, [], Bool, IfOk, OnOk, Option};
 ghost use Rattle.cp_model.specs.Tokens.{Kind};
 ghost use Rattle.cp_grammar.specs.Reading.{kind_at, Reader, Gives};
 ghost use Rattle.cp_grammar.specs.Reading as reading;
@@ -8,6 +8,12 @@ ghost use Rattle.cp_grammar.specs.Reading as reading;
 use crate::tokens::{Read, after, sees};
 use cp_model::token::{Symbol, Token};
 use std::alloc::{AllocError, Global};
+use std::mem::size_of_val;
+
+// When a block of so many bytes is freed, the C library joins all blocks that were freed before it.
+// One of twice as many bytes is mapped by itself, and freeing it joins nothing. A tree has up to
+// half a million blocks.
+const JOINED: usize = 64 * 1024;
 
 /// A part of the syntax tree that occurs in lists, and how the rules `R` read it.
 pub trait Node<R>: Drop {
@@ -34,6 +40,32 @@ pub trait Item<R>: Node<R> {
         ensures { result ≡ begins (kind_at tokens.now) };
 }
 
+// Makes room in a full list that is about to become a block of `JOINED` to twice as many bytes for
+// four times as many items, not twice.
+#[cold]
+#[inline(never)]
+fn widen<X: Drop>(list: &mut Vec<X>) -> Result<(), AllocError>
+    ensures { list.new.items ≡ list.old.items }
+{
+    let bytes = size_of_val(list.as_slice());
+    if bytes >= JOINED / 2 && bytes < JOINED {
+        list.reserve(list.len().saturating_mul(3))?;
+    }
+    Ok(())
+}
+
+// Appends an item. A list is never a block of `JOINED` to twice as many bytes.
+#[inline(always)]
+fn append<X: Drop>(list: &mut Vec<X>, item: X) -> Result<(), AllocError>
+    ensures { OnOk result (list.new.items ≡ list.old.items ++ item ∷ []) }
+{
+    if list.len() == list.capacity() {
+        widen(list)?;
+    }
+    list.push(item)?;
+    Ok(())
+}
+
 /// Reads items as long as the next token begins one, after those in `found`.
 pub fn read_while<X: Item<R>, R: Copy>(
     found: Vec<X>,
@@ -51,7 +83,7 @@ pub fn read_while<X: Item<R>, R: Copy>(
             return Ok((found, rest));
         }
         let (x, left) = X::read(rules, rest)?;
-        found.push(x)?;
+        append(&mut found, x)?;
         rest = left;
     }
     Ok((found, rest))
@@ -110,7 +142,7 @@ pub fn separated<X: Node<R>, R: Copy>(
             return Ok((found, rest));
         }
         let (x, left) = X::read(rules, after(rest))?;
-        found.push(x)?;
+        append(&mut found, x)?;
         rest = left;
     }
     Ok((found, rest))

@@ -14,7 +14,7 @@ returns-in_err-x g c =
 
 pub loop-turn-preserved : goal.loop-turn-preserved
 loop-turn-preserved g c =
-    let e : map g.X.Node.view c.push.new.self.items ≡ map g.X.Node.view c.loop-turn.found.items ++ g.X.Node.view c.in_ok-x.x ∷ [] = rw c.in_ok-push.ensures.items (map_push _ c.loop-turn.found.items c.in_ok-x.x) in
+    let e : map g.X.Node.view c.append.new.list.items ≡ map g.X.Node.view c.loop-turn.found.items ++ g.X.Node.view c.in_ok-x.x ∷ [] = rw c.in_ok-append.ensures (map_push _ c.loop-turn.found.items c.in_ok-x.x) in
     rw e (sym (repeat_goes _ _ _ _ _ _ _ _ c.loop-turn-test.true (cc) c.in_ok-x.ensures) ∙ c.loop-turn.invariant)
 
 pub returns : goal.returns
