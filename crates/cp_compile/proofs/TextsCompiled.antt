@@ -129,10 +129,10 @@ all_defined known g left all start emitter firsts none some =
 
 -- ---- Written types
 
-pub array_has_no_units : (firsts : List (Name × ℕ)) (at : ℕ) (indices : Vec TypeExpression Global) (element : Box TypeExpression Global) → 1 ≤ length indices.items
+pub array_has_no_units : (firsts : List (Name × ℕ)) (at : ℕ) (indices : Box (Vec TypeExpression Global) Global) (element : Box TypeExpression Global) → 1 ≤ length indices.value.items
     → 0 ≡ first_of_type firsts (erase.type_expression (tree.type_expression (written.Array at indices element)))
 array_has_no_units firsts at indices element some =
-    go indices.items some ∙ ap (λ t. first_of_type firsts (erase.type_expression t)) (sym (view_array at indices element))
+    go indices.value.items some ∙ ap (λ t. first_of_type firsts (erase.type_expression t)) (sym (view_array at indices element))
   where
     go : (is : List TypeExpression) → 1 ≤ length is
         → 0 ≡ first_of_type firsts (erase.arrays (erase.type_expressions (tree.types_of (map tree.type_expression is))) (erase.type_expression (tree.type_expression element.value)))
@@ -140,11 +140,11 @@ array_has_no_units firsts at indices element some =
     go (i ∷ is) some = refl
 
 -- Without an index, an array is its element.
-pub array_is_element : (firsts : List (Name × ℕ)) (at : ℕ) (indices : Vec TypeExpression Global) (element : Box TypeExpression Global) → length indices.items < 1
+pub array_is_element : (firsts : List (Name × ℕ)) (at : ℕ) (indices : Box (Vec TypeExpression Global) Global) (element : Box TypeExpression Global) → length indices.value.items < 1
     → first_of_type firsts (erase.type_expression (tree.type_expression element.value))
     ≡ first_of_type firsts (erase.type_expression (tree.type_expression (written.Array at indices element)))
 array_is_element firsts at indices element none =
-    go indices.items none ∙ ap (λ t. first_of_type firsts (erase.type_expression t)) (sym (view_array at indices element))
+    go indices.value.items none ∙ ap (λ t. first_of_type firsts (erase.type_expression t)) (sym (view_array at indices element))
   where
     go : (is : List TypeExpression) → length is < 1
         → first_of_type firsts (erase.type_expression (tree.type_expression element.value))
@@ -152,7 +152,7 @@ array_is_element firsts at indices element none =
     go [] none = refl
     go (i ∷ is) none = absurd (omega (arith, none))
 
-pub record_has_no_units : (firsts : List (Name × ℕ)) (at : ℕ) (groups : Vec Fields Global)
+pub record_has_no_units : (firsts : List (Name × ℕ)) (at : ℕ) (groups : Box (Vec Fields Global) Global)
     → 0 ≡ first_of_type firsts (erase.type_expression (tree.type_expression (written.Record at groups)))
 record_has_no_units firsts at groups = ap (λ t. first_of_type firsts (erase.type_expression t)) (sym (view_record at groups))
 

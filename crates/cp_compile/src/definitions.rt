@@ -43,7 +43,7 @@ fn first_of_type_expression(t: &TypeExpression, firsts: &NameTable<u32>) -> u32
             [] => first_of_type_expression(element, firsts),
             [_, ..] => 0,
         },
-        TypeExpression::Subrange(_, _) => 0,
+        TypeExpression::Subrange(_) => 0,
         TypeExpression::Record { .. } => 0,
     }
 }

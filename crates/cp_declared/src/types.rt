@@ -88,8 +88,8 @@ impl<'t> Scope<'t> {
             let definition = declared.definition?;
             match &definition.defined {
                 Defined::Written(TypeExpression::Named(y)) => x = y,
-                Defined::Written(TypeExpression::Subrange(low, _)) => {
-                    return self.type_of_constant(low);
+                Defined::Written(TypeExpression::Subrange(bounds)) => {
+                    return self.type_of_constant(&bounds.0);
                 }
                 Defined::Written(of) => return Some(Type::Structured(Some(&definition.name), of)),
                 Defined::Enumeration(_) => return Some(Type::Enumeration(&definition.name)),
@@ -103,7 +103,7 @@ impl<'t> Scope<'t> {
     pub fn type_of_written(&self, of: &'t TypeExpression) -> Option<Type<'t>> {
         match of {
             TypeExpression::Named(x) => self.type_of_name(x),
-            TypeExpression::Subrange(low, _) => self.type_of_constant(low),
+            TypeExpression::Subrange(bounds) => self.type_of_constant(&bounds.0),
             _ => Some(Type::Structured(None, of)),
         }
     }

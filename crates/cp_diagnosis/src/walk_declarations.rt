@@ -46,7 +46,8 @@ impl<'t> Finder<'t> {
     fn written_type(&mut self, of: &'t TypeExpression, place: TypePlace) {
         match of {
             TypeExpression::Named(x) => self.name(x, NameRole::Type(place)),
-            TypeExpression::Subrange(low, high) => {
+            TypeExpression::Subrange(bounds) => {
+                let (low, high) = &**bounds;
                 self.pair(constant_place(high), Pair::Bounds(low, high));
                 self.constant(low, Mark::FirstBound);
                 self.constant(high, Mark::LastBound);

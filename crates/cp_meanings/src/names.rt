@@ -98,9 +98,9 @@ impl<'t> Names<'t> {
     pub fn shape(&self, of: &'t TypeExpression) -> Option<Shape<'t>> {
         match of {
             TypeExpression::Named(x) => self.shape_of_name(x),
-            TypeExpression::Subrange(first, last) => Some(Shape::Simple(Ordinals {
-                first: self.ordinal(first)?,
-                last: self.ordinal(last)?,
+            TypeExpression::Subrange(bounds) => Some(Shape::Simple(Ordinals {
+                first: self.ordinal(&bounds.0)?,
+                last: self.ordinal(&bounds.1)?,
             })),
             TypeExpression::Array {
                 indices,

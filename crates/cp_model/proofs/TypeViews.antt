@@ -9,17 +9,17 @@ use Rattle.cp_model.specs.declared.tree.TypeExpression.TheVariants as tree
 use Rattle.cp_model.specs.declared.tree.TypeExpression.TheVariants.{rolls-Array, rolls-Record, rolls-Subrange}
 use Rattle.cp_model.specs.declared.tree.TypeExpression.TheFolds.{fold-roll-TypeExpression, fold_out-Fields}
 
-pub view_subrange : (low high : Constant) → type_expression (tree.Subrange low high) ≡ s.Subrange low high
-view_subrange low high =
-    ap type_expression (sym (rolls-Subrange low high)) ∙ fold-roll-TypeExpression s.TypeExpression s.Variables type_layer fields_layer _
+pub view_subrange : (bounds : Box (Constant × Constant) Global) → type_expression (tree.Subrange bounds) ≡ s.Subrange bounds.value.0 bounds.value.1
+view_subrange bounds =
+    ap type_expression (sym (rolls-Subrange bounds)) ∙ fold-roll-TypeExpression s.TypeExpression s.Variables type_layer fields_layer _
 
-pub view_array : (at : ℕ) (indices : Vec TypeExpression Global) (element : Box TypeExpression Global)
-    → type_expression (tree.Array at indices element) ≡ s.Array at (types_of (map type_expression indices.items)) (type_expression element.value)
+pub view_array : (at : ℕ) (indices : Box (Vec TypeExpression Global) Global) (element : Box TypeExpression Global)
+    → type_expression (tree.Array at indices element) ≡ s.Array at (types_of (map type_expression indices.value.items)) (type_expression element.value)
 view_array at indices element =
     ap type_expression (sym (rolls-Array at indices element)) ∙ fold-roll-TypeExpression s.TypeExpression s.Variables type_layer fields_layer _
 
-pub view_record : (at : ℕ) (groups : Vec Fields Global)
-    → type_expression (tree.Record at groups) ≡ s.Record at (fields_of (map variables groups.items))
+pub view_record : (at : ℕ) (groups : Box (Vec Fields Global) Global)
+    → type_expression (tree.Record at groups) ≡ s.Record at (fields_of (map variables groups.value.items))
 view_record at groups =
     ap type_expression (sym (rolls-Record at groups)) ∙ fold-roll-TypeExpression s.TypeExpression s.Variables type_layer fields_layer _
 

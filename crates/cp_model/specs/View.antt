@@ -43,9 +43,9 @@ fields_of (g ∷ gs) = s.MoreFields g.names g.of (fields_of gs)
 
 abbrev pub type_layer : TypeExpression-F s.TypeExpression s.Variables → s.TypeExpression
 type_layer (TypeExpression-F.Named name) = s.Named name
-type_layer (TypeExpression-F.Subrange low high) = s.Subrange low high
-type_layer (TypeExpression-F.Array at indices element) = s.Array at (types_of indices.items) element.value
-type_layer (TypeExpression-F.Record at groups) = s.Record at (fields_of groups.items)
+type_layer (TypeExpression-F.Subrange bounds) = s.Subrange bounds.value.0 bounds.value.1
+type_layer (TypeExpression-F.Array at indices element) = s.Array at (types_of indices.value.items) element.value
+type_layer (TypeExpression-F.Record at groups) = s.Record at (fields_of groups.value.items)
 
 abbrev pub fields_layer : Fields-F s.TypeExpression s.Variables → s.Variables
 fields_layer g = record { names = g.names.items; of = g.of }

@@ -25,21 +25,21 @@ pub enum Constant {
 }
 
 /// A type as it is written. Enumerations and system types occur only in definitions, each with its
-/// own name.
+/// own name. Bounds and lists are boxed, so that it takes 32 bytes: most types are a name.
 #[cycle(types)]
 #[derive(Drop)]
 pub enum TypeExpression {
     Named(Identifier),
-    Subrange(Constant, Constant),
+    Subrange(Box<(Constant, Constant)>),
     /// There is at least one index type. `array [a, b] of t` means `array [a] of array [b] of t`.
     Array {
         at: usize,
-        indices: Vec<TypeExpression>,
+        indices: Box<Vec<TypeExpression>>,
         element: Box<TypeExpression>,
     },
     Record {
         at: usize,
-        groups: Vec<Fields>,
+        groups: Box<Vec<Fields>>,
     },
 }
 

@@ -17,11 +17,11 @@ arrays_begin : (n : ℕ) (is : List a.TypeExpression) (e : a.TypeExpression) →
 arrays_begin n [] e h = h
 arrays_begin n (i ∷ is) e h = tt
 
-pub array_begins : (n at : ℕ) (indices : Vec TypeExpression Global) (element : Box TypeExpression Global)
+pub array_begins : (n at : ℕ) (indices : Box (Vec TypeExpression Global) Global) (element : Box TypeExpression Global)
     → BeginsWithin n (erase.type_expression (type_expression element.value)) → BeginsWithin n (erase.type_expression (type_expression (tree.Array at indices element)))
 array_begins n at indices element h =
     subst (λ t. BeginsWithin n (erase.type_expression t)) (sym (view_array at indices element))
-    (arrays_begin n (erase.type_expressions (types_of (map type_expression indices.items))) (erase.type_expression (type_expression element.value)) h)
+    (arrays_begin n (erase.type_expressions (types_of (map type_expression indices.value.items))) (erase.type_expression (type_expression element.value)) h)
 
 -- ---- definitions
 

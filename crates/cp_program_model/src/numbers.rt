@@ -24,7 +24,7 @@ fn read_type(t: &TypeExpression)
     ensures { BeginsWithin 65535 (erase.type_expression (view.type_expression t.now)) }
 {
     match t {
-        TypeExpression::Subrange(low, _) => read_constant(low),
+        TypeExpression::Subrange(bounds) => read_constant(&bounds.0),
         TypeExpression::Array { element, .. } => read_type(element),
         _ => {}
     }

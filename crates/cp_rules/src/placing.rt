@@ -62,7 +62,7 @@ pub fn type_at(t: &TypeExpression) -> usize
 {
     match t {
         TypeExpression::Named(x) => x.at,
-        TypeExpression::Subrange(low, _) => constant_at(low),
+        TypeExpression::Subrange(bounds) => constant_at(&bounds.0),
         TypeExpression::Array { at, .. } => *at,
         TypeExpression::Record { at, .. } => *at,
     }

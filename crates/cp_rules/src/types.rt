@@ -35,8 +35,8 @@ impl<'t> Checker<'t> {
     {
         match t {
             TypeExpression::Named(x) => Ok(self.named_type(x)),
-            TypeExpression::Subrange(low, high) => {
-                let row = self.subrange(low, high);
+            TypeExpression::Subrange(bounds) => {
+                let row = self.subrange(&bounds.0, &bounds.1);
                 self.make_type(row)
             }
             TypeExpression::Array {

@@ -36,10 +36,10 @@ group_more old new d ds x more = more x (declared_type x ds)
 
 -- ---- Written types
 
-pub array_has_no_name : (at : ℕ) (indices : Vec TypeExpression Global) (element : Box TypeExpression Global) → 1 ≤ length indices.items
+pub array_has_no_name : (at : ℕ) (indices : Box (Vec TypeExpression Global) Global) (element : Box TypeExpression Global) → 1 ≤ length indices.value.items
     → [] ≡ type_name (erase.type_expression (view.type_expression (tree.Array at indices element)))
 array_has_no_name at indices element some =
-    go indices.items some ∙ ap (λ t. type_name (erase.type_expression t)) (sym (view_array at indices element))
+    go indices.value.items some ∙ ap (λ t. type_name (erase.type_expression t)) (sym (view_array at indices element))
   where
     go : (is : List TypeExpression) → 1 ≤ length is
         → [] ≡ type_name (erase.arrays (erase.type_expressions (view.types_of (map view.type_expression is))) (erase.type_expression (view.type_expression element.value)))
@@ -47,10 +47,10 @@ array_has_no_name at indices element some =
     go (i ∷ is) some = refl
 
 -- An array without index types is its element type.
-pub array_is_element : (at : ℕ) (indices : Vec TypeExpression Global) (element : Box TypeExpression Global) → length indices.items < 1
+pub array_is_element : (at : ℕ) (indices : Box (Vec TypeExpression Global) Global) (element : Box TypeExpression Global) → length indices.value.items < 1
     → type_name (erase.type_expression (view.type_expression element.value)) ≡ type_name (erase.type_expression (view.type_expression (tree.Array at indices element)))
 array_is_element at indices element none =
-    go indices.items none ∙ ap (λ t. type_name (erase.type_expression t)) (sym (view_array at indices element))
+    go indices.value.items none ∙ ap (λ t. type_name (erase.type_expression t)) (sym (view_array at indices element))
   where
     go : (is : List TypeExpression) → length is < 1
         → type_name (erase.type_expression (view.type_expression element.value))
@@ -58,5 +58,5 @@ array_is_element at indices element none =
     go [] none = refl
     go (i ∷ is) none = absurd (omega (arith, none))
 
-pub record_has_no_name : (at : ℕ) (groups : Vec Fields Global) → [] ≡ type_name (erase.type_expression (view.type_expression (tree.Record at groups)))
+pub record_has_no_name : (at : ℕ) (groups : Box (Vec Fields Global) Global) → [] ≡ type_name (erase.type_expression (view.type_expression (tree.Record at groups)))
 record_has_no_name at groups = ap (λ t. type_name (erase.type_expression t)) (sym (view_record at groups))

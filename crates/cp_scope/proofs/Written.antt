@@ -12,10 +12,10 @@ use Rattle.cp_model.proofs.TypeViews.{view_array, view_fields, view_record}
 use Rattle.cp_scope.specs.declared.types.Types.{Types}
 use Rattle.cp_scope.specs.Standing.{AreMembers, Stands, entries_of, fields_of, array_type_over, record_type, with_groups, type_from}
 
-pub array_written : (g : GlobalScope) (at : ℕ) (indices : Vec TypeExpression Global) (element : Box TypeExpression Global)
-    → array_type_over indices.items (type_from element.value g) g ≡ type_from (tree.Array at indices element) g
+pub array_written : (g : GlobalScope) (at : ℕ) (indices : Box (Vec TypeExpression Global) Global) (element : Box TypeExpression Global)
+    → array_type_over indices.value.items (type_from element.value g) g ≡ type_from (tree.Array at indices element) g
 array_written g at indices element =
-    each indices.items ∙ ap (λ t. resolved_type g (erase.type_expression t)) (sym (view_array at indices element))
+    each indices.value.items ∙ ap (λ t. resolved_type g (erase.type_expression t)) (sym (view_array at indices element))
   where
     each : (is : List TypeExpression)
         → array_type_over is (type_from element.value g) g
@@ -27,7 +27,7 @@ pub groups_written : (g : GlobalScope) (groups : List Fields) → with_groups gr
 groups_written g [] = refl
 groups_written g (f ∷ fs) = rw (groups_written g fs, view_fields f) refl
 
-pub record_written : (g : GlobalScope) (at : ℕ) (groups : Vec Fields Global) → record_type groups.items g ≡ type_from (tree.Record at groups) g
+pub record_written : (g : GlobalScope) (at : ℕ) (groups : Box (Vec Fields Global) Global) → record_type groups.value.items g ≡ type_from (tree.Record at groups) g
 record_written g at groups = ap (λ t. resolved_type g (erase.type_expression t)) (sym (view_record at groups))
 
 -- Names of one type, before other members.

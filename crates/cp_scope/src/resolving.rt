@@ -123,7 +123,7 @@ impl<'t> Types<'t> {
     {
         match t {
             TypeExpression::Named(x) => self.named_type(names, x),
-            TypeExpression::Subrange(low, high) => self.subrange(names, low, high),
+            TypeExpression::Subrange(bounds) => self.subrange(names, &bounds.0, &bounds.1),
             TypeExpression::Array {
                 indices,
                 element,

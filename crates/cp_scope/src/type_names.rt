@@ -26,7 +26,7 @@ fn type_name<'t>(of: &'t TypeExpression) -> &'t [u8]
             [] => type_name(element),
             [_, ..] => &[],
         },
-        TypeExpression::Subrange(_, _) => &[],
+        TypeExpression::Subrange(_) => &[],
         TypeExpression::Record { .. } => &[],
     }
 }

@@ -75,6 +75,7 @@ fn array<F: Fn(Global, usize, &[Token]) -> Read<'_, TypeExpression> + Copy>(
     let (_, rest) = expect(rest, Symbol::CloseBracket)?;
     let (_, rest) = expect(rest, Symbol::Of)?;
     let (element, rest) = read_at(inner, rest)?;
+    let indices = Box::new(level.alloc, indices)?;
     let element = Box::new(level.alloc, element)?;
     Ok((
         TypeExpression::Array {
@@ -99,6 +100,7 @@ fn record<F: Fn(Global, usize, &[Token]) -> Read<'_, TypeExpression> + Copy>(
     let at = place(tokens);
     let (groups, rest) = separated(level.alloc, inner, Symbol::Semicolon, after(tokens))?;
     let (_, rest) = expect(rest, Symbol::End)?;
+    let groups = Box::new(level.alloc, groups)?;
     Ok((TypeExpression::Record { at, groups }, rest))
 }
 
@@ -140,7 +142,8 @@ fn subrange_from(alloc: Global, low: Constant, tokens: &[Token]) -> Read<'_, Typ
 {
     let (_, rest) = expect(tokens, Symbol::DotDot)?;
     let (high, rest) = constant(alloc, rest)?;
-    Ok((TypeExpression::Subrange(low, high), rest))
+    let bounds = Box::new(alloc, (low, high))?;
+    Ok((TypeExpression::Subrange(bounds), rest))
 }
 
 #[tactic(auto, unfolding(cp_grammar::specs::Types::named_or_subrange))]

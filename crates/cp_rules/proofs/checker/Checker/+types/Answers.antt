@@ -22,23 +22,25 @@ use Rattle.cp_rules.proofs.checker.Checker.+types.Goals as goal
 pub type_of-returns-in-Subrange : goal.type_of-returns-in-Subrange
 type_of-returns-in-Subrange t c =
     let old = c.args.self.now in
-    let low = c.in-Subrange.low in
-    let high = c.in-Subrange.high in
-    let v : view.type_expression c.args.t.now ≡ s.Subrange low high = rw c.in-Subrange.is (view_subrange low high) in
+    let bounds = c.in-Subrange.bounds in
+    let low = bounds.value.0 in
+    let high = bounds.value.1 in
+    let v : view.type_expression c.args.t.now ≡ s.Subrange low high = rw c.in-Subrange.is (view_subrange bounds) in
+    let row = rw (c.deref.ensures, c.deref-in-Subrange.ensures) at c.subrange-row.ensures in
     if_ok c.make_type.result
     (λ of known. rw v (row_made old c.subrange-row.new.self c.make_type.new.self
-    (both (ty.constant old.env low) (ty.constant old.env high) (ty.c2_c3_subrange (ty.constant_at high))) c.subrange-row.result of c.subrange-row.ensures known))
+    (both (ty.constant old.env low) (ty.constant old.env high) (ty.c2_c3_subrange (ty.constant_at high))) c.subrange-row.result of row known))
     c.make_type.ensures
 
 pub type_of-returns-in_ok-of-in-Array : goal.type_of-returns-in_ok-of-in-Array
 type_of-returns-in_ok-of-in-Array t c =
     let at = c.in-Array.at in
-    let is = view.types_of (map view.type_expression c.in-Array.indices.items) in
+    let is = view.types_of (map view.type_expression c.in-Array.indices.value.items) in
     let e = view.type_expression c.in-Array.element.value in
     let v : view.type_expression c.args.t.now ≡ s.Array at is e = rw c.in-Array.is (view_array at c.in-Array.indices c.in-Array.element) in
-    let indices = rw c.deref.ensures.value at c.in_ok-indices-in-Array.ensures in
-    let element = rw c.deref-in-Array.ensures at c.in_ok-of-in-Array.ensures in
-    let placed = rw c.deref-in-Array-2.ensures at c.judge_position-of.ensures in
+    let indices = rw (c.deref-in-Array-2.ensures.value, c.deref-in-Array.ensures) at c.in_ok-indices-in-Array.ensures in
+    let element = rw c.deref-in-Array-3.ensures at c.in_ok-of-in-Array.ensures in
+    let placed = rw c.deref-in-Array-4.ensures at c.judge_position-of.ensures in
     if_ok c.arrays.result
     (λ answer known. rw v (array_made c.args.self.now c.index_types.new.self c.type_of.new.self c.judge_position-of.new.self c.arrays.new.self
     at is e c.in_ok-indices-in-Array.indices.items c.in_ok-of-in-Array.of c.judge_position-of.result answer indices element placed known))

@@ -114,8 +114,8 @@ resolve-returns-in_ok-of-in-Array t c =
     let old = c.args.self.now in
     let e = c.in-Array.element in
     let is = c.in-Array.indices in
-    let element = rw c.deref.ensures at c.in_ok-of-in-Array.ensures in
-    let arrays = rw c.deref-in-Array.ensures.value at c.arrays.ensures in
+    let element = rw c.deref-in-Array.ensures at c.in_ok-of-in-Array.ensures in
+    let arrays = rw (c.deref-in-Array-3.ensures.value, c.deref-in-Array-2.ensures) at c.arrays.ensures in
     if_ok c.arrays.result
     (λ n makes. rw c.in-Array.is
     (record {
@@ -128,7 +128,7 @@ resolve-returns-in_ok-of-in-Array t c =
 
 pub resolve-returns-in-Record : goal.resolve-returns-in-Record
 resolve-returns-in-Record t c =
-    let records = rw c.deref-in-Record.ensures.value at c.record.ensures in
+    let records = rw (c.deref-in-Record-2.ensures.value, c.deref-in-Record.ensures) at c.record.ensures in
     if_ok c.record.result
     (λ n makes. rw c.in-Record.is
     (record { grows = makes.grows; stands = λ g scope. rw (← record_written g c.in-Record.at c.in-Record.groups) (makes.stands g scope) }))
