@@ -13,8 +13,8 @@ use cp_names::NameTable;
 use std::alloc::{AllocError, Global};
 use std::marker::Model;
 
-// The number of hints, a prime.
-const HINTS: usize = 509;
+// The number of hints.
+const HINTS: usize = 512;
 
 // So many names, the first ones, keep their hints: the standard names are among them.
 const KEPT: usize = 32;
@@ -109,17 +109,6 @@ impl<'t> Scope<'t> {
             Some(entity) => Some(entity),
             None => self.table.find(name),
         }
-    }
-
-    /// Adds a name that isn't visible. Fails only if memory runs out.
-    pub fn add(&mut self, name: &'t [u8], entity: Entity) -> Result<(), AllocError>
-        requires { lookup name.now self.old ≡ None }
-        ensures { OnOk result (self.new ≡ self.old ++ (name.now, entity) ∷ []) }
-    {
-        let number = self.table.len();
-        self.table.add(name, entity)?;
-        set_hint(&mut self.hints, name, number);
-        Ok(())
     }
 
     /// Adds a name, unless it is visible already, and returns whether it is new. Fails only if

@@ -1,18 +1,15 @@
 -- The standard names in parts, each after names that were declared before.
-use Rattle.std.specs.Prelude.{[], ◌∷◌, ◌++◌, Option, None, Some, pos, codes}
+use Rattle.std.specs.Prelude.{[], codes, pos}
 use Rattle.cp_model.specs.declared.rules.Entity.{Entity}
 use Rattle.cp_model.specs.declared.rules.Entity.TheVariants as entity
 use Rattle.cp_model.specs.declared.rules.Standard.TheVariants as standard
 use Rattle.cp_model.specs.RulesEnvironment.{Names, Text, boolean, char, integer, queue}
 use Rattle.cp_model.specs.Names.{lookup}
-
-abbrev pub with_name_if : Text → Entity → Names → Option Entity → Names
-with_name_if x e names None = names ++ (x, e) ∷ []
-with_name_if x e names (Some old) = names
+use Rattle.cp_names.specs.Tables.{with_new}
 
 -- The first declaration counts.
 abbrev pub with_name : Text → Entity → Names → Names
-with_name x e names = with_name_if x e names (lookup x names)
+with_name x e names = with_new x e names (lookup x names)
 
 abbrev pub with_types : Names → Names
 with_types names =

@@ -10,14 +10,11 @@ use cp_judge::scope::Scope;
 use cp_model::rules::{Entity, Standard, Structure, TypeRow};
 use std::alloc::{AllocError, Global};
 
-// Declares a standard name, unless it is already declared, since `add` requires a name that isn't
-// visible.
+// Declares a standard name. No two are the same.
 fn add<'t>(names: &mut Scope<'t>, name: &'t [u8], entity: Entity) -> Result<(), AllocError>
     ensures { OnOk result (names.new ≡ standard_names.with_name name.now entity names.old) }
 {
-    if names.find(name).is_none() {
-        names.add(name, entity)?;
-    }
+    names.add_if_new(name, entity)?;
     Ok(())
 }
 
