@@ -1,1 +1,2 @@
 mod Combinators
+mod Found
