@@ -1,2 +1,3 @@
 mod Combinators
+mod Found
 mod Environments
