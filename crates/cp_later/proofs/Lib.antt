@@ -1,3 +1,5 @@
 mod Combinators
 mod Found
 mod Environments
+mod Types
+mod Variables
