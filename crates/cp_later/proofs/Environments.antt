@@ -11,10 +11,23 @@ use Rattle.cp_model.specs.RulesDeclarations.{declare_all, declare_each}
 use Rattle.cp_model.specs.RulesEnvironment.{Environment, Names, c1_declared, declare, declare_if_new, entity_of}
 use Rattle.cp_model.specs.RulesJudged.{Broken, Judged, Sound}
 use Rattle.cp_later.specs.After.{all_after, name_after}
-use Rattle.cp_later.specs.Later.{entity_later, environment_later, judged_later, names_later, violations_later}
+use Rattle.cp_later.specs.Later.{entity_later, environment_later, judged_later, names_later, routines_later, violations_later}
 use Rattle.cp_later.proofs.Combinators.{later_append, unless_later}
 
 module _ (w : Violation) where
+  -- ---- parts of an environment
+
+  pub known_names : (env : Environment) → environment_later w env ≡ true → names_later w env.names ≡ true
+  known_names env h = (and_parts (names_later w env.names) (routines_later w env.routines) h).0
+
+  pub known_routines : (env : Environment) → environment_later w env ≡ true → routines_later w env.routines ≡ true
+  known_routines env h = (and_parts (names_later w env.names) (routines_later w env.routines) h).1
+
+  pub known_again : (env : Environment) → names_later w env.names ≡ true → routines_later w env.routines ≡ true → environment_later w env ≡ true
+  known_again env h g = and_from (names_later w env.names) (routines_later w env.routines) h g
+
+  -- ---- one name
+
   names_append : (xs ys : Names) → names_later w xs ≡ true → names_later w ys ≡ true → names_later w (xs ++ ys) ≡ true
   names_append [] ys h g = g
   names_append (x ∷ xs) ys h g = and_from _ _ (and_parts _ _ h).0 (names_append xs ys (and_parts _ _ h).1 g)
@@ -24,13 +37,10 @@ module _ (w : Violation) where
   added x e names None h g = names_append names _ g (and_from _ _ h refl)
   added x e names (Some old) h g = g
 
-  -- ---- one name
-
   pub declare_later : (x : Identifier) (e : Entity) (env : Environment)
       → entity_later w e ≡ true → environment_later w env ≡ true → environment_later w (declare x e env) ≡ true
   declare_later x e env h g =
-      let parts = and_parts _ _ g in
-      and_from _ _ (added x e env.names (lookup x.name env.names) h parts.0) parts.1
+      known_again (declare x e env) (added x e env.names (lookup x.name env.names) h (known_names env g)) (known_routines env g)
 
   pub declared_later : (env : Environment) (x : Identifier) → name_after w.at x ≡ true → violations_later w (c1_declared env x) ≡ true
   declared_later env x h = unless_later w (not (is_some (lookup x.name env.names))) C1 x.at h

@@ -1,7 +1,7 @@
 -- What is told of variables that stand later is later, and so is the environment with them.
 use Rattle.std.proofs.Common.{◌≡◌, ◌∷◌, ◌++◌, ℕ, Bool, List, [], nat_eq, refl, suc, true}
 use Rattle.std.specs.Prelude.{nat_lt, not, ◌&&◌}
-use Rattle.std.proofs.lemmas.Bool.{and_from, and_parts}
+use Rattle.std.proofs.lemmas.Bool.{and_parts}
 use Rattle.cp_model.specs.Syntax as s
 use Rattle.cp_model.specs.declared.tree.Identifier.{Identifier}
 use Rattle.cp_model.specs.declared.tree.Sort.{Sort}
@@ -14,13 +14,13 @@ use Rattle.cp_model.specs.declared.rules.Structure.TheVariants as structure
 use Rattle.cp_model.specs.declared.rules.SystemRow.{SystemRow}
 use Rattle.cp_model.specs.declared.rules.Violation.{Violation}
 use Rattle.cp_model.specs.RulesDeclarations as d
-use Rattle.cp_model.specs.RulesEnvironment.{Environment, row_of, system_row}
+use Rattle.cp_model.specs.RulesEnvironment.{Environment, entity_of, row_of, system_row}
 use Rattle.cp_model.specs.RulesJudged.{Broken, Judged, Sound, violations_of}
 use Rattle.cp_model.specs.RulesTypes.{is_within, type_placed}
 use Rattle.cp_later.specs.After.{all_after, name_after, variables_after}
 use Rattle.cp_later.specs.Later.{environment_later, violations_later}
 use Rattle.cp_later.proofs.Combinators.{later_append, unless_later}
-use Rattle.cp_later.proofs.Environments.{all_told, all_visible, entity_of_later}
+use Rattle.cp_later.proofs.Environments.{all_told, all_visible, entity_of_later, known_again, known_names, known_routines}
 use Rattle.cp_later.proofs.Types.{type_placed_later}
 
 -- what is told of declarations and the environment with them are later
@@ -74,10 +74,11 @@ module _ (w : Violation) where
       let defined = d.declare_all env d.unfinished_variable g.names in
       let m = type_placed defined.env p g.of in
       let made = type_placed_later w defined.env p g.of (all_visible w env d.unfinished_variable g.names h refl) parts.1 in
-      let kept : environment_later w (record m.env { names = env.names }) ≡ true = and_from _ _ (and_parts _ _ h).0 (and_parts _ _ made.0).1 in
-      let e = d.own_variable in
-      let known = all_visible w (record m.env { names = env.names }) _ g.names kept (entity_of_later w d.own_variable m.of (λ t. refl) made.1) in
-      let counted = owners_later _ p m.of g.names known parts.0 in
+      let kept : Environment = record m.env { names = env.names } in
+      let visible = d.declare_all kept (entity_of d.own_variable m.of) g.names in
+      let known = known_again w kept (known_names w env h) (known_routines w m.env made.0) in
+      let declared = all_visible w kept (entity_of d.own_variable m.of) g.names known (entity_of_later w d.own_variable m.of (λ t. refl) made.1) in
+      let counted = owners_later visible.env p m.of g.names declared parts.0 in
       (counted.0, later_append w _ _ (later_append w _ _ (all_told w env d.unfinished_variable g.names parts.0) made.1) counted.1)
 
   pub variables_later : (env : Environment) (p : Position) (gs : List s.Variables)
