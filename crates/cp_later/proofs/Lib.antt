@@ -1,2 +1,4 @@
 mod Combinators
 mod Found
+mod Places
+mod NamesUsed
