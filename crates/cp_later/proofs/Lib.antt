@@ -2,3 +2,4 @@ mod Combinators
 mod Found
 mod Places
 mod NamesUsed
+mod Called
