@@ -57,7 +57,7 @@ module _ (w : Violation) (env : Environment) where
 ruleset of_calls = (also_later, unless_later, breaks_later, function_called_later, procedure_called_later, called_later, routine_later, standard_later, other_later, last_after)
 
 module _ (w : Violation) (env : Environment) (known : environment_later w env ≡ true) where
-  function_later : (m : Mode) (d : s.Designator) (k : ℕ) (e : Entity) → designator_after w.at d ≡ true → entity_later w e ≡ true
+  pub function_later : (m : Mode) (d : s.Designator) (k : ℕ) (e : Entity) → designator_after w.at d ≡ true → entity_later w e ≡ true
       → judged_later w (n.function_of env m d k e) ≡ true
   function_later m d k (entity.Routine r) h g = search of_calls
   function_later m d k (entity.Entry r) h g = search of_calls

@@ -1,5 +1,7 @@
 mod Combinators
+mod Entities
 mod Found
 mod Places
 mod NamesUsed
 mod Called
+mod Expressions

@@ -1,5 +1,5 @@
 -- What is told of a designator's names, and of what they stand for, is later.
-use Rattle.std.proofs.Common.{Bool, List, None, Option, Some, [], refl, true, ℕ, ◌≡◌, ◌++◌, ◌∷◌}
+use Rattle.std.proofs.Common.{Bool, List, false, None, Option, Some, [], refl, true, ℕ, ◌≡◌, ◌++◌, ◌∷◌}
 use Rattle.std.specs.Prelude.{nat_eq, nat_lt, ◌&&◌}
 use Rattle.std.proofs.lemmas.Bool.{and_from, and_parts}
 use Rattle.cp_model.specs.Syntax as s
@@ -15,19 +15,20 @@ use Rattle.cp_model.specs.declared.rules.Returns.{Returns}
 use Rattle.cp_model.specs.declared.rules.Returns.TheVariants as returns
 use Rattle.cp_model.specs.declared.rules.RoutineRow.{RoutineRow}
 use Rattle.cp_model.specs.declared.rules.Rule.{Rule}
-use Rattle.cp_model.specs.declared.rules.Rule.TheVariants.{C10}
+use Rattle.cp_model.specs.declared.rules.Rule.TheVariants.{C2, C10}
 use Rattle.cp_model.specs.declared.rules.Structure.{Structure}
 use Rattle.cp_model.specs.declared.rules.Structure.TheVariants as structure
 use Rattle.cp_model.specs.declared.rules.Violation.{Violation}
 use Rattle.cp_model.specs.declared.tree.Identifier.{Identifier}
 use Rattle.cp_model.specs.Names.{lookup}
-use Rattle.cp_model.specs.RulesEnvironment.{Environment, Members, c1_named, members_in, routine_of, row_of}
-use Rattle.cp_model.specs.RulesJudged.{Broken, Judged, Sound, also, breaks, then_judge, violation}
+use Rattle.cp_model.specs.RulesEnvironment.{Environment, Members, agree, c1_named, c4_c9_named, members_in, routine_of, row_of}
+use Rattle.cp_model.specs.RulesJudged.{Broken, Judged, Sound, also, breaks, guard, then_judge, violation}
 use Rattle.cp_model.specs.RulesNames as n
 use Rattle.cp_later.specs.After.{designator_after, expression_after, name_after, selector_after, selectors_after}
 use Rattle.cp_later.specs.Later.{entity_later, environment_later, judged_later, returns_later, violations_later}
 use Rattle.cp_later.proofs.Combinators.{also_later, breaks_later, guard_later, later_append, then_later, unless_later}
-use Rattle.cp_later.proofs.Found.{always_later, entity_judged, entity_named_later, routine_later, standard_later, unfinished_later}
+use Rattle.cp_later.proofs.Entities.{also_entity_later, entity_judged}
+use Rattle.cp_later.proofs.Found.{always_later}
 use Rattle.cp_later.proofs.Places.{first_after, last_after, token_after}
 
 -- ---- What is selected
@@ -76,6 +77,18 @@ module _ (w : Violation) (env : Environment) where
   array_later at (entity.UnfinishedRoutine r) h = search breaks_later
   array_later at entity.Hidden h = search breaks_later
   array_later at (entity.Broken v) h = search breaks_later
+
+  pub index_later : (at : ℕ) (part : ArrayPart) (t : ℕ) → nat_lt w.at at ≡ true → entity_judged w (n.c2_index env at part t) ≡ true
+  index_later at part t h = go (agree env part.index t)
+    where
+      go : (b : Bool) → entity_judged w (guard b C2 at (entity.Variable part.element part.access)) ≡ true
+      go true = refl
+      go false = breaks_later w C2 at h
+
+  pub before_selectors_later : (x : Identifier) (ss : s.Selectors) (e : Entity) → name_after w.at x ≡ true → entity_later w e ≡ true
+      → entity_judged w (n.before_selectors env x ss e) ≡ true
+  before_selectors_later x s.NoSelectors e h g = g
+  before_selectors_later x (s.MoreSelectors y ys) e h g = also_entity_later w (c4_c9_named env x e) (Sound e) (always_later w env x e h) g
 
 -- ---- What is judged of the names, whatever is broken
 
