@@ -5,3 +5,4 @@ mod Places
 mod NamesUsed
 mod Called
 mod Expressions
+mod Statements
