@@ -18,27 +18,13 @@ use Rattle.cp_model.specs.RulesTypes.{c2_constant, constant}
 use Rattle.cp_later.specs.After.{constant_after, name_after}
 use Rattle.cp_later.specs.Later.{entity_later, environment_later, judged_later, names_later, returns_later, routines_later, violations_later}
 use Rattle.cp_later.proofs.Combinators.{also_later, breaks_later, later_append, unless_later}
-
--- Nothing that is told is earlier, and neither is what the entity knows of a broken declaration.
-abbrev pub entity_judged : Violation → Judged Entity → Bool
-entity_judged w (Sound e) = entity_later w e
-entity_judged w (Broken v vs) = judged_later {A = Entity} w (Broken v vs)
+use Rattle.cp_later.proofs.Entities.{entity_judged, entity_told, with_entity_later}
 
 abbrev pub found_later : Violation → Option Entity → Bool
 found_later w None = true
 found_later w (Some e) = entity_later w e
 
 module _ (w : Violation) where
-  pub entity_told : (j : Judged Entity) → entity_judged w j ≡ true → judged_later w j ≡ true
-  entity_told (Sound e) h = refl
-  entity_told (Broken v vs) h = h
-
-  -- `then_later`, where the meaning is an entity
-  pub then_entity_later : {A : Type 0} (j : Judged Entity) (k : Entity → Judged A)
-      → entity_judged w j ≡ true → ((e : Entity) → entity_later w e ≡ true → judged_later w (k e) ≡ true) → judged_later w (then_judge j k) ≡ true
-  then_entity_later (Sound e) k h g = g e h
-  then_entity_later (Broken v vs) k h g = h
-
   lookup_later : (x : Text) (names : Names) → names_later w names ≡ true → found_later w (lookup x names) ≡ true
   lookup_later x [] h = refl
   lookup_later x (e ∷ es) h = let parts = and_parts (entity_later w e.1) (names_later w es) h in go (bytes_eq x e.0) parts.0 (lookup_later x es parts.1)
@@ -126,4 +112,4 @@ module _ (w : Violation) (env : Environment) (known : environment_later w env �
   constant_later (written.Negative at n) h = refl
   constant_later (written.Character at n) h = refl
   constant_later (written.Named x) h =
-      then_entity_later w (c1_named env x) (c2_constant x) (entity_named_later x h) (λ e _. constant_named_later w x e h)
+      with_entity_later w (c1_named env x) (c2_constant x) (entity_named_later x h) (λ e _. constant_named_later w x e h)

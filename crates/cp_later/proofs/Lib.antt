@@ -1,5 +1,12 @@
 mod Combinators
+mod Entities
 mod Found
+mod Places
+mod NamesUsed
+mod Called
+mod Expressions
+mod Statements
 mod Environments
 mod Types
 mod Variables
+mod Headings
