@@ -10,3 +10,6 @@ mod Environments
 mod Types
 mod Variables
 mod Headings
+mod Routines
+mod Definitions
+pub mod NothingEarlier
