@@ -17,7 +17,7 @@ use Rattle.cp_model.specs.declared.rules.Violation.{Violation}
 use Rattle.cp_model.specs.Rules as r
 use Rattle.cp_model.specs.RulesDeclarations as d
 use Rattle.cp_model.specs.RulesEnvironment.{Environment, declare, entity_of, is_process, simple_row}
-use Rattle.cp_model.specs.RulesJudged.{Judged, Violations}
+use Rattle.cp_model.specs.RulesJudged.{Violations}
 use Rattle.cp_model.specs.RulesNeeds.{need_statements}
 use Rattle.cp_model.specs.RulesTypes.{add_type, cap_words, constant, is_within, type_placed}
 use Rattle.cp_later.specs.After as after

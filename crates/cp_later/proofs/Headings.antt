@@ -12,9 +12,9 @@ use Rattle.cp_model.specs.declared.rules.Rule.TheVariants.{C7, C8}
 use Rattle.cp_model.specs.declared.rules.Violation.{Violation}
 use Rattle.cp_model.specs.RulesDeclarations as d
 use Rattle.cp_model.specs.RulesEnvironment.{Environment, entity_of, row_of}
-use Rattle.cp_model.specs.RulesJudged.{Judged, breaks, guard, then_judge, violations_of}
+use Rattle.cp_model.specs.RulesJudged.{breaks, guard, then_judge}
 use Rattle.cp_model.specs.RulesTypes.{named_type}
-use Rattle.cp_later.specs.After.{all_after, name_after, optional_after, parameters_after}
+use Rattle.cp_later.specs.After.{all_after, optional_after, parameters_after}
 use Rattle.cp_later.specs.Later.{entity_later, environment_later, judged_later, violations_later}
 use Rattle.cp_later.proofs.Combinators.{breaks_later, guard_later, later_append, then_later}
 use Rattle.cp_later.proofs.Environments.{all_told, all_visible, entity_of_later}

@@ -13,9 +13,9 @@ use Rattle.cp_model.specs.declared.rules.Rule.TheVariants.{C1, C2, C3, C4, C6, C
 use Rattle.cp_model.specs.declared.rules.TypeRow.{TypeRow}
 use Rattle.cp_model.specs.declared.rules.Violation.{Violation}
 use Rattle.cp_model.specs.RulesEnvironment.{Environment, Text, c1_named, c4_unfinished, is_simple, row_of}
-use Rattle.cp_model.specs.RulesJudged.{Broken, Judged, Sound, also, breaks, guard, unless}
+use Rattle.cp_model.specs.RulesJudged.{Broken, Judged, Sound, also, breaks}
 use Rattle.cp_model.specs.RulesTypes as ty
-use Rattle.cp_later.specs.After.{all_after, constant_after, fields_after, name_after, type_after, types_after}
+use Rattle.cp_later.specs.After.{all_after, fields_after, name_after, type_after, types_after}
 use Rattle.cp_later.specs.Later.{environment_later, judged_later, violations_later}
 use Rattle.cp_later.proofs.Combinators.{also_later, both_later, breaks_later, guard_later, later_append, then_later, unless_later}
 use Rattle.cp_later.proofs.Found.{constant_later, named_later, unfinished_later}

@@ -1,6 +1,6 @@
 -- What is told of variables that stand later is later, and so is the environment with them.
-use Rattle.std.proofs.Common.{◌≡◌, ◌∷◌, ◌++◌, ℕ, Bool, List, [], nat_eq, refl, suc, true}
-use Rattle.std.specs.Prelude.{nat_lt, not, ◌&&◌}
+use Rattle.std.proofs.Common.{◌≡◌, ◌∷◌, ℕ, List, [], nat_eq, refl, suc, true}
+use Rattle.std.specs.Prelude.{not, ◌&&◌}
 use Rattle.std.proofs.lemmas.Bool.{and_parts}
 use Rattle.cp_model.specs.Syntax as s
 use Rattle.cp_model.specs.declared.tree.Identifier.{Identifier}
@@ -15,7 +15,7 @@ use Rattle.cp_model.specs.declared.rules.SystemRow.{SystemRow}
 use Rattle.cp_model.specs.declared.rules.Violation.{Violation}
 use Rattle.cp_model.specs.RulesDeclarations as d
 use Rattle.cp_model.specs.RulesEnvironment.{Environment, entity_of, row_of, system_row}
-use Rattle.cp_model.specs.RulesJudged.{Broken, Judged, Sound, violations_of}
+use Rattle.cp_model.specs.RulesJudged.{Broken, Judged, Sound}
 use Rattle.cp_model.specs.RulesTypes.{is_within, type_placed}
 use Rattle.cp_later.specs.After.{all_after, name_after, variables_after}
 use Rattle.cp_later.specs.Later.{environment_later, violations_later}
