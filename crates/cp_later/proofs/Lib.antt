@@ -5,4 +5,6 @@ mod Places
 mod NamesUsed
 mod Called
 mod Expressions
+mod SimpleStatements
+mod Initialised
 mod Statements
