@@ -1,26 +1,23 @@
 -- What is told of a name that is called or used as a value is later.
-use Rattle.std.proofs.Common.{Bool, None, Option, Some, refl, true, ℕ, ◌≡◌, ◌∷◌, []}
-use Rattle.std.specs.Prelude.{nat_eq, nat_lt, ◌&&◌}
+use Rattle.std.proofs.Common.{Bool, None, Option, Some, refl, true, ℕ, ◌≡◌}
+use Rattle.std.specs.Prelude.{nat_eq}
 use Rattle.std.proofs.lemmas.Bool.{and_from}
 use Rattle.cp_model.specs.Syntax as s
 use Rattle.cp_model.specs.declared.rules.Entity.{Entity}
 use Rattle.cp_model.specs.declared.rules.Entity.TheVariants as entity
-use Rattle.cp_model.specs.declared.rules.Gives.{Gives}
 use Rattle.cp_model.specs.declared.rules.Mode.{Mode}
 use Rattle.cp_model.specs.declared.rules.Mode.TheVariants as mode
 use Rattle.cp_model.specs.declared.rules.Returns.{Returns}
 use Rattle.cp_model.specs.declared.rules.Returns.TheVariants as returns
 use Rattle.cp_model.specs.declared.rules.RoutineRow.{RoutineRow}
 use Rattle.cp_model.specs.declared.rules.Rule.{Rule}
-use Rattle.cp_model.specs.declared.rules.Rule.TheVariants.{C2, C4, C10}
-use Rattle.cp_model.specs.declared.rules.Standard.{Standard}
 use Rattle.cp_model.specs.declared.rules.Violation.{Violation}
 use Rattle.cp_model.specs.declared.tree.Identifier.{Identifier}
-use Rattle.cp_model.specs.RulesEnvironment.{Environment, c4_c9_named, c4_unfinished, c9_standard, integer, routine_of}
-use Rattle.cp_model.specs.RulesJudged.{Broken, Judged, Sound, Violations, also, breaks, guard, then_judge, unless, violation}
+use Rattle.cp_model.specs.RulesEnvironment.{Environment, c4_unfinished, integer}
+use Rattle.cp_model.specs.RulesJudged.{Sound, also, breaks, then_judge}
 use Rattle.cp_model.specs.RulesNames as n
 use Rattle.cp_later.specs.After.{designator_after, name_after}
-use Rattle.cp_later.specs.Later.{entity_later, environment_later, is_later, judged_later, returns_later, violations_later}
+use Rattle.cp_later.specs.Later.{entity_later, environment_later, judged_later, returns_later}
 use Rattle.cp_later.proofs.Combinators.{also_later, breaks_later, guard_later, then_later, unless_later}
 use Rattle.cp_later.proofs.Found.{always_later, routine_later, standard_later, unfinished_later}
 use Rattle.cp_later.proofs.Places.{first_after, last_after}

@@ -1,7 +1,7 @@
 -- What is told of a whole is later than a violation if what is told of its parts is: one lemma for
 -- each word by which the rules join their judgements.
-use Rattle.std.proofs.Common.{Bool, List, [], arith, false, refl, true, ℕ, ◌++◌, ◌≡◌, ◌∷◌}
-use Rattle.std.specs.Prelude.{nat_lt, ◌&&◌}
+use Rattle.std.proofs.Common.{Bool, [], arith, false, refl, true, ℕ, ◌++◌, ◌≡◌, ◌∷◌}
+use Rattle.std.specs.Prelude.{nat_lt}
 use Rattle.std.proofs.lemmas.Bool.Decides.{nat_tests}
 use Rattle.std.proofs.lemmas.Bool.{and_from, and_parts}
 use Rattle.cp_model.specs.declared.rules.Rule.{Rule}

@@ -1,6 +1,6 @@
 -- The words by which the rules join their judgements, where the meaning is an entity, which may know
 -- of a broken declaration.
-use Rattle.std.proofs.Common.{Bool, List, [], refl, true, ◌++◌, ◌≡◌, ◌∷◌}
+use Rattle.std.proofs.Common.{Bool, [], refl, true, ◌≡◌, ◌∷◌}
 use Rattle.cp_model.specs.declared.rules.Entity.{Entity}
 use Rattle.cp_model.specs.declared.rules.Violation.{Violation}
 use Rattle.cp_model.specs.RulesJudged.{Broken, Judged, Sound, Violations, also, both, then_judge}

@@ -11,13 +11,13 @@ use Rattle.cp_model.specs.declared.rules.Rule.TheVariants.{C2}
 use Rattle.cp_model.specs.declared.rules.Violation.{Violation}
 use Rattle.cp_model.specs.declared.rules.Want.{Want}
 use Rattle.cp_model.specs.declared.rules.Want.TheVariants as want
-use Rattle.cp_model.specs.RulesEnvironment.{Environment, agree, base_of, boolean, c1_named, char, integer, is_base, is_simple, queue}
+use Rattle.cp_model.specs.RulesEnvironment.{Environment, base_of, boolean, c1_named, char, integer, is_base, is_simple, queue}
 use Rattle.cp_model.specs.RulesExpressions as e
-use Rattle.cp_model.specs.RulesJudged.{Broken, Judged, Sound, also, both, guard, then_judge}
+use Rattle.cp_model.specs.RulesJudged.{Judged, also, both, guard, then_judge}
 use Rattle.cp_model.specs.RulesNames.{Callee, before_selectors, c10_variable, c2_array, c2_c5_c8_named, c2_index, c2_indexed, count_of, first_token, function_of, member_of, value_of}
 use Rattle.cp_later.specs.After.{designator_after, expression_after, expressions_after, indices_after, name_after, selector_after, selectors_after}
-use Rattle.cp_later.specs.Later.{entity_later, environment_later, judged_later, violations_later}
-use Rattle.cp_later.proofs.Combinators.{also_later, both_later, breaks_later, guard_later, then_later}
+use Rattle.cp_later.specs.Later.{environment_later, judged_later, violations_later}
+use Rattle.cp_later.proofs.Combinators.{also_later, both_later, guard_later, then_later}
 use Rattle.cp_later.proofs.Entities.{both_entity_later, entity_judged, entity_told, then_entity_later, with_entity_later}
 use Rattle.cp_later.proofs.Found.{entity_named_later}
 use Rattle.cp_later.proofs.NamesUsed.{array_later, before_selectors_later, changed_later, index_later, indexed_later, member_later, names_used_later}

@@ -1,7 +1,7 @@
 -- What is told of a name that is used: either at the name, or of a broken declaration that the
 -- environment knows, and no such declaration is earlier.
 use Rattle.std.proofs.Common.{Bool, List, None, Option, Some, [], false, get_or, refl, suc, true, zero, ℕ, ◌≡◌, ◌∷◌}
-use Rattle.std.specs.Prelude.{if◌then◌else◌, nat_lt, ℤ, ◌&&◌}
+use Rattle.std.specs.Prelude.{if◌then◌else◌}
 use Rattle.std.specs.Str.{bytes_eq}
 use Rattle.std.proofs.lemmas.Bool.{and_from, and_parts}
 use Rattle.cp_model.specs.declared.rules.Entity.{Entity}
@@ -13,7 +13,6 @@ use Rattle.cp_model.specs.declared.tree.Constant.TheVariants as written
 use Rattle.cp_model.specs.declared.tree.Identifier.{Identifier}
 use Rattle.cp_model.specs.Names.{lookup}
 use Rattle.cp_model.specs.RulesEnvironment.{Environment, Names, Text, c1_named, c4_c9_named, c4_unfinished, c9_standard, no_routine, resolve, routine_of}
-use Rattle.cp_model.specs.RulesJudged.{Broken, Judged, Sound, breaks, then_judge}
 use Rattle.cp_model.specs.RulesTypes.{c2_constant, constant}
 use Rattle.cp_later.specs.After.{constant_after, name_after}
 use Rattle.cp_later.specs.Later.{entity_later, environment_later, judged_later, names_later, returns_later, routines_later, violations_later}

@@ -5,6 +5,8 @@ mod Places
 mod NamesUsed
 mod Called
 mod Expressions
+mod SimpleStatements
+mod Initialised
 mod Statements
 mod Environments
 mod Types

@@ -1,7 +1,7 @@
 -- What is told of a designator's names, and of what they stand for, is later.
-use Rattle.std.proofs.Common.{Bool, List, false, None, Option, Some, [], refl, true, ℕ, ◌≡◌, ◌++◌, ◌∷◌}
-use Rattle.std.specs.Prelude.{nat_eq, nat_lt, ◌&&◌}
-use Rattle.std.proofs.lemmas.Bool.{and_from, and_parts}
+use Rattle.std.proofs.Common.{Bool, false, None, Option, Some, [], refl, true, ℕ, ◌≡◌, ◌++◌, ◌∷◌}
+use Rattle.std.specs.Prelude.{nat_lt}
+use Rattle.std.proofs.lemmas.Bool.{and_parts}
 use Rattle.cp_model.specs.Syntax as s
 use Rattle.cp_model.specs.declared.rules.Access.{Access}
 use Rattle.cp_model.specs.declared.rules.ArrayPart.{ArrayPart}
@@ -11,22 +11,18 @@ use Rattle.cp_model.specs.declared.rules.Member.{Member}
 use Rattle.cp_model.specs.declared.rules.Member.TheVariants as member
 use Rattle.cp_model.specs.declared.rules.Mode.{Mode}
 use Rattle.cp_model.specs.declared.rules.Mode.TheVariants as mode
-use Rattle.cp_model.specs.declared.rules.Returns.{Returns}
-use Rattle.cp_model.specs.declared.rules.Returns.TheVariants as returns
-use Rattle.cp_model.specs.declared.rules.RoutineRow.{RoutineRow}
-use Rattle.cp_model.specs.declared.rules.Rule.{Rule}
 use Rattle.cp_model.specs.declared.rules.Rule.TheVariants.{C2, C10}
 use Rattle.cp_model.specs.declared.rules.Structure.{Structure}
 use Rattle.cp_model.specs.declared.rules.Structure.TheVariants as structure
 use Rattle.cp_model.specs.declared.rules.Violation.{Violation}
 use Rattle.cp_model.specs.declared.tree.Identifier.{Identifier}
 use Rattle.cp_model.specs.Names.{lookup}
-use Rattle.cp_model.specs.RulesEnvironment.{Environment, Members, agree, c1_named, c4_c9_named, members_in, routine_of, row_of}
-use Rattle.cp_model.specs.RulesJudged.{Broken, Judged, Sound, also, breaks, guard, then_judge, violation}
+use Rattle.cp_model.specs.RulesEnvironment.{Environment, Members, agree, c1_named, c4_c9_named, members_in, row_of}
+use Rattle.cp_model.specs.RulesJudged.{Sound, guard, violation}
 use Rattle.cp_model.specs.RulesNames as n
 use Rattle.cp_later.specs.After.{designator_after, expression_after, name_after, selector_after, selectors_after}
-use Rattle.cp_later.specs.Later.{entity_later, environment_later, judged_later, returns_later, violations_later}
-use Rattle.cp_later.proofs.Combinators.{also_later, breaks_later, guard_later, later_append, then_later, unless_later}
+use Rattle.cp_later.specs.Later.{entity_later, judged_later, violations_later}
+use Rattle.cp_later.proofs.Combinators.{breaks_later, later_append, unless_later}
 use Rattle.cp_later.proofs.Entities.{also_entity_later, entity_judged}
 use Rattle.cp_later.proofs.Found.{always_later}
 use Rattle.cp_later.proofs.Places.{first_after, last_after, token_after}
