@@ -24,7 +24,8 @@ use Rattle.cp_later.specs.After as after
 use Rattle.cp_later.specs.After.{all_after, name_after}
 use Rattle.cp_later.specs.Later.{environment_later, violations_later}
 use Rattle.cp_later.proofs.Combinators.{later_append, unless_later}
-use Rattle.cp_later.proofs.Environments.{declare_later, declared_later, each_told, each_visible, entity_of_later, known_again, known_names, known_routines}
+use Rattle.cp_later.proofs.Environments.{declare_later, declared_later, each_told, each_visible, entity_of_later}
+use Rattle.cp_later.proofs.Environments.{known_again, known_names, known_routines}
 use Rattle.cp_later.proofs.Found.{constant_later}
 use Rattle.cp_later.proofs.Headings.{bound_later, heading_later}
 use Rattle.cp_later.proofs.Routines.{routines_told}
@@ -61,12 +62,14 @@ module _ (w : Violation) where
       and_from _ _ parts.0 (values_after base (suc n) xs parts.1)
 
   enumeration_told : (env : Environment) (x : Identifier) (xs : List Identifier)
-      → environment_later w env ≡ true → name_after w.at x ≡ true → all_after (name_after w.at) xs ≡ true → DeclaredLater w (r.define_enumeration env x xs)
+      → environment_later w env ≡ true → name_after w.at x ≡ true → all_after (name_after w.at) xs ≡ true
+      → DeclaredLater w (r.define_enumeration env x xs)
   enumeration_told env x xs h g after =
       let t = length env.types in
       let own = add_type env (simple_row t (pos 0) (pos (length xs - 1))) in (
         each_visible w (declare x (entity.Type t) own) (r.values t 0 xs) (declare_later w x (entity.Type t) own refl h) (values_bound t 0 xs),
-        later_append w _ _ (declared_later w env x g) (each_told w (declare x entity.UnfinishedType own) (r.values t 0 xs) (values_after t 0 xs after)),
+        later_append w _ _ (declared_later w env x g)
+            (each_told w (declare x entity.UnfinishedType own) (r.values t 0 xs) (values_after t 0 xs after)),
       )
 
   -- ---- types
@@ -108,7 +111,14 @@ module _ (w : Violation) where
       let count = length head.rows in
       let words = cap_words (1 + count + own.words + (if is_process y.sort then body_need else 0)) in
       let row : TypeRow = record { structure = structure.System (length all.env.systems); words = words; has_queues = false } in
-      let system : SystemRow = record { sort = y.sort; first = length env.parameters; count = count; words = words; body_need = body_need; members = length all.env.members } in
+      let system : SystemRow = record {
+        sort = y.sort;
+        first = length env.parameters;
+        count = count;
+        words = words;
+        body_need = body_need;
+        members = length all.env.members;
+      } in
       let after_it : Environment = record all.env {
         names = env.names;
         types = all.env.types ++ row ∷ [];
@@ -119,8 +129,8 @@ module _ (w : Violation) where
       let known = known_again w after_it (known_names w env h) (known_routines w all.env each.0) in (
         declare_later w x (entity.Type (length all.env.types)) after_it refl known,
         later_append w _ _
-        (later_append w _ _ (later_append w _ _ (later_append w _ _ (declared_later w env x g) headed.told) owned.1) each.1)
-        (statements_later w all.env each.0 y.body.list body.1),
+            (later_append w _ _ (later_append w _ _ (later_append w _ _ (declared_later w env x g) headed.told) owned.1) each.1)
+            (statements_later w all.env each.0 y.body.list body.1),
       )
 
   -- ---- sections
@@ -136,7 +146,8 @@ module _ (w : Violation) where
 
   module _ {A : Type 0} (f : Environment → A → d.Declared) (stands : A → Bool)
       (one : (env : Environment) (x : A) → environment_later w env ≡ true → stands x ≡ true → DeclaredLater w (f env x)) where
-    pub each_defined : (env : Environment) (xs : List A) → environment_later w env ≡ true → all_after stands xs ≡ true → DeclaredLater w (r.define_each f env xs)
+    pub each_defined : (env : Environment) (xs : List A)
+        → environment_later w env ≡ true → all_after stands xs ≡ true → DeclaredLater w (r.define_each f env xs)
     each_defined env [] h g = (h, refl)
     each_defined env (x ∷ xs) h g =
         let parts = and_parts _ _ g in

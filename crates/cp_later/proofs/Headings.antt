@@ -61,14 +61,16 @@ module _ (w : Violation) where
       let first = and_parts _ _ parts.0 in
       let defined = d.declare_all env d.unfinished_variable g.names in
       let by_reference = is_some g.by_reference && not (is_some of) in
-      let t = then_judge (named_type defined.env g.of) (d.c7_c8_parameter env of g.of.at) in
+      let of_type = named_type defined.env g.of in
+      let t = then_judge of_type (d.c7_c8_parameter env of g.of.at) in
       let named = named_type_later w defined.env g.of (all_visible w env d.unfinished_variable g.names h refl) parts.1 in
-      let judged = then_later w (named_type defined.env g.of) (d.c7_c8_parameter env of g.of.at) named (λ u. parameter_later env of g.of.at u parts.1) in
+      let judged = then_later w of_type (d.c7_c8_parameter env of g.of.at) named (λ u. parameter_later env of g.of.at u parts.1) in
       let var = var_later (d.var_rule of is_function) g.by_reference first.0 in
       record {
         known = all_visible w env entity.Hidden g.names h refl;
         told = later_append w _ _ (later_append w _ _ (all_told w env d.unfinished_variable g.names first.1) var) judged;
-        bound = all_bound (entity_of (d.parameter_entity by_reference) t) g.names (entity_of_later w (d.parameter_entity by_reference) t (λ u. refl) judged);
+        bound = all_bound (entity_of (d.parameter_entity by_reference) t) g.names
+            (entity_of_later w (d.parameter_entity by_reference) t (λ u. refl) judged);
       }
 
   -- ---- headings

@@ -32,7 +32,8 @@ module _ (w : Violation) where
       go false g rest = rest
       go true g rest = absurd (cc)
 
-  rest_later : (env : Environment) (z : Rest) → environment_later w env ≡ true → rest_after w.at z ≡ true → violations_later w (rest_violations env z) ≡ true
+  rest_later : (env : Environment) (z : Rest)
+      → environment_later w env ≡ true → rest_after w.at z ≡ true → violations_later w (rest_violations env z) ≡ true
   rest_later env z h after =
       let to_routines = and_parts _ _ after in
       let to_variables = and_parts _ _ to_routines.0 in

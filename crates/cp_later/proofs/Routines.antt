@@ -31,7 +31,8 @@ module _ (w : Violation) where
   result_judged env at t h = also_later w _ _ (unless_later w (not (row_of env t).has_queues) C8 at h) (guard_later w (is_simple env t) C11 at t h)
 
   result_told : (env : Environment) (o : Option Identifier)
-      → environment_later w env ≡ true → optional_after (name_after w.at) o ≡ true → violations_later w (d.result_violations (d.result_type env o)) ≡ true
+      → environment_later w env ≡ true → optional_after (name_after w.at) o ≡ true
+      → violations_later w (d.result_violations (d.result_type env o)) ≡ true
   result_told env None h after = refl
   result_told env (Some x) h after =
       then_later w (named_type env x) (d.c8_c11_result env x.at) (named_type_later w env x h after) (λ t. result_judged env x.at t after)
@@ -66,11 +67,17 @@ module _ (w : Violation) where
       let start = declare r.name (entity.UnfinishedRoutine no_routine) env in
       let head = d.heading start None (is_some r.result_type) r.parameters in
       let headed = heading_later w start None (is_some r.result_type) r.parameters
-          (declare_later w r.name (entity.UnfinishedRoutine no_routine) env refl h) to_name.1 in
+      (declare_later w r.name (entity.UnfinishedRoutine no_routine) env refl h) to_name.1 in
       let answer = d.result_type head.env r.result_type in
       let answered = result_told head.env r.result_type headed.known to_parameters.1 in
       let returned = result_returned answer answered in
-      let row : RoutineRow = record { entry = is_some r.entry; first = length env.parameters; count = length head.rows; returns = d.returns_of answer; need = 0 } in
+      let row : RoutineRow = record {
+        entry = is_some r.entry;
+        first = length env.parameters;
+        count = length head.rows;
+        returns = d.returns_of answer;
+        need = 0;
+      } in
       let around : Environment = record env {
         parameters = env.parameters ++ head.rows;
         region = record { sort = y; part = d.part_of r.entry };
@@ -86,13 +93,14 @@ module _ (w : Violation) where
         routines = env.routines ++ record row { need = need } ∷ [];
         region = env.region;
       } in
-      let known = known_again w after_it (known_names w env h) (rows_append env.routines (record row { need = need }) (known_routines w env h) returned) in (
+      let rows = rows_append env.routines (record row { need = need }) (known_routines w env h) returned in
+      let known = known_again w after_it (known_names w env h) rows in (
         declare_later w r.name (entity.Routine (length env.routines)) after_it refl known,
         later_append w _ _
-        (later_append w _ _
-        (later_append w _ _
-        (later_append w _ _ (later_append w _ _ (declared_later w env r.name entry.1) (entry_told y r.entry entry.0)) headed.told) answered) local.1)
-        (statements_later w locals.env local.0 r.body.list body.1),
+            (later_append w _ _
+            (later_append w _ _
+            (later_append w _ _ (later_append w _ _ (declared_later w env r.name entry.1) (entry_told y r.entry entry.0)) headed.told) answered) local.1)
+            (statements_later w locals.env local.0 r.body.list body.1),
       )
 
   pub routines_told : (env : Environment) (y : Sort) (rs : List s.Routine)

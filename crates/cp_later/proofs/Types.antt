@@ -66,7 +66,8 @@ module _ (w : Violation) where
 
   queues_later : (env : Environment) (p : Position) (t : s.TypeExpression) (j : Judged ℕ)
       → type_after w.at t ≡ true → violations_later w (ty.c8_written env p t j) ≡ true
-  queues_later env p (s.Array at is e) (Broken v vs) h = unless_later w (ty.allows_queues p || not (ty.holds_queues env e)) C8 at (and_parts _ _ (and_parts _ _ h).0).0
+  queues_later env p (s.Array at is e) (Broken v vs) h =
+      unless_later w (ty.allows_queues p || not (ty.holds_queues env e)) C8 at (and_parts _ _ (and_parts _ _ h).0).0
   queues_later env p (s.Array at is e) (Sound x) h = refl
   queues_later env p (s.Named x) j h = refl
   queues_later env p (s.Subrange a b) j h = refl
@@ -112,7 +113,8 @@ module _ (w : Violation) where
       let parts = and_parts _ _ h in
       later_append w _ _ (unless_later w (not (ty.has_name x.name seen)) C1 x.at parts.0) (names_later (seen ++ x.name ∷ []) xs parts.1)
 
-  record_made : (env : Environment) (j : Judged ty.FieldList) → environment_later w env ≡ true → judged_later w j ≡ true → MadeLater w (ty.made_record env j)
+  record_made : (env : Environment) (j : Judged ty.FieldList)
+      → environment_later w env ≡ true → judged_later w j ≡ true → MadeLater w (ty.made_record env j)
   record_made env (Sound fs) h g = (h, refl)
   record_made env (Broken v vs) h g = (h, g)
 
@@ -125,7 +127,8 @@ module _ (w : Violation) where
     type_later env (s.Subrange a b) h g =
         let parts = and_parts _ _ g in
         row_made env _ h
-        (both_later w _ _ _ (constant_later w env h a parts.0) (constant_later w env h b parts.1) (λ x y. subrange_later (ty.constant_at b) x y parts.1))
+        (both_later w _ _ _ (constant_later w env h a parts.0) (constant_later w env h b parts.1)
+        (λ x y. subrange_later (ty.constant_at b) x y parts.1))
     type_later env (s.Array at is e) h g =
         let parts = and_parts _ _ g in
         let first = and_parts _ _ parts.0 in

@@ -33,7 +33,8 @@ VariablesLater w m = (environment_later w m.env ≡ true) × (violations_later w
 module _ (w : Violation) where
   -- ---- owners
 
-  owner_told : (env : Environment) (x : Identifier) (y : SystemRow) (of : Sort) → name_after w.at x ≡ true → violations_later w (d.c13_owner env x y of) ≡ true
+  owner_told : (env : Environment) (x : Identifier) (y : SystemRow) (of : Sort)
+      → name_after w.at x ≡ true → violations_later w (d.c13_owner env x y of) ≡ true
   owner_told env x y sort.Process h = unless_later w (not (nat_eq (suc env.processes) d.one_too_many) && is_within y.words) C13 x.at h
   owner_told env x y sort.Monitor h = unless_later w (not (nat_eq (suc env.monitors) d.one_too_many) && is_within y.words) C13 x.at h
   owner_told env x y sort.Class h = refl
