@@ -51,7 +51,18 @@ module _ (w : Violation) (env : Environment) where
       → judged_later w (also (c4_unfinished x e) (breaks {A = n.Callee} rule x.at)) ≡ true
   other_later rule x e h = also_later w (c4_unfinished x e) (breaks {A = n.Callee} rule x.at) (unfinished_later w x e h) (breaks_later w rule x.at h)
 
-ruleset of_calls = (also_later, unless_later, breaks_later, function_called_later, procedure_called_later, called_later, routine_later, standard_later, other_later, last_after)
+ruleset of_calls = (
+  also_later,
+  unless_later,
+  breaks_later,
+  function_called_later,
+  procedure_called_later,
+  called_later,
+  routine_later,
+  standard_later,
+  other_later,
+  last_after,
+)
 
 module _ (w : Violation) (env : Environment) (known : environment_later w env ≡ true) where
   pub function_later : (m : Mode) (d : s.Designator) (k : ℕ) (e : Entity) → designator_after w.at d ≡ true → entity_later w e ≡ true

@@ -22,7 +22,8 @@ module _ (w : Violation) where
   with_entity_later (Sound e) k h g = g e h
   with_entity_later (Broken v vs) k h g = h
 
-  pub also_entity_later : (vs : Violations) (j : Judged Entity) → violations_later w vs ≡ true → entity_judged w j ≡ true → entity_judged w (also vs j) ≡ true
+  pub also_entity_later : (vs : Violations) (j : Judged Entity) → violations_later w vs ≡ true → entity_judged w j ≡ true
+      → entity_judged w (also vs j) ≡ true
   also_entity_later [] j h g = g
   also_entity_later (v ∷ vs) (Sound x) h g = later_append w (v ∷ vs) [] h refl
   also_entity_later (v ∷ vs) (Broken u us) h g = later_append w (v ∷ vs) (u ∷ us) h g

@@ -38,8 +38,8 @@ module _ (w : Violation) (env : Environment) where
   by_reference_later true x h = changed_later w env x h
   by_reference_later false x h = refl
 
-  -- judged, and then compared with what is wanted, at the first token
-  pub compared_later : (b : ℕ → Bool) (rule : Rule) (x : s.Expression) (j : Judged ℕ) → expression_after w.at x ≡ true → judged_later w j ≡ true
+  -- compared with what is wanted, at the first token
+  compared_later : (b : ℕ → Bool) (rule : Rule) (x : s.Expression) (j : Judged ℕ) → expression_after w.at x ≡ true → judged_later w j ≡ true
       → judged_later w (then_judge j (λ t. guard (b t) rule (first_token x) t)) ≡ true
   compared_later b rule x j h g =
       then_later w j (λ t. guard (b t) rule (first_token x) t) g (λ t. guard_later w (b t) rule (first_token x) t (token_after w.at x h))
@@ -80,10 +80,12 @@ module _ (w : Violation) (env : Environment) (known : environment_later w env �
     expression_later m (s.Parenthesized at x) h = expression_later mode.Value x (and_parts (nat_lt w.at at) (expression_after w.at x) h).1
     expression_later m (s.Not at x) h =
         let parts = and_parts (nat_lt w.at at) (expression_after w.at x) h in
-        then_later w (e.judge env mode.Value x) (e.c2_operand env boolean at) (expression_later mode.Value x parts.1) (λ t. guard_later w _ C2 at boolean parts.0)
+        then_later w (e.judge env mode.Value x) (e.c2_operand env boolean at) (expression_later mode.Value x parts.1)
+        (λ t. guard_later w _ C2 at boolean parts.0)
     expression_later m (s.Signed sign at x) h =
         let parts = and_parts (nat_lt w.at at) (expression_after w.at x) h in
-        then_later w (e.judge env mode.Value x) (e.c2_operand env integer at) (expression_later mode.Value x parts.1) (λ t. guard_later w _ C2 at integer parts.0)
+        then_later w (e.judge env mode.Value x) (e.c2_operand env integer at) (expression_later mode.Value x parts.1)
+        (λ t. guard_later w _ C2 at integer parts.0)
     expression_later m (s.Binary x o at y) h =
         let parts = and_parts (expression_after w.at x && nat_lt w.at at) (expression_after w.at y) h in
         let first = and_parts (expression_after w.at x) (nat_lt w.at at) parts.0 in
@@ -139,10 +141,16 @@ module _ (w : Violation) (env : Environment) (known : environment_later w env �
     more_arguments_later j [] (s.MoreExpressions x es) g h =
         let parts = and_parts (expression_after w.at x) (expressions_after w.at es) h in
         let more : Judged ℕ = e.judge env mode.Value x in
-        more_arguments_later (both j more e.first_type) [] es (both_later w j more e.first_type g (expression_later mode.Value x parts.0) (λ t u. refl)) parts.1
+        more_arguments_later (both j more e.first_type) [] es
+        (both_later w j more e.first_type g (expression_later mode.Value x parts.0) (λ t u. refl)) parts.1
     more_arguments_later j (want ∷ ws) (s.MoreExpressions x es) g h =
         let parts = and_parts (expression_after w.at x) (expressions_after w.at es) h in
         let more : Judged ℕ = e.argument env want x (e.judge env (e.mode_of want) x) in
         more_arguments_later (both j more e.first_type) ws es
         (both_later w j more e.first_type g
         (argument_later w env want x (e.judge env (e.mode_of want) x) parts.0 (expression_later (e.mode_of want) x parts.0)) (λ t u. refl)) parts.1
+
+  -- an expression that is compared with what is wanted
+  pub value_compared_later : (b : ℕ → Bool) (rule : Rule) (m : Mode) (x : s.Expression) → expression_after w.at x ≡ true
+      → judged_later w (then_judge (e.judge env m x) (λ t. guard (b t) rule (first_token x) t)) ≡ true
+  value_compared_later b rule m x h = compared_later w env b rule x (e.judge env m x) h (expression_later m x h)

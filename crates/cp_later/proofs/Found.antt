@@ -26,7 +26,8 @@ found_later w (Some e) = entity_later w e
 module _ (w : Violation) where
   lookup_later : (x : Text) (names : Names) → names_later w names ≡ true → found_later w (lookup x names) ≡ true
   lookup_later x [] h = refl
-  lookup_later x (e ∷ es) h = let parts = and_parts (entity_later w e.1) (names_later w es) h in go (bytes_eq x e.0) parts.0 (lookup_later x es parts.1)
+  lookup_later x (e ∷ es) h =
+      let parts = and_parts (entity_later w e.1) (names_later w es) h in go (bytes_eq x e.0) parts.0 (lookup_later x es parts.1)
     where
       go : (b : Bool) → entity_later w e.1 ≡ true → found_later w (lookup x es) ≡ true → found_later w (if b then Some e.1 else lookup x es) ≡ true
       go true one rest = one

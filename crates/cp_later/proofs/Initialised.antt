@@ -24,7 +24,7 @@ use Rattle.cp_later.proofs.Combinators.{also_later, breaks_later, guard_later, l
 use Rattle.cp_later.proofs.Entities.{with_entity_later}
 use Rattle.cp_later.proofs.Found.{always_later, named_later}
 use Rattle.cp_later.proofs.NamesUsed.{names_used_later, queue_named_later}
-use Rattle.cp_later.proofs.Expressions.{compared_later, designator_later, expression_later}
+use Rattle.cp_later.proofs.Expressions.{designator_later, expression_later, value_compared_later}
 use Rattle.cp_later.proofs.Places.{last_after, token_after}
 
 -- ---- Components that are initialised
@@ -90,14 +90,16 @@ module _ (w : Violation) (env : Environment) (known : environment_later w env �
   no_name_later : (e : s.Expression) → expression_after w.at e ≡ true
       → judged_later w (also (violation C12 (first_token e) ∷ []) (t.surplus_argument env e)) ≡ true
   no_name_later e h =
-      also_later w (violation C12 (first_token e) ∷ []) (t.surplus_argument env e) (breaks_later w C12 (first_token e) (token_after w.at e h)) (surplus_later e h)
+      also_later w (violation C12 (first_token e) ∷ []) (t.surplus_argument env e) (breaks_later w C12 (first_token e) (token_after w.at e h))
+      (surplus_later e h)
 
   component_argument_later : (u : ℕ) (e : s.Expression) → expression_after w.at e ≡ true → judged_later w (t.component_argument env u e) ≡ true
   component_argument_later u (s.Designated (s.Designate x s.NoSelectors)) h =
       let there = (and_parts (name_after w.at x) true h).0 in
       also_later w (c8_named env mode.Value x) (then_judge (c1_named env x) (t.c12_passed env u x)) (queue_named_later w env mode.Value x there)
       (then_later w (c1_named env x) (t.c12_passed env u x) (named_later w env known x there) (λ y. passed_later w env u x y there))
-  component_argument_later u (s.Designated (s.Designate x (s.MoreSelectors y ys))) h = no_name_later (s.Designated (s.Designate x (s.MoreSelectors y ys))) h
+  component_argument_later u (s.Designated (s.Designate x (s.MoreSelectors y ys))) h =
+      no_name_later (s.Designated (s.Designate x (s.MoreSelectors y ys))) h
   component_argument_later u (s.Number at n) h = no_name_later (s.Number at n) h
   component_argument_later u (s.Character at n) h = no_name_later (s.Character at n) h
   component_argument_later u (s.Call d es) h = no_name_later (s.Call d es) h
@@ -110,18 +112,24 @@ module _ (w : Violation) (env : Environment) (known : environment_later w env �
   init_argument_later None e h = surplus_later e h
   init_argument_later (Some u) e h = go (is_component env u)
     where
-      go : (b : Bool) → judged_later w (if b then t.component_argument env u e else then_judge (judge env mode.Value e) (λ v. guard (agree env u v) C12 (first_token e) v)) ≡ true
-      go true = component_argument_later u e h
-      go false = compared_later w env (λ v. agree env u v) C12 e (judge env mode.Value e) h (expression_later w env known mode.Value e h)
+      compared : Judged ℕ
+      compared = then_judge (judge env mode.Value e) (λ v. guard (agree env u v) C12 (first_token e) v)
 
-  init_arguments_later : (ps : List ParameterRow) (es : s.Expressions) → expressions_after w.at es ≡ true → violations_later w (t.init_arguments env ps es) ≡ true
+      go : (b : Bool) → judged_later w (if b then t.component_argument env u e else compared) ≡ true
+      go true = component_argument_later u e h
+      go false = value_compared_later w env known (λ v. agree env u v) C12 mode.Value e h
+
+  init_arguments_later : (ps : List ParameterRow) (es : s.Expressions) → expressions_after w.at es ≡ true
+      → violations_later w (t.init_arguments env ps es) ≡ true
   init_arguments_later ps s.NoExpressions h = refl
   init_arguments_later [] (s.MoreExpressions e es) h =
       let parts = and_parts (expression_after w.at e) (expressions_after w.at es) h in
-      later_append w (violations_of (t.surplus_argument env e)) (t.init_arguments env [] es) (surplus_later e parts.0) (init_arguments_later [] es parts.1)
+      later_append w (violations_of (t.surplus_argument env e)) (t.init_arguments env [] es) (surplus_later e parts.0)
+      (init_arguments_later [] es parts.1)
   init_arguments_later (p ∷ ps) (s.MoreExpressions e es) h =
       let parts = and_parts (expression_after w.at e) (expressions_after w.at es) h in
-      later_append w (violations_of (t.init_argument env p.of e)) (t.init_arguments env ps es) (init_argument_later p.of e parts.0) (init_arguments_later ps es parts.1)
+      later_append w (violations_of (t.init_argument env p.of e)) (t.init_arguments env ps es) (init_argument_later p.of e parts.0)
+      (init_arguments_later ps es parts.1)
 
   init_item_later : (i : s.InitItem) → item_after w.at i ≡ true → violations_later w (t.init_item env i) ≡ true
   init_item_later i h =
@@ -130,7 +138,8 @@ module _ (w : Violation) (env : Environment) (known : environment_later w env �
       let parts = and_parts (name_after w.at x) (expressions_after w.at es) h in
       let system : Judged ℕ = then_judge (c1_named env x) (t.c12_component env x) in
       let component : Judged SystemRow = then_judge system (t.c12_count env x (count_of es)) in
-      let told : judged_later w system ≡ true = then_later w (c1_named env x) (t.c12_component env x) (named_later w env known x parts.0) (λ y. component_later w env x y parts.0) in
+      let told : judged_later w system ≡ true =
+      then_later w (c1_named env x) (t.c12_component env x) (named_later w env known x parts.0) (λ y. component_later w env x y parts.0) in
       later_append w (c8_named env mode.Value x ++ violations_of component) (t.init_arguments env (t.parameters_in env system) es)
       (later_append w (c8_named env mode.Value x) (violations_of component) (queue_named_later w env mode.Value x parts.0)
       (then_later w system (t.c12_count env x (count_of es)) told (λ y. guard_later w _ C12 x.at (system_row env y) parts.0)))

@@ -30,7 +30,8 @@ use Rattle.cp_later.proofs.Places.{first_after, last_after, token_after}
 -- ---- What is selected
 
 module _ (w : Violation) (env : Environment) where
-  member_named_later : (x : Identifier) (a : Access) (m : Option Member) → name_after w.at x ≡ true → entity_judged w (n.member_named env x a m) ≡ true
+  member_named_later : (x : Identifier) (a : Access) (m : Option Member) → name_after w.at x ≡ true
+      → entity_judged w (n.member_named env x a m) ≡ true
   member_named_later x a None h = search breaks_later
   member_named_later x a (Some (member.Field t)) h = refl
   member_named_later x a (Some (member.Routine r)) h = refl

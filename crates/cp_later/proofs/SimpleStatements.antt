@@ -25,7 +25,7 @@ use Rattle.cp_later.proofs.Entities.{entity_judged, with_entity_later}
 use Rattle.cp_later.proofs.Found.{constant_later, entity_named_later}
 use Rattle.cp_later.proofs.NamesUsed.{designator_changed_later, indexed_later, names_used_later}
 use Rattle.cp_later.proofs.Called.{procedure_later, value_later}
-use Rattle.cp_later.proofs.Expressions.{arguments_later, compared_later, designator_later, expression_later}
+use Rattle.cp_later.proofs.Expressions.{arguments_later, designator_later, expression_later, value_compared_later}
 
 -- ---- Assignments
 
@@ -41,13 +41,15 @@ module _ (w : Violation) (env : Environment) (known : environment_later w env �
   other_side_later : (d : s.Designator) → designator_after w.at d ≡ true → judged_later w (t.other_left_side env d) ≡ true
   other_side_later d h =
       also_later w (c2_c5_c8_named env mode.Variable d ++ c10_designator env d) (then_judge (designate env d) (value_of env mode.Variable d))
-      (later_append w (c2_c5_c8_named env mode.Variable d) (c10_designator env d) (names_used_later w env mode.Variable d h) (designator_changed_later w env d h))
+      (later_append w (c2_c5_c8_named env mode.Variable d) (c10_designator env d) (names_used_later w env mode.Variable d h)
+      (designator_changed_later w env d h))
       (with_entity_later w (designate env d) (value_of env mode.Variable d) (designator_later w env known d h)
       (λ y g. value_later w env known mode.Variable d y h g))
 
   left_by_later : (x : Identifier) (ss : s.Selectors) (j : Judged Entity) → designator_after w.at (s.Designate x ss) ≡ true → entity_judged w j ≡ true
       → judged_later w (t.left_by env x ss j) ≡ true
-  left_by_later x ss (Sound (entity.UnfinishedRoutine r)) h g = own_later w x ss r.returns (and_parts (name_after w.at x) (selectors_after w.at ss) h).0 g
+  left_by_later x ss (Sound (entity.UnfinishedRoutine r)) h g =
+      own_later w x ss r.returns (and_parts (name_after w.at x) (selectors_after w.at ss) h).0 g
   left_by_later x ss (Sound (entity.Constant base n)) h g = other_side_later (s.Designate x ss) h
   left_by_later x ss (Sound (entity.Type u)) h g = other_side_later (s.Designate x ss) h
   left_by_later x ss (Sound (entity.Variable u a)) h g = other_side_later (s.Designate x ss) h
@@ -69,8 +71,8 @@ module _ (w : Violation) (env : Environment) (known : environment_later w env �
   unless_component_later j true None h = h
   unless_component_later j false o h = h
 
-  pub assignment_later : (d : s.Designator) (at : ℕ) (e : s.Expression) → designator_after w.at d ≡ true → nat_lt w.at at ≡ true → expression_after w.at e ≡ true
-      → violations_later w (t.assignment env d at e) ≡ true
+  pub assignment_later : (d : s.Designator) (at : ℕ) (e : s.Expression) → designator_after w.at d ≡ true → nat_lt w.at at ≡ true
+      → expression_after w.at e ≡ true → violations_later w (t.assignment env d at e) ≡ true
   assignment_later d at e h i g =
       both_later w (t.left_side env d) (t.right env (t.left_side env d) e) (t.c2_sides env at) (left_later d h)
       (unless_component_later (judge env mode.Value e) _ (t.lone_component env e) (expression_later w env known mode.Value e g))
@@ -79,13 +81,13 @@ module _ (w : Violation) (env : Environment) (known : environment_later w env �
   -- ---- Conditions, selectors, bounds
 
   pub condition_later : (e : s.Expression) → expression_after w.at e ≡ true → judged_later w (t.c2_condition env e) ≡ true
-  condition_later e h = compared_later w env (λ u. is_base boolean (base_of env u)) C2 e (judge env mode.Value e) h (expression_later w env known mode.Value e h)
+  condition_later e h = value_compared_later w env known (λ u. is_base boolean (base_of env u)) C2 mode.Value e h
 
   pub selector_of_later : (e : s.Expression) → expression_after w.at e ≡ true → judged_later w (t.c2_selector env e) ≡ true
-  selector_of_later e h = compared_later w env (λ u. is_simple env u) C2 e (judge env mode.Value e) h (expression_later w env known mode.Value e h)
+  selector_of_later e h = value_compared_later w env known (λ u. is_simple env u) C2 mode.Value e h
 
   pub bound_later : (j : Judged ℕ) (e : s.Expression) → expression_after w.at e ≡ true → judged_later w (t.bound env j e) ≡ true
-  bound_later (Sound u) e h = compared_later w env (λ v. agree env u v) C2 e (judge env mode.Value e) h (expression_later w env known mode.Value e h)
+  bound_later (Sound u) e h = value_compared_later w env known (λ v. agree env u v) C2 mode.Value e h
   bound_later (Broken v vs) e h = expression_later w env known mode.Value e h
 
   plain_after : (x : Identifier) → name_after w.at x ≡ true → designator_after w.at (t.plain x) ≡ true
@@ -94,12 +96,12 @@ module _ (w : Violation) (env : Environment) (known : environment_later w env �
   pub for_variable_later : (x : Identifier) → name_after w.at x ≡ true → judged_later w (t.for_variable env x) ≡ true
   for_variable_later x h =
       also_later w (c10_designator env (t.plain x)) _ (designator_changed_later w env (t.plain x) (plain_after x h))
-      (compared_later w env (λ u. is_simple env u) C2 (s.Designated (t.plain x)) (judge env mode.Variable (s.Designated (t.plain x))) (plain_after x h)
-      (expression_later w env known mode.Variable (s.Designated (t.plain x)) (plain_after x h)))
+      (value_compared_later w env known (λ u. is_simple env u) C2 mode.Variable (s.Designated (t.plain x)) (plain_after x h))
 
   -- ---- Labels
 
-  label_later : (base : Option ℕ) (seen : List t.Label) (at : ℕ) (c : t.Label) → nat_lt w.at at ≡ true → judged_later w (t.c2_c3_label base seen at c) ≡ true
+  label_later : (base : Option ℕ) (seen : List t.Label) (at : ℕ) (c : t.Label) → nat_lt w.at at ≡ true
+      → judged_later w (t.c2_c3_label base seen at c) ≡ true
   label_later base seen at c h = search (also_later, unless_later, guard_later)
 
   pub labels_later : (base : Option ℕ) (seen : List t.Label) (cs : List Constant) → all_after (constant_after w.at) cs ≡ true
@@ -108,8 +110,10 @@ module _ (w : Violation) (env : Environment) (known : environment_later w env �
   labels_later base seen (c ∷ cs) h =
       let parts = and_parts (constant_after w.at c) (all_after (constant_after w.at) cs) h in
       let one : Judged t.Label = constant env c in
-      later_append w (violations_of (then_judge one (t.c2_c3_label base seen (constant_at c)))) (t.labels env base (t.more_seen seen one) cs).violations
-      (then_later w one (t.c2_c3_label base seen (constant_at c)) (constant_later w env known c parts.0) (λ l. label_later base seen (constant_at c) l parts.0))
+      let told : Judged t.Label = then_judge one (t.c2_c3_label base seen (constant_at c)) in
+      later_append w (violations_of told) (t.labels env base (t.more_seen seen one) cs).violations
+      (then_later w one (t.c2_c3_label base seen (constant_at c)) (constant_later w env known c parts.0)
+      (λ l. label_later base seen (constant_at c) l parts.0))
       (labels_later base (t.more_seen seen one) cs parts.1)
 
   -- ---- Calls

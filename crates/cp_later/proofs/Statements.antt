@@ -32,7 +32,8 @@ module _ (w : Violation) (env : Environment) (known : environment_later w env â‰
         let parts = and_parts (expression_after w.at e && statement_after w.at x) (statement_after w.at y) h in
         let first = and_parts (expression_after w.at e) (statement_after w.at x) parts.0 in
         later_append w (violations_of (t.c2_condition env e) ++ t.statement env x) (t.statement env y)
-        (later_append w (violations_of (t.c2_condition env e)) (t.statement env x) (condition_later w env known e first.0) (statement_later x first.1))
+        (later_append w (violations_of (t.c2_condition env e)) (t.statement env x) (condition_later w env known e first.0)
+        (statement_later x first.1))
         (statement_later y parts.1)
     statement_later (s.Case e a) h =
         let parts = and_parts (expression_after w.at e) (arms_after w.at a) h in
@@ -44,7 +45,8 @@ module _ (w : Violation) (env : Environment) (known : environment_later w env â‰
         later_append w (violations_of (t.c2_condition env e)) (t.statement env x) (condition_later w env known e parts.0) (statement_later x parts.1)
     statement_later (s.Repeat l e) h =
         let parts = and_parts (statements_after w.at l) (expression_after w.at e) h in
-        later_append w (t.statements env l) (violations_of (t.c2_condition env e)) (statements_later l parts.0) (condition_later w env known e parts.1)
+        later_append w (t.statements env l) (violations_of (t.c2_condition env e)) (statements_later l parts.0)
+        (condition_later w env known e parts.1)
     statement_later (s.For v a direction b x) h =
         let parts = and_parts (name_after w.at v && expression_after w.at a && expression_after w.at b) (statement_after w.at x) h in
         let first = and_parts (name_after w.at v && expression_after w.at a) (expression_after w.at b) parts.0 in
