@@ -94,13 +94,11 @@ module _ (w : Violation) where
         region = env.region;
       } in
       let rows = rows_append env.routines (record row { need = need }) (known_routines w env h) returned in
-      let known = known_again w after_it (known_names w env h) rows in (
+      let known = known_again w after_it (known_names w env h) rows in
+      let first = later_append w _ _ (declared_later w env r.name entry.1) (entry_told y r.entry entry.0) in
+      let signature = later_append w _ _ (later_append w _ _ first headed.told) answered in (
         declare_later w r.name (entity.Routine (length env.routines)) after_it refl known,
-        later_append w _ _
-            (later_append w _ _
-            (later_append w _ _
-            (later_append w _ _ (later_append w _ _ (declared_later w env r.name entry.1) (entry_told y r.entry entry.0)) headed.told) answered) local.1)
-            (statements_later w locals.env local.0 r.body.list body.1),
+        later_append w _ _ (later_append w _ _ signature local.1) (statements_later w locals.env local.0 r.body.list body.1),
       )
 
   pub routines_told : (env : Environment) (y : Sort) (rs : List s.Routine)

@@ -1,6 +1,6 @@
 -- What is told of a statement is later if its places are.
 use Rattle.std.proofs.Common.{List, Option, [], refl, true, ℕ, ◌++◌, ◌≡◌}
-use Rattle.std.specs.Prelude.{if◌then◌else◌, nat_lt, ◌&&◌}
+use Rattle.std.specs.Prelude.{nat_lt, ◌&&◌}
 use Rattle.std.proofs.lemmas.Bool.{and_parts}
 use Rattle.cp_model.specs.Syntax as s
 use Rattle.cp_model.specs.declared.rules.Rule.TheVariants.{C12}
