@@ -1,0 +1,4 @@
+pub mod After
+pub mod Later
+pub mod Rest
+pub mod Laws
