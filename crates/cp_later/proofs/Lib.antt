@@ -1,0 +1,2 @@
+mod Grouping
+mod TypeParts
