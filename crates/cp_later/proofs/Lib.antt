@@ -1,2 +1,3 @@
 mod Grouping
 mod TypeParts
+mod ExpressionParts

@@ -6,5 +6,6 @@
 //! `declarations`.
 #![tactic(auto)]
 
+mod expressions;
 pub mod parts;
 mod types;
