@@ -1,3 +1,4 @@
 mod Grouping
 mod TypeParts
 mod ExpressionParts
+mod StatementParts

@@ -8,4 +8,5 @@
 
 mod expressions;
 pub mod parts;
+mod statements;
 mod types;
