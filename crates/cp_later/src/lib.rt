@@ -6,6 +6,7 @@
 //! `declarations`.
 #![tactic(auto)]
 
+mod declarations;
 mod expressions;
 pub mod parts;
 mod statements;
