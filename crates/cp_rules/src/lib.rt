@@ -15,6 +15,7 @@ mod declaring;
 mod definitions;
 mod entering;
 mod headings;
+mod left;
 mod members;
 mod named;
 mod owners;
