@@ -13,6 +13,7 @@ mod arrays;
 pub mod checker;
 mod declaring;
 mod definitions;
+mod ending;
 mod entering;
 mod headings;
 mod left;
