@@ -18,3 +18,4 @@ pub mod Defining
 pub mod WholeTexts
 mod Law
 mod EarlyEnds
+mod UntilBroken

@@ -20,20 +20,10 @@ body_violations env words b =
     let body = statements env b.list in
     body ++ c13_initial b.at (1 + words + need_statements env b.list) body
 
--- The environment at the end of a text.
-abbrev pub environment_of : s.Tree → Environment
-environment_of t =
-    let defined = define_sections standard_environment t.sections in
-    let own = d.variables defined.env position.InitialVariable t.variables in
-    (d.routines own.env sort.Process t.routines).env
-
 -- The list is empty if the text is accepted, or else begins with the violation that is reported for
 -- it.
 abbrev pub Lists : s.Tree → Violations → Type 0
 Lists t list = slice_get list 0 ≡ first_violation t
-
-abbrev pub judged_text : s.Tree → State
-judged_text t = record { env = environment_of t; told = first_violation t }
 
 -- The text is accepted, or else this is the violation that is reported for it.
 abbrev pub Judges : s.Tree → Result (Unit {0}) RuleError → Type 0
