@@ -2,12 +2,11 @@
 //!
 //! A part stands after a place if each of its tokens that a rule names does. `specs/After.antt`
 //! defines it for the tree as plain data. `parts` has the trait of all such parts and the loop over
-//! lists of them; the other modules go through the tree: `types`, `expressions`, `statements` and
-//! `declarations`.
+//! lists of them; the other modules go through the tree.
 #![tactic(auto)]
 
-mod declarations;
-mod expressions;
+mod declaration_parts;
+mod expression_parts;
 pub mod parts;
-mod statements;
-mod types;
+mod statement_parts;
+mod type_parts;

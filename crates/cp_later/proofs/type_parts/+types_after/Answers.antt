@@ -1,6 +1,6 @@
 use Rattle.std.proofs.Common.{arith}
 use Rattle.cp_later.proofs.TypeParts.{array_after}
-use Rattle.cp_later.proofs.types.+types_after.Goals as goal
+use Rattle.cp_later.proofs.type_parts.+types_after.Goals as goal
 
 pub TypeExpressionPart::is_after-returns-then-is_after-2 :
     goal.TypeExpressionPart::is_after-returns-then-is_after-2
