@@ -1,16 +1,11 @@
 -- Whole texts: their violations, and the result of judging them.
 use Rattle.std.specs.Prelude.{◌≡◌, ◌+◌, ◌++◌, ℕ, Some, Result, Ok, Err, slice_get}
 use Rattle.cp_model.specs.Syntax as s
-use Rattle.cp_model.specs.declared.tree.Sort.TheVariants as sort
-use Rattle.cp_model.specs.declared.rules.Position.TheVariants as position
-use Rattle.cp_model.specs.RulesEnvironment.{Environment, standard_environment}
+use Rattle.cp_model.specs.RulesEnvironment.{Environment}
 use Rattle.cp_model.specs.RulesJudged.{Violations}
 use Rattle.cp_model.specs.RulesStatements.{statements}
 use Rattle.cp_model.specs.RulesNeeds.{need_statements}
-use Rattle.cp_model.specs.RulesDeclarations as d
 use Rattle.cp_model.specs.Rules.{Accepted, c13_initial, first_violation}
-use Rattle.cp_rules.specs.Checking.{State}
-use Rattle.cp_rules.specs.Definitions.{define_sections}
 use Rattle.cp_rules.specs.declared.text.RuleError.{RuleError}
 use Rattle.cp_rules.specs.declared.text.RuleError.TheVariants as refused
 

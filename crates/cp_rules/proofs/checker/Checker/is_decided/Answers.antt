@@ -1,4 +1,4 @@
-use Rattle.std.proofs.Common.{◌≡◌, ap, sym, true, ◌∙◌}
+use Rattle.std.proofs.Common.{ap, sym, ◌∙◌}
 use Rattle.cp_later.specs.Later.{environment_later}
 use Rattle.cp_rules.specs.Checking.{State}
 use Rattle.cp_rules.specs.Endings.{rest_of}
