@@ -241,6 +241,13 @@ impl<'t> Environment<'t> {
         self.systems.len()
     }
 
+    /// The number of routines.
+    pub fn routine_count(&self) -> usize
+        ensures { result ≡ length self.now.routines }
+    {
+        self.routines.len()
+    }
+
     /// The number of parameters.
     pub fn parameter_count(&self) -> usize
         ensures { result ≡ length self.now.parameters }

@@ -65,6 +65,11 @@ impl Told {
         self.earliest
     }
 
+    /// Whether each violation is listed, and not the earliest alone kept.
+    pub fn lists_all(&self) -> bool {
+        !matches!(&self.kept, Kept::None)
+    }
+
     /// A place for what is told of a part, which keeps as much as this one. Nothing is told there
     /// yet.
     pub fn part(&self, alloc: Global) -> Told
@@ -162,8 +167,9 @@ impl Kept {
     }
 }
 
-// Whether a violation comes before another one.
-fn is_before(violation: Violation, w: Violation) -> bool
+/// Whether a violation comes before another one: by its place, and at one place by the number of
+/// the rule.
+pub fn is_before(violation: Violation, w: Violation) -> bool
     ensures { result ≡ is_before violation w }
 {
     violation.at < w.at || (violation.at == w.at && violation.rule.number() < w.rule.number())

@@ -1,3 +1,7 @@
+mod Grouping
+mod TypeParts
+mod ExpressionParts
+mod StatementParts
 mod Combinators
 mod Entities
 mod Found

@@ -1,4 +1,5 @@
 pub mod After
 pub mod Later
 pub mod Rest
+pub mod ListedParts
 pub mod Laws

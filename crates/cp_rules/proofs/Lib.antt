@@ -16,3 +16,5 @@ pub mod Visible
 pub mod Finished
 pub mod Defining
 pub mod WholeTexts
+mod EarlyEnds
+mod UntilBroken

@@ -6,7 +6,7 @@ use Rattle.cp_model.specs.declared.rules.Rule.TheVariants.{C13}
 use Rattle.cp_model.specs.declared.rules.Position.TheVariants as position
 use Rattle.cp_model.specs.declared.rules.Violation.{Violation}
 use Rattle.cp_model.specs.declared.tree.Sort.TheVariants as sort
-use Rattle.cp_model.specs.RulesEnvironment.{Environment, standard_environment}
+use Rattle.cp_model.specs.RulesEnvironment.{Environment}
 use Rattle.cp_model.specs.RulesJudged.{Violations, earlier, least, unless}
 use Rattle.cp_model.specs.RulesTypes.{cap_words, is_within}
 use Rattle.cp_model.specs.RulesStatements.{statements}
@@ -15,8 +15,10 @@ use Rattle.cp_model.specs.RulesDeclarations.{Declared, Variables, routines, vari
 use Rattle.cp_model.specs.Rules.{Accepted, c13_initial, first_violation, violations}
 use Rattle.cp_rules.specs.Checking.{State, after, telling}
 use Rattle.cp_rules.specs.Declaring.{Declares}
-use Rattle.cp_rules.specs.Definitions.{define_sections}
-use Rattle.cp_rules.specs.Texts.{body_violations, judged_text}
+use Rattle.cp_rules.specs.Definitions.{define_sections, define_types}
+use Rattle.cp_rules.specs.Texts.{body_violations}
+use Rattle.cp_rules.specs.Endings.{told_with}
+use Rattle.cp_later.specs.Rest.{Rest}
 use Rattle.cp_rules.proofs.Earliest.{nothing_told, part_told}
 use Rattle.cp_rules.proofs.Telling.{told_in, told_more}
 
@@ -40,36 +42,44 @@ sound_body env n words counted b h g k =
     ap (λ (within : Bool). unless within C13 b.at) (within_capped n need words counted g k)
     ∙ sym (ap (λ (vs : Violations). vs ++ c13_initial b.at (1 + n + need) vs) (nothing_told (statements env b.list) h))
 
--- ---- a whole text
+-- ---- what is left of a text
 
-module _ (t : s.Tree) where
+module _ (r : Rest) (s0 : State) where
+  abbrev types : Declared
+  types = define_types s0.env r.definitions
+
   abbrev defined : Declared
-  defined = define_sections standard_environment t.sections
+  defined = define_sections types.env r.sections
 
   abbrev own : Variables
-  own = variables defined.env position.InitialVariable t.variables
+  own = variables defined.env position.InitialVariable r.variables
 
   abbrev all : Declared
-  all = routines own.env sort.Process t.routines
+  all = routines own.env sort.Process r.routines
 
-  pub text_told : (s0 s1 s2 s3 s4 : State) (words : ℕ) → s0 ≡ record { env = standard_environment; told = None }
-      → s1 ≡ after s0 (define_sections s0.env t.sections)
-      → Declares s1 s2 words (variables s1.env position.InitialVariable t.variables)
-      → s3 ≡ after s2 (routines s2.env sort.Process t.routines)
-      → ((n : ℕ) → words ≡ cap_words n → s4 ≡ telling s3 (body_violations s3.env n t.body)) → s4 ≡ judged_text t
-  text_told s0 s1 s2 s3 s4 words begun sections declared routed judged =
-      let told1 : s1 ≡ told_in defined.env None defined.violations = sections ∙ ap (λ (z : State). after z (define_sections z.env t.sections)) begun in
-      let declares : Declares (told_in defined.env None defined.violations) s2 words own =
-      subst (λ (z : State). Declares z s2 words (variables z.env position.InitialVariable t.variables)) told1 declared in
-      let vs2 : Violations = defined.violations ++ own.violations in
-      let vs3 : Violations = vs2 ++ all.violations in
-      let told2 : s2 ≡ told_in own.env None vs2 = declares.0 ∙ told_more own.env None defined.violations own.violations in
-      let told3 : s3 ≡ told_in all.env None vs3 =
-      routed ∙ ap (λ (z : State). after z (routines z.env sort.Process t.routines)) told2 ∙ told_more all.env None vs2 all.violations in
-      let body : Violations = statements all.env t.body.list in
-      judged own.words declares.1 ∙ ap (λ (z : State). telling z (body_violations z.env own.words t.body)) told3
-      ∙ told_more all.env None vs3 (body_violations all.env own.words t.body)
-      ∙ ap (told_in all.env None) (sym (append_assoc vs3 body (c13_initial t.body.at (1 + own.words + need_statements all.env t.body.list) body)))
+  pub rest_judged : (s1 s2 s3 s4 s5 : State) (words : ℕ) → s1 ≡ after s0 (define_types s0.env r.definitions)
+      → s2 ≡ after s1 (define_sections s1.env r.sections)
+      → Declares s2 s3 words (variables s2.env position.InitialVariable r.variables)
+      → s4 ≡ after s3 (routines s3.env sort.Process r.routines)
+      → ((n : ℕ) → words ≡ cap_words n → s5 ≡ telling s4 (body_violations s4.env n r.body)) → s5.told ≡ told_with s0 r
+  rest_judged s1 s2 s3 s4 s5 words typed sections declared routed judged =
+      let vs2 : Violations = types.violations ++ defined.violations in
+      let told2 : s2 ≡ told_in defined.env s0.told vs2 =
+      sections ∙ ap (λ (z : State). after z (define_sections z.env r.sections)) typed ∙ told_more defined.env s0.told types.violations defined.violations in
+      let declares : Declares (told_in defined.env s0.told vs2) s3 words own =
+      subst (λ (z : State). Declares z s3 words (variables z.env position.InitialVariable r.variables)) told2 declared in
+      let vs3 : Violations = vs2 ++ own.violations in
+      let vs4 : Violations = vs3 ++ all.violations in
+      let told3 : s3 ≡ told_in own.env s0.told vs3 = declares.0 ∙ told_more own.env s0.told vs2 own.violations in
+      let told4 : s4 ≡ told_in all.env s0.told vs4 =
+      routed ∙ ap (λ (z : State). after z (routines z.env sort.Process r.routines)) told3 ∙ told_more all.env s0.told vs3 all.violations in
+      let body : Violations = statements all.env r.body.list in
+      ap (λ (z : State). z.told)
+      (judged own.words declares.1 ∙ ap (λ (z : State). telling z (body_violations z.env own.words r.body)) told4
+      ∙ told_more all.env s0.told vs4 (body_violations all.env own.words r.body)
+      ∙ ap (told_in all.env s0.told) (sym (append_assoc vs4 body (c13_initial r.body.at (1 + own.words + need_statements all.env r.body.list) body))))
 
-  pub none_told : first_violation t ≡ None → Accepted t
-  none_told h = nothing_told (violations t) h
+-- ---- a whole text
+
+pub none_told : (t : s.Tree) → first_violation t ≡ None → Accepted t
+none_told t h = nothing_told (violations t) h

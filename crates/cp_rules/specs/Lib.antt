@@ -8,4 +8,5 @@ pub mod Outer
 pub mod Records
 pub mod Types
 pub mod Definitions
+pub mod Endings
 pub mod Texts

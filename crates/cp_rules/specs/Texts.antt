@@ -1,16 +1,11 @@
 -- Whole texts: their violations, and the result of judging them.
 use Rattle.std.specs.Prelude.{◌≡◌, ◌+◌, ◌++◌, ℕ, Some, Result, Ok, Err, slice_get}
 use Rattle.cp_model.specs.Syntax as s
-use Rattle.cp_model.specs.declared.tree.Sort.TheVariants as sort
-use Rattle.cp_model.specs.declared.rules.Position.TheVariants as position
-use Rattle.cp_model.specs.RulesEnvironment.{Environment, standard_environment}
+use Rattle.cp_model.specs.RulesEnvironment.{Environment}
 use Rattle.cp_model.specs.RulesJudged.{Violations}
 use Rattle.cp_model.specs.RulesStatements.{statements}
 use Rattle.cp_model.specs.RulesNeeds.{need_statements}
-use Rattle.cp_model.specs.RulesDeclarations as d
 use Rattle.cp_model.specs.Rules.{Accepted, c13_initial, first_violation}
-use Rattle.cp_rules.specs.Checking.{State}
-use Rattle.cp_rules.specs.Definitions.{define_sections}
 use Rattle.cp_rules.specs.declared.text.RuleError.{RuleError}
 use Rattle.cp_rules.specs.declared.text.RuleError.TheVariants as refused
 
@@ -20,20 +15,10 @@ body_violations env words b =
     let body = statements env b.list in
     body ++ c13_initial b.at (1 + words + need_statements env b.list) body
 
--- The environment at the end of a text.
-abbrev pub environment_of : s.Tree → Environment
-environment_of t =
-    let defined = define_sections standard_environment t.sections in
-    let own = d.variables defined.env position.InitialVariable t.variables in
-    (d.routines own.env sort.Process t.routines).env
-
 -- The list is empty if the text is accepted, or else begins with the violation that is reported for
 -- it.
 abbrev pub Lists : s.Tree → Violations → Type 0
 Lists t list = slice_get list 0 ≡ first_violation t
-
-abbrev pub judged_text : s.Tree → State
-judged_text t = record { env = environment_of t; told = first_violation t }
 
 -- The text is accepted, or else this is the violation that is reported for it.
 abbrev pub Judges : s.Tree → Result (Unit {0}) RuleError → Type 0

@@ -1,17 +1,19 @@
 //! The definitions of a text: constants, types and enumerations, one after another.
 
-ghost use Rattle.std.specs.Prelude.{◌≡◌, ℕ, IfOk, OnOk, length, map, pos, ◌-◌};
+ghost use Rattle.std.specs.Prelude.{◌≡◌, [], ℕ, None, IfOk, OnOk, length, map, pos, ◌-◌};
 ghost use Rattle.cp_model.specs.Rules as rules;
 ghost use Rattle.cp_model.specs.RulesDeclarations as d;
 ghost use Rattle.cp_model.specs.RulesEnvironment as r;
 ghost use Rattle.cp_model.specs.View as view;
 ghost use Rattle.cp_rules.specs.Checking.{after};
+ghost use Rattle.cp_rules.specs.Endings.{rest_of, told_with, whole};
 ghost use Rattle.cp_rules.specs.Definitions.{constant_entity, define_constants, define_sections, define_types, type_entity};
 
 use crate::checker::{Checker, Judged};
+use crate::left::Left;
 use cp_model::rules::{Entity, Position, Structure, TypeRow};
 use cp_model::tree::{
-    ConstantDefinition, Defined, Identifier, Section, TypeDefinition, TypeExpression,
+    ConstantDefinition, Defined, Identifier, Section, Tree, TypeDefinition, TypeExpression,
 };
 use std::alloc::AllocError;
 
@@ -130,7 +132,8 @@ impl<'t> Checker<'t> {
         Ok(())
     }
 
-    fn define_types(&mut self, list: &'t [TypeDefinition]) -> Result<(), AllocError>
+    /// Judges definitions of types, in order. Fails only if memory runs out.
+    pub fn define_types(&mut self, list: &'t [TypeDefinition]) -> Result<(), AllocError>
         ensures { OnOk result
             (self.new ≡ after self.old
             (define_types self.old.env (map view.type_definition list.now))) }
@@ -152,6 +155,73 @@ impl<'t> Checker<'t> {
             Section::Constants(list) => self.define_constants(list),
             Section::Types(list) => self.define_types(list),
         }
+    }
+
+    // Judges definitions until something is told, and returns those that are left.
+    fn define_types_until_broken(
+        &mut self,
+        list: &'t [TypeDefinition],
+    ) -> Result<&'t [TypeDefinition], AllocError>
+        ensures same_end { IfOk result
+            (λ left. after self.new
+            (define_types self.new.env (map view.type_definition left.now))
+            ≡ after self.old (define_types self.old.env (map view.type_definition list.now))) }
+        ensures all_if_sound { IfOk result (λ left. self.new.told ≡ None → left.now ≡ []) }
+    {
+        self.environment.reserve_names(list.len())?;
+        self.environment.reserve_types(list.len())?;
+        for (i, d) in list.iter().enumerate() {
+            self.define(d)?;
+            if self.told.first().is_some() {
+                return Ok(&list[i + 1..]);
+            }
+        }
+        Ok(&[])
+    }
+
+    // Judges a section until something is told, and returns the definitions that are left.
+    fn define_section_until_broken(
+        &mut self,
+        section: &'t Section,
+    ) -> Result<&'t [TypeDefinition], AllocError>
+        ensures same_end { IfOk result
+            (λ left. after self.new
+            (define_types self.new.env (map view.type_definition left.now))
+            ≡ after self.old (rules.define_section self.old.env (view.section_of section.now))) }
+        ensures all_if_sound { IfOk result (λ left. self.new.told ≡ None → left.now ≡ []) }
+    {
+        match section {
+            Section::Constants(list) => {
+                self.define_constants(list)?;
+                Ok(&[])
+            }
+            Section::Types(list) => self.define_types_until_broken(list),
+        }
+    }
+
+    /// Judges the definitions of a text until something is told, and returns what is left. Fails
+    /// only if memory runs out.
+    pub fn define_until_broken(&mut self, tree: &'t Tree) -> Result<Left<'t>, AllocError>
+        ensures { IfOk result
+            (λ left. told_with self.new (rest_of left)
+            ≡ told_with self.old (whole (view.tree tree.now))) }
+    {
+        for (i, section) in tree.sections.iter().enumerate() {
+            let definitions = self.define_section_until_broken(section)?;
+            if self.told.first().is_some() {
+                let sections = &tree.sections[i + 1..];
+                return Ok(Left {
+                    definitions,
+                    sections,
+                    tree,
+                });
+            }
+        }
+        Ok(Left {
+            definitions: &[],
+            sections: &[],
+            tree,
+        })
     }
 
     /// Judges the definitions of a text, in order. Fails only if memory runs out.

@@ -5,16 +5,19 @@
 //! far and what was told: first the standard names (`standard`), then the definitions
 //! (`definitions`, `types`, `arrays`, `records`, `systems`), and then the variables, the routines
 //! and the body of the initial process (`variables`, `owners`, `headings`, `routines`, `text`).
-//! cp_judge judges expressions and statements. `specs/Checking.antt` defines what contracts say
-//! about the checker's state and about a result.
+//! After a broken definition judging ends, unless something earlier could be told of what is left
+//! (`left`, `ending`). cp_judge judges expressions and statements. `specs/Checking.antt` defines
+//! what contracts say about the checker's state and about a result.
 #![tactic(auto)]
 
 mod arrays;
 pub mod checker;
 mod declaring;
 mod definitions;
+mod ending;
 mod entering;
 mod headings;
+mod left;
 mod members;
 mod named;
 mod owners;

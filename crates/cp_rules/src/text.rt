@@ -2,14 +2,17 @@
 //! initial process.
 
 ghost use Rattle.std.specs.Prelude.{◌≡◌, ℕ, None, IfOk, OnOk, map};
+ghost use Rattle.cp_model.specs.Rules.{first_violation};
 ghost use Rattle.cp_model.specs.RulesJudged.{least};
 ghost use Rattle.cp_model.specs.RulesStatements as st;
 ghost use Rattle.cp_model.specs.RulesTypes as ty;
 ghost use Rattle.cp_model.specs.View as view;
-ghost use Rattle.cp_rules.specs.Texts.{Judges, Lists, body_violations, judged_text};
+ghost use Rattle.cp_rules.specs.Texts.{Judges, Lists, body_violations};
+ghost use Rattle.cp_rules.specs.Endings.{rest_of, told_with};
 ghost use Rattle.cp_rules.specs.Checking.{telling};
 
 use crate::checker::Checker;
+use crate::left::Left;
 use crate::words::{is_within, sum};
 use cp_judge::statements::statements;
 use cp_judge::telling::Told;
@@ -57,16 +60,31 @@ impl<'t> Checker<'t> {
         Ok(())
     }
 
-    // Judges a text, and goes on telling from `told`, where nothing is told yet.
+    // Judges what is left of a text.
+    fn judge_left(&mut self, left: &Left<'t>) -> Result<(), AllocError>
+        ensures { OnOk result (self.new.told ≡ told_with self.old (rest_of left.now)) }
+    {
+        let tree = left.tree;
+        self.define_types(left.definitions)?;
+        self.define_sections(left.sections)?;
+        let words = self.variables(Position::InitialVariable, &tree.variables)?;
+        self.routines(Sort::Process, &tree.routines)?;
+        self.initial_body(words, &tree.body)?;
+        Ok(())
+    }
+
+    // Judges a text, and goes on telling from `told`, where nothing is told yet. Once something is
+    // told in the definitions, the rest is judged only if it could tell something earlier.
     fn text(alloc: Global, told: Told, tree: &'t Tree) -> Result<Checker<'t>, AllocError>
         requires nothing { told ≡ None }
-        ensures { IfOk result (λ c. c ≡ judged_text (view.tree tree.now)) }
+        ensures { IfOk result (λ c. c.told ≡ first_violation (view.tree tree.now)) }
     {
         let mut checker = Checker::new(alloc, told)?;
-        checker.define_sections(&tree.sections)?;
-        let words = checker.variables(Position::InitialVariable, &tree.variables)?;
-        checker.routines(Sort::Process, &tree.routines)?;
-        checker.initial_body(words, &tree.body)?;
+        let left = checker.define_until_broken(tree)?;
+        if checker.is_decided(&left) {
+            return Ok(checker);
+        }
+        checker.judge_left(&left)?;
         Ok(checker)
     }
 }

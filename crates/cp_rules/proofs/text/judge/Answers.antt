@@ -6,5 +6,5 @@ use Rattle.cp_rules.proofs.text.judge.Goals as goal
 
 pub returns : goal.returns
 returns c =
-    let told = ap (λ (z : State). z.told) (c.checker.view_is ∙ c.in-Ok.ensures) in
+    let told = ap (λ (z : State). z.told) c.checker.view_is ∙ c.in-Ok.ensures in
     none_told (view.tree c.args.tree.now) (sym told ∙ sym c.first.ensures ∙ c.in-None.is)
