@@ -4,6 +4,7 @@ use Rattle.std.proofs.Common.{◌≡◌, ℕ, ◌<◌, List, [], ◌∷◌, ◌+
 use Rattle.std.specs.Prelude.{if◌then◌else◌}
 use Rattle.std.specs.Str.{bytes_eq}
 use Rattle.std.proofs.lemmas.Bool.{true≢false}
+use Rattle.cp_model.proofs.Options.{same_some}
 use Rattle.cp_model.specs.Abstract.{Char, Binary, Call, Designator, Expression, Expressions, Known, Letter, Literal, Monitor, MoreExpressions, Name, Negative, NoExpression, Not, Positive, Process, Use}
 use Rattle.cp_model.specs.Types.{base_of_type, named_type}
 use Rattle.cp_model.specs.Locations.{ByName, Location, OfActivation, OfMonitor, OfProcess, Owner, same_location}
@@ -50,10 +51,7 @@ module _ (w : World) (c : Context) (config : Configuration) (S : IsBefore w c co
       queue_in _ = None
 
       held_same : (a b : ℕ) → QueueHolds (Some a) ≡ QueueHolds (Some b) → a ≡ b
-      held_same a b e = of_some (ap queue_in e)
-        where
-          of_some : Some a ≡ Some b → a ≡ b
-          of_some h = Prim.cc
+      held_same a b e = same_some a b (ap queue_in e)
 
       by : (b : Bool) → same_location q l ≡ b → (if b then QueueHolds (Some c.process) else config.store l) ≡ QueueHolds (Some r) → (config.store l ≡ QueueHolds (Some r)) ⊎ ((l ≡ q) × (r ≡ c.process))
       by true x h = inr (sym (location_is q l x), sym (held_same c.process r h))

@@ -1,6 +1,7 @@
 -- Lists whose first items have been changed.
 use Rattle.std.proofs.Common.{◌≡◌, ◌+◌, ℕ, zero, suc, List, [], ◌∷◌, Option, Some, None, slice_get, slice_set, length, map, refl, ap, ◌∙◌, sym, arith}
 use Rattle.std.specs.Prelude.{option_map, slice_index_or}
+use Rattle.cp_model.proofs.Options.{same_some}
 use Rattle.cp_private.specs.States.{private_of}
 use Rattle.cp_private.specs.declared.private.Private.{Private}
 use Rattle.cp_kernel.specs.Turns.{parts_of}
@@ -13,10 +14,7 @@ changed_below f (suc i) (x ∷ xs) = f x ∷ changed_below f i xs
 module _ {A : Type 0} (f : A → A) where
   pub next_changed : (i : ℕ) (xs : List A) (x : A) → slice_get xs i ≡ Some x → slice_set (changed_below f i xs) i (f x) ≡ changed_below f (suc i) xs
   next_changed zero [] x there = refl
-  next_changed zero (y ∷ xs) x there = ap (λ z. f z ∷ xs) (same y x there)
-    where
-      same : (y x : A) → Some y ≡ Some x → x ≡ y
-      same y x e = sym (ap (λ (o : Option A). elim o as (λ z. A) [ None ↦ y | Some z ↦ z ]) e)
+  next_changed zero (y ∷ xs) x there = ap (λ z. f z ∷ xs) (sym (same_some y x there))
   next_changed (suc i) [] x there = refl
   next_changed (suc i) (y ∷ xs) x there = ap (λ zs. f y ∷ zs) (next_changed i xs x there)
 
