@@ -15,8 +15,8 @@ HEAD = '''//! The pages of `explain RULE`, written by `docs/make_pages.py` from 
 /// A page: the rule or the fault, and what is told of it.
 #[derive(Clone, Copy)]
 pub struct RulePage {
-    pub rule: &'static str,
-    pub text: &'static str,
+    pub(crate) rule: &'static str,
+    pub(crate) text: &'static str,
 }
 '''
 

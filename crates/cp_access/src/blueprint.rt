@@ -12,11 +12,11 @@ use std::alloc::{AllocError, Global};
 /// A component that a type declares.
 #[derive(Clone, Copy)]
 pub(crate) struct Part<'t> {
-    pub name: &'t Identifier,
-    pub of: &'t Identifier,
-    pub sort: Sort,
+    pub(crate) name: &'t Identifier,
+    pub(crate) of: &'t Identifier,
+    pub(crate) sort: Sort,
     /// The number of its type's blueprint.
-    pub blueprint: usize,
+    pub(crate) blueprint: usize,
 }
 
 /// Where the component comes from that an `init` hands over: it is a part of the same type, or came
@@ -30,17 +30,17 @@ pub(crate) enum Origin {
 /// What an `init` hands to the part `to`, for its parameter with this number.
 #[derive(Clone, Copy)]
 pub(crate) struct Right {
-    pub to: usize,
-    pub parameter: usize,
-    pub from: Origin,
+    pub(crate) to: usize,
+    pub(crate) parameter: usize,
+    pub(crate) from: Origin,
 }
 
 /// What a system type or the initial process declares, and what its body hands over, in order of
 /// the parts that are given it.
 #[derive(Drop)]
 pub(crate) struct Blueprint<'t> {
-    pub parts: Vec<Part<'t>>,
-    pub rights: Vec<Right>,
+    pub(crate) parts: Vec<Part<'t>>,
+    pub(crate) rights: Vec<Right>,
 }
 
 // A system type: its sort, and the number of its blueprint.

@@ -22,12 +22,12 @@ const MOST_RIGHTS: usize = 100_000;
 pub(crate) struct Instance<'t> {
     /// The names of the components that hold it, and its own, with `.` between them. The name of
     /// the initial process stands before no other.
-    pub path: Vec<u8>,
+    pub(crate) path: Vec<u8>,
     /// The name of its type. The initial process has none.
-    pub of: Option<&'t Identifier>,
-    pub sort: Sort,
+    pub(crate) of: Option<&'t Identifier>,
+    pub(crate) sort: Sort,
     /// How many components hold it. The initial process doesn't count.
-    pub level: usize,
+    pub(crate) level: usize,
     // How many bytes of the path stand before its own part, below the outermost component.
     outside: usize,
     blueprint: usize,

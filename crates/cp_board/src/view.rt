@@ -17,23 +17,23 @@ pub(crate) const WORDS_APART: usize = 8;
 /// How many numbers a board has, and how many ticket words they are spread over.
 #[derive(Clone, Copy)]
 pub struct Shape {
-    pub numbers: usize,
-    pub stripes: usize,
+    pub(crate) numbers: usize,
+    pub(crate) stripes: usize,
 }
 
 /// What a seat knows. It is used only in clauses: no value of this type is ever made.
 pub struct View {
     /// The shape of the seat's board.
-    pub shape: Shape,
+    pub(crate) shape: Shape,
     /// The number of seats that this one may be split into. The allowances of a board's seats add
     /// up to `FULL_ALLOWANCE`.
-    pub allowance: usize,
+    pub(crate) allowance: usize,
     /// The numbers that the seat has drawn, with the latest last.
-    pub draws: LinkedList<usize>,
+    pub(crate) draws: LinkedList<usize>,
     /// For each stripe, whether the seat has found it used up.
-    pub used_up: LinkedList<bool>,
+    pub(crate) used_up: LinkedList<bool>,
     /// Whether the seat has called `Board::stop`.
-    pub called_stop: bool,
+    pub(crate) called_stop: bool,
     /// Whether the seat has called `Board::stop`, or `Board::stopped` has returned true.
-    pub seen_stop: bool,
+    pub(crate) seen_stop: bool,
 }

@@ -21,19 +21,19 @@ use std::alloc::AllocError;
 /// words in which its parameters wait, and the number of its plan.
 #[derive(Clone, Copy)]
 pub struct Owner {
-    pub body: u32,
-    pub words: u32,
-    pub waiting: u32,
-    pub plan: u32,
+    pub(crate) body: u32,
+    pub(crate) words: u32,
+    pub(crate) waiting: u32,
+    pub(crate) plan: u32,
 }
 
 /// What the components of a text are made from: its tables, the first unit of each type by name,
 /// and the number of the plan of the first system type.
 #[derive(Clone, Copy)]
 pub struct InitialCompiler<'s, 't> {
-    pub tables: &'s Tables<'t>,
-    pub firsts: &'s NameTable<'t, u32>,
-    pub plans: u32,
+    pub(crate) tables: &'s Tables<'t>,
+    pub(crate) firsts: &'s NameTable<'t, u32>,
+    pub(crate) plans: u32,
 }
 
 impl Owner {

@@ -24,8 +24,8 @@ use std::alloc::AllocError;
 /// What the definitions of a text are compiled with.
 #[derive(Clone, Copy)]
 pub struct TextCompiler<'s, 't> {
-    pub tables: &'s Tables<'t>,
-    pub planner: &'s Planner<'s, 't>,
+    pub(crate) tables: &'s Tables<'t>,
+    pub(crate) planner: &'s Planner<'s, 't>,
 }
 
 // The first unit of a written type. For a name, it is that of the type that the name means.

@@ -15,15 +15,15 @@ use std::alloc::{AllocError, Global};
 /// Monitors that lie one after another, and the number of words that they take.
 #[derive(Drop)]
 pub struct MonitorLayout {
-    pub monitors: Vec<Monitor>,
-    pub words: u32,
+    pub(crate) monitors: Vec<Monitor>,
+    pub(crate) words: u32,
 }
 
 /// Processes whose waiting parameters lie one after another, and the word after all of them.
 #[derive(Drop)]
 pub struct ProcessLayout {
-    pub processes: Vec<Process>,
-    pub end: u32,
+    pub(crate) processes: Vec<Process>,
+    pub(crate) end: u32,
 }
 
 /// Lays out monitors, from the first shared word on.

@@ -28,11 +28,11 @@ use std::alloc::AllocError;
 /// own first unit.
 #[derive(Clone, Copy)]
 pub struct SystemCompiler<'s, 't> {
-    pub tables: &'s Tables<'t>,
-    pub planner: &'s Planner<'s, 't>,
-    pub firsts: &'s NameTable<'t, u32>,
-    pub system: &'s SystemTable<'t>,
-    pub first: u32,
+    pub(crate) tables: &'s Tables<'t>,
+    pub(crate) planner: &'s Planner<'s, 't>,
+    pub(crate) firsts: &'s NameTable<'t, u32>,
+    pub(crate) system: &'s SystemTable<'t>,
+    pub(crate) first: u32,
 }
 
 // The operation with which a body ends.

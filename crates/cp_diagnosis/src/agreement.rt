@@ -10,8 +10,8 @@ use std::alloc::AllocError;
 /// The type of one of two things that should agree, and what that thing is called.
 #[derive(Clone, Copy)]
 pub struct Side<'t> {
-    pub called: &'static str,
-    pub of: Type<'t>,
+    pub(crate) called: &'static str,
+    pub(crate) of: Type<'t>,
 }
 
 /// The group of parameters to which the one with this number belongs, from 0.

@@ -119,14 +119,14 @@ pub enum Pair<'t> {
 /// What stands at a place. A name that begins an expression has a purpose as well as a role.
 #[derive(Drop)]
 pub struct Site<'t> {
-    pub scope: Scope<'t>,
-    pub name: Option<(&'t Identifier, NameRole<'t>)>,
-    pub purpose: Option<Purpose<'t>>,
-    pub mark: Option<Mark>,
+    pub(crate) scope: Scope<'t>,
+    pub(crate) name: Option<(&'t Identifier, NameRole<'t>)>,
+    pub(crate) purpose: Option<Purpose<'t>>,
+    pub(crate) mark: Option<Mark>,
     /// The outermost expression that begins at the place, if it has a purpose.
-    pub expression: Option<&'t Expression>,
-    pub pair: Option<Pair<'t>>,
+    pub(crate) expression: Option<&'t Expression>,
+    pub(crate) pair: Option<Pair<'t>>,
     /// The number of the process or monitor that the name declares, if the initial process declares
     /// it.
-    pub number: Option<(Sort, usize)>,
+    pub(crate) number: Option<(Sort, usize)>,
 }

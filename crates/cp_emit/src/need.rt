@@ -13,9 +13,9 @@ use std::alloc::AllocError;
 /// The numbers of words, temps and frames that are needed.
 #[derive(Clone, Copy, Debug, PartialEq, Eq)]
 pub struct Need {
-    pub words: u32,
-    pub temps: u32,
-    pub frames: u32,
+    pub(crate) words: u32,
+    pub(crate) temps: u32,
+    pub(crate) frames: u32,
 }
 
 impl Need {

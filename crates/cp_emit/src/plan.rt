@@ -27,16 +27,16 @@ use std::alloc::{AllocError, Global};
 /// are 0 before.
 #[derive(Clone, Copy, Debug)]
 pub struct TypePlans {
-    pub plain: u32,
-    pub zeroed: u32,
+    pub(crate) plain: u32,
+    pub(crate) zeroed: u32,
 }
 
 /// A part: its first word, the number of its words, and the number of its plan.
 #[derive(Clone, Copy, Debug)]
 pub struct Placed {
-    pub at: u32,
-    pub size: u32,
-    pub plan: u32,
+    pub(crate) at: u32,
+    pub(crate) size: u32,
+    pub(crate) plan: u32,
 }
 
 /// What plans are made from: the tables of a text, the plans so far, and the numbers of those of

@@ -4,8 +4,8 @@
 /// A page: the rule or the fault, and what is told of it.
 #[derive(Clone, Copy)]
 pub struct RulePage {
-    pub rule: &'static str,
-    pub text: &'static str,
+    pub(crate) rule: &'static str,
+    pub(crate) text: &'static str,
 }
 
 /// One page for each rule, in the order of docs/rules.md.

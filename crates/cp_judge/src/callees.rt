@@ -40,8 +40,8 @@ pub struct Callee {
 /// routine that is called.
 #[derive(Clone, Copy, Debug)]
 pub struct Called {
-    pub wants: Wants,
-    pub callee: Option<Callee>,
+    pub(crate) wants: Wants,
+    pub(crate) callee: Option<Callee>,
 }
 
 /// What a routine gives if it is called as a function. C2: the number of arguments is wrong.

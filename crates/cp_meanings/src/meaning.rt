@@ -5,8 +5,8 @@ use cp_model::tree::{Sort, TypeExpression};
 /// The ordinals of a simple type.
 #[derive(Clone, Copy, Debug, PartialEq, Eq)]
 pub struct Ordinals {
-    pub first: i32,
-    pub last: i32,
+    pub(crate) first: i32,
+    pub(crate) last: i32,
 }
 
 impl Ordinals {

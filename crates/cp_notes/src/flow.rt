@@ -13,9 +13,9 @@ pub enum Reach {
 /// What is known at a place.
 #[derive(Clone, Copy, Debug)]
 pub struct Flow {
-    pub reach: Reach,
+    pub(crate) reach: Reach,
     /// Whether each way to the place sets the result of the function.
-    pub has_result: bool,
+    pub(crate) has_result: bool,
 }
 
 impl Flow {

@@ -15,7 +15,7 @@ pub struct Queue<'t> {
     delayed: Option<usize>,
     is_continued: bool,
     /// The first `delay` in it that an entry routine surely comes to.
-    pub sure: Option<usize>,
+    pub(crate) sure: Option<usize>,
 }
 
 /// The queues of the text so far, and those of the current monitor by their names.

@@ -13,40 +13,40 @@ use std::collections::BTreeMap;
 /// What is known of a routine that was walked over.
 #[derive(Clone, Copy)]
 pub struct Behaviour<'t> {
-    pub routine: &'t Routine,
+    pub(crate) routine: &'t Routine,
     /// Whether it leads to a `delay`.
-    pub delays: bool,
+    pub(crate) delays: bool,
     /// The queue, by its number in the text, in which the routine surely delays its caller.
-    pub queue: Option<usize>,
+    pub(crate) queue: Option<usize>,
 }
 
 /// A system type, and the calls of its body that surely delay, by their numbers.
 #[derive(Clone, Copy)]
 pub struct SystemType<'t> {
-    pub system: &'t System,
-    pub first_call: usize,
-    pub last_call: usize,
+    pub(crate) system: &'t System,
+    pub(crate) first_call: usize,
+    pub(crate) last_call: usize,
 }
 
 /// The body that is walked over.
 #[derive(Clone, Copy)]
 pub struct Inside<'t> {
     /// The sort of the component that has this body. The initial process is a process.
-    pub sort: Sort,
-    pub is_initial: bool,
+    pub(crate) sort: Sort,
+    pub(crate) is_initial: bool,
     /// The routine, unless this is the body of the component itself.
-    pub routine: Option<&'t Routine>,
+    pub(crate) routine: Option<&'t Routine>,
     /// Whether something so far leads to a `delay`.
-    pub delays: bool,
+    pub(crate) delays: bool,
     /// The queue in which the routine surely delays its caller, by its number.
-    pub queue: Option<usize>,
+    pub(crate) queue: Option<usize>,
     /// Whether something so far depends on queues: the routine may return early by a `continue`, or
     /// tests whether a queue is empty.
-    pub minds_queues: bool,
+    pub(crate) minds_queues: bool,
     /// Whether something so far sets the result.
-    pub sets_result: bool,
+    pub(crate) sets_result: bool,
     /// How many statements that run on conditions the current one is in.
-    pub conditions: usize,
+    pub(crate) conditions: usize,
 }
 
 impl<'t> Inside<'t> {
@@ -91,18 +91,18 @@ impl<'t> Inside<'t> {
 /// What is known on the way through a text.
 #[derive(Drop)]
 pub struct Walk<'t> {
-    pub alloc: Global,
-    pub names: Names<'t>,
-    pub notes: Notes<'t>,
+    pub(crate) alloc: Global,
+    pub(crate) names: Names<'t>,
+    pub(crate) notes: Notes<'t>,
     /// The routines so far, by their numbers.
-    pub routines: Vec<Behaviour<'t>>,
+    pub(crate) routines: Vec<Behaviour<'t>>,
     /// The system types so far, by the places of their names.
-    pub systems: BTreeMap<usize, SystemType<'t>>,
-    pub inside: Inside<'t>,
-    pub flow: Flow,
-    pub inits: Inits<'t>,
-    pub queues: Queues<'t>,
-    pub meetings: Meetings<'t>,
+    pub(crate) systems: BTreeMap<usize, SystemType<'t>>,
+    pub(crate) inside: Inside<'t>,
+    pub(crate) flow: Flow,
+    pub(crate) inits: Inits<'t>,
+    pub(crate) queues: Queues<'t>,
+    pub(crate) meetings: Meetings<'t>,
 }
 
 impl<'t> Walk<'t> {

@@ -18,9 +18,9 @@ use cp_program::program::{Program, StartPiece};
 /// `below`.
 #[derive(Clone, Copy)]
 pub(crate) struct Rest<'p> {
-    pub base: usize,
-    pub below: usize,
-    pub pieces: &'p [StartPiece],
+    pub(crate) base: usize,
+    pub(crate) below: usize,
+    pub(crate) pieces: &'p [StartPiece],
 }
 
 // The pieces of the part at address `at`, unless its plan isn't below `below`, or its words lie

@@ -24,9 +24,9 @@ use std::alloc::{AllocError, Global};
 /// they take in an activation, counted up to one above the limit.
 #[derive(Drop)]
 pub struct Heading<'t> {
-    pub bound: Vec<(&'t Identifier, Entity)>,
-    pub rows: Vec<ParameterRow>,
-    pub words: usize,
+    pub(crate) bound: Vec<(&'t Identifier, Entity)>,
+    pub(crate) rows: Vec<ParameterRow>,
+    pub(crate) words: usize,
 }
 
 // Whether a parameter of a system type may be a component of this sort: a monitor, or for a class

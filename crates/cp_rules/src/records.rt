@@ -19,8 +19,8 @@ use std::alloc::{AllocError, Global};
 /// The fields of a record so far, and the first violation in them.
 #[derive(Drop)]
 pub struct FieldList<'t> {
-    pub members: Members<'t>,
-    pub first: Option<Violation>,
+    pub(crate) members: Members<'t>,
+    pub(crate) first: Option<Violation>,
 }
 
 impl<'t> FieldList<'t> {

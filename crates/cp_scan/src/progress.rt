@@ -12,8 +12,8 @@ use cp_model::token::{Kind, Span, Token};
 /// The tokens of a text up to the place `at`.
 #[derive(Drop)]
 pub struct Progress {
-    pub tokens: Vec<Token>,
-    pub at: usize,
+    pub(crate) tokens: Vec<Token>,
+    pub(crate) at: usize,
 }
 
 impl Progress {

@@ -21,9 +21,9 @@ use std::alloc::{AllocError, Global};
 /// declared before it.
 #[derive(Clone, Copy)]
 pub struct Numbered {
-    pub of: usize,
-    pub monitors: usize,
-    pub processes: usize,
+    pub(crate) of: usize,
+    pub(crate) monitors: usize,
+    pub(crate) processes: usize,
 }
 
 fn is_sort(a: Sort, b: Sort) -> bool

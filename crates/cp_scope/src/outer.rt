@@ -22,8 +22,8 @@ use std::alloc::{AllocError, Global};
 /// The names and types of the outermost scope.
 #[derive(Drop)]
 pub struct Outer<'t> {
-    pub names: Names<'t>,
-    pub types: Types<'t>,
+    pub(crate) names: Names<'t>,
+    pub(crate) types: Types<'t>,
 }
 
 // Converts a number to an ordinal.

@@ -6,9 +6,9 @@ use cp_model::token::{Kind, Symbol, Token};
 /// count.
 #[derive(Clone, Copy)]
 pub struct Front<'t> {
-    pub text: &'t [u8],
-    pub tokens: &'t [Token],
-    pub index: usize,
+    pub(crate) text: &'t [u8],
+    pub(crate) tokens: &'t [Token],
+    pub(crate) index: usize,
 }
 
 /// Whether a token is this symbol.

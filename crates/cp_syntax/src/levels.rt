@@ -16,8 +16,8 @@ use std::alloc::Global;
 /// What the rules of all other parts share: `room` levels may be opened.
 #[derive(Clone, Copy)]
 pub struct Parser {
-    pub alloc: Global,
-    pub room: usize,
+    pub(crate) alloc: Global,
+    pub(crate) room: usize,
 }
 
 /// A part of the syntax tree that may contain parts of its own kind.
@@ -33,9 +33,9 @@ pub trait Nested {
 /// The rules of a part if `room` levels may still be opened, given a reader of such parts.
 #[derive(Clone, Copy)]
 pub struct Level<F> {
-    pub alloc: Global,
-    pub room: usize,
-    pub read: F,
+    pub(crate) alloc: Global,
+    pub(crate) room: usize,
+    pub(crate) read: F,
 }
 
 /// Reads a part with the reader that was given.

@@ -11,23 +11,23 @@ use std::alloc::Global;
 /// type of its place, if it has one.
 #[derive(Drop)]
 pub struct MadeSpot {
-    pub spot: Spot,
-    pub temps: u32,
-    pub of: Option<usize>,
+    pub(crate) spot: Spot,
+    pub(crate) temps: u32,
+    pub(crate) of: Option<usize>,
 }
 
 /// An argument, and the first temp after the values of its calls.
 #[derive(Drop)]
 pub struct MadeArgument {
-    pub argument: Argument,
-    pub temps: u32,
+    pub(crate) argument: Argument,
+    pub(crate) temps: u32,
 }
 
 /// Arguments, and the first temp after the values of their calls.
 #[derive(Drop)]
 pub struct MadeArguments {
-    pub arguments: Vec<Argument>,
-    pub temps: u32,
+    pub(crate) arguments: Vec<Argument>,
+    pub(crate) temps: u32,
 }
 
 /// No arguments, and no calls before them.

@@ -17,8 +17,8 @@ use std::alloc::AllocError;
 /// The least and the greatest value of a type.
 #[derive(Clone, Copy)]
 pub struct Bounds {
-    pub low: i32,
-    pub high: i32,
+    pub(crate) low: i32,
+    pub(crate) high: i32,
 }
 
 /// The bounds of a simple type. Those of any other type are 0.
