@@ -10,9 +10,9 @@ use cp_model::token::{Symbol, Token};
 use std::alloc::{AllocError, Global};
 use std::mem::size_of_val;
 
-// When a block of so many bytes is freed, the C library joins all blocks that were freed before it.
-// One of twice as many bytes is mapped by itself, and freeing it joins nothing. A tree has up to
-// half a million blocks.
+// When a block of so many bytes is freed, the C library joins all blocks that were freed before it,
+// and a tree has up to half a million. At first it maps blocks of twice as many bytes by themselves,
+// and to free one of those joins nothing.
 const JOINED: usize = 64 * 1024;
 
 /// A part of the syntax tree that occurs in lists, and how the rules `R` read it.
