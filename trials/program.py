@@ -130,31 +130,32 @@ def try_progress():
     expect('no progress of a short run', run(['run', 'seven.cp', '--rounds', '2', '--progress'])[2], b'')
 
 
-def main():
-    cases = worked()
-    examples, orders, rules, explained, answers = try_examples(), try_orders(), try_rules(), try_explanations(), try_worked(cases)
-    faults = try_faults()
-    for what, count, least in [('examples', examples, 11), ('orders', orders, 3), ('refused texts', rules, 21),
-                               ('explanations', explained, 20), ('faults', faults, 9), ('worked texts', answers, 500)]:
-        expect_at_least(what, count, least)
+def try_picture():
     picture = (ROOT / 'docs' / 'philosophers.svg').read_bytes()
     expect('a picture', run(['trace', 'philosophers.cp', '--rounds', '40', '--turn', '4', '--svg']), (0, picture, b''))
-    try_progress()
+
+
+def main():
+    cases = worked()
     resumed = next(case for case in cases if case['name'] == RESUMED)
-    beginnings, lawful = try_beginnings(resumed['text']), try_lawful_orders(resumed['text'], resumed['answer'].encode())
-    expect_at_least('beginnings of a text', beginnings, 400)
-    expect_at_least('lawful orders', lawful, 190)
-    try_long_chain()
-    try_squarers(PLANS)
-    try_counters(PLANS)
-    refused = refuse_in_turn(resumed['text'], text_of_counters())
+    # This comes first: it sets limits between the fork and the start of the program, where other threads could hold a lock.
     hurt = try_to_hurt()
+    with concurrent.futures.ThreadPoolExecutor() as pool:
+        refused = pool.submit(refuse_in_turn, resumed['text'], text_of_counters())
+        tries = [('examples', 11, try_examples), ('orders', 3, try_orders), ('refused texts', 21, try_rules), ('explanations', 20, try_explanations),
+                 ('faults', 9, try_faults), ('worked texts', 500, try_worked, cases), ('beginnings of a text', 400, try_beginnings, resumed['text']),
+                 ('lawful orders', 190, try_lawful_orders, resumed['text'], resumed['answer'].encode())]
+        counts = {what: (least, pool.submit(*call)) for what, least, *call in tries}
+        others = [pool.submit(*call) for call in ((try_counters, PLANS), (try_squarers, PLANS), (try_progress,), (try_long_chain,), (try_picture,))]
+        for what, (least, count) in counts.items():
+            expect_at_least(what, count.result(), least)
+        for other in [refused, *others]:
+            other.result()
     for line in wrong:
         print(line)
     if wrong or '--quiet' not in sys.argv:
-        print(f'{examples} examples, {orders} orders, {rules} refused texts, {explained} explanations, {faults} faults, {answers} worked texts, '
-              f'{beginnings} beginnings of a text, {lawful} lawful orders; '
-              f'refused in turn: {refused}; {hurt} runs on what is made to hurt; {len(wrong)} wrong')
+        tried = ', '.join(f'{count.result()} {what}' for what, (_, count) in counts.items())
+        print(f'{tried}; refused in turn: {refused.result()}; {hurt} runs on what is made to hurt; {len(wrong)} wrong')
     return 1 if wrong else 0
 
 

@@ -4,10 +4,12 @@ Each call is refused alone, and then with all that come after it. A run that is 
 a beginning of its report; a run that takes what it asked for elsewhere has its whole report. The tests of cp_rounds_tests that look at a
 machine after a refusal see some in the same way. refusing.c does the refusing.
 """
+import concurrent.futures
 import contextlib
 import pathlib
 import subprocess
 import tempfile
+import threading
 
 from running import PROGRAM, ROOT, ROUNDS, expect, expect_at_least, expect_one_of, run, wrong
 
@@ -30,17 +32,18 @@ class Refusing:
     """The program with refusing.c loaded. Each read and write moves one byte, so that there are many."""
 
     def __init__(self, folder):
-        self.library, self.calls = folder / 'refusing.so', folder / 'calls'
+        self.folder, self.library = folder, folder / 'refusing.so'
         subprocess.run(['cc', '-shared', '-fPIC', '-O1', '-o', self.library, ROOT / 'trials' / 'refusing.c'], check=True)
 
     def run(self, words, program=PROGRAM, **refused):
         """The answer of a run, how many of its calls were refused, and how many allocations were made beside the first thread."""
+        calls = self.folder / f'calls{threading.get_ident()}'
         with contextlib.suppress(FileNotFoundError):
-            self.calls.unlink()
+            calls.unlink()
         settings = {name: str(value) for name, value in refused.items()}
-        found = run(words, {'LD_PRELOAD': str(self.library), 'CALLS': str(self.calls), 'ONE_BYTE': '1', **settings}, program=program)
+        found = run(words, {'LD_PRELOAD': str(self.library), 'CALLS': str(calls), 'ONE_BYTE': '1', **settings}, program=program)
         # A run that a signal ends leaves no counts.
-        counts = self.calls.read_text().split() if self.calls.exists() else ['0'] * 7
+        counts = calls.read_text().split() if calls.exists() else ['0'] * 7
         return found, int(counts[4]), int(counts[6])
 
 
@@ -74,13 +77,34 @@ def refuse_each(refusing, kind, words, answered, **settings):
         judge(kind, f'{kind} {number} {settings}', found, due, answered)
 
 
-def refuse_all(refusing, what, words, least, answered=0):
-    """Refuses the calls of each kind in turn. Returns how many of each were refused."""
-    counts = {}
-    for kind in KINDS:
-        counts[kind] = refuse_each(refusing, kind, words, answered)
-        refuse_each(refusing, kind, words, answered, FROM_THEN_ON=1)
-        expect_at_least(f'{what}: {kind}', counts[kind], least[kind])
+class Refusals:
+    """Refusals of several commands, which run beside one another."""
+
+    def __init__(self, pool, refusing):
+        self.pool, self.refusing, self.begun = pool, refusing, []
+
+    def begin(self, call, *words, **settings):
+        """Begins what refuses calls, and returns what will have its result."""
+        begun = self.pool.submit(call, self.refusing, *words, **settings)
+        self.begun.append(begun)
+        return begun
+
+    def begin_kinds(self, words, answered=0, kinds=KINDS):
+        """Begins to refuse the calls of each kind in turn, each alone."""
+        return {kind: self.begin(refuse_each, kind, words, answered) for kind in kinds}
+
+    def begin_all(self, words, answered=0):
+        """Begins to refuse the calls of each kind in turn, each alone, and each with all that come after it."""
+        for kind in KINDS:
+            self.begin(refuse_each, kind, words, answered, FROM_THEN_ON=1)
+        return self.begin_kinds(words, answered)
+
+
+def counts_of(what, begun, least):
+    """How many calls of each kind were refused in a command."""
+    counts = {kind: refused.result() for kind, refused in begun.items()}
+    for kind, count in counts.items():
+        expect_at_least(f'{what}: {kind}', count, least[kind])
     return counts
 
 
@@ -108,33 +132,41 @@ def told(what, counts):
             f'and {counts["WRITE"]} writes')
 
 
+def commands(folder, resumed):
+    """The commands whose calls of each kind are refused: what they are, the fewest refusals, their words and their status."""
+    text, order, given, named = (folder / name for name in ('text.cp', 'order', 'input', 'named'))
+    text.write_text(resumed)
+    order.write_text('P1 P1 P2 P2 P3 P3 P4 P4 K1 K2 K3 K4\n' * 5)
+    given.write_bytes(b'a\x1cb')
+    named.write_bytes(b'hello')
+    plan = ['--workers', '2', '--chunk', '1', '--wave', '2']
+    capitals = ROOT / 'docs' / 'tutorial' / 'capitals.cp'
+    return [('a run', LEAST_OF_RUN, ['run', text, '--rounds', '5', '--turn', '2', *plan, '--input', given], 0),
+            ('a replay', LEAST_OF_REPLAY, ['replay', text, order, '--turn', '2', '--input', given], 0),
+            ('a run with a named input', LEAST_OF_NAMED, ['run', capitals, '--rounds', '2', '--in', f't={named}'], 0),
+            ('an outcome', LEAST_OF_OUTCOME, ['outcome', 'squarers.cp', '--turn', '4'], 6),
+            ('an explanation', LEAST_OF_EXPLANATION, ['explain', 'rules/c4_recursion.cp'], 1)]
+
+
 def refuse_in_turn(resumed, counters):
     """Refuses the calls of three runs, a replay, an outcome, a trace and an explanation. `resumed` is a text in which a process resumes another, `counters` one of
     whose rounds several are made at once. Returns what was tried."""
-    with tempfile.TemporaryDirectory() as name:
+    with tempfile.TemporaryDirectory() as name, concurrent.futures.ThreadPoolExecutor() as pool:
         folder = pathlib.Path(name)
-        refusing = Refusing(folder)
-        text, order, given = folder / 'text.cp', folder / 'order', folder / 'input'
-        text.write_text(resumed)
-        order.write_text('P1 P1 P2 P2 P3 P3 P4 P4 K1 K2 K3 K4\n' * 5)
-        given.write_bytes(b'a\x1cb')
-        plan = ['--workers', '2', '--chunk', '1', '--wave', '2']
-        ran = refuse_all(refusing, 'run', ['run', text, '--rounds', '5', '--turn', '2', *plan, '--input', given], LEAST_OF_RUN)
+        refusals = Refusals(pool, Refusing(folder))
         counting = folder / 'counters.cp'
         counting.write_text(counters)
-        at_once = refuse_each(refusing, 'ALLOCATION', ['run', counting, '--rounds', '40', '--turn', '2'], 0)
-        expect_at_least('rounds made at once: ALLOCATION', at_once, LEAST_AT_ONCE)
-        made = refuse_all(refusing, 'replay', ['replay', text, order, '--turn', '2', '--input', given], LEAST_OF_REPLAY)
-        given.write_bytes(b'hello')
-        by_name = ['run', ROOT / 'docs' / 'tutorial' / 'capitals.cp', '--rounds', '2', '--in', f't={given}']
-        named = refuse_all(refusing, 'run with a named input', by_name, LEAST_OF_NAMED)
-        decided = refuse_all(refusing, 'outcome', ['outcome', 'squarers.cp', '--turn', '4'], LEAST_OF_OUTCOME, answered=6)
-        traced = {kind: refuse_each(refusing, kind, ['trace', 'squarers.cp', '--rounds', '3', '--turn', '4'], 0) for kind in LEAST_OF_TRACE}
-        for kind, least in LEAST_OF_TRACE.items():
-            expect_at_least(f'a trace: {kind}', traced[kind], least)
-        explained = refuse_all(refusing, 'explanation', ['explain', 'rules/c4_recursion.cp'], LEAST_OF_EXPLANATION, answered=1)
-        waves = [refuse_each(refusing, 'THREAD', ['run', 'squarers.cp', '--rounds', '5', '--workers', '4', '--wave', wave], 0) for wave in '12']
-        expect_at_least('thread starts of 4 workers', sum(waves), 3)
-        met = sum(refuse_rounds(refusing, test) for test in TESTS)
-    return '; '.join([told('a run', ran), f'of one that makes rounds at once {at_once} allocations', told('a replay', made), told('a run with a named input', named), told('an outcome', decided),
-                      f'of a trace {traced["READ"]} reads and {traced["WRITE"]} writes', told('an explanation', explained), f'of machines in tests {met} calls'])
+        begun = [(what, least, refusals.begin_all(words, answered)) for what, least, words, answered in commands(folder, resumed)]
+        at_once = refusals.begin_kinds(['run', counting, '--rounds', '40', '--turn', '2'], kinds=['ALLOCATION'])
+        traced = refusals.begin_kinds(['trace', 'squarers.cp', '--rounds', '3', '--turn', '4'], kinds=LEAST_OF_TRACE)
+        waves = [refusals.begin(refuse_each, 'THREAD', ['run', 'squarers.cp', '--rounds', '5', '--workers', '4', '--wave', wave], 0) for wave in '12']
+        tests = [refusals.begin(refuse_rounds, test) for test in TESTS]
+        tried = [told(what, counts_of(what, counts, least)) for what, least, counts in begun]
+        counts_of('rounds made at once', at_once, {'ALLOCATION': LEAST_AT_ONCE})
+        counts_of('a trace', traced, LEAST_OF_TRACE)
+        expect_at_least('thread starts of 4 workers', sum(wave.result() for wave in waves), 3)
+        met = sum(test.result() for test in tests)
+        for refused in refusals.begun:
+            refused.result()
+    return '; '.join([*tried, f'of one that makes rounds at once {at_once["ALLOCATION"].result()} allocations',
+                      f'of a trace {traced["READ"].result()} reads and {traced["WRITE"].result()} writes', f'of machines in tests {met} calls'])
