@@ -7,6 +7,8 @@ ghost use Rattle.cp_model.specs.RulesTypes as types;
 ghost use Rattle.cp_judge.specs.Environments.{with_members, with_parameters, with_routine, with_system};
 ghost use Rattle.cp_names.specs.Tables.{AreDistinct, entry_view, with_values_from};
 
+mod counts;
+
 use crate::scope::Scope;
 use cp_model::rules::{
     Entity, Member, ParameterRow, Part, Region, Returns, RoutineRow, Structure, SystemRow, TypeRow,
@@ -218,58 +220,6 @@ impl<'t> Environment<'t> {
     }
 }
 
-// How many entries there are.
-impl<'t> Environment<'t> {
-    /// The number of types.
-    pub fn type_count(&self) -> usize
-        ensures { result ≡ length self.now.types }
-    {
-        self.types.len()
-    }
-
-    /// The number of tables of members.
-    pub fn table_count(&self) -> usize
-        ensures { result ≡ length self.now.members }
-    {
-        self.members.len()
-    }
-
-    /// The number of system types.
-    pub fn system_count(&self) -> usize
-        ensures { result ≡ length self.now.systems }
-    {
-        self.systems.len()
-    }
-
-    /// The number of routines.
-    pub fn routine_count(&self) -> usize
-        ensures { result ≡ length self.now.routines }
-    {
-        self.routines.len()
-    }
-
-    /// The number of parameters.
-    pub fn parameter_count(&self) -> usize
-        ensures { result ≡ length self.now.parameters }
-    {
-        self.parameters.len()
-    }
-
-    /// The number of processes so far, counting the initial one.
-    pub fn process_count(&self) -> usize
-        ensures { result ≡ self.now.processes }
-    {
-        self.processes
-    }
-
-    /// The number of monitors so far.
-    pub fn monitor_count(&self) -> usize
-        ensures { result ≡ self.now.monitors }
-    {
-        self.monitors
-    }
-}
-
 // What declarations add. Each function fails only if memory runs out.
 impl<'t> Environment<'t> {
     /// Returns the environment of the initial process, with these names and types.
@@ -386,19 +336,5 @@ impl<'t> Environment<'t> {
         ensures { self.new ≡ record self.old { region = region } }
     {
         self.region = region;
-    }
-
-    /// Sets the number of processes.
-    pub fn count_processes(&mut self, count: usize)
-        ensures { self.new ≡ record self.old { processes = count } }
-    {
-        self.processes = count;
-    }
-
-    /// Sets the number of monitors.
-    pub fn count_monitors(&mut self, count: usize)
-        ensures { self.new ≡ record self.old { monitors = count } }
-    {
-        self.monitors = count;
     }
 }
