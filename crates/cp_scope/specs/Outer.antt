@@ -5,7 +5,7 @@ use Rattle.cp_model.specs.Abstract.{Definition, Name}
 use Rattle.cp_model.specs.Declarations.{define, define_all, enumeration_constants, reported_members}
 use Rattle.cp_model.specs.Erase as erase
 use Rattle.cp_model.specs.View as view
-use Rattle.cp_model.specs.Types.{ComponentOf, GlobalScope, ResolvedType}
+use Rattle.cp_model.specs.Types.{ComponentOf, GlobalScope, ResolvedType, standard_scope}
 use Rattle.cp_model.specs.declared.tree.Identifier.{Identifier}
 use Rattle.cp_model.specs.declared.tree.System.{System}
 use Rattle.cp_scope.specs.declared.names.Names.{Names}
@@ -28,6 +28,9 @@ with_values b k xs g = record g { constants = enumeration_constants b k (map era
 
 abbrev pub with_type : Name → (GlobalScope → ResolvedType) → GlobalScope → GlobalScope
 with_type x of g = record g { types = (x, of g) ∷ g.types }
+
+abbrev pub with_standard : GlobalScope → GlobalScope
+with_standard g = record { constants = standard_scope.constants ++ g.constants; types = standard_scope.types ++ g.types }
 
 -- The new tables give the name `x` to type number `n`, whatever type that number stands for.
 abbrev pub NamesType : Outer → Outer → Name → ℕ → Type 0

@@ -7,7 +7,7 @@ ghost use Rattle.cp_model.specs.Types as t;
 ghost use Rattle.cp_model.specs.Types.{ResolvedType, standard_scope};
 ghost use Rattle.cp_model.specs.Erase as erase;
 ghost use Rattle.cp_model.specs.View as view;
-ghost use Rattle.cp_scope.specs.Outer.{Defines, MakesComponents, NamesType, OuterStands, component_of, defining, defining_all, with_type, with_value, with_values};
+ghost use Rattle.cp_scope.specs.Outer.{Defines, MakesComponents, NamesType, OuterStands, component_of, defining, defining_all, with_standard, with_type, with_value, with_values};
 ghost use Rattle.cp_scope.specs.Standing.{MakesFields, Stands, base_of, entry, simple_of, value_of, with_parameter, with_parameters, type_from};
 
 use crate::names::{Names, Value};
@@ -152,6 +152,19 @@ impl<'t> Outer<'t> {
         self.add_type(name, of)
     }
 
+    // Adds the standard names.
+    fn add_standard(&mut self) -> Result<(), AllocError>
+        ensures { OnOk result (Defines self.old self.new with_standard) }
+    {
+        let queue = self.types.add(TypeRow::Queue)?;
+        self.add_type(b"queue", queue)?;
+        self.add_base(b"char", simple(Base::Char, 0, 127))?;
+        self.add_base(b"boolean", simple(Base::Boolean, 0, 1))?;
+        self.add_base(b"integer", simple(Base::Integer, -32768, 32767))?;
+        self.add_constant(b"true", value(Base::Boolean, 1))?;
+        self.add_constant(b"false", value(Base::Boolean, 0))
+    }
+
     /// The scope of the standard names.
     pub fn standard(alloc: Global) -> Result<Outer<'t>, AllocError>
         ensures { IfOk result (λ outer. OuterStands outer standard_scope) }
@@ -160,13 +173,7 @@ impl<'t> Outer<'t> {
             names: Names::new(alloc),
             types: Types::new(alloc),
         };
-        let queue = outer.types.add(TypeRow::Queue)?;
-        outer.add_type(b"queue", queue)?;
-        outer.add_base(b"char", simple(Base::Char, 0, 127))?;
-        outer.add_base(b"boolean", simple(Base::Boolean, 0, 1))?;
-        outer.add_base(b"integer", simple(Base::Integer, -32768, 32767))?;
-        outer.add_constant(b"true", value(Base::Boolean, 1))?;
-        outer.add_constant(b"false", value(Base::Boolean, 0))?;
+        outer.add_standard()?;
         Ok(outer)
     }
 
