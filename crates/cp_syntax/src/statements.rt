@@ -203,8 +203,6 @@ fn for_loop<F: Fn(Global, usize, &[Token]) -> Read<'_, Statement> + Copy>(
     let (from, rest) = expression(inner.alloc, inner.room, rest)?;
     let (direction, rest) = direction(rest)?;
     let (last, rest) = expression(inner.alloc, inner.room, rest)?;
-    let (_, rest) = expect(rest, Symbol::Do)?;
-    let (body, rest) = read_at(inner, rest)?;
     let header = ForHeader {
         variable,
         from,
@@ -212,6 +210,8 @@ fn for_loop<F: Fn(Global, usize, &[Token]) -> Read<'_, Statement> + Copy>(
         last,
     };
     let header = Box::new(level.alloc, header)?;
+    let (_, rest) = expect(rest, Symbol::Do)?;
+    let (body, rest) = read_at(inner, rest)?;
     let body = Box::new(level.alloc, body)?;
     Ok((Statement::For { header, body }, rest))
 }
