@@ -14,7 +14,7 @@ pub const MOST_READ: usize = 1_048_577;
 const LONGEST_PART: usize = 4096;
 
 /// Why the bytes of a reader couldn't be read.
-#[derive(Clone, Copy, Debug, PartialEq, Eq)]
+#[derive(Clone, Copy, PartialEq, Eq)]
 pub enum ReadError {
     /// A read failed.
     Read,

@@ -9,7 +9,7 @@ use crate::refusal::Refusal;
 use std::io::Write;
 
 /// A write failed, or took nothing.
-#[derive(Clone, Copy, Debug, PartialEq, Eq)]
+#[derive(Clone, Copy, PartialEq, Eq)]
 pub struct WriteFailed;
 
 // Writes once from what is left, which isn't empty. A write that succeeds takes at least one byte.

@@ -7,7 +7,7 @@ use cp_page::page::Page;
 use std::alloc::{AllocError, Global};
 
 /// How a graph is written.
-#[derive(Clone, Copy, Debug, PartialEq, Eq)]
+#[derive(Clone, Copy, PartialEq, Eq)]
 pub enum Form {
     /// As lines for people.
     Lines,

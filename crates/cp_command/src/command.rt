@@ -94,7 +94,7 @@ pub enum Inputs<'a> {
 }
 
 /// The name of a process, and that of the file with its input.
-#[derive(Clone, Copy, Debug)]
+#[derive(Clone, Copy)]
 pub struct NamedInput<'a> {
     pub process: &'a str,
     pub file: &'a str,

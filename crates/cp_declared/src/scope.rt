@@ -9,7 +9,7 @@ use cp_model::tree::{
 };
 
 /// What a name is declared as.
-#[derive(Clone, Copy, Debug, PartialEq, Eq)]
+#[derive(Clone, Copy, PartialEq, Eq)]
 pub enum Kind {
     Constant,
     EnumerationValue,

@@ -25,14 +25,14 @@ use std::alloc::{AllocError, Global};
 
 /// The numbers of the plans of a type: for words that may be anything before, and for words that
 /// are 0 before.
-#[derive(Clone, Copy, Debug)]
+#[derive(Clone, Copy)]
 pub struct TypePlans {
     pub(crate) plain: u32,
     pub(crate) zeroed: u32,
 }
 
 /// A part: its first word, the number of its words, and the number of its plan.
-#[derive(Clone, Copy, Debug)]
+#[derive(Clone, Copy)]
 pub struct Placed {
     pub(crate) at: u32,
     pub(crate) size: u32,

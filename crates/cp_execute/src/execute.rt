@@ -19,7 +19,7 @@ use std::sync::Wait;
 use std::thread::Threads;
 
 /// What to do with a text.
-#[derive(Clone, Copy, Debug)]
+#[derive(Clone, Copy)]
 pub enum Job {
     /// Writes `accepted`.
     Check,

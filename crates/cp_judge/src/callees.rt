@@ -21,7 +21,7 @@ use cp_model::rules::{
 use cp_model::tree::{Designator, Identifier};
 
 /// What the arguments of a call must satisfy.
-#[derive(Clone, Copy, Debug)]
+#[derive(Clone, Copy)]
 pub enum Wants {
     Nothing,
     One(Want),
@@ -30,7 +30,7 @@ pub enum Wants {
 }
 
 /// The routine that is called: what it wants, and what it gives.
-#[derive(Clone, Copy, Debug)]
+#[derive(Clone, Copy)]
 pub struct Callee {
     pub wants: Wants,
     pub gives: Gives,
@@ -38,7 +38,7 @@ pub struct Callee {
 
 /// A call: what its arguments must satisfy, even if something is broken in its name, and the
 /// routine that is called.
-#[derive(Clone, Copy, Debug)]
+#[derive(Clone, Copy)]
 pub struct Called {
     pub(crate) wants: Wants,
     pub(crate) callee: Option<Callee>,

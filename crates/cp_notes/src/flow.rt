@@ -1,7 +1,7 @@
 //! What is known at a place of a body, on whichever way it is reached.
 
 /// Whether a way leads to a place.
-#[derive(Clone, Copy, Debug, PartialEq, Eq)]
+#[derive(Clone, Copy, PartialEq, Eq)]
 pub enum Reach {
     Open,
     /// None does.
@@ -11,7 +11,7 @@ pub enum Reach {
 }
 
 /// What is known at a place.
-#[derive(Clone, Copy, Debug)]
+#[derive(Clone, Copy)]
 pub struct Flow {
     pub(crate) reach: Reach,
     /// Whether each way to the place sets the result of the function.
@@ -49,7 +49,7 @@ impl Flow {
 }
 
 /// How often a statement runs, as far as constants tell.
-#[derive(Clone, Copy, Debug, PartialEq, Eq)]
+#[derive(Clone, Copy, PartialEq, Eq)]
 pub enum Times {
     Never,
     Once,

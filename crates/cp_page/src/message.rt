@@ -6,14 +6,14 @@ use crate::position::Position;
 use std::alloc::AllocError;
 
 /// What is wrong, and how to fix it. `$` and `%` stand for the names that it tells of.
-#[derive(Clone, Copy, Debug, PartialEq, Eq)]
+#[derive(Clone, Copy, PartialEq, Eq)]
 pub struct Message {
     pub head: &'static str,
     pub advice: &'static str,
 }
 
 /// The names that a message tells of: `$` stands for the first, and `%` for the second.
-#[derive(Clone, Copy, Debug)]
+#[derive(Clone, Copy)]
 pub struct About<'a> {
     pub name: Option<&'a [u8]>,
     pub other: Option<&'a [u8]>,

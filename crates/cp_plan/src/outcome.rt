@@ -5,7 +5,7 @@ use crate::tick::Tick;
 
 /// The parameters of a run that ends when nothing can move: the largest number of rounds, how each
 /// is made, and how often the clock ticks.
-#[derive(Clone, Copy, Debug)]
+#[derive(Clone, Copy)]
 pub struct UntilStill {
     pub limit: u32,
     pub plan: Plan,
@@ -13,7 +13,7 @@ pub struct UntilStill {
 }
 
 /// What is written of an outcome. A `P` says which process is meant.
-#[derive(Clone, Copy, Debug, PartialEq, Eq)]
+#[derive(Clone, Copy, PartialEq, Eq)]
 pub enum OutcomeForm<P> {
     /// The verdict, and why each process that hasn't ended is where it is.
     Verdict,

@@ -4,7 +4,7 @@ use crate::plan::Plan;
 use crate::tick::Tick;
 
 /// How a trace is told.
-#[derive(Clone, Copy, Debug, PartialEq, Eq)]
+#[derive(Clone, Copy, PartialEq, Eq)]
 pub enum TraceForm {
     /// What each round changed, as a line for each process or monitor.
     Lines,
@@ -18,7 +18,7 @@ pub enum TraceForm {
 
 /// The parameters of a trace: the number of rounds, the first round that is told, in which form,
 /// how each is made, and how often the clock ticks.
-#[derive(Clone, Copy, Debug)]
+#[derive(Clone, Copy)]
 pub struct Tracing {
     pub rounds: u32,
     pub from: u32,

@@ -18,7 +18,7 @@ pub enum Activity {
 }
 
 /// What a call keeps for its caller.
-#[derive(Clone, Copy, Debug)]
+#[derive(Clone, Copy)]
 pub(crate) struct Frame {
     /// Not cut to 32 bits, so that a frame takes 32 bytes and is found by a shift.
     pub(crate) base: usize,

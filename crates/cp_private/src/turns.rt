@@ -116,7 +116,7 @@ pub fn step(
 }
 
 /// What became of a step that was tried in registers, of a process that holds a gate.
-#[derive(Clone, Copy, Debug)]
+#[derive(Clone, Copy)]
 pub enum Tried {
     /// The step was made, and the process holds the same gate.
     Made,

@@ -36,7 +36,7 @@ pub trait Words {
 }
 
 /// A process's own words alone. A private step has no others.
-#[derive(Clone, Copy, Debug)]
+#[derive(Clone, Copy)]
 pub struct OwnWords;
 
 impl Words for OwnWords {
@@ -47,7 +47,7 @@ impl Words for OwnWords {
 }
 
 /// A process's own words and the shared words.
-#[derive(Clone, Copy, Debug)]
+#[derive(Clone, Copy)]
 pub struct AllWords;
 
 impl Words for AllWords {

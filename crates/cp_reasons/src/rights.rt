@@ -11,7 +11,7 @@ use cp_scope::Tables;
 use std::alloc::{AllocError, Global};
 
 /// A process or a monitor by its number, from 1.
-#[derive(Clone, Copy, Debug, PartialEq, Eq)]
+#[derive(Clone, Copy, PartialEq, Eq)]
 enum Component {
     Process(usize),
     Monitor(usize),

@@ -30,7 +30,7 @@ use std::alloc::{AllocError, Global};
 const MOST_VISITS: u64 = 1 << 48;
 
 /// A record, component or array, by the number of its type, with some of its parts visited.
-#[derive(Clone, Copy, Debug)]
+#[derive(Clone, Copy)]
 pub(crate) struct Cursor {
     pub(crate) row: usize,
     /// How many of its parts have been visited.

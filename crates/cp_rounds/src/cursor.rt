@@ -3,7 +3,7 @@
 use cp_plan::plan::Plan;
 
 /// A place at the desk: a slot in a chunk. Chunks are numbered through all waves.
-#[derive(Clone, Copy, Debug)]
+#[derive(Clone, Copy)]
 pub(crate) struct Cursor {
     pub(crate) chunk: usize,
     pub(crate) slot: usize,

@@ -1,7 +1,7 @@
 //! The time at which a round is made.
 
 /// What a round sees of the time.
-#[derive(Clone, Copy, Debug, PartialEq, Eq)]
+#[derive(Clone, Copy, PartialEq, Eq)]
 pub struct Moment {
     /// The seconds since the start.
     pub(crate) clock: u64,

@@ -28,7 +28,7 @@ fn bytes_a_round(program: &Program, turn: Turn) -> u64 {
 
 /// How many rounds are made at once: twice as many each time that no process had anything to do but
 /// to compute, and otherwise one by one for a while.
-#[derive(Clone, Copy, Debug)]
+#[derive(Clone, Copy)]
 pub(crate) struct Pace {
     /// The largest number of rounds made at once.
     most: u32,

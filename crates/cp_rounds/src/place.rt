@@ -18,14 +18,14 @@ pub fn monitor_start(program: &Program, number: usize) -> usize
 }
 
 /// Whose variable it is: a process or a monitor, by its number from 1.
-#[derive(Clone, Copy, Debug, PartialEq, Eq)]
+#[derive(Clone, Copy, PartialEq, Eq)]
 pub enum Owner {
     Process(u32),
     Monitor(u32),
 }
 
 /// What a word holds.
-#[derive(Clone, Copy, Debug, PartialEq, Eq)]
+#[derive(Clone, Copy, PartialEq, Eq)]
 pub enum Kind {
     /// The ordinal of a simple variable.
     Simple,
@@ -35,7 +35,7 @@ pub enum Kind {
 
 /// The place of a simple variable or a queue: the address of its word among those of its owner,
 /// whose first word has the address 0.
-#[derive(Clone, Copy, Debug, PartialEq, Eq)]
+#[derive(Clone, Copy, PartialEq, Eq)]
 pub struct Place {
     pub owner: Owner,
     pub at: usize,
@@ -43,7 +43,7 @@ pub struct Place {
 }
 
 /// The value of a variable: the ordinal of a simple one, or who stands in a queue.
-#[derive(Clone, Copy, Debug, PartialEq, Eq)]
+#[derive(Clone, Copy, PartialEq, Eq)]
 pub enum Value {
     Ordinal(i32),
     Queue(Option<u32>),

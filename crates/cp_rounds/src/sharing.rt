@@ -31,7 +31,7 @@ pub(crate) fn helpers(turns: usize, of_all: bool, turn: Turn, rounds: u32) -> us
 }
 
 /// How the private turns of a round are shared out.
-#[derive(Clone, Copy, Debug)]
+#[derive(Clone, Copy)]
 pub(crate) struct Shares {
     /// Of how many rounds, at most, turns are made at once.
     pub(crate) rounds: u32,

@@ -24,7 +24,7 @@ pub enum Cause {
 }
 
 /// Why `scan` returns no tokens.
-#[derive(Clone, Copy, Debug, PartialEq, Eq)]
+#[derive(Clone, Copy, PartialEq, Eq)]
 pub enum ScanError {
     /// No list of tokens spells the text, or the text is too long: the first cause, and the offset
     /// of its byte, from 0.

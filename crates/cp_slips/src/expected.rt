@@ -10,7 +10,7 @@ use std::alloc::{AllocError, Global};
 const MOST_TOKENS: usize = 4_000;
 
 /// A token that may stand at a place.
-#[derive(Clone, Copy, Debug, PartialEq, Eq)]
+#[derive(Clone, Copy, PartialEq, Eq)]
 pub enum Candidate {
     Name,
     Number,

@@ -8,7 +8,7 @@ use cp_report::status::fault_number;
 use std::alloc::{AllocError, Global};
 
 /// Cells of a row that are the same, from a column up to another.
-#[derive(Clone, Copy, Debug)]
+#[derive(Clone, Copy)]
 pub(crate) struct Bar {
     pub(crate) cell: Cell,
     pub(crate) from: usize,

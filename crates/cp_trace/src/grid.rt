@@ -11,7 +11,7 @@ use std::alloc::{AllocError, Global};
 
 /// What a process or a monitor is after a round. The numbers are those of monitors and, in `Held`,
 /// of a process.
-#[derive(Clone, Copy, Debug, PartialEq, Eq)]
+#[derive(Clone, Copy, PartialEq, Eq)]
 pub(crate) enum Cell {
     Unstarted,
     Ready,

@@ -4,7 +4,7 @@ use cp_page::page::Page;
 use std::alloc::AllocError;
 
 /// A rectangle: its top left corner, its width and its height.
-#[derive(Clone, Copy, Debug)]
+#[derive(Clone, Copy)]
 pub(crate) struct Area {
     pub(crate) x: usize,
     pub(crate) y: usize,
