@@ -295,21 +295,30 @@ fn replay_words<'a>(alloc: Global) -> Result<clap::Command<'a>, AllocError> {
     with_inputs(alloc, replay)?.arg(chains(alloc))
 }
 
+// Adds a subcommand, unless memory ran out for it. The subcommand is made first: a command that is
+// alive where another is made has to be given up there if memory runs out, which makes proofs long.
+fn with_subcommand<'a>(
+    command: clap::Command<'a>,
+    subcommand: Result<clap::Command<'a>, AllocError>,
+) -> Result<clap::Command<'a>, AllocError> {
+    command.subcommand(subcommand?)
+}
+
 /// Returns the grammar of the command line.
 ///
 /// # Errors
 ///
 /// `AllocError` if memory runs out.
 pub(crate) fn grammar<'a>(alloc: Global) -> Result<clap::Command<'a>, AllocError> {
-    clap::Command::new(alloc, "cpm")
+    let cpm = clap::Command::new(alloc, "cpm")
         .about("Checks and runs texts of Concurrent Pascal")
         .version(VERSION)
         .after_help(EXITS)
-        .subcommand_required(true)
-        .subcommand(check_words(alloc)?)?
-        .subcommand(explain_words(alloc)?)?
-        .subcommand(run_words(alloc)?)?
-        .subcommand(outcome_words(alloc)?)?
-        .subcommand(trace_words(alloc)?)?
-        .subcommand(replay_words(alloc)?)
+        .subcommand_required(true);
+    let cpm = with_subcommand(cpm, check_words(alloc))?;
+    let cpm = with_subcommand(cpm, explain_words(alloc))?;
+    let cpm = with_subcommand(cpm, run_words(alloc))?;
+    let cpm = with_subcommand(cpm, outcome_words(alloc))?;
+    let cpm = with_subcommand(cpm, trace_words(alloc))?;
+    with_subcommand(cpm, replay_words(alloc))
 }

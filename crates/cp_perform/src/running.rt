@@ -97,6 +97,25 @@ fn numbered<'a, F: Read + Drop, I: Read + Drop>(
     })
 }
 
+// Runs a text until nothing can move, and prints the outcome.
+fn print_outcome<H: Clock + Eprint + Print + Threads + Wait + Sync, R: Read, S: Read>(
+    rt: &H,
+    alloc: Global,
+    text: &mut R,
+    input: &mut S,
+    how: &UntilStill,
+    form: OutcomeForm<u32>,
+    progress: bool,
+) -> Result<Verdict, Refusal> {
+    let progress = Progress::of(rt, progress);
+    let mut out = progress.beside(io::writer(rt));
+    let told = execute_outcome(rt, alloc, text, input, how, form, &progress, &mut out);
+    progress.erase();
+    let verdict = told?;
+    flush(&mut out)?;
+    Ok(verdict)
+}
+
 /// Runs a text until nothing can move, prints the outcome, and returns the verdict.
 pub(crate) fn outcome<'a, H: Clock + Eprint + Files + Input + Print + Threads + Wait + Sync>(
     rt: &H,
@@ -111,14 +130,7 @@ pub(crate) fn outcome<'a, H: Clock + Eprint + Files + Input + Print + Threads + 
     let input = open_inputs(rt, alloc, input)?;
     let mut input = input.joined(alloc, &mut text)?;
     let form = numbered(alloc, &mut text, form)?;
-    let progress = Progress::of(rt, progress);
-    let mut out = progress.beside(io::writer(rt));
-    let told = execute_outcome(
-        rt, alloc, &mut text, &mut input, how, form, &progress, &mut out,
-    );
-    progress.erase();
-    let verdict = told?;
-    flush(&mut out)?;
+    let verdict = print_outcome(rt, alloc, &mut text, &mut input, how, form, progress)?;
     Ok(verdict)
 }
 
@@ -135,6 +147,24 @@ fn find_names<'a, F: Read + Drop, I: Read + Drop>(
     }
     *text = Source::of_bytes(bytes);
     Ok(())
+}
+
+// Runs a text, and prints what became of the processes and monitors with these names.
+fn print_trace<H: Clock + Eprint + Print + Threads + Wait + Sync, R: Read, S: Read>(
+    rt: &H,
+    alloc: Global,
+    text: &mut R,
+    input: &mut S,
+    only: &[&str],
+    how: &Tracing,
+    progress: bool,
+) -> Result<(), Refusal> {
+    let progress = Progress::of(rt, progress);
+    let mut out = progress.beside(io::writer(rt));
+    let told = execute_trace(rt, alloc, text, input, only, how, &progress, &mut out);
+    progress.erase();
+    told?;
+    flush(&mut out)
 }
 
 /// Runs a text, and prints what became in each round of the processes and monitors with these
@@ -154,14 +184,7 @@ pub(crate) fn trace<'a, H: Clock + Eprint + Files + Input + Print + Threads + Wa
     if !only.is_empty() {
         find_names(alloc, &mut text, only)?;
     }
-    let progress = Progress::of(rt, progress);
-    let mut out = progress.beside(io::writer(rt));
-    let told = execute_trace(
-        rt, alloc, &mut text, &mut input, only, how, &progress, &mut out,
-    );
-    progress.erase();
-    told?;
-    flush(&mut out)?;
+    print_trace(rt, alloc, &mut text, &mut input, only, how, progress)?;
     Ok(())
 }
 
