@@ -70,7 +70,7 @@ fn expect_stops<R: Abort + Threads + Wait + Sync>(
 }
 
 // Expects what is due of a text in one way.
-pub(crate) fn expect_by<R: Abort + Threads + Wait + Sync>(
+fn expect_by<R: Abort + Threads + Wait + Sync>(
     rt: &R,
     alloc: Global,
     way: Way,

@@ -17,8 +17,6 @@ mod rounds;
 #[cfg(test)]
 mod states;
 #[cfg(test)]
-mod still;
-#[cfg(test)]
 mod texts;
 #[cfg(test)]
 mod ways;

@@ -29,25 +29,15 @@ pub(crate) fn inputs_for(alloc: Global, program: &Program) -> Result<Vec<Vec<u8>
     Ok(all)
 }
 
-// Returns the machine of a compiled text, without input.
-fn machine_with<'r, 't>(
-    alloc: Global,
-    program: Program,
-    tables: &'r Tables<'t>,
-    tick: u32,
-) -> Result<Machine<'r, 't>, Fail> {
-    let tick = Tick::new(tick)?;
-    let inputs = inputs_for(alloc, &program)?;
-    Ok(Machine::new(alloc, program, tables, inputs, tick)?)
-}
-
 // Returns the machine of a compiled text, with a tick of one round and without input.
 pub(crate) fn machine_of<'r, 't>(
     alloc: Global,
     program: Program,
     tables: &'r Tables<'t>,
 ) -> Result<Machine<'r, 't>, Fail> {
-    machine_with(alloc, program, tables, 1)
+    let tick = Tick::new(1)?;
+    let inputs = inputs_for(alloc, &program)?;
+    Ok(Machine::new(alloc, program, tables, inputs, tick)?)
 }
 
 // Tests the program and the tables of a tree. A function that owns a tree, its program and tables
@@ -76,44 +66,29 @@ pub(crate) fn on_program<T: Drop, F: Copy + Fn(Program, &Tables<'_>) -> Result<T
     on_tree(alloc, &tree, test)
 }
 
-// Tests the machine of a program, without input.
+// Tests the machine of a program.
 fn on_machine_of<T: Drop, F: Copy + Fn(&mut Machine<'_, '_>) -> Result<T, Fail>>(
     alloc: Global,
     program: Program,
     tables: &Tables<'_>,
-    tick: u32,
     test: F,
 ) -> Result<T, Fail>
     requires { F.IsAlwaysCallable test }
 {
-    let mut machine = machine_with(alloc, program, tables, tick)?;
+    let mut machine = machine_of(alloc, program, tables)?;
     test(&mut machine)
 }
 
-// Tests the machine of a tree, without input.
+// Tests the machine of a tree.
 fn on_machine_of_tree<T: Drop, F: Copy + Fn(&mut Machine<'_, '_>) -> Result<T, Fail>>(
     alloc: Global,
     tree: &Tree,
-    tick: u32,
     test: F,
 ) -> Result<T, Fail>
     requires { F.IsAlwaysCallable test }
 {
     let CompiledText { program, tables } = compiled(alloc, tree)?;
-    on_machine_of(alloc, program, &tables, tick, test)
-}
-
-// Tests the machine of a text, without input.
-pub(crate) fn on_machine_with<T: Drop, F: Copy + Fn(&mut Machine<'_, '_>) -> Result<T, Fail>>(
-    alloc: Global,
-    text: &str,
-    tick: u32,
-    test: F,
-) -> Result<T, Fail>
-    requires { F.IsAlwaysCallable test }
-{
-    let tree = tree_of(alloc, text)?;
-    on_machine_of_tree(alloc, &tree, tick, test)
+    on_machine_of(alloc, program, &tables, test)
 }
 
 // Tests the machine of a text, with a tick of one round and without input.
@@ -124,7 +99,8 @@ pub(crate) fn on_machine<T: Drop, F: Copy + Fn(&mut Machine<'_, '_>) -> Result<T
 ) -> Result<T, Fail>
     requires { F.IsAlwaysCallable test }
 {
-    on_machine_with(alloc, text, 1, test)
+    let tree = tree_of(alloc, text)?;
+    on_machine_of_tree(alloc, &tree, test)
 }
 
 pub(crate) fn activity(machine: &Machine, p: usize) -> Result<Activity, Fail> {

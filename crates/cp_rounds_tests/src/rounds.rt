@@ -1,6 +1,6 @@
 //! Rounds of machines, and what can be read between them.
 
-use crate::expectations::{expect, expect_by};
+use crate::expectations::expect;
 use crate::machines::{activity, has_written, on_machine};
 use crate::ways::Way;
 use cp_private::outside::{Holder, Stage};
@@ -61,47 +61,6 @@ fn a_run_of_no_rounds_changes_nothing(rt: HostRuntime) -> Result<(), Fail> {
     let unchanged = "rounds 0
         stage 2: Unstarted";
     expect(&rt, rt.alloc(), SEVENS, &[(0, 10, unchanged)])
-}
-
-// A run shares its threads for 16,384 rounds at a time.
-#[test]
-fn a_run_has_more_rounds_than_share_their_threads(rt: HostRuntime) -> Result<(), Fail> {
-    let text = "var x: integer; begin cycle x := x + 1 end end.";
-    let made = "rounds 20000
-        word 1 1: 20000";
-    for (workers, wave) in [(1, 255), (3, 255), (3, 1)] {
-        let way = Way::new(true, workers, 1, wave);
-        expect_by(&rt, rt.alloc(), way, text, &[(20_000, 2, made)])?;
-    }
-    Ok(())
-}
-
-// Two processes compute, and call a monitor every ten iterations: 4 times and 9 times. Several
-// rounds are made at once in between, and the calls and the output fall into the middle of them.
-// Word 0 of a monitor is its mark.
-#[test]
-fn processes_that_compute_meet_a_monitor_now_and_then(rt: HostRuntime) -> Result<(), Fail> {
-    let text = "type m = monitor; var n: integer;
-          procedure entry add; begin n := n + 1 end;
-          begin n := 0 end;
-        type p = process(c: m; most: integer); var x: integer;
-          begin
-            x := 0;
-            while x < most do begin
-              x := x + 1;
-              if x mod 10 = 0 then c.add
-            end;
-            display(x)
-          end;
-        var c: m; a, b: p; begin init c, a(c, 40), b(c, 90) end.";
-    let ended = "activity 2: Ended
-        activity 3: Ended
-        out 2: '40' ''
-        out 3: '90' ''
-        holder 1: Free
-        shared 1: 13";
-    expect(&rt, rt.alloc(), text, &[(1_000, 1, ended)])?;
-    expect(&rt, rt.alloc(), text, &[(1_000, 3, ended)])
 }
 
 // Two counters and what they count at the end of each tenth round: a round has two iterations of
