@@ -123,8 +123,8 @@ def try_progress():
     with tempfile.TemporaryDirectory() as folder:
         text = pathlib.Path(folder) / 'counting.cp'
         text.write_text('var x: integer; begin cycle x := 1; x := 2 end end.')
-        # It takes some five seconds, of which the first shows nothing.
-        status, out, error = run(['run', text, '--rounds', '1000000', '--turn', '1000', '--progress'])
+        # It takes some five seconds, of which the first shows nothing, and longer beside other trials on a slow machine.
+        status, out, error = run(['run', text, '--rounds', '1000000', '--turn', '1000', '--progress'], timeout=300)
     shown = re.fullmatch(rb'(\rround \d+)+\r\x1b\[K', error) is not None
     expect('progress', (status, out.startswith(b'rounds 1000000\n'), shown), (0, True, True))
     expect('no progress of a short run', run(['run', 'seven.cp', '--rounds', '2', '--progress'])[2], b'')

@@ -15,8 +15,8 @@ wrong = []
 
 def run(words, environment=None, folder=EXAMPLES, program=PROGRAM, **how):
     """The exit status, standard output and standard error of cpm, or of the tests, with these arguments. A signal's status is below 0."""
-    how = {'stdin': subprocess.DEVNULL, 'stdout': subprocess.PIPE, 'stderr': subprocess.PIPE, **how}
-    ended = subprocess.run([program, *words], cwd=folder, timeout=60, env={**os.environ, **(environment or {})}, **how)
+    how = {'stdin': subprocess.DEVNULL, 'stdout': subprocess.PIPE, 'stderr': subprocess.PIPE, 'timeout': 60, **how}
+    ended = subprocess.run([program, *words], cwd=folder, env={**os.environ, **(environment or {})}, **how)
     return ended.returncode, ended.stdout, ended.stderr
 
 
