@@ -25,9 +25,7 @@ HasReplay turn tick chains replay = (replay.turn.steps ≡ turn) × (replay.tick
 abbrev pub HasRounds : Command → Type 0
 HasRounds command.Version = Unit {0}
 HasRounds (command.Check file) = Unit {0}
-HasRounds (command.Explain file form) = Unit {0}
-HasRounds (command.ExplainAll file) = Unit {0}
-HasRounds (command.ExplainObject file extent) = Unit {0}
+HasRounds (command.Explain file what) = Unit {0}
 HasRounds (command.ExplainRule page) = Unit {0}
 HasRounds (command.Run file run input progress) = run.rounds ≤ 1000000
 HasRounds (command.Outcome file how form input progress) = how.limit ≤ 1000000
@@ -38,9 +36,7 @@ HasRounds (command.Replay file order replay input) = Unit {0}
 abbrev pub IsWithoutWords : Command → Type 0
 IsWithoutWords command.Version = ⊥
 IsWithoutWords (command.Check file) = ⊥
-IsWithoutWords (command.Explain file form) = ⊥
-IsWithoutWords (command.ExplainAll file) = ⊥
-IsWithoutWords (command.ExplainObject file extent) = ⊥
+IsWithoutWords (command.Explain file what) = ⊥
 IsWithoutWords (command.ExplainRule page) = ⊥
 IsWithoutWords (command.Run file run input progress) = (file ≡ None) × Has 2 100 2 1 255 1 false run × (input ≡ inputs.Empty) × (progress ≡ false)
 IsWithoutWords (command.Outcome file how form input progress) = ⊥

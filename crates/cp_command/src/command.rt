@@ -28,21 +28,10 @@ pub enum Command<'a> {
     Check {
         file: &'a str,
     },
-    /// `explain FILE`: judges the text of a file and explains what is wrong with it, or writes the
-    /// access graph of an accepted text.
+    /// `explain FILE`: judges the text of a file and explains the judgement.
     Explain {
         file: &'a str,
-        form: Form,
-    },
-    /// `explain --all FILE`: judges the text of a file and tells all its violations in short, or
-    /// writes the access graph of an accepted text.
-    ExplainAll {
-        file: &'a str,
-    },
-    /// `explain --json FILE`: judges the text of a file and explains the judgement as an object.
-    ExplainObject {
-        file: &'a str,
-        extent: Extent,
+        what: Explaining,
     },
     /// `explain RULE`: explains a rule.
     ExplainRule {
@@ -80,6 +69,17 @@ pub enum Command<'a> {
         replay: Replay,
         input: Inputs<'a>,
     },
+}
+
+/// What `explain` writes of a text.
+#[derive(Clone, Copy)]
+pub enum Explaining {
+    /// The access graph of an accepted text in this form, or the first refusal.
+    First(Form),
+    /// `--all`: the access graph of an accepted text, or all violations in short.
+    All,
+    /// `--json`: the notes on an accepted text, or its violations, as an object.
+    Object(Extent),
 }
 
 /// Where the inputs of the processes come from.

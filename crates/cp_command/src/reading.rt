@@ -3,7 +3,7 @@
 ghost use Rattle.std.specs.Prelude.{◌≡◌, ◌≤◌, IfOk, IsOk, length};
 ghost use Rattle.cp_command.specs.Commands.{HasRounds, IsWithoutWords};
 
-use crate::command::{Command, CommandError, Inputs};
+use crate::command::{Command, CommandError, Explaining, Inputs};
 use crate::grammar::grammar;
 use crate::inputs::read_inputs;
 use crate::misuse::Misuse;
@@ -18,30 +18,35 @@ use cp_explain::rules::{is_like_rule, rule_page};
 use std::alloc::Global;
 use std::convert::AsStr;
 
+// What `explain` writes of a text, by its flags.
+fn explaining(matches: &ArgMatches<'_>) -> Explaining {
+    let all = matches.get_flag("all");
+    if matches.get_flag("json") {
+        return Explaining::Object(if all { Extent::All } else { Extent::First });
+    }
+    if all {
+        return Explaining::All;
+    }
+    Explaining::First(if matches.get_flag("dot") {
+        Form::Dot
+    } else {
+        Form::Lines
+    })
+}
+
 // The command `explain` of parsed arguments: explains the rule with that name, or else the text of
 // the file with that name.
 fn explain<'a>(file: &'a str, matches: &ArgMatches<'a>) -> Result<Command<'a>, Misuse<'a>>
     ensures { IfOk result HasRounds }
 {
-    let all = matches.get_flag("all");
-    let json = matches.get_flag("json");
     match rule_page(file) {
-        Some(_) if all => Err(Misuse::AllOfRule),
-        Some(_) if json => Err(Misuse::JsonOfRule),
+        Some(_) if matches.get_flag("all") => Err(Misuse::AllOfRule),
+        Some(_) if matches.get_flag("json") => Err(Misuse::JsonOfRule),
         Some(page) => Ok(Command::ExplainRule { page }),
         None if is_like_rule(file) => Err(Misuse::NoRule { word: file }),
-        None if json => Ok(Command::ExplainObject {
-            file,
-            extent: if all { Extent::All } else { Extent::First },
-        }),
-        None if all => Ok(Command::ExplainAll { file }),
         None => Ok(Command::Explain {
             file,
-            form: if matches.get_flag("dot") {
-                Form::Dot
-            } else {
-                Form::Lines
-            },
+            what: explaining(matches),
         }),
     }
 }

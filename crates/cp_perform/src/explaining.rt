@@ -5,22 +5,12 @@ use crate::printing::flush;
 use crate::status::Failure;
 use cp_accept::refusal::{Refusal, exit_of};
 use cp_access::graph::Form;
-use cp_explain::explain::{Extent, draw_text, explain_all_text, explain_text};
+use cp_command::command::Explaining;
+use cp_explain::explain::{draw_text, explain_all_text, explain_text};
 use cp_explain::object::explain_object;
 use std::alloc::Global;
 use std::fs::Files;
 use std::io::{self, Input, Print, Write};
-
-/// What `explain` writes of a text.
-#[derive(Clone, Copy)]
-pub(crate) enum Explaining {
-    /// Its graph in this form, or the first refusal.
-    First(Form),
-    /// Its graph, or all violations.
-    All,
-    /// The notes on it or its violations, as a JSON object.
-    Object(Extent),
-}
 
 /// Explains a text, and returns the exit status. Where a graph for Graphviz is wanted, standard
 /// output has nothing else, and an explanation in its place is written to `errors`.

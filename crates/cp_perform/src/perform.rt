@@ -1,6 +1,6 @@
 //! Which command does what.
 
-use crate::explaining::{Explaining, explain};
+use crate::explaining::explain;
 use crate::printing::{print_page, print_version};
 use crate::running::{check, outcome, replay, run, trace};
 use crate::status::{Failure, status_of};
@@ -33,15 +33,7 @@ pub fn perform<'a, H: Clock + Eprint + Files + Input + Print + Threads + Wait + 
     match command {
         Command::Version => print_version(rt)?,
         Command::Check { file } => check(rt, alloc, file)?,
-        Command::Explain { file, form } => {
-            return explain(rt, alloc, file, Explaining::First(*form), errors);
-        }
-        Command::ExplainAll { file } => {
-            return explain(rt, alloc, file, Explaining::All, errors);
-        }
-        Command::ExplainObject { file, extent } => {
-            return explain(rt, alloc, file, Explaining::Object(*extent), errors);
-        }
+        Command::Explain { file, what } => return explain(rt, alloc, file, *what, errors),
         Command::ExplainRule { page } => print_page(rt, page)?,
         Command::Run {
             file,
