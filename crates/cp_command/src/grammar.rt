@@ -128,10 +128,18 @@ fn flag<'a>(alloc: Global, name: &'a str, about: &'a str) -> Arg<'a> {
         .help(about)
 }
 
-// The argument, which can't be given beside another one. Arguments are made one at a time: each one
-// that is alive where memory runs out has to be given up there, which makes proofs long.
+// The argument, which can't be given beside another one.
 fn without<'a>(argument: Arg<'a>, other: &'a str) -> Result<Arg<'a>, AllocError> {
     argument.conflicts_with(other)
+}
+
+// The argument, which can't be given beside either of two others.
+fn without_both<'a>(
+    argument: Arg<'a>,
+    first: &'a str,
+    second: &'a str,
+) -> Result<Arg<'a>, AllocError> {
+    without(argument, first)?.conflicts_with(second)
 }
 
 fn file<'a>(alloc: Global, name: &'a str, about: &'a str) -> Arg<'a> {
@@ -164,15 +172,23 @@ fn with<'a>(
     Ok(command)
 }
 
+// Adds an argument, unless memory ran out for it. Arguments and subcommands are made before they are
+// added, and one at a time: one that is alive where memory runs out has to be given up there, which
+// makes proofs long.
+fn with_argument<'a>(
+    command: clap::Command<'a>,
+    argument: Result<Arg<'a>, AllocError>,
+) -> Result<clap::Command<'a>, AllocError> {
+    command.arg(argument?)
+}
+
 // Adds where the inputs of the processes come from.
 fn with_inputs<'a>(
     alloc: Global,
     command: clap::Command<'a>,
 ) -> Result<clap::Command<'a>, AllocError> {
-    let named = IN.arg(alloc).action(ArgAction::Append);
-    command
-        .arg(INPUT.arg(alloc).conflicts_with(IN.name)?)?
-        .arg(named)
+    let command = with_argument(command, without(INPUT.arg(alloc), IN.name))?;
+    command.arg(IN.arg(alloc).action(ArgAction::Append))
 }
 
 const TEXT: &str = "the text; - for standard input";
@@ -196,9 +212,9 @@ fn explain_words<'a>(alloc: Global) -> Result<clap::Command<'a>, AllocError> {
     let dot = "writes the access graph of an accepted text for Graphviz";
     let explain = explain.arg(flag(alloc, DOT, dot))?;
     let json = "writes the violations of a text, or the notes on it, as a JSON object";
-    let explain = explain.arg(without(flag(alloc, JSON, json), DOT)?)?;
+    let explain = with_argument(explain, without(flag(alloc, JSON, json), DOT))?;
     let all = "tells all violations of a text, each in short";
-    explain.arg(without(flag(alloc, "all", all), DOT)?)
+    with_argument(explain, without(flag(alloc, "all", all), DOT))
 }
 
 fn progress<'a>(alloc: Global) -> Arg<'a> {
@@ -231,9 +247,9 @@ fn with_forms<'a>(
     alloc: Global,
     command: clap::Command<'a>,
 ) -> Result<clap::Command<'a>, AllocError> {
-    let command = command.arg(without(without(OUT.arg(alloc), DOT)?, JSON)?)?;
+    let command = with_argument(command, without_both(OUT.arg(alloc), DOT, JSON))?;
     let dot = "writes who waits for whom, for Graphviz, in place of the verdict";
-    let command = command.arg(without(flag(alloc, DOT, dot), JSON)?)?;
+    let command = with_argument(command, without(flag(alloc, DOT, dot), JSON))?;
     let json = "writes the verdict and all processes as a JSON object";
     command.arg(flag(alloc, JSON, json))
 }
@@ -255,11 +271,11 @@ fn with_trace_forms<'a>(
     command: clap::Command<'a>,
 ) -> Result<clap::Command<'a>, AllocError> {
     let json = "writes each change as a JSON object on a line";
-    let json = without(flag(alloc, JSON, json), TIMELINE)?;
-    let command = command.arg(without(json, SVG)?)?;
+    let json = without_both(flag(alloc, JSON, json), TIMELINE, SVG);
+    let command = with_argument(command, json)?;
     let timeline =
         "writes a row for each process and monitor, a character a round, in place of changes";
-    let command = command.arg(without(flag(alloc, TIMELINE, timeline), SVG)?)?;
+    let command = with_argument(command, without(flag(alloc, TIMELINE, timeline), SVG))?;
     command.arg(flag(alloc, SVG, "writes the same as a picture"))
 }
 
@@ -280,23 +296,22 @@ fn trace_words<'a>(alloc: Global) -> Result<clap::Command<'a>, AllocError> {
 }
 
 fn replay_words<'a>(alloc: Global) -> Result<clap::Command<'a>, AllocError> {
-    let order = file(
-        alloc,
-        "ORDER",
-        "the order: the events of each round, a line a round; - for standard input",
-    );
     let replay = command(
         alloc,
         "replay",
         "Replays a text in the order of steps that a file tells, and reports its state",
         TEXT,
     )?;
+    let order = file(
+        alloc,
+        "ORDER",
+        "the order: the events of each round, a line a round; - for standard input",
+    );
     let replay = with(alloc, replay.arg(order)?, &[TURN, TICK])?;
     with_inputs(alloc, replay)?.arg(chains(alloc))
 }
 
-// Adds a subcommand, unless memory ran out for it. The subcommand is made first: a command that is
-// alive where another is made has to be given up there if memory runs out, which makes proofs long.
+// Adds a subcommand, unless memory ran out for it.
 fn with_subcommand<'a>(
     command: clap::Command<'a>,
     subcommand: Result<clap::Command<'a>, AllocError>,
