@@ -22,7 +22,7 @@ IsProgramOf t program = (setup : Setup) → setup.tree ≡ erase.abstract t → 
 -- The program stands for the text of this tree, and the tables are those of the text.
 pub record IsCompiled (t : tree.Tree) (text : CompiledText) : Type 0 where
   pub program : IsProgramOf (syntax.tree t) text.program
-  pub tables : TablesStand (globals (erase.abstract (syntax.tree t))) text.tables t
+  pub tables : TablesStand (globals (erase.abstract (syntax.tree t))) text.tables.value t
 
 -- If there is a compiled text, the text is accepted and was compiled. If a rule is broken, the
 -- violation is the earliest one of the text.

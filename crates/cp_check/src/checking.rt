@@ -18,10 +18,11 @@ use std::alloc::{AllocError, Global};
 
 /// An accepted text that was compiled: its program, and the tables of what its names stand for,
 /// which borrow the names from its tree. The tables are made once, and serve all that comes after.
+/// They stand in a box, since a proof follows each part of what a function owns.
 #[derive(Drop)]
 pub struct CompiledText<'t> {
     pub program: Program,
-    pub tables: Tables<'t>,
+    pub tables: Box<Tables<'t>>,
 }
 
 /// Makes the tables of a text that was accepted.
@@ -29,11 +30,12 @@ pub struct CompiledText<'t> {
 /// # Errors
 ///
 /// `AllocError` if there is no room for them.
-pub fn tables_of<'t>(alloc: Global, tree: &'t Tree) -> Result<Tables<'t>, AllocError>
+pub fn tables_of<'t>(alloc: Global, tree: &'t Tree) -> Result<Box<Tables<'t>>, AllocError>
     ensures { IfOk result (λ tables. TablesStand (globals (erase.abstract (view.tree tree.now)))
-        tables tree.now) }
+        tables.value tree.now) }
 {
-    Tables::of_tree(alloc, tree)
+    let tables = Box::new(alloc, Tables::of_tree(alloc, tree)?)?;
+    Ok(tables)
 }
 
 /// Compiles a text that was accepted.
