@@ -31,13 +31,11 @@ fn report(rt: &HostRuntime, tree: &Tree) -> io::Result<()> {
 /// Scans and parses a text, compiles it so many times, at least once, and prints the sizes of its
 /// program.
 pub fn compile_often(rt: &HostRuntime, text: &[u8], times: u32) -> io::Result<()> {
-    let tokens = match scan(rt.alloc(), text) {
-        Ok(tokens) => tokens,
-        Err(error) => return println!(rt; "{error:?}"),
+    let Ok(tokens) = scan(rt.alloc(), text) else {
+        return println!(rt; "no tokens");
     };
-    let tree = match parse(rt.alloc(), &tokens, text.len()) {
-        Ok(tree) => tree,
-        Err(error) => return println!(rt; "{error:?}"),
+    let Ok(tree) = parse(rt.alloc(), &tokens, text.len()) else {
+        return println!(rt; "no tree");
     };
     for _ in 1..times {
         let _ = program_of(rt.alloc(), &tree);

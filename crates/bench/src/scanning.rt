@@ -11,6 +11,6 @@ pub fn scan_often(rt: &HostRuntime, text: &[u8], times: u32) -> io::Result<()> {
     }
     match outcome {
         Ok(tokens) => println!(rt; "{} tokens", tokens.len()),
-        Err(error) => println!(rt; "{error:?}"),
+        Err(_) => println!(rt; "no tokens"),
     }
 }
