@@ -8,6 +8,6 @@ returns c =
     let stand = c.in_ok-tables.ensures in
     record {
       program = λ setup is.
-          subst (λ p. StandsFor p setup) (ap compile is ∙ sym (c.in_ok-program.ensures.program c.requires.accepted stand)) (c.accepted_tree_has_program.ensures setup is);
+          subst (λ p. StandsFor p setup) (ap compile is ∙ sym (c.in_ok-program.ensures.program c.requires.accepted (rw c.deref.ensures stand))) (c.accepted_tree_has_program.ensures setup is);
       tables = stand;
     }
