@@ -7,7 +7,7 @@ use cp_page::page::Page;
 use std::alloc::{AllocError, Global};
 
 /// How a graph is written.
-#[derive(Clone, Copy, PartialEq, Eq)]
+#[derive(Clone, Copy)]
 pub enum Form {
     /// As lines for people.
     Lines,

@@ -4,7 +4,7 @@ use cp_page::page::Page;
 use std::alloc::AllocError;
 
 /// A type that no text declares.
-#[derive(Clone, Copy, PartialEq, Eq)]
+#[derive(Clone, Copy)]
 pub enum StandardType {
     Integer,
     Boolean,
@@ -40,7 +40,7 @@ impl StandardType {
 }
 
 /// What a standard name stands for.
-#[derive(Clone, Copy, PartialEq, Eq)]
+#[derive(Clone, Copy)]
 pub enum StandardKind {
     Type,
     Constant,

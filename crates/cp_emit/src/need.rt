@@ -11,7 +11,7 @@ use cp_scope::{small_number, small_sum};
 use std::alloc::AllocError;
 
 /// The numbers of words, temps and frames that are needed.
-#[derive(Clone, Copy, PartialEq, Eq)]
+#[derive(Clone, Copy)]
 pub struct Need {
     pub(crate) words: u32,
     pub(crate) temps: u32,

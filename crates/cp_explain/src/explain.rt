@@ -29,7 +29,7 @@ use std::alloc::{AllocError, Global};
 use std::io::{Read, Write};
 
 /// How much is told of a refused text.
-#[derive(Clone, Copy, PartialEq, Eq)]
+#[derive(Clone, Copy)]
 pub enum Extent {
     /// The first refusal.
     First,

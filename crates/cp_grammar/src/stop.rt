@@ -7,7 +7,7 @@ use std::alloc::{AllocError, AllocFailed};
 
 /// Why reading stopped, with the number of tokens that were left, including the one at which it
 /// stopped.
-#[derive(Clone, Copy, PartialEq, Eq)]
+#[derive(Clone, Copy)]
 pub enum Stop {
     /// Memory ran out for the tree.
     Memory,

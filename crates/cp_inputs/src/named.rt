@@ -28,7 +28,7 @@ pub struct InputOf<'a, R> {
 }
 
 /// Why inputs by name make no input.
-#[derive(Clone, Copy, Debug, PartialEq, Eq, Error)]
+#[derive(Clone, Copy, Debug, Error)]
 pub enum InputError<'a> {
     /// The text is refused, the inputs are too long, or memory ran out.
     #[error("{0}")]

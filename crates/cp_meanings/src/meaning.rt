@@ -3,7 +3,7 @@
 use cp_model::tree::{Sort, TypeExpression};
 
 /// The ordinals of a simple type.
-#[derive(Clone, Copy, PartialEq, Eq)]
+#[derive(Clone, Copy)]
 pub struct Ordinals {
     pub(crate) first: i32,
     pub(crate) last: i32,

@@ -52,14 +52,14 @@ impl Rule {
 }
 
 /// A violation of a rule at a place of the text.
-#[derive(Clone, Copy, PartialEq, Eq)]
+#[derive(Clone, Copy)]
 pub struct Violation {
     pub rule: Rule,
     pub at: usize,
 }
 
 /// How a variable may be used.
-#[derive(Clone, Copy, PartialEq, Eq)]
+#[derive(Clone, Copy)]
 pub enum Access {
     /// A variable of the component or the routine.
     Own,
@@ -70,7 +70,7 @@ pub enum Access {
 }
 
 /// A routine of the language itself, which no text declares.
-#[derive(Clone, Copy, PartialEq, Eq)]
+#[derive(Clone, Copy)]
 pub enum Standard {
     Abs,
     Succ,
@@ -87,7 +87,7 @@ pub enum Standard {
 }
 
 /// What a routine returns.
-#[derive(Clone, Copy, PartialEq, Eq)]
+#[derive(Clone, Copy)]
 pub enum Returns {
     /// Nothing: it is a procedure.
     Nothing,
@@ -99,7 +99,7 @@ pub enum Returns {
 
 /// A routine: its parameters (`count` rows from row `first`), and the words that it needs together
 /// with everything that it calls.
-#[derive(Clone, Copy, PartialEq, Eq)]
+#[derive(Clone, Copy)]
 pub struct RoutineRow {
     pub entry: bool,
     pub first: usize,
@@ -109,7 +109,7 @@ pub struct RoutineRow {
 }
 
 /// A parameter. It has no type if its type is broken.
-#[derive(Clone, Copy, PartialEq, Eq)]
+#[derive(Clone, Copy)]
 pub struct ParameterRow {
     pub by_reference: bool,
     pub of: Option<usize>,
@@ -117,7 +117,7 @@ pub struct ParameterRow {
 
 /// A system type: its parameters (`count` rows from row `first`), the words of a component, and
 /// what the body of a component needs.
-#[derive(Clone, Copy, PartialEq, Eq)]
+#[derive(Clone, Copy)]
 pub struct SystemRow {
     pub sort: Sort,
     pub first: usize,
@@ -129,7 +129,7 @@ pub struct SystemRow {
 }
 
 /// What a type is.
-#[derive(Clone, Copy, PartialEq, Eq)]
+#[derive(Clone, Copy)]
 pub enum Structure {
     /// The base type, the lower bound and the upper bound. A base type is its own base type.
     Simple(usize, i32, i32),
@@ -143,7 +143,7 @@ pub enum Structure {
 }
 
 /// A type, and the number of words of a variable of it, which is at most one above the limit.
-#[derive(Clone, Copy, PartialEq, Eq)]
+#[derive(Clone, Copy)]
 pub struct TypeRow {
     pub structure: Structure,
     pub words: usize,
@@ -151,7 +151,7 @@ pub struct TypeRow {
 }
 
 /// What a name after a `.` stands for.
-#[derive(Clone, Copy, PartialEq, Eq)]
+#[derive(Clone, Copy)]
 pub enum Member {
     /// A field of this type.
     Field(usize),
@@ -159,7 +159,7 @@ pub enum Member {
 }
 
 /// What a name stands for.
-#[derive(Clone, Copy, PartialEq, Eq)]
+#[derive(Clone, Copy)]
 pub enum Entity {
     /// The base type and the ordinal.
     Constant(usize, i32),
@@ -184,7 +184,7 @@ pub enum Entity {
 }
 
 /// The part of a component that is judged.
-#[derive(Clone, Copy, PartialEq, Eq)]
+#[derive(Clone, Copy)]
 pub enum Part {
     Body,
     Routine,
@@ -193,14 +193,14 @@ pub enum Part {
 
 /// Where a statement stands: the part of a component of this sort. The initial process is a
 /// process.
-#[derive(Clone, Copy, PartialEq, Eq)]
+#[derive(Clone, Copy)]
 pub struct Region {
     pub sort: Sort,
     pub part: Part,
 }
 
 /// Where a written type stands.
-#[derive(Clone, Copy, PartialEq, Eq)]
+#[derive(Clone, Copy)]
 pub enum Position {
     Definition,
     Element,
@@ -215,7 +215,7 @@ pub enum Position {
 }
 
 /// An array that is indexed.
-#[derive(Clone, Copy, PartialEq, Eq)]
+#[derive(Clone, Copy)]
 pub struct ArrayPart {
     pub index: usize,
     pub element: usize,
@@ -234,7 +234,7 @@ pub struct NamedPart {
 }
 
 /// What is required of an argument.
-#[derive(Clone, Copy, PartialEq, Eq)]
+#[derive(Clone, Copy)]
 pub enum Want {
     /// It must agree with this parameter.
     Parameter(ParameterRow),
@@ -249,7 +249,7 @@ pub enum Want {
 }
 
 /// What a call returns.
-#[derive(Clone, Copy, PartialEq, Eq)]
+#[derive(Clone, Copy)]
 pub enum Gives {
     Nothing,
     /// A value of this type.
@@ -259,7 +259,7 @@ pub enum Gives {
 }
 
 /// How the first name of an expression is judged.
-#[derive(Clone, Copy, PartialEq, Eq)]
+#[derive(Clone, Copy)]
 pub enum Mode {
     /// As a value.
     Value,

@@ -94,7 +94,7 @@ impl Name {
 
 /// The bytes of a text that spell a token: from byte `from` up to, but not including, byte `to`,
 /// counted from 0.
-#[derive(Clone, Copy, PartialEq, Eq)]
+#[derive(Clone, Copy)]
 pub struct Span {
     pub from: u32,
     pub to: u32,

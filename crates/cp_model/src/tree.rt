@@ -52,7 +52,7 @@ pub struct Fields {
 }
 
 /// An operator between two operands.
-#[derive(Clone, Copy, PartialEq, Eq)]
+#[derive(Clone, Copy)]
 pub enum Operator {
     Equal,
     Unequal,
@@ -70,7 +70,7 @@ pub enum Operator {
 }
 
 /// A sign before a term.
-#[derive(Clone, Copy, PartialEq, Eq)]
+#[derive(Clone, Copy)]
 pub enum Sign {
     Plus,
     Minus,
@@ -148,7 +148,7 @@ pub struct Index {
 }
 
 /// The direction in which the variable of a `for` counts.
-#[derive(Clone, Copy, PartialEq, Eq)]
+#[derive(Clone, Copy)]
 pub enum Direction {
     Up,
     Down,

@@ -1,7 +1,7 @@
 //! What is known at a place of a body, on whichever way it is reached.
 
 /// Whether a way leads to a place.
-#[derive(Clone, Copy, PartialEq, Eq)]
+#[derive(Clone, Copy)]
 pub enum Reach {
     Open,
     /// None does.
@@ -49,7 +49,7 @@ impl Flow {
 }
 
 /// How often a statement runs, as far as constants tell.
-#[derive(Clone, Copy, PartialEq, Eq)]
+#[derive(Clone, Copy)]
 pub enum Times {
     Never,
     Once,

@@ -8,7 +8,7 @@ use cp_page::position::Position;
 use std::alloc::{AllocError, Global};
 
 /// What a note says.
-#[derive(Clone, Copy, PartialEq, Eq)]
+#[derive(Clone, Copy)]
 pub enum Saying {
     /// No `init` of this component ever runs.
     NeverInitialised(Sort),

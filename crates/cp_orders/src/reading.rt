@@ -17,7 +17,7 @@ use std::alloc::{AllocError, AllocFailed, Global};
 pub const LONGEST_ORDER: usize = 1_048_576;
 
 /// Why an order text was not read.
-#[derive(Clone, Copy, PartialEq, Eq)]
+#[derive(Clone, Copy)]
 pub enum OrderError {
     /// O1: the line that begins at this byte isn't one of an order text, or the text is longer than
     /// this many bytes.

@@ -7,7 +7,7 @@ use cp_rounds::machine::Machine;
 use cp_rounds::state::ProcState;
 
 /// What became of the processes of a machine.
-#[derive(Clone, Copy, PartialEq, Eq)]
+#[derive(Clone, Copy)]
 pub enum Verdict {
     /// All have ended.
     Ended,

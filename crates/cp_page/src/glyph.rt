@@ -2,7 +2,7 @@
 //! byte order mark nor a carriage return at all.
 
 /// How what begins some bytes is shown.
-#[derive(Clone, Copy, PartialEq, Eq)]
+#[derive(Clone, Copy)]
 pub enum Glyph {
     /// Not at all. It has this number of bytes.
     Hidden(usize),

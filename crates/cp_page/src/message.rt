@@ -6,7 +6,7 @@ use crate::position::Position;
 use std::alloc::AllocError;
 
 /// What is wrong, and how to fix it. `$` and `%` stand for the names that it tells of.
-#[derive(Clone, Copy, PartialEq, Eq)]
+#[derive(Clone, Copy)]
 pub struct Message {
     pub head: &'static str,
     pub advice: &'static str,

@@ -5,7 +5,7 @@ ghost use Rattle.cp_page.specs.Positions.{column_at, column_from, line_at, line_
 
 /// The line and the column of a place, both counted from 1. A line ends with a line feed, and each
 /// byte takes one column.
-#[derive(Clone, Copy, PartialEq, Eq)]
+#[derive(Clone, Copy)]
 pub struct Position {
     pub line: usize,
     pub column: usize,

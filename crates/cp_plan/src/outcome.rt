@@ -13,7 +13,7 @@ pub struct UntilStill {
 }
 
 /// What is written of an outcome. A `P` says which process is meant.
-#[derive(Clone, Copy, PartialEq, Eq)]
+#[derive(Clone, Copy)]
 pub enum OutcomeForm<P> {
     /// The verdict, and why each process that hasn't ended is where it is.
     Verdict,

@@ -9,7 +9,7 @@ use crate::turn::Turn;
 /// How a round is made: a turn has at most `turn` steps, and `workers` workers draw chunks of
 /// consecutive processes, wave by wave. Processes at rest are passed over, and don't count, unless
 /// the gate has to be called for them.
-#[derive(Clone, Copy, PartialEq, Eq)]
+#[derive(Clone, Copy)]
 pub struct Plan {
     pub turn: Turn,
     /// From 1 to 64.

@@ -4,7 +4,7 @@ use crate::plan::Plan;
 use crate::tick::Tick;
 
 /// How a trace is told.
-#[derive(Clone, Copy, PartialEq, Eq)]
+#[derive(Clone, Copy)]
 pub enum TraceForm {
     /// What each round changed, as a line for each process or monitor.
     Lines,

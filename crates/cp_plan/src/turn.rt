@@ -6,7 +6,7 @@ ghost use Rattle.cp_plan.specs.declared.limits.L1.TheVariants as limit;
 use crate::limits::L1;
 
 /// A number of steps, at least 1 and at most 10,000.
-#[derive(Clone, Copy, PartialEq, Eq)]
+#[derive(Clone, Copy)]
 pub struct Turn {
     pub steps: u32,
     ghost in_range: { (1 ≤ steps) × (steps ≤ 10000) },

@@ -1,7 +1,7 @@
 //! What a step leaves to the kernel.
 
 /// What a step leaves to the kernel. Monitors and processes are given by their numbers.
-#[derive(Clone, Copy, PartialEq, Eq)]
+#[derive(Clone, Copy)]
 pub enum Effect {
     None,
     /// The process asks for the gate of the monitor whose routine it has called.

@@ -11,7 +11,7 @@ use crate::step::needs_kernel;
 use cp_program::program::Program;
 
 /// Whether the next step of a process is private or the kernel's.
-#[derive(Clone, Copy, PartialEq, Eq)]
+#[derive(Clone, Copy)]
 pub enum Kind {
     Private,
     Kernel,

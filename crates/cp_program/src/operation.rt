@@ -9,7 +9,7 @@ use crate::arms::Arms;
 use crate::term::{Root, Spot, Term};
 
 /// The component whose routine is called.
-#[derive(Clone, Copy, PartialEq, Eq)]
+#[derive(Clone, Copy)]
 pub enum Target {
     /// The running component itself.
     Own,
@@ -71,7 +71,7 @@ pub enum Table {
 
 /// A `for` statement. The temp with the number `temp` holds the counter, and the next temp the last
 /// value.
-#[derive(Clone, Copy, PartialEq, Eq)]
+#[derive(Clone, Copy)]
 pub struct Counting {
     pub variable: Root,
     pub low: i32,

@@ -8,7 +8,7 @@ use crate::operation::Operation;
 
 /// How words start: `count` words with one value, `count` blocks of `size` words like the first
 /// one, or a part, which starts by the plan with the number `plan` in the program.
-#[derive(Clone, Copy, PartialEq, Eq)]
+#[derive(Clone, Copy)]
 pub enum StartPiece {
     Fill { at: u32, count: u32, value: i32 },
     Repeat { at: u32, size: u32, count: u32 },
@@ -29,7 +29,7 @@ pub struct CodeUnit {
 
 /// A monitor. Its words lie among the shared words, from `start` on. They start by the plan with
 /// the number `plan` in the program.
-#[derive(Clone, Copy, PartialEq, Eq)]
+#[derive(Clone, Copy)]
 pub struct Monitor {
     pub start: u32,
     /// The number of the unit of the monitor's body.
@@ -40,7 +40,7 @@ pub struct Monitor {
 
 /// A process, which has words of its own. The arguments of its `init` wait among the shared words,
 /// from `parameters` on.
-#[derive(Clone, Copy, PartialEq, Eq)]
+#[derive(Clone, Copy)]
 pub struct Process {
     pub body: u32,
     pub words: u32,

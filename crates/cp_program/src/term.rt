@@ -15,7 +15,7 @@ use cp_model::tree::Operator;
 use std::alloc::{AllocError, Global};
 
 /// The place where a variable begins.
-#[derive(Clone, Copy, PartialEq, Eq)]
+#[derive(Clone, Copy)]
 pub enum Root {
     /// The word at this offset from the first word of the running activation.
     Local(u32),
@@ -28,7 +28,7 @@ pub enum Root {
 
 /// A standard function of one simple value. `Shift` stands for `succ` and `pred`, within the bounds
 /// of a base type.
-#[derive(Clone, Copy, PartialEq, Eq)]
+#[derive(Clone, Copy)]
 pub enum Function {
     Abs,
     Ord,

@@ -10,7 +10,7 @@ use std::alloc::AllocError;
 const WIDTH: usize = 48;
 
 /// How far a piece reaches from its first token.
-#[derive(Clone, Copy, PartialEq, Eq)]
+#[derive(Clone, Copy)]
 pub(crate) enum Extent {
     /// To the end of a statement, or of the expression or `for` that `then`, `do` or `of` ends.
     Statement,

@@ -51,7 +51,7 @@ pub fn room_for_tasks<'a, C: Course>(
 }
 
 /// What lies in a tray.
-#[derive(Clone, Copy, PartialEq, Eq)]
+#[derive(Clone, Copy)]
 pub(crate) enum Content {
     /// Room for the tasks of a later round.
     Room,

@@ -52,7 +52,7 @@ pub struct Machine<'r, 't> {
 
 /// The round of a run, counted from 1, in which memory ran out or a thread could not be started.
 /// The rounds before it were made, and nothing of this one.
-#[derive(Clone, Copy, Debug, PartialEq, Eq)]
+#[derive(Clone, Copy, Debug)]
 pub struct MemoryAt(pub u32);
 
 impl<'r, 't> Machine<'r, 't> {

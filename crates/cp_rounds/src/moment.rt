@@ -1,7 +1,7 @@
 //! The time at which a round is made.
 
 /// What a round sees of the time.
-#[derive(Clone, Copy, PartialEq, Eq)]
+#[derive(Clone, Copy)]
 pub struct Moment {
     /// The seconds since the start.
     pub(crate) clock: u64,

@@ -25,7 +25,7 @@ pub enum Owner {
 }
 
 /// What a word holds.
-#[derive(Clone, Copy, PartialEq, Eq)]
+#[derive(Clone, Copy)]
 pub enum Kind {
     /// The ordinal of a simple variable.
     Simple,
@@ -35,7 +35,7 @@ pub enum Kind {
 
 /// The place of a simple variable or a queue: the address of its word among those of its owner,
 /// whose first word has the address 0.
-#[derive(Clone, Copy, PartialEq, Eq)]
+#[derive(Clone, Copy)]
 pub struct Place {
     pub owner: Owner,
     pub at: usize,

@@ -21,7 +21,7 @@ use cp_model::tree::{Body, Sort, Statement, Tree};
 use std::alloc::{AllocError, Global};
 
 /// Why a text isn't accepted.
-#[derive(Clone, Copy, PartialEq, Eq)]
+#[derive(Clone, Copy)]
 pub enum RuleError {
     /// A rule is broken: the earliest violation, and of several at the same place the lowest rule.
     Broken(Violation),

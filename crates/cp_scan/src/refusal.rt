@@ -24,7 +24,7 @@ pub enum Cause {
 }
 
 /// Why `scan` returns no tokens.
-#[derive(Clone, Copy, PartialEq, Eq)]
+#[derive(Clone, Copy)]
 pub enum ScanError {
     /// No list of tokens spells the text, or the text is too long: the first cause, and the offset
     /// of its byte, from 0.

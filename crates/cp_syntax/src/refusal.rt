@@ -1,7 +1,7 @@
 //! Why tokens have no tree.
 
 /// Why `parse` returns no tree. A place is the offset of a byte in the text, from 0.
-#[derive(Clone, Copy, PartialEq, Eq)]
+#[derive(Clone, Copy)]
 pub enum SyntaxError {
     /// Y1: no text has the token at this place after the tokens before it, however deep it is
     /// nested.
