@@ -2,8 +2,8 @@
 
 use crate::colours::colour;
 use crate::grid::Cell;
-use cp_page::page::Page;
-use cp_report::roster::Roster;
+use crate::members::name_of;
+use cp_report::roster::{Member, Roster};
 use cp_report::status::fault_number;
 use std::alloc::{AllocError, Global};
 
@@ -51,10 +51,10 @@ fn word_of(cell: Cell) -> &'static str {
 }
 
 // The longest text of at most so many characters, or none.
-fn that_fits(long: Page, short: Page, most: usize) -> Option<Page> {
-    if long.as_bytes().len() <= most {
+fn that_fits(long: String, short: String, most: usize) -> Option<String> {
+    if long.len() <= most {
         Some(long)
-    } else if short.as_bytes().len() <= most {
+    } else if short.len() <= most {
         Some(short)
     } else {
         None
@@ -63,44 +63,43 @@ fn that_fits(long: Page, short: Page, most: usize) -> Option<Page> {
 
 impl Bar {
     /// The class of its colour.
-    pub(crate) fn class(&self) -> &'static [u8] {
+    pub(crate) fn class(&self) -> &'static str {
         match self.cell {
-            Cell::Unstarted | Cell::Unset => b"unset",
-            Cell::Ready => b"ready",
-            Cell::Waiting => b"waiting",
-            Cell::Asking(_) => b"asking",
-            Cell::Delayed(_) => b"delayed",
-            Cell::Ended => b"ended",
-            Cell::Fault(_) => b"fault",
-            Cell::Free => b"free",
+            Cell::Unstarted | Cell::Unset => "unset",
+            Cell::Ready => "ready",
+            Cell::Waiting => "waiting",
+            Cell::Asking(_) => "asking",
+            Cell::Delayed(_) => "delayed",
+            Cell::Ended => "ended",
+            Cell::Fault(_) => "fault",
+            Cell::Free => "free",
             Cell::Held(process) => colour(process),
         }
     }
 
     // Returns the name of the monitor that is asked for or delayed in, that of the holder of a
     // gate, or the number of a fault. Other cells have nothing of the kind.
-    fn about(&self, alloc: Global, roster: &Roster<'_>) -> Result<Option<Page>, AllocError> {
-        let mut page = Page::new(alloc);
-        match self.cell {
+    fn about(&self, alloc: Global, roster: &Roster<'_>) -> Result<Option<String>, AllocError> {
+        let about = match self.cell {
             Cell::Asking(monitor) | Cell::Delayed(monitor) => {
-                page.bytes(roster.monitor_name(monitor))?;
+                String::from_str(alloc, name_of(roster, Member::Monitor(monitor)))
             }
-            Cell::Held(process) => page.bytes(roster.process_name(process))?,
-            Cell::Fault(fault) => page.number(fault_number(fault) as usize)?,
+            Cell::Held(process) => {
+                String::from_str(alloc, name_of(roster, Member::Process(process)))
+            }
+            Cell::Fault(fault) => fault_number(fault).to_string(alloc),
             _ => return Ok(None),
-        }
-        Ok(Some(page))
+        };
+        Ok(Some(about?))
     }
 
     /// Returns what it is in words, such as `delayed table`, `held by a`, `fault 3` or `ready`.
-    pub(crate) fn words(&self, alloc: Global, roster: &Roster<'_>) -> Result<Page, AllocError> {
-        let mut words = Page::new(alloc);
-        words.text(word_of(self.cell))?;
-        if let Some(about) = self.about(alloc, roster)? {
-            words.bytes(b" ")?;
-            words.bytes(about.as_bytes())?;
+    pub(crate) fn words(&self, alloc: Global, roster: &Roster<'_>) -> Result<String, AllocError> {
+        let word = word_of(self.cell);
+        match self.about(alloc, roster)? {
+            Some(about) => format!(in alloc; "{word} {about}"),
+            None => String::from_str(alloc, word),
         }
-        Ok(words)
     }
 
     /// Returns what stands on it, in at most so many characters: of a gate the name or the number
@@ -111,14 +110,12 @@ impl Bar {
         alloc: Global,
         roster: &Roster<'_>,
         most: usize,
-    ) -> Result<Option<Page>, AllocError> {
+    ) -> Result<Option<String>, AllocError> {
         let Some(about) = self.about(alloc, roster)? else {
             return Ok(None);
         };
         if let Cell::Held(process) = self.cell {
-            let mut number = Page::new(alloc);
-            number.number(process as usize)?;
-            return Ok(that_fits(about, number, most));
+            return Ok(that_fits(about, process.to_string(alloc)?, most));
         }
         Ok(that_fits(self.words(alloc, roster)?, about, most))
     }

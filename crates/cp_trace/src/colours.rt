@@ -1,11 +1,10 @@
 //! The colours of a picture, and the legend that says what they mean. All lengths are in pixels.
 
 use crate::markup::{Area, push_rectangle, push_text};
-use cp_page::page::Page;
 use std::alloc::AllocError;
 
 /// The head of a picture: what its classes look like.
-pub(crate) const STYLE: &[u8] = b"<style>
+pub(crate) const STYLE: &str = "<style>
 text{font-family:'DejaVu Sans Mono',Menlo,Consolas,monospace;font-size:12px;fill:#222}
 .inner{font-size:10px;fill:#222;text-anchor:middle;pointer-events:none}
 .light{font-size:10px;fill:#fff;text-anchor:middle;pointer-events:none}
@@ -33,12 +32,12 @@ text{font-family:'DejaVu Sans Mono',Menlo,Consolas,monospace;font-size:12px;fill
 const COLOURS: usize = 12;
 
 // The classes of the colours of processes.
-const OF_PROCESSES: [&[u8]; COLOURS] = [
-    b"p0", b"p1", b"p2", b"p3", b"p4", b"p5", b"p6", b"p7", b"p8", b"p9", b"p10", b"p11",
+const OF_PROCESSES: [&str; COLOURS] = [
+    "p0", "p1", "p2", "p3", "p4", "p5", "p6", "p7", "p8", "p9", "p10", "p11",
 ];
 
 /// Returns the class of the colour of the process with a number.
-pub(crate) fn colour(process: u32) -> &'static [u8] {
+pub(crate) fn colour(process: u32) -> &'static str {
     OF_PROCESSES[process as usize % COLOURS]
 }
 
@@ -76,13 +75,13 @@ const OF_MONITOR: [(&str, &str); 3] = [
 const NOTE: &str = "A name on the bar of a process is that of the monitor that it asks for or is \
 delayed in.";
 
-fn push_note(page: &mut Page, x: usize, y: usize, text: &str) -> Result<(), AllocError> {
-    push_text(page, b"note", x, y.saturating_add(FOOT), text.as_bytes())
+fn push_note(page: &mut String, x: usize, y: usize, text: &str) -> Result<(), AllocError> {
+    push_text(page, "note", x, y.saturating_add(FOOT), text)
 }
 
 // Adds colours with what they mean, one behind the other.
 fn push_line(
-    page: &mut Page,
+    page: &mut String,
     y: usize,
     title: &str,
     colours: &[(&str, &str)],
@@ -93,7 +92,7 @@ fn push_line(
         let (width, height) = (SIDE, SIDE);
         push_rectangle(
             page,
-            class.as_bytes(),
+            class,
             Area {
                 x,
                 y,
@@ -113,7 +112,7 @@ fn push_line(
 /// # Errors
 ///
 /// `AllocError` if memory runs out.
-pub(crate) fn push_legend(page: &mut Page, y: usize) -> Result<(), AllocError> {
+pub(crate) fn push_legend(page: &mut String, y: usize) -> Result<(), AllocError> {
     push_line(page, y, "process", &OF_PROCESS)?;
     push_line(page, y.saturating_add(LINE), "monitor", &OF_MONITOR)?;
     push_note(page, 8, y.saturating_add(LINE + LINE), NOTE)

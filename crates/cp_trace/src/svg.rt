@@ -9,11 +9,11 @@ ghost use Rattle.cp_trace.specs.Telling.{Adds, IsAnything, IsSomething};
 use crate::bars::{Bar, bars};
 use crate::colours::{LEGEND_HEIGHT, LEGEND_WIDTH, STYLE, colour, push_legend};
 use crate::grid::{Cell, Grid, Row};
-use crate::markup::{Area, begin_rectangle, push_attribute, push_rectangle, push_text};
-use cp_page::page::Page;
+use crate::markup::{Area, begin_rectangle, push_rectangle, push_text};
 use cp_report::roster::Member;
 use cp_rounds::machine::Machine;
 use std::alloc::AllocError;
+use std::fmt::Write;
 
 // The width of a round, and the most rounds in a band.
 const COLUMN: usize = 12;
@@ -108,22 +108,19 @@ impl<'t> Picture<'t> {
         }
     }
 
-    fn push_head(&self, page: &mut Page) -> Result<(), AllocError> {
+    fn push_head(&self, page: &mut String) -> Result<(), AllocError> {
         let width = self.width();
         let height = self.legend_top().saturating_add(LEGEND_HEIGHT);
-        page.bytes(b"<svg xmlns=\"http://www.w3.org/2000/svg\"")?;
-        push_attribute(page, "width", width)?;
-        push_attribute(page, "height", height)?;
-        page.bytes(b" viewBox=\"0 0 ")?;
-        page.number(width)?;
-        page.bytes(b" ")?;
-        page.number(height)?;
-        page.bytes(b"\">\n")?;
-        page.bytes(STYLE)?;
+        writeln!(
+            page,
+            "<svg xmlns=\"http://www.w3.org/2000/svg\" width=\"{width}\" height=\"{height}\" \
+viewBox=\"0 0 {width} {height}\">"
+        )?;
+        page.push_str(STYLE)?;
         let (x, y) = (0, 0);
         push_rectangle(
             page,
-            b"page",
+            "page",
             Area {
                 x,
                 y,
@@ -135,23 +132,22 @@ impl<'t> Picture<'t> {
 
     // Adds the number of the round in a column above it, and a line from there down through the
     // rows.
-    fn push_mark(&self, page: &mut Page, column: usize, top: usize) -> Result<(), AllocError> {
-        let mut number = Page::new(self.grid.alloc);
-        number.number(self.grid.round(column) as usize)?;
+    fn push_mark(&self, page: &mut String, column: usize, top: usize) -> Result<(), AllocError> {
         let x = self.edge(column).saturating_add(COLUMN / 2);
-        push_text(page, b"round", x, top.saturating_add(14), number.as_bytes())?;
+        let round = self.grid.round(column);
+        push_text(page, "round", x, top.saturating_add(14), round)?;
         let line = Area {
             x,
             y: top.saturating_add(18),
             width: 1,
             height: self.rows_height().saturating_add(4),
         };
-        push_rectangle(page, b"mark", line)
+        push_rectangle(page, "mark", line)
     }
 
     // Adds the numbers above a band: that of its first round, and each multiple of 10 that is far
     // enough from the first.
-    fn push_marks(&self, page: &mut Page, top: usize) -> Result<(), AllocError> {
+    fn push_marks(&self, page: &mut String, top: usize) -> Result<(), AllocError> {
         for column in 0..self.grid.columns {
             let is_tenth = self.grid.round(column) % 10 == 0;
             if column == 0 || (is_tenth && 4 <= column) {
@@ -162,11 +158,9 @@ impl<'t> Picture<'t> {
     }
 
     // Adds the name of a row and, of a process, its number on its colour.
-    fn push_name(&self, page: &mut Page, row: &Row<'_>, y: usize) -> Result<(), AllocError> {
+    fn push_name(&self, page: &mut String, row: &Row<'_>, y: usize) -> Result<(), AllocError> {
         let foot = y.saturating_add(FOOT);
         if let Member::Process(number) = row.member {
-            let mut digits = Page::new(self.grid.alloc);
-            digits.number(number as usize)?;
             let (x, width, height) = (8, 22, BAR);
             push_rectangle(
                 page,
@@ -178,53 +172,46 @@ impl<'t> Picture<'t> {
                     height,
                 },
             )?;
-            push_text(page, b"light", 19, foot, digits.as_bytes())?;
+            push_text(page, "light", 19, foot, number)?;
         }
-        push_text(page, b"name", NAMES, foot, row.name.as_bytes())
+        push_text(page, "name", NAMES, foot, row.name)
     }
 
     // Adds the rounds of a bar.
-    fn push_rounds(&self, page: &mut Page, bar: &Bar) -> Result<(), AllocError> {
+    fn push_rounds(&self, page: &mut String, bar: &Bar) -> Result<(), AllocError> {
         let first = self.grid.round(bar.from);
         let last = self.grid.round(bar.end.saturating_sub(1));
         if first == last {
-            page.bytes(b", round ")?;
-            return page.number(first as usize);
+            return write!(page, "round {first}");
         }
-        page.bytes(b", rounds ")?;
-        page.number(first as usize)?;
-        page.bytes(b" to ")?;
-        page.number(last as usize)
+        write!(page, "rounds {first} to {last}")
     }
 
     // Adds a bar, with a title: of whom it says what, and of which rounds.
     fn push_bar(
         &self,
-        page: &mut Page,
+        page: &mut String,
         row: &Row<'_>,
         bar: &Bar,
         y: usize,
     ) -> Result<(), AllocError> {
         begin_rectangle(page, bar.class(), self.area(bar.from, bar.end, y))?;
-        page.bytes(b"<title>")?;
-        page.text(row.name)?;
-        page.bytes(b": ")?;
-        let words = bar.words(self.grid.alloc, &self.grid.roster)?;
-        page.bytes(words.as_bytes())?;
+        let (name, words) = (row.name, bar.words(self.grid.alloc, &self.grid.roster)?);
+        write!(page, "<title>{name}: {words}, ")?;
         self.push_rounds(page, bar)?;
-        page.bytes(b"</title></rect>\n")
+        page.push_str("</title></rect>\n")
     }
 
     // Adds what stands on a bar.
-    fn push_caption(&self, page: &mut Page, bar: &Bar, y: usize) -> Result<(), AllocError> {
+    fn push_caption(&self, page: &mut String, bar: &Bar, y: usize) -> Result<(), AllocError> {
         let Area { x, width, .. } = self.area(bar.from, bar.end, y);
         let caption = bar.caption(self.grid.alloc, &self.grid.roster, width / CHARACTER)?;
         let Some(caption) = caption else {
             return Ok(());
         };
-        let class: &[u8] = match bar.cell {
-            Cell::Held(_) | Cell::Fault(_) => b"light",
-            _ => b"inner",
+        let class = match bar.cell {
+            Cell::Held(_) | Cell::Fault(_) => "light",
+            _ => "inner",
         };
         let middle = x.saturating_add(width / 2);
         push_text(
@@ -232,13 +219,13 @@ impl<'t> Picture<'t> {
             class,
             middle,
             y.saturating_add(FOOT),
-            caption.as_bytes(),
+            caption.as_str(),
         )
     }
 
     fn push_bars(
         &self,
-        page: &mut Page,
+        page: &mut String,
         row: &Row<'_>,
         bars: &[Bar],
         y: usize,
@@ -249,7 +236,7 @@ impl<'t> Picture<'t> {
         Ok(())
     }
 
-    fn push_captions(&self, page: &mut Page, bars: &[Bar], y: usize) -> Result<(), AllocError> {
+    fn push_captions(&self, page: &mut String, bars: &[Bar], y: usize) -> Result<(), AllocError> {
         for bar in bars {
             self.push_caption(page, bar, y)?;
         }
@@ -257,11 +244,11 @@ impl<'t> Picture<'t> {
     }
 
     // Adds a row: its name, its bars, the lines between its rounds, and what stands on the bars.
-    fn push_row(&self, page: &mut Page, row: &Row<'_>, y: usize) -> Result<(), AllocError> {
+    fn push_row(&self, page: &mut String, row: &Row<'_>, y: usize) -> Result<(), AllocError> {
         let bars = bars(self.grid.alloc, &row.cells)?;
         self.push_name(page, row, y)?;
         self.push_bars(page, row, &bars, y)?;
-        push_rectangle(page, b"lines", self.area(0, self.grid.columns, y))?;
+        push_rectangle(page, "lines", self.area(0, self.grid.columns, y))?;
         self.push_captions(page, &bars, y)
     }
 
@@ -276,8 +263,8 @@ impl<'t> Picture<'t> {
     }
 
     // Returns the band of the cells.
-    fn band(&self) -> Result<Page, AllocError> {
-        let mut page = Page::new(self.grid.alloc);
+    fn band(&self) -> Result<String, AllocError> {
+        let mut page = String::new(self.grid.alloc);
         self.push_marks(&mut page, self.top(self.band))?;
         for (index, row) in self.grid.rows.iter().enumerate() {
             self.push_row(&mut page, row, self.row_top(index, row))?;
@@ -293,7 +280,7 @@ impl<'t> Picture<'t> {
     pub(crate) fn begin(&self, out: &mut Vec<u8>) -> Result<(), AllocError>
         ensures { OnOk result (Adds IsAnything out.old.items out.new.items) }
     {
-        let mut page = Page::new(self.grid.alloc);
+        let mut page = String::new(self.grid.alloc);
         self.push_head(&mut page)?;
         out.extend_from_slice(page.as_bytes())
     }
@@ -324,7 +311,7 @@ impl<'t> Picture<'t> {
     pub(crate) fn finish(&self, out: &mut Vec<u8>) -> Result<(), AllocError>
         ensures { OnOk result (Adds IsSomething out.old.items out.new.items) }
     {
-        let mut page = Page::new(self.grid.alloc);
+        let mut page = String::new(self.grid.alloc);
         if self.grid.columns > 0 {
             page = self.band()?;
         }

@@ -4,10 +4,10 @@ ghost use Rattle.std.specs.Prelude.{OnOk};
 ghost use Rattle.cp_trace.specs.Telling.{Adds, IsAnything, IsSomething};
 
 use crate::grid::{Cell, Grid, Row};
-use cp_page::page::Page;
 use cp_report::roster::Member;
 use cp_rounds::machine::Machine;
 use std::alloc::AllocError;
+use std::fmt::Write;
 
 // The longest line.
 const WIDTH: usize = 100;
@@ -15,32 +15,32 @@ const WIDTH: usize = 100;
 // A block has a multiple of so many rounds, and each round with such a number has it above it.
 const STEP: usize = 10;
 
-const LEGEND: &[u8] =
-    b"process: . unstarted, r ready, a asking, d delayed, w waiting, e ended, F fault
+const LEGEND: &str =
+    "process: . unstarted, r ready, a asking, d delayed, w waiting, e ended, F fault
 monitor: . unset, - free, else the sign of the process that holds it
 ";
 
 // The sign of a process, which stands before its name: a digit, or a letter from the tenth on. All
 // above the 61st have one.
-fn sign(number: u32) -> u8 {
-    match u8::try_from(number) {
+fn sign(number: u32) -> char {
+    char::from(match u8::try_from(number) {
         Ok(digit) if digit < 10 => b'0' + digit,
         Ok(letter) if letter < 36 => b'a' + (letter - 10),
         Ok(letter) if letter < 62 => b'A' + (letter - 36),
         _ => b'#',
-    }
+    })
 }
 
-fn letter(cell: Cell) -> u8 {
+fn letter(cell: Cell) -> char {
     match cell {
-        Cell::Unstarted | Cell::Unset => b'.',
-        Cell::Ready => b'r',
-        Cell::Waiting => b'w',
-        Cell::Asking(_) => b'a',
-        Cell::Delayed(_) => b'd',
-        Cell::Ended => b'e',
-        Cell::Fault(_) => b'F',
-        Cell::Free => b'-',
+        Cell::Unstarted | Cell::Unset => '.',
+        Cell::Ready => 'r',
+        Cell::Waiting => 'w',
+        Cell::Asking(_) => 'a',
+        Cell::Delayed(_) => 'd',
+        Cell::Ended => 'e',
+        Cell::Fault(_) => 'F',
+        Cell::Free => '-',
         Cell::Held(process) => sign(process),
     }
 }
@@ -68,53 +68,50 @@ impl<'t> Timeline<'t> {
     }
 
     // Adds the number of the round in a column above it, if there is room.
-    fn push_mark(&self, page: &mut Page, column: usize) -> Result<(), AllocError> {
-        let mut number = Page::new(self.grid.alloc);
-        number.number(self.grid.round(column) as usize)?;
-        let (at, end) = (self.margin.saturating_add(column), page.as_bytes().len());
-        let fits = at.saturating_add(number.as_bytes().len()) <= WIDTH;
-        if end < at && fits {
-            page.blanks(at - end)?;
-            page.bytes(number.as_bytes())?;
+    fn push_mark(&self, page: &mut String, column: usize) -> Result<(), AllocError> {
+        let number = self.grid.round(column).to_string(self.grid.alloc)?;
+        let at = self.margin.saturating_add(column);
+        let end = at.saturating_add(number.len());
+        if page.len() < at && end <= WIDTH {
+            let width = end.saturating_sub(page.len());
+            write!(page, "{number:>width$}")?;
         }
         Ok(())
     }
 
     // Adds the line above a block, which begins with it.
-    fn push_ruler(&self, page: &mut Page) -> Result<(), AllocError> {
-        page.bytes(b"round")?;
+    fn push_ruler(&self, page: &mut String) -> Result<(), AllocError> {
+        page.push_str("round")?;
         for column in 0..self.grid.columns {
             if column == 0 || self.grid.round(column) % STEP as u64 == 0 {
                 self.push_mark(page, column)?;
             }
         }
-        page.bytes(b"\n")
+        page.push('\n')
     }
 
     // Adds the line of a process or monitor.
-    fn push_row(&self, page: &mut Page, row: &Row<'_>) -> Result<(), AllocError> {
+    fn push_row(&self, page: &mut String, row: &Row<'_>) -> Result<(), AllocError> {
         let sign = match row.member {
             Member::Process(number) => sign(number),
-            Member::Monitor(_) => b' ',
+            Member::Monitor(_) => ' ',
         };
-        page.bytes(&[sign, b' '])?;
-        page.text(row.name)?;
-        let end = row.name.len().saturating_add(2);
-        page.blanks(self.margin.saturating_sub(end))?;
+        let (name, width) = (row.name, self.margin.saturating_sub(2));
+        write!(page, "{sign} {name:<width$}")?;
         for cell in &row.cells {
-            page.bytes(&[letter(*cell)])?;
+            page.push(letter(*cell))?;
         }
-        page.bytes(b"\n")
+        page.push('\n')
     }
 
     // Returns the cells as text.
-    fn block(&self) -> Result<Page, AllocError> {
-        let mut page = Page::new(self.grid.alloc);
+    fn block(&self) -> Result<String, AllocError> {
+        let mut page = String::new(self.grid.alloc);
         self.push_ruler(&mut page)?;
         for row in &self.grid.rows {
             self.push_row(&mut page, row)?;
         }
-        page.bytes(b"\n")?;
+        page.push('\n')?;
         Ok(page)
     }
 
@@ -146,6 +143,6 @@ impl<'t> Timeline<'t> {
         if self.grid.columns > 0 {
             out.extend_from_slice(self.block()?.as_bytes())?;
         }
-        out.extend_from_slice(LEGEND)
+        out.extend_from_slice(LEGEND.as_bytes())
     }
 }
