@@ -3,10 +3,11 @@
 
 The script builds plain_front/main.rs itself, by rustc. First both programs judge all texts that the repository has, and those of texts.py, and have
 to say the same of each. Instructions are those of the whole process under `valgrind --tool=callgrind`, so they don't depend on the load of the
-machine; seconds are the least of some trials of the program itself and of the system on its behalf. With `--answers N` it measures nothing, and
-compares N more texts, each made of one that the repository has by leaving out, doubling or exchanging a few words. It takes five minutes.
+machine; seconds are the least of some trials, on one processor, of the program itself and of the system on its behalf. With `--answers N` it measures
+nothing, and compares N more texts, each made of one that the repository has by leaving out, doubling or exchanging a few words. It takes eight minutes.
 """
 import concurrent.futures
+import os
 import pathlib
 import random
 import re
@@ -22,7 +23,7 @@ import answers
 import make_rows
 
 PLAIN = ROOT / 'bench' / 'plain_front' / 'main.rs'
-TRIALS = 15
+TRIALS = 40
 LIMIT = 1_048_576
 # What a text is cut into to make others of it.
 PIECES = re.compile(r'''\w+|'[^']*'|"[^"]*"|:=|\.\.|<>|\s+|.''', re.DOTALL)
@@ -107,6 +108,8 @@ def main():
             compare(plain, [changed(chance.choice(small), chance) for _ in range(number)])
             return
         compare(plain, [*texts, *TEXTS.values(), *TOO_MANY_WORDS.values()])
+        # Both on one processor, since two of a shared machine may run at two speeds.
+        os.sched_setaffinity(0, {max(os.sched_getaffinity(0))})
         rows = [row(plain, folder, what, text, 0) for what, text in TEXTS.items()]
         rows += [row(plain, folder, f'{what} (refused)', text, REFUSED) for what, text in TOO_MANY_WORDS.items()]
     header = ['Text', 'cpm, million instructions', 'Plain', 'Ratio', 'cpm, seconds', 'Plain', 'Ratio']
