@@ -5,8 +5,6 @@
 #[cfg(test)]
 mod description;
 #[cfg(test)]
-mod expectations;
-#[cfg(test)]
 mod gates;
 #[cfg(test)]
 mod machines;

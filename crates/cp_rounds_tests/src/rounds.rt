@@ -1,6 +1,5 @@
 //! Rounds of machines, and what can be read between them.
 
-use crate::expectations::expect;
 use crate::machines::{activity, has_written, on_machine};
 use crate::ways::Way;
 use cp_private::outside::{Holder, Stage};
@@ -19,67 +18,39 @@ const FIVES: &str = "type p = process; var x: integer;
       begin x := 5; display(x); x := -x; display(x) end;
     var a: p; begin init a end.";
 
-#[test]
-fn started_processes_run_a_round_later(rt: HostRuntime) -> Result<(), Fail> {
-    let unstarted = "stage 1: Begun
-        stage 2: Unstarted
-        activity 2: NotBegun";
-    let started = "stage 2: Begun
-        activity 2: Running
-        out 2: '' ''";
-    let ended = "activity 1: Ended
-        activity 3: Ended
-        out 2: '7' ''
-        out 3: '7' ''
-        rounds 2";
-    let stops = [(0, 10, unstarted), (1, 10, started), (1, 10, ended)];
-    expect(&rt, rt.alloc(), SEVENS, &stops)
+// Whether the machine of `FIVES` is at its start. Word 0 of a process is its mark, and its
+// variables follow.
+fn is_at_start(machine: &Machine) -> bool {
+    machine.processes() == 2
+        && machine.monitors() == 0
+        && machine.rounds() == 0
+        && machine.word(2, 1) == 0
 }
 
-// In a round with two steps a turn, the initial process starts the other one, which displays 5 in
-// the next round. Word 0 of a process is its mark, and its variables follow.
+// Makes two rounds with two steps a turn, and one more. In the first the initial process starts the
+// other one, which displays 5 in the next, and then -5.
+fn reads_between_rounds<R: Threads + Wait + Sync>(
+    rt: &R,
+    machine: &mut Machine,
+) -> Result<bool, Fail> {
+    let is_at_start = is_at_start(machine);
+    Way::new(false, 1, 1, 255).make(rt, machine, 2, 2, &Open)?;
+    let is_positive = machine.rounds() == 2
+        && activity(machine, 1)? == Activity::Ended
+        && machine.word(2, 1) == 5
+        && has_written(machine, 2, b"5");
+    Way::new(true, 1, 1, 255).make(rt, machine, 1, 2, &Open)?;
+    let is_negative = machine.word(2, 1) == -5 && has_written(machine, 2, b"5-5");
+    Ok(is_at_start && is_positive && is_negative)
+}
+
 #[test]
 fn a_machine_is_read_between_rounds(rt: HostRuntime) -> Result<(), Fail> {
-    let unstarted = "processes 2 of 2
-        monitors 0 of 0
-        rounds 0
-        words 2: 2
-        word 2 1: 0";
-    let positive = "rounds 2
-        activity 1: Ended
-        activity 2: Running
-        word 2 1: 5
-        out 2: '5' ''";
-    let negative = "word 2 1: -5
-        out 2: '5-5' ''";
-    let stops = [(0, 2, unstarted), (2, 2, positive), (1, 2, negative)];
-    expect(&rt, rt.alloc(), FIVES, &stops)
-}
-
-#[test]
-fn a_run_of_no_rounds_changes_nothing(rt: HostRuntime) -> Result<(), Fail> {
-    let unchanged = "rounds 0
-        stage 2: Unstarted";
-    expect(&rt, rt.alloc(), SEVENS, &[(0, 10, unchanged)])
-}
-
-// Two counters and what they count at the end of each tenth round: a round has two iterations of
-// two steps.
-#[test]
-fn a_run_stops_between_any_two_rounds(rt: HostRuntime) -> Result<(), Fail> {
-    let text = "type p = process; var x: integer; begin cycle x := x + 1 end end;
-        var a, b: p; begin init a, b end.";
-    let stops = [
-        (9, 4, "word 2 1: 16"),
-        (10, 4, "word 2 1: 36"),
-        (
-            100,
-            4,
-            "word 2 1: 236
-            word 3 1: 236",
-        ),
-    ];
-    expect(&rt, rt.alloc(), text, &stops)
+    let is_right = on_machine(rt.alloc(), FIVES, |machine| -> Result<bool, Fail> {
+        reads_between_rounds(&rt, machine)
+    })?;
+    assert!(rt; is_right);
+    Ok(())
 }
 
 // Makes a round. Returns whether process 0 has ended, with the word and the transcript of process

@@ -1,12 +1,14 @@
 //! What a machine tells of its processes, monitors and variables between rounds.
 
-use crate::expectations::expect;
 use crate::machines::{machine_of, on_machine, on_program};
 use crate::ways::Way;
+use cp_model::state::Fault;
+use cp_private::outside::Holder;
 use cp_program::program::Program;
 use cp_rounds::gate::Open;
 use cp_rounds::machine::Machine;
 use cp_rounds::place::{Kind, Owner, Place, Value};
+use cp_rounds::state::ProcState;
 use cp_scope::Tables;
 use std::alloc::Global;
 use std::sync::Wait;
@@ -24,19 +26,50 @@ const TAKEN: &str = "type m = monitor; var x: integer; q: queue;
     t = process; var z: integer; begin cycle z := 1 end end;
     var g: m; b, c, d: p; e: s; f: t; h: s; begin init g, b(g), c(g), d(g), e, f end.";
 
+// The states of the processes after two rounds, by their numbers.
+const STATES: [(u32, ProcState); 7] = [
+    (1, ProcState::Ended),
+    (
+        2,
+        ProcState::Delayed {
+            monitor: 1,
+            queue: 2,
+        },
+    ),
+    (3, ProcState::Faulted(Fault::QueueTaken)),
+    (4, ProcState::Asking(1)),
+    (5, ProcState::Waiting),
+    (6, ProcState::Ready),
+    (7, ProcState::Unstarted),
+];
+
+fn has_states(machine: &Machine) -> bool {
+    for (number, state) in &STATES {
+        if machine.state(*number) != *state {
+            return false;
+        }
+    }
+    true
+}
+
+// Makes two rounds. Returns whether the processes have their states then, and the gate its holder
+// and its asker.
+fn shows_states<R: Threads + Wait + Sync>(rt: &R, machine: &mut Machine) -> Result<bool, Fail> {
+    Way::new(true, 1, 1, 255).make(rt, machine, 2, 10, &Open)?;
+    Ok(
+        has_states(machine)
+            && machine.gate(1) == Holder::Process(3)
+            && matches!(machine.askers(1), [4]),
+    )
+}
+
 #[test]
 fn each_process_has_a_state(rt: HostRuntime) -> Result<(), Fail> {
-    let two_rounds = "state 1: Ended
-        state 2: Delayed { monitor: 1, queue: 2 }
-        state 3: Faulted(QueueTaken)
-        state 4: Asking(1)
-        state 5: Waiting
-        state 6: Ready
-        state 7: Unstarted
-        holder 1: Process(3)
-        askers 1: [4]";
-    let stops = [(1, 10, "state 2: Ready"), (1, 10, two_rounds)];
-    expect(&rt, rt.alloc(), TAKEN, &stops)
+    let are_shown = on_machine(rt.alloc(), TAKEN, |machine| -> Result<bool, Fail> {
+        shows_states(&rt, machine)
+    })?;
+    assert!(rt; are_shown);
+    Ok(())
 }
 
 // The queue before the first round.

@@ -20,17 +20,6 @@ pub(crate) struct Way {
     pub(crate) wave: u32,
 }
 
-// Ways with one worker and with several, with all processes in one wave and with one process a
-// wave: whether it is a run, the workers, and the processes in a wave.
-pub(crate) const WAYS: [(bool, u32, u32); 6] = [
-    (true, 1, 255),
-    (true, 3, 255),
-    (true, 3, 1),
-    (false, 1, 255),
-    (false, 3, 255),
-    (false, 3, 1),
-];
-
 // Fails unless a machine has room for many more rounds.
 pub(crate) fn is_young(machine: &Machine) -> Result<(), Fail>
     ensures { IfOk result (λ _. (machine_of machine.now).rounds < 2 ^ 63) }
