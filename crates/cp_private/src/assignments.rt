@@ -4,7 +4,6 @@ ghost use Rattle.std.specs.Prelude.{◌≡◌, ℕ, pos, List, if◌then◌else�
 ghost use Rattle.cp_program_model.specs.Tables.{place_in};
 ghost use Rattle.cp_program_model.specs.Terms.{Rooted};
 ghost use Rattle.cp_model.specs.Integers.{same_integer};
-ghost use Rattle.cp_model.specs.Places.{within};
 ghost use Rattle.cp_machine_model.specs.Steps as plain;
 ghost use Rattle.cp_machine_model.specs.PrivateStates.{go_to, private_outcome};
 ghost use Rattle.cp_private.specs.Keeping.{IsAddressable, KeepsOwn, KeepsRest};
@@ -16,32 +15,8 @@ use crate::effect::Effect;
 use crate::outside::Outside;
 use crate::private::Private;
 use cp_model::state::Fault;
-use cp_program::operation::Table;
+use cp_program::operation::{Assignment, Table};
 use cp_program::term::{Root, Spot, Term};
-
-/// The bounds of the values that may be assigned.
-#[derive(Clone, Copy)]
-pub(crate) struct Bounds {
-    pub(crate) low: i32,
-    pub(crate) high: i32,
-}
-
-impl Bounds {
-    #[inline(always)]
-    pub(crate) fn new(low: i32, high: i32) -> Bounds
-        ensures low { result.low ≡ low }
-        ensures high { result.high ≡ high }
-    {
-        Bounds { low, high }
-    }
-
-    #[inline(always)]
-    pub(crate) fn contain(self, n: i32) -> bool
-        ensures { result ≡ within self.low self.high n }
-    {
-        self.low <= n && n <= self.high
-    }
-}
 
 impl Private {
     // The address may be capped to the largest `usize`.
@@ -51,48 +26,43 @@ impl Private {
         shared: &mut [i32],
         at: usize,
         n: i32,
-        bounds: Bounds,
-        next: u32,
+        assignment: &Assignment,
     ) -> Result<Effect, Fault>
         requires { IsAddressable shared.old }
         ensures step { (input : List ℕ) (place : ℕ) → cap_place place ≡ at
             → outcome (join self.new input shared.new) result ≡ plain.set_within
-            (join self.old input shared.old) bounds.low bounds.high place n next }
+            (join self.old input shared.old) assignment.now.bounds.low assignment.now.bounds.high
+            place n assignment.now.next }
         ensures kept { KeepsRest self.old shared.old self.new shared.new }
         ensures stands { Stands self.old self.new }
     {
-        if !bounds.contain(n) {
+        if !assignment.bounds.contain(n) {
             return Err(Fault::Range);
         }
         self.set_word(shared, at, n);
-        self.counter = next;
+        self.counter = assignment.next;
         Ok(Effect::None)
     }
 
-    // The bounds and the next counter are read once the value is known, so that they needn't be
-    // kept while it is evaluated.
     #[inline(never)]
     pub(crate) fn set(
         &mut self,
         shared: &mut [i32],
         outside: &Outside,
         to: &Spot,
-        value: &Term,
-        low: &i32,
-        high: &i32,
-        next: &u32,
+        assignment: &Assignment,
     ) -> Result<Effect, Fault>
         requires { IsAddressable shared.old }
         ensures step { IsStep self.old shared.old outside.now self.new shared.new result
             (λ w o. plain.with_place w o (view.spot to.now) (λ at. plain.with_value w o
-            (view.term value.now) (λ n. plain.set_within o low.now high.now at n
-            next.now))) }
+            (view.term assignment.now.value) (λ n. plain.set_within o assignment.now.bounds.low
+            assignment.now.bounds.high at n assignment.now.next))) }
         ensures kept { KeepsRest self.old shared.old self.new shared.new }
         ensures stands { Stands self.old self.new }
     {
         let at = self.place(shared, outside, to)?;
-        let n = self.evaluate(shared, outside, value)?;
-        self.set_within(shared, at, n, Bounds::new(*low, *high), *next)
+        let n = self.evaluate(shared, outside, &assignment.value)?;
+        self.set_within(shared, at, n, assignment)
     }
 
     /// Sets a whole variable.
@@ -102,21 +72,18 @@ impl Private {
         shared: &mut [i32],
         outside: &Outside,
         root: Root,
-        value: &Term,
-        low: &i32,
-        high: &i32,
-        next: &u32,
+        assignment: &Assignment,
     ) -> Result<Effect, Fault>
         requires { IsAddressable shared.old }
         ensures step { IsStep self.old shared.old outside.now self.new shared.new result
             (λ w o. plain.with_place w o (Rooted (view.root root)) (λ at. plain.with_value w o
-            (view.term value.now) (λ n. plain.set_within o low.now high.now at n
-            next.now))) }
+            (view.term assignment.now.value) (λ n. plain.set_within o assignment.now.bounds.low
+            assignment.now.bounds.high at n assignment.now.next))) }
         ensures kept { KeepsRest self.old shared.old self.new shared.new }
     {
         let at = self.reach(shared, outside).root_place(root);
-        let n = self.evaluate(shared, outside, value)?;
-        self.set_within(shared, at, n, Bounds::new(*low, *high), *next)
+        let n = self.evaluate(shared, outside, &assignment.value)?;
+        self.set_within(shared, at, n, assignment)
     }
 
     #[inline(never)]
@@ -124,20 +91,17 @@ impl Private {
         &mut self,
         shared: &mut [i32],
         outside: &Outside,
-        value: &Term,
-        low: &i32,
-        high: &i32,
-        next: &u32,
+        assignment: &Assignment,
     ) -> Result<Effect, Fault>
         requires { IsAddressable shared.old }
         ensures step { IsStep self.old shared.old outside.now self.new shared.new result
-            (λ w o. plain.with_value w o (view.term value.now) (λ n. plain.set_within o
-            low.now high.now o.base n next.now)) }
+            (λ w o. plain.with_value w o (view.term assignment.now.value) (λ n. plain.set_within o
+            assignment.now.bounds.low assignment.now.bounds.high o.base n assignment.now.next)) }
         ensures kept { KeepsRest self.old shared.old self.new shared.new }
     {
-        let n = self.evaluate(shared, outside, value)?;
+        let n = self.evaluate(shared, outside, &assignment.value)?;
         let at = self.memory.base;
-        self.set_within(shared, at, n, Bounds::new(*low, *high), *next)
+        self.set_within(shared, at, n, assignment)
     }
 
     pub(crate) fn copy_words(

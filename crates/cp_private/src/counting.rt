@@ -9,7 +9,6 @@ ghost use Rattle.cp_private.specs.States.{IsStep};
 ghost use Rattle.cp_machine_model.specs.Steps as plain;
 ghost use Rattle.cp_program.specs.View as view;
 
-use crate::assignments::Bounds;
 use crate::effect::Effect;
 use crate::outside::Outside;
 use crate::private::Private;
@@ -43,11 +42,7 @@ impl Private {
             (λ w o. plain.count_to w o (view.counting counting.now) n last) }
         ensures kept { KeepsRest self.old shared.old self.new shared.new }
     {
-        let bounds = Bounds {
-            low: counting.low,
-            high: counting.high,
-        };
-        if !bounds.contain(n) {
+        if !counting.bounds.contain(n) {
             return Err(Fault::Range);
         }
         let at = self.reach(shared, outside).root_place(counting.variable);

@@ -10,10 +10,10 @@ ghost use Rattle.cp_machine_model.specs.Values.{place_of, value_of};
 ghost use Rattle.cp_program.specs.Reaches.{cap_place};
 ghost use Rattle.cp_program.specs.View as view;
 
-use crate::assignments::Bounds;
 use crate::outside::Outside;
 use crate::private::Private;
 use cp_model::state::Fault;
+use cp_program::bounds::Bounds;
 use cp_program::operation::{Argument, Target};
 use cp_program::term::{Spot, Term};
 
@@ -36,8 +36,7 @@ impl Private {
         outside: &Outside,
         to: usize,
         far: &u32,
-        low: &i32,
-        high: &i32,
+        bounds: &Bounds,
         term: &Term,
     ) -> Result<(), Fault>
         requires shared { IsAddressable shared.old }
@@ -45,11 +44,11 @@ impl Private {
         ensures step { (own : ℕ) → let o = join self.old outside.now.input.now shared.old in
             passing_of (join self.new outside.now.input.now shared.new) result ≡ plain.pass_result o
             (value_of (view_of (outside_of outside.now own) o) (view.term term.now))
-            (λ n. plain.pass_value o (to + far.now) low.now high.now n) }
+            (λ n. plain.pass_value o (to + far.now) bounds.now.low bounds.now.high n) }
         ensures kept { ChangesOnlyWords self.old shared.old self.new shared.new }
     {
         let n = self.evaluate(shared, outside, term)?;
-        if !Bounds::new(*low, *high).contain(n) {
+        if !bounds.contain(n) {
             return Err(Fault::Range);
         }
         self.set_word(shared, to + *far as usize, n);
@@ -144,12 +143,9 @@ impl Private {
     {
         let Destination { to, home } = destination;
         match argument {
-            Argument::Value {
-                at,
-                low,
-                high,
-                term,
-            } => self.pass_value(shared, outside, to, at, low, high, term),
+            Argument::Value { at, bounds, term } => {
+                self.pass_value(shared, outside, to, at, bounds, term)
+            }
             Argument::Copy { at, size, from } => {
                 self.pass_copy(shared, outside, to + *at as usize, *size, from)
             }
@@ -185,12 +181,9 @@ impl Private {
         let mut left = arguments;
         while let Some((argument, after)) = left.split_first() {
             match argument {
-                Argument::Value {
-                    at,
-                    low,
-                    high,
-                    term,
-                } => self.pass_value(shared, outside, destination.to, at, low, high, term)?,
+                Argument::Value { at, bounds, term } => {
+                    self.pass_value(shared, outside, destination.to, at, bounds, term)?
+                }
                 _ => self.pass_any(shared, outside, destination, argument)?,
             }
             left = after;

@@ -17,10 +17,9 @@ ghost use Rattle.cp_program_model.specs.Programs as code;
 ghost use Rattle.cp_program_model.specs.Starts.{word};
 ghost use Rattle.cp_program_model.specs.Terms as terms;
 
-use crate::assignments::Bounds;
 use crate::counting::next_counter;
 use crate::private::Private;
-use cp_program::operation::{Counting, Operation};
+use cp_program::operation::{Assignment, Counting, Operation};
 use cp_program::reach::Words;
 use cp_program::term::{Spot, Term};
 
@@ -54,23 +53,22 @@ impl Private {
         shared: &mut [i32],
         at: usize,
         n: i32,
-        low: &i32,
-        high: &i32,
-        next: &u32,
+        assignment: &Assignment,
     ) -> bool
         requires { IsAddressable shared.old }
         ensures step { result ≡ true
-            → Makes (λ w o. plain.set_within o low.now high.now at n next.now)
+            → Makes (λ w o. plain.set_within o assignment.now.bounds.low assignment.now.bounds.high
+            at n assignment.now.next)
             self.old shared.old self.new shared.new NoEffect }
         ensures same { result ≡ false → Stays self.old shared.old self.new shared.new }
         ensures kept { KeepsRest self.old shared.old self.new shared.new }
         ensures stands { Stands self.old self.new }
     {
-        if !Bounds::new(*low, *high).contain(n) {
+        if !assignment.bounds.contain(n) {
             return false;
         }
         self.set_word(shared, at, n);
-        self.counter = *next;
+        self.counter = assignment.next;
         true
     }
 
@@ -79,28 +77,26 @@ impl Private {
         &mut self,
         shared: &mut [i32],
         to: &Spot,
-        value: &Term,
-        low: &i32,
-        high: &i32,
-        next: &u32,
+        assignment: &Assignment,
     ) -> bool
         requires { IsAddressable shared.old }
         ensures step { result ≡ true → Makes (λ w o. plain.with_place w o (view.spot to.now) (λ at.
-            plain.with_value w o (view.term value.now) (λ n.
-            plain.set_within o low.now high.now at n next.now)))
+            plain.with_value w o (view.term assignment.now.value) (λ n.
+            plain.set_within o assignment.now.bounds.low assignment.now.bounds.high at n
+            assignment.now.next)))
             self.old shared.old self.new shared.new NoEffect }
         ensures same { result ≡ false → Stays self.old shared.old self.new shared.new }
         ensures kept { KeepsRest self.old shared.old self.new shared.new }
         ensures stands { Stands self.old self.new }
     {
         // Both are found or nothing is done, so the place needn't be kept while the value is found.
-        let Some(n) = value.near_value::<W>(&self.memory, shared) else {
+        let Some(n) = assignment.value.near_value::<W>(&self.memory, shared) else {
             return false;
         };
         let Some(at) = to.near_place::<W>(&self.memory, shared) else {
             return false;
         };
-        self.write_within(shared, at, n, low, high, next)
+        self.write_within(shared, at, n, assignment)
     }
 
     #[inline(always)]
@@ -108,26 +104,24 @@ impl Private {
         &mut self,
         shared: &mut [i32],
         at: &u32,
-        value: &Term,
-        low: &i32,
-        high: &i32,
-        next: &u32,
+        assignment: &Assignment,
     ) -> bool
         requires { IsAddressable shared.old }
         ensures step { result ≡ true
             → Makes (λ w o. plain.with_place w o (terms.Rooted (terms.Local at.now)) (λ at.
-            plain.with_value w o (view.term value.now) (λ n.
-            plain.set_within o low.now high.now at n next.now)))
+            plain.with_value w o (view.term assignment.now.value) (λ n.
+            plain.set_within o assignment.now.bounds.low assignment.now.bounds.high at n
+            assignment.now.next)))
             self.old shared.old self.new shared.new NoEffect }
         ensures same { result ≡ false → Stays self.old shared.old self.new shared.new }
         ensures kept { KeepsRest self.old shared.old self.new shared.new }
         ensures stands { Stands self.old self.new }
     {
-        let Some(n) = value.near_value::<W>(&self.memory, shared) else {
+        let Some(n) = assignment.value.near_value::<W>(&self.memory, shared) else {
             return false;
         };
         let at = self.memory.local(*at);
-        self.write_within(shared, at, n, low, high, next)
+        self.write_within(shared, at, n, assignment)
     }
 
     #[inline(always)]
@@ -135,51 +129,43 @@ impl Private {
         &mut self,
         shared: &mut [i32],
         at: &u32,
-        value: &Term,
-        low: &i32,
-        high: &i32,
-        next: &u32,
+        assignment: &Assignment,
     ) -> bool
         requires { IsAddressable shared.old }
         ensures step { result ≡ true
             → Makes (λ w o. plain.with_place w o (terms.Rooted (terms.Member at.now)) (λ at.
-            plain.with_value w o (view.term value.now) (λ n.
-            plain.set_within o low.now high.now at n next.now)))
+            plain.with_value w o (view.term assignment.now.value) (λ n.
+            plain.set_within o assignment.now.bounds.low assignment.now.bounds.high at n
+            assignment.now.next)))
             self.old shared.old self.new shared.new NoEffect }
         ensures same { result ≡ false → Stays self.old shared.old self.new shared.new }
         ensures kept { KeepsRest self.old shared.old self.new shared.new }
         ensures stands { Stands self.old self.new }
     {
-        let Some(n) = value.near_value::<W>(&self.memory, shared) else {
+        let Some(n) = assignment.value.near_value::<W>(&self.memory, shared) else {
             return false;
         };
         let at = self.memory.member(*at);
-        self.write_within(shared, at, n, low, high, next)
+        self.write_within(shared, at, n, assignment)
     }
 
     #[inline(always)]
-    fn set_result_quickly<W: Words>(
-        &mut self,
-        shared: &mut [i32],
-        value: &Term,
-        low: &i32,
-        high: &i32,
-        next: &u32,
-    ) -> bool
+    fn set_result_quickly<W: Words>(&mut self, shared: &mut [i32], assignment: &Assignment) -> bool
         requires { IsAddressable shared.old }
         ensures step { result ≡ true
-            → Makes (λ w o. plain.with_value w o (view.term value.now) (λ n.
-            plain.set_within o low.now high.now o.base n next.now))
+            → Makes (λ w o. plain.with_value w o (view.term assignment.now.value) (λ n.
+            plain.set_within o assignment.now.bounds.low assignment.now.bounds.high o.base n
+            assignment.now.next))
             self.old shared.old self.new shared.new NoEffect }
         ensures same { result ≡ false → Stays self.old shared.old self.new shared.new }
         ensures kept { KeepsRest self.old shared.old self.new shared.new }
         ensures stands { Stands self.old self.new }
     {
-        let Some(n) = value.near_value::<W>(&self.memory, shared) else {
+        let Some(n) = assignment.value.near_value::<W>(&self.memory, shared) else {
             return false;
         };
         let at = self.memory.base;
-        self.write_within(shared, at, n, low, high, next)
+        self.write_within(shared, at, n, assignment)
     }
 
     #[inline(always)]
@@ -252,7 +238,7 @@ impl Private {
         let Some(n) = next_counter(counting.down, n) else {
             return false;
         };
-        if !Bounds::new(counting.low, counting.high).contain(n) {
+        if !counting.bounds.contain(n) {
             return false;
         }
         let Some(at) = self.memory.near_root_place::<W>(shared, counting.variable) else {
@@ -312,33 +298,18 @@ impl Private {
         ensures stands { Stands self.old self.new }
     {
         match operation {
-            Operation::Set {
-                to,
-                low,
-                high,
-                value,
-                next,
-            } => attempted(self.set_quickly::<W>(shared, to, value, low, high, next)),
-            Operation::SetLocal {
-                at,
-                low,
-                high,
-                value,
-                next,
-            } => attempted(self.set_local_quickly::<W>(shared, at, value, low, high, next)),
-            Operation::SetMember {
-                at,
-                low,
-                high,
-                value,
-                next,
-            } => attempted(self.set_member_quickly::<W>(shared, at, value, low, high, next)),
-            Operation::SetResult {
-                low,
-                high,
-                value,
-                next,
-            } => attempted(self.set_result_quickly::<W>(shared, value, low, high, next)),
+            Operation::Set { to, assignment } => {
+                attempted(self.set_quickly::<W>(shared, to, assignment))
+            }
+            Operation::SetLocal { at, assignment } => {
+                attempted(self.set_local_quickly::<W>(shared, at, assignment))
+            }
+            Operation::SetMember { at, assignment } => {
+                attempted(self.set_member_quickly::<W>(shared, at, assignment))
+            }
+            Operation::SetResult(assignment) => {
+                attempted(self.set_result_quickly::<W>(shared, assignment))
+            }
             Operation::Test { value, yes, no } => attempted(self.test_quickly::<W>(
                 shared, value, yes, no,
             )),

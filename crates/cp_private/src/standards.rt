@@ -10,11 +10,11 @@ ghost use Rattle.cp_machine_model.specs.PrivateStates.{go_to, private_outcome};
 ghost use Rattle.cp_machine_model.specs.Steps as plain;
 ghost use Rattle.cp_program.specs.View as view;
 
-use crate::assignments::Bounds;
 use crate::effect::Effect;
 use crate::outside::Outside;
 use crate::private::{Activity, Private};
 use cp_model::state::Fault;
+use cp_program::bounds::Bounds;
 use cp_program::term::{Spot, Term};
 use itoa::Buffer;
 

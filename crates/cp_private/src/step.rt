@@ -11,7 +11,6 @@ ghost use Rattle.cp_program_model.specs.Programs as code;
 ghost use Rattle.cp_machine_model.specs.Steps as plain;
 ghost use Rattle.cp_program.specs.View as view;
 
-use crate::assignments::Bounds;
 use crate::called::Back;
 use crate::effect::Effect;
 use crate::outside::Outside;
@@ -41,33 +40,14 @@ impl Private {
         ensures kept { KeepsRestButOutput self.old shared.old self.new shared.new }
     {
         match operation {
-            Operation::Set {
-                to,
-                low,
-                high,
-                value,
-                next,
-            } => self.set(shared, outside, to, value, low, high, next),
-            Operation::SetLocal {
-                at,
-                low,
-                high,
-                value,
-                next,
-            } => self.set_root(shared, outside, Root::Local(*at), value, low, high, next),
-            Operation::SetMember {
-                at,
-                low,
-                high,
-                value,
-                next,
-            } => self.set_root(shared, outside, Root::Member(*at), value, low, high, next),
-            Operation::SetResult {
-                low,
-                high,
-                value,
-                next,
-            } => self.set_result(shared, outside, value, low, high, next),
+            Operation::Set { to, assignment } => self.set(shared, outside, to, assignment),
+            Operation::SetLocal { at, assignment } => {
+                self.set_root(shared, outside, Root::Local(*at), assignment)
+            }
+            Operation::SetMember { at, assignment } => {
+                self.set_root(shared, outside, Root::Member(*at), assignment)
+            }
+            Operation::SetResult(assignment) => self.set_result(shared, outside, assignment),
             Operation::CopyWords {
                 to,
                 from,
@@ -109,12 +89,9 @@ impl Private {
                 as_byte,
                 next,
             } => self.display(shared, outside, value, *as_byte, *next),
-            Operation::Accept {
-                to,
-                low,
-                high,
-                next,
-            } => self.accept(shared, outside, to, Bounds::new(*low, *high), *next),
+            Operation::Accept { to, bounds, next } => {
+                self.accept(shared, outside, to, *bounds, *next)
+            }
             Operation::Delay { queue, next } => self.delay(shared, outside, queue, *next),
             Operation::Continue { queue, function } => {
                 self.leave_by_continue(shared, outside, queue, *function)

@@ -25,6 +25,7 @@ use Rattle.cp_program.specs.declared.operation.Call.{Call}
 use Rattle.cp_program.specs.Labels.{arm}
 use Rattle.cp_program.specs.declared.operation.Table.{Table}
 use Rattle.cp_program.specs.declared.operation.Table.TheVariants as table_case
+use Rattle.cp_program.specs.declared.operation.Assignment.{Assignment}
 use Rattle.cp_program.specs.declared.operation.Counting.{Counting}
 use Rattle.cp_program.specs.declared.operation.Operation.{Operation}
 use Rattle.cp_program.specs.declared.operation.Operation.TheVariants as operation_case
@@ -150,7 +151,7 @@ target (target_case.Monitor number) = plain.Monitor number
 target (target_case.MonitorRight at) = plain.MonitorRight at
 
 abbrev pub argument : Argument → plain.Argument
-argument (argument_case.Value at low high t) = plain.Value at low high (term t)
+argument (argument_case.Value at b t) = plain.Value at b.low b.high (term t)
 argument (argument_case.Copy at size from) = plain.Copy at size (spot from)
 argument (argument_case.Reference at to) = plain.Reference at (spot to)
 argument (argument_case.Right at of) = plain.Right at (target of)
@@ -171,19 +172,23 @@ table (table_case.Sparse xs) = code.Sparse (map arm xs.arms.items)
 abbrev pub counting : Counting → code.Counting
 counting c = record {
   variable = root c.variable;
-  low = c.low;
-  high = c.high;
+  low = c.bounds.low;
+  high = c.bounds.high;
   down = c.down;
   temp = c.temp;
   body = c.body;
   next = c.next;
 }
 
+abbrev pub assignment : plain.Spot → Assignment → code.Operation
+assignment to x = code.Set to x.bounds.low x.bounds.high (term x.value) x.next
+
 abbrev pub operation : Operation → code.Operation
-operation (operation_case.Set to low high value next) = code.Set (spot to) low high (term value) next
-operation (operation_case.SetLocal at low high value next) = code.Set (plain.Rooted (plain.Local at)) low high (term value) next
-operation (operation_case.SetMember at low high value next) = code.Set (plain.Rooted (plain.Member at)) low high (term value) next
-operation (operation_case.SetResult low high value next) = code.SetResult low high (term value) next
+operation (operation_case.Set to x) = assignment (spot to) x
+operation (operation_case.SetLocal at x) = assignment (plain.Rooted (plain.Local at)) x
+operation (operation_case.SetMember at x) = assignment (plain.Rooted (plain.Member at)) x
+operation (operation_case.SetResult x) =
+    code.SetResult x.bounds.low x.bounds.high (term x.value) x.next
 operation (operation_case.CopyWords to from size next) = code.CopyWords (spot to) (spot from) size next
 operation (operation_case.Test value yes' no') = code.Test (term value) yes' no'
 operation (operation_case.Case value t) = code.Case (term value) (table t)
@@ -200,7 +205,7 @@ operation (operation_case.InitProcess process arguments words next) =
 operation operation_case.EndBody = code.EndBody
 operation operation_case.End = code.End
 operation (operation_case.Display value as_byte next) = code.Display (term value) as_byte next
-operation (operation_case.Accept to low high next) = code.Accept (spot to) low high next
+operation (operation_case.Accept to b next) = code.Accept (spot to) b.low b.high next
 operation (operation_case.Delay queue next) = code.Delay (spot queue) next
 operation (operation_case.Continue queue function) = code.Continue (spot queue) function
 operation (operation_case.Wait next) = code.Wait next

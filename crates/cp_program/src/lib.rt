@@ -4,6 +4,7 @@
 //! - `term`, `divisor`: expressions, which are chains of operands, and spots, which are places of
 //!   variables.
 //! - `operation`: operations, each of which is one step and holds the places to which it leads.
+//! - `bounds`: the numbers that a variable may hold.
 //! - `arm`, `arms`, `search`: where a `case` leads.
 //! - `program`: units of code, the words of components, and the program. What components of one
 //!   type share is kept once.
@@ -18,6 +19,7 @@
 mod arithmetic;
 pub mod arm;
 pub mod arms;
+pub mod bounds;
 pub mod divisor;
 pub mod evaluation;
 mod exact;

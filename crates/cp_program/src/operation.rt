@@ -6,6 +6,7 @@ ghost use Rattle.cp_program_model.specs.Programs as code;
 ghost use Rattle.cp_program.specs.View as view;
 
 use crate::arms::Arms;
+use crate::bounds::Bounds;
 use crate::term::{Root, Spot, Term};
 
 /// The component whose routine is called.
@@ -27,26 +28,11 @@ pub enum Target {
 #[derive(Drop)]
 pub enum Argument {
     /// A value, which must lie within the bounds.
-    Value {
-        at: u32,
-        low: i32,
-        high: i32,
-        term: Term,
-    },
+    Value { at: u32, bounds: Bounds, term: Term },
     /// A copy of `size` words.
-    Copy {
-        at: u32,
-        size: u32,
-        from: Spot,
-    },
-    Reference {
-        at: u32,
-        to: Spot,
-    },
-    Right {
-        at: u32,
-        of: Target,
-    },
+    Copy { at: u32, size: u32, from: Spot },
+    Reference { at: u32, to: Spot },
+    Right { at: u32, of: Target },
 }
 
 /// A call of a unit. The new activation begins `words` words after the caller's first word, and the
@@ -74,11 +60,18 @@ pub enum Table {
 #[derive(Clone, Copy)]
 pub struct Counting {
     pub variable: Root,
-    pub low: i32,
-    pub high: i32,
+    pub bounds: Bounds,
     pub down: bool,
     pub temp: u32,
     pub body: u32,
+    pub next: u32,
+}
+
+/// What an assignment writes, which must lie within the bounds, and where it leads.
+#[derive(Drop)]
+pub struct Assignment {
+    pub value: Term,
+    pub bounds: Bounds,
     pub next: u32,
 }
 
@@ -87,34 +80,20 @@ pub struct Counting {
 pub enum Operation {
     Set {
         to: Spot,
-        low: i32,
-        high: i32,
-        value: Term,
-        next: u32,
+        assignment: Assignment,
     },
     /// Sets a word of the activation.
     SetLocal {
         at: u32,
-        low: i32,
-        high: i32,
-        value: Term,
-        next: u32,
+        assignment: Assignment,
     },
     /// Sets a word of the component.
     SetMember {
         at: u32,
-        low: i32,
-        high: i32,
-        value: Term,
-        next: u32,
+        assignment: Assignment,
     },
     /// Sets the result of the running function.
-    SetResult {
-        low: i32,
-        high: i32,
-        value: Term,
-        next: u32,
-    },
+    SetResult(Assignment),
     CopyWords {
         to: Spot,
         from: Spot,
@@ -175,8 +154,7 @@ pub enum Operation {
     },
     Accept {
         to: Spot,
-        low: i32,
-        high: i32,
+        bounds: Bounds,
         next: u32,
     },
     Delay {
@@ -193,33 +171,19 @@ pub enum Operation {
 }
 
 impl Operation {
-    /// The assignment of a value to a variable. One to a whole variable of the activation or of the
-    /// component has a form of its own, since most are.
-    pub fn set(to: Spot, low: i32, high: i32, value: Term, next: u32) -> Operation
-        ensures { view.operation result ≡ code.Set (view.spot to) low high (view.term value) next }
+    /// The assignment to a variable. One to a whole variable of the activation or of the component
+    /// has a form of its own, since most are.
+    pub fn set(to: Spot, assignment: Assignment) -> Operation
+        ensures { view.operation result ≡ code.Set (view.spot to) assignment.bounds.low
+            assignment.bounds.high (view.term assignment.value) assignment.next }
     {
         let Spot { root, indices } = to;
         match (root, indices.is_empty()) {
-            (Root::Local(at), true) => Operation::SetLocal {
-                at,
-                low,
-                high,
-                value,
-                next,
-            },
-            (Root::Member(at), true) => Operation::SetMember {
-                at,
-                low,
-                high,
-                value,
-                next,
-            },
+            (Root::Local(at), true) => Operation::SetLocal { at, assignment },
+            (Root::Member(at), true) => Operation::SetMember { at, assignment },
             _ => Operation::Set {
                 to: Spot { root, indices },
-                low,
-                high,
-                value,
-                next,
+                assignment,
             },
         }
     }

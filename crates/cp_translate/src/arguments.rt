@@ -16,6 +16,7 @@ ghost use Rattle.cp_translate.specs.Translated.{IsArgument, IsSpot, IsTerm};
 
 use crate::made::{MadeArgument, MadeSpot};
 use crate::translator::Translator;
+use crate::types::simple_bounds;
 use cp_emit::call::MadeTerm;
 use cp_program::operation::Argument;
 use cp_scope::{Declared, Simple, small_sum};
@@ -42,8 +43,7 @@ pub fn simple_value(at: u32, simple: Simple, made: MadeTerm) -> MadeArgument
     MadeArgument {
         argument: Argument::Value {
             at,
-            low: simple.low,
-            high: simple.high,
+            bounds: simple_bounds(simple),
             term: made.term,
         },
         temps: made.temps,

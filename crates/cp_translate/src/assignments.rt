@@ -20,10 +20,10 @@ ghost use Rattle.cp_translate.specs.Translated.{IsSpot};
 
 use crate::made::MadeSpot;
 use crate::translator::Translator;
-use crate::types::bounds_of;
+use crate::types::{bounds_of, simple_bounds};
 use cp_emit::{CodedCall, Emitter};
 use cp_model::tree::{Designator, Expression};
-use cp_program::operation::Operation;
+use cp_program::operation::{Assignment, Operation};
 use cp_scope::{Simple, is_part};
 use std::alloc::AllocError;
 
@@ -70,15 +70,14 @@ impl<'s, 't> Translator<'s, 't> {
             (place_of emitter.old) next)) }
     {
         let of = self.scope.place_type(d);
-        let within = bounds_of(self.scope.tables().types.simple(of));
+        let bounds = bounds_of(self.scope.tables().types.simple(of));
         let mut calls = Vec::new(self.alloc);
         let made = self.term(e, low, &mut calls)?;
-        let set = Operation::SetResult {
-            low: within.low,
-            high: within.high,
+        let set = Operation::SetResult(Assignment {
             value: made.term,
+            bounds,
             next,
-        };
+        });
         emitter.emit(calls, set, d.root.at)
     }
 
@@ -101,7 +100,12 @@ impl<'s, 't> Translator<'s, 't> {
     {
         let mut calls = calls;
         let made = self.term(e, to.temps, &mut calls)?;
-        let set = Operation::set(to.spot, simple.low, simple.high, made.term, next);
+        let assignment = Assignment {
+            value: made.term,
+            bounds: simple_bounds(simple),
+            next,
+        };
+        let set = Operation::set(to.spot, assignment);
         emitter.emit(calls, set, origin)
     }
 

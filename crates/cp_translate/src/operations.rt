@@ -124,11 +124,9 @@ impl<'s, 't> Translator<'s, 't> {
             → view.counting k ≡ coded.counting s name.now (erase.is_down direction) low 0 next) }
     {
         let of = self.scope.named_place_type(name);
-        let within = bounds_of(self.scope.tables().types.simple(of));
         Ok(Counting {
             variable: self.variable_root(name)?,
-            low: within.low,
-            high: within.high,
+            bounds: bounds_of(self.scope.tables().types.simple(of)),
             down: is_down(direction),
             temp: low,
             body: 0,

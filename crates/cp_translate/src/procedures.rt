@@ -90,14 +90,9 @@ impl<'s, 't> Translator<'s, 't> {
             (with_calls c.calls (op.Accept c.spot (coded.low_of t) (coded.high_of t) next)
             (place_of emitter.old))) }
     {
-        let within = bounds_of(self.scope.expression_type(e)?);
+        let bounds = bounds_of(self.scope.expression_type(e)?);
         let (to, calls) = self.passed_spot(e, low)?;
-        let accept = Operation::Accept {
-            to,
-            low: within.low,
-            high: within.high,
-            next,
-        };
+        let accept = Operation::Accept { to, bounds, next };
         emitter.emit(calls, accept, origin)
     }
 

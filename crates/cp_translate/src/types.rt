@@ -11,26 +11,28 @@ ghost use Rattle.cp_scope.specs.Scopes.{IsScope};
 ghost use Rattle.cp_scope.specs.Standing.{Stands};
 
 use crate::translator::Translator;
+use cp_program::bounds::Bounds;
 use cp_scope::Simple;
 use std::alloc::AllocError;
 
-/// The least and the greatest value of a type.
-#[derive(Clone, Copy)]
-pub struct Bounds {
-    pub(crate) low: i32,
-    pub(crate) high: i32,
+/// The bounds of a simple type.
+pub fn simple_bounds(simple: Simple) -> Bounds
+    ensures low { result.low ≡ simple.entry.low }
+    ensures high { result.high ≡ simple.entry.high }
+{
+    Bounds {
+        low: simple.low,
+        high: simple.high,
+    }
 }
 
-/// The bounds of a simple type. Those of any other type are 0.
+/// The bounds of a type that may be simple. Those of any other type are 0.
 pub fn bounds_of(of: Option<Simple>) -> Bounds
     ensures low { (t : ResolvedType) → SimpleIs of.entry t → result.low ≡ low_of t }
     ensures high { (t : ResolvedType) → SimpleIs of.entry t → result.high ≡ high_of t }
 {
     match of {
-        Some(simple) => Bounds {
-            low: simple.low,
-            high: simple.high,
-        },
+        Some(simple) => simple_bounds(simple),
         None => Bounds { low: 0, high: 0 },
     }
 }

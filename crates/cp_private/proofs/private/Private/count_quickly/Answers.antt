@@ -21,7 +21,7 @@ returns-clause-step g c =
     let apart : same_integer n last ≡ false = search rules in
     let next : to_z w32 (of_z w32 c.in-Some.n) ≡ m = search rules in
     let end : to_z w32 (of_z w32 c.temp_at-last.result) ≡ last = search rules in
-    let inside : within counting.low counting.high m ≡ true = search rules in
+    let inside : within counting.bounds.low counting.bounds.high m ≡ true = search rules in
     λ yes w input.
     let o = join c.args.self.now input c.args.shared.now in
     let at = c.in-Some-near_root_place.at in

@@ -33,15 +33,8 @@ returns-clause-step c =
     let is = sym c.in_ok-n.was ∙ c.evaluate.ensures input own in
     let whole : to_z w32 (of_z w32 c.in_ok-n.n) ≡ c.in_ok-n.n = search rules in
     let o = join c.args.self.now input c.args.shared.now in
-    let low = c.args.low.now in
-    let high = c.args.high.now in
-    let next = c.args.next.now in
-    let bounds = c.new.result in
-    let lowest : bounds.low ≡ low = search rules in
-    let highest : bounds.high ≡ high = search rules in
-    let done : outcome (join c.set_within.new.self input c.set_within.new.shared) c.set_within.result ≡ set_within o low high found.0 c.in_ok-n.n next =
+    let to = c.args.assignment.now in
+    let done : outcome (join c.set_within.new.self input c.set_within.new.shared) c.set_within.result ≡ set_within o to.bounds.low to.bounds.high found.0 c.in_ok-n.n to.next =
     c.set_within.ensures.step input found.0 found.2
-    ∙ (ap (λ n. set_within o bounds.low bounds.high found.0 n next) whole
-    ∙ (ap (λ n. set_within o n bounds.high found.0 c.in_ok-n.n next) lowest
-    ∙ ap (λ n. set_within o low n found.0 c.in_ok-n.n next) highest)) in
+    ∙ ap (λ n. set_within o to.bounds.low to.bounds.high found.0 n to.next) whole in
     rw (found.1, ← is) done

@@ -13,12 +13,10 @@ returns-clause-step g c =
     let o = join c.args.self.now input c.args.shared.now in
     let place = c.args.self.now.memory.component + c.args.at.now in
     let n = c.in-Some.n in
-    let valued : value_of (view_of w o) (view.term c.args.value.now) ≡ Ok n = c.in-Some.ensures w.clock in
+    let valued : value_of (view_of w o) (view.term c.args.assignment.now.value) ≡ Ok n = c.in-Some.ensures w.clock in
     let whole : to_z w32 (of_z w32 n) ≡ n = search rules in
     let there : c.member-at.result ≡ place = c.member-at.ensures.place in
-    let low = c.args.low.now in
-    let high = c.args.high.now in
-    let next = c.args.next.now in
+    let to = c.args.assignment.now in
     rw valued
     (c.write_within.ensures.step yes w input
-    ∙ (ap (λ k. set_within o low high c.member-at.result k next) whole ∙ ap (λ at. set_within o low high at n next) there))
+    ∙ (ap (λ k. set_within o to.bounds.low to.bounds.high c.member-at.result k to.next) whole ∙ ap (λ at. set_within o to.bounds.low to.bounds.high at n to.next) there))

@@ -13,8 +13,9 @@ returns-clause-step g c =
     let o = join c.args.self.now input c.args.shared.now in
     let at = c.in-Some-near_place.at in
     let n = c.in-Some.n in
+    let to = c.args.assignment.now in
     let placed : place_of (view_of w o) (view.spot c.args.to.now) ≡ Ok at = c.in-Some-near_place.ensures w.clock in
-    let valued : value_of (view_of w o) (view.term c.args.value.now) ≡ Ok n = c.in-Some.ensures w.clock in
+    let valued : value_of (view_of w o) (view.term c.args.assignment.now.value) ≡ Ok n = c.in-Some.ensures w.clock in
     let whole : to_z w32 (of_z w32 n) ≡ n = search rules in
     rw (placed, valued)
-    (c.write_within.ensures.step yes w input ∙ ap (λ k. set_within o c.args.low.now c.args.high.now at k c.args.next.now) whole)
+    (c.write_within.ensures.step yes w input ∙ ap (λ k. set_within o to.bounds.low to.bounds.high at k to.next) whole)

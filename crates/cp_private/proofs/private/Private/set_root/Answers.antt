@@ -27,15 +27,8 @@ returns-clause-step c =
     let told : cap_place place ≡ c.root_place-at.result = omega (arith, c.root_place-at.ensures.small) in
     let is = sym c.in_ok-n.was ∙ c.evaluate.ensures input own in
     let whole : to_z w32 (of_z w32 c.in_ok-n.n) ≡ c.in_ok-n.n = search rules in
-    let low = c.args.low.now in
-    let high = c.args.high.now in
-    let next = c.args.next.now in
-    let bounds = c.new.result in
-    let lowest : bounds.low ≡ low = search rules in
-    let highest : bounds.high ≡ high = search rules in
-    let done : outcome (join c.set_within.new.self input c.set_within.new.shared) c.set_within.result ≡ set_within o low high place c.in_ok-n.n next =
+    let to = c.args.assignment.now in
+    let done : outcome (join c.set_within.new.self input c.set_within.new.shared) c.set_within.result ≡ set_within o to.bounds.low to.bounds.high place c.in_ok-n.n to.next =
     c.set_within.ensures.step input place told
-    ∙ (ap (λ n. set_within o bounds.low bounds.high place n next) whole
-    ∙ (ap (λ n. set_within o n bounds.high place c.in_ok-n.n next) lowest
-    ∙ ap (λ n. set_within o low n place c.in_ok-n.n next) highest)) in
+    ∙ ap (λ n. set_within o to.bounds.low to.bounds.high place n to.next) whole in
     rw (← is) done

@@ -1,8 +1,3 @@
-use Rattle.std.proofs.Common.{rules, ◌∙◌}
-use Rattle.std.specs.Int.{w32}
-use Rattle.std.specs.Prelude.{FitsSigned}
-use Rattle.std.proofs.lemmas.Int.{to_z-of_z}
-use Rattle.cp_program.proofs.Wide.{narrow}
 use Rattle.cp_model.specs.Erase as erase
 use Rattle.cp_model.specs.View as tree
 use Rattle.cp_program_model.specs.CodedTerms.{coded_variable}
@@ -19,17 +14,13 @@ pub returns : goal.returns
 returns c =
     both_ok c.emit.result
     (λ place at emits s scope.
-    let x = c.bounds_of-within.result in
-    let low : FitsSigned w32 x.low = search rules in
-    let high : FitsSigned w32 x.high = search rules in
     let e = erase.expression (tree.expression c.args.e.now) in
     let t = expression_type (environment s) e in
     let d = coded_variable s e c.args.low in
     let passed = c.in_ok-to.ensures s scope in
     let of = c.in_ok-expression_type.ensures s scope in
     entered c.args.emitter.now c.emit.new.self place c.in_ok-to.calls.items d.calls
-    (operation.Accept c.in_ok-to.to (narrow x.low) (narrow x.high) c.args.next) (op.Accept d.spot (low_of t) (high_of t) c.args.next)
+    (operation.Accept c.in_ok-to.to c.bounds_of-bounds.result c.args.next) (op.Accept d.spot (low_of t) (high_of t) c.args.next)
     passed.0
-    (λ i. op.Accept (passed.1 i) ((to_z-of_z w32 x.low low ∙ c.bounds_of-within.ensures.low t of) i)
-    ((to_z-of_z w32 x.high high ∙ c.bounds_of-within.ensures.high t of) i) c.args.next) at emits)
+    (λ i. op.Accept (passed.1 i) (c.bounds_of-bounds.ensures.low t of i) (c.bounds_of-bounds.ensures.high t of i) c.args.next) at emits)
     c.emit.ensures.entry c.emit.ensures.emits

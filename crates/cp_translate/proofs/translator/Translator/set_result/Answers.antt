@@ -1,8 +1,3 @@
-use Rattle.std.proofs.Common.{rules, ◌∙◌}
-use Rattle.std.specs.Int.{w32}
-use Rattle.std.specs.Prelude.{FitsSigned}
-use Rattle.std.proofs.lemmas.Int.{to_z-of_z}
-use Rattle.cp_program.proofs.Wide.{narrow}
 use Rattle.cp_model.specs.Erase as erase
 use Rattle.cp_model.specs.View as tree
 use Rattle.cp_program_model.specs.CodedTerms.{coded_term}
@@ -19,16 +14,12 @@ pub returns : goal.returns
 returns c =
     both_ok c.emit.result
     (λ place at emits s scope.
-    let x = c.bounds_of-within.result in
-    let low : FitsSigned w32 x.low = search rules in
-    let high : FitsSigned w32 x.high = search rules in
     let t = place_type (environment s) (erase.designator (tree.designator c.args.d.now)) in
     let d = coded_term s (erase.expression (tree.expression c.args.e.now)) c.args.low in
     let made = rw c.new-calls.ensures.items at (c.in_ok-made.ensures s scope) in
     let of = (rw c.tables.ensures at c.simple.ensures) t (c.place_type-of.ensures s scope) in
     entered c.args.emitter.now c.emit.new.self place c.term.new.calls.items d.calls
-    (operation.SetResult (narrow x.low) (narrow x.high) c.in_ok-made.made.term c.args.next) (op.SetResult (low_of t) (high_of t) d.term c.args.next)
-    made.calls
-    (λ i. op.SetResult ((to_z-of_z w32 x.low low ∙ c.bounds_of-within.ensures.low t of) i)
-    ((to_z-of_z w32 x.high high ∙ c.bounds_of-within.ensures.high t of) i) (made.term i) c.args.next) at emits)
+    (operation.SetResult (record { value = c.in_ok-made.made.term; bounds = c.bounds_of-bounds.result; next = c.args.next }))
+    (op.SetResult (low_of t) (high_of t) d.term c.args.next) made.calls
+    (λ i. op.SetResult (c.bounds_of-bounds.ensures.low t of i) (c.bounds_of-bounds.ensures.high t of i) (made.term i) c.args.next) at emits)
     c.emit.ensures.entry c.emit.ensures.emits

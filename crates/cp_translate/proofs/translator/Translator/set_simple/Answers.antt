@@ -1,7 +1,4 @@
-use Rattle.std.proofs.Common.{rules, ◌++◌, ◌∙◌, ap}
-use Rattle.std.specs.Int.{w32}
-use Rattle.std.specs.Prelude.{FitsSigned}
-use Rattle.std.proofs.lemmas.Int.{to_z-of_z}
+use Rattle.std.proofs.Common.{◌++◌, ◌∙◌, ap}
 use Rattle.cp_model.specs.Erase as erase
 use Rattle.cp_model.specs.View as tree
 use Rattle.cp_program_model.specs.CodedTerms.{coded_term}
@@ -15,12 +12,11 @@ returns c =
     both_ok c.emit.result
     (λ place at emits s to f scope there.
     let x = c.args.simple in
-    let low : FitsSigned w32 x.low = search rules in
-    let high : FitsSigned w32 x.high = search rules in
+    let bounds = c.simple_bounds.ensures in
     let d = coded_term s (erase.expression (tree.expression c.args.e.now)) c.args.to.temps in
     let made = c.in_ok-made.ensures s scope in
     entered c.args.emitter.now c.emit.new.self place c.term.new.calls.items (to.calls ++ d.calls)
     c.set-set.result (op.Set to.spot x.low x.high d.term c.args.next)
     (made.calls ∙ ap (λ cs. cs ++ d.calls) there.calls)
-    (c.set-set.ensures ∙ (λ i. op.Set (there.spot i) (to_z-of_z w32 x.low low i) (to_z-of_z w32 x.high high i) (made.term i) c.args.next)) at emits)
+    (c.set-set.ensures ∙ (λ i. op.Set (there.spot i) (bounds.low i) (bounds.high i) (made.term i) c.args.next)) at emits)
     c.emit.ensures.entry c.emit.ensures.emits
