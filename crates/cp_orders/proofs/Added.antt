@@ -6,7 +6,7 @@ use Rattle.std.proofs.lemmas.List.{length-append, length-map}
 use Rattle.cp_model.specs.OrderText.{NotALine, OrderText, Orders, line_events, lines_of, order_text, orders_from}
 use Rattle.cp_model.specs.Rounds as meaning
 use Rattle.cp_orders.specs.Events.{event_of, events_of}
-use Rattle.cp_orders.specs.Parts.{EndAt, parts_from}
+use Rattle.cp_orders.specs.Parts.{Cover, EndAt, parts_from}
 use Rattle.cp_orders.specs.Reading.{FailsAt, Refuses, appended, judged}
 use Rattle.cp_orders.specs.declared.reading.OrderError.{OrderError}
 use Rattle.cp_orders.specs.declared.reading.OrderError.TheVariants as errors
@@ -16,7 +16,7 @@ use Rattle.cp_orders.proofs.Parts.{end_more, parts_more}
 
 -- The events and ends so far stand for what was read before `at`, and `rest` is what is left.
 pub record IsRead (n at : ℕ) (ends : List ℕ) (events : List Event) (rest : List ℕ) (told : OrderText) : Type 0 where
-  pub whole : EndAt 0 ends (length events)
+  pub whole : Cover ends events
   pub orders : after_rounds (parts_from 0 ends (events_of events)) (orders_from n at (lines_of rest)) ≡ told
 
 module _ (n at : ℕ) (told : OrderText) (line rest more : List ℕ) (first : lines_of rest ≡ line ∷ lines_of more) where

@@ -1,7 +1,6 @@
 //! The events of several rounds, in flat memory.
 
-ghost use Rattle.std.specs.Prelude.{length};
-ghost use Rattle.cp_orders.specs.Parts.{EndAt, EndAt-prop};
+ghost use Rattle.cp_orders.specs.Parts.{Cover, Cover-prop};
 
 use crate::event::Event;
 
@@ -12,5 +11,5 @@ pub struct Orders {
     pub(crate) events: Vec<Event>,
     /// For each round, the number of events up to its end.
     pub(crate) ends: Vec<usize>,
-    ghost whole: { EndAt 0 ends.items (length events.items) } by { EndAt-prop 0 ends.items (length events.items) },
+    ghost whole: { Cover ends.items events.items } by { Cover-prop ends.items events.items },
 }
