@@ -41,12 +41,23 @@ pub struct Placed {
 
 /// What plans are made from: the tables of a text, the plans so far, and the numbers of those of
 /// each type, if its words can be planned.
-#[derive(Drop)]
 pub struct Planner<'a, 't> {
     pub(crate) alloc: Global,
     pub(crate) tables: &'a Tables<'t>,
     pub(crate) types: Vec<Option<TypePlans>>,
     pub(crate) plans: Vec<StartPlan>,
+}
+
+// A derived one would cost proofs more (docs/GATE.md).
+impl Drop for Planner<'_, '_> {
+    fn drop(self) {
+        let Planner {
+            alloc: _,
+            tables: _,
+            types: _,
+            plans: _,
+        } = self;
+    }
 }
 
 impl TypePlans {
@@ -70,7 +81,13 @@ impl<'a, 't> Planner<'a, 't> {
     pub fn into_plans(self) -> Vec<StartPlan>
         ensures { result ≡ self.entry.plans }
     {
-        self.plans
+        let Planner {
+            alloc: _,
+            tables: _,
+            types: _,
+            plans,
+        } = self;
+        plans
     }
 
     /// The size in words of a variable of the type `of`.

@@ -23,7 +23,6 @@ pub type Members<'t> = NameTable<'t, Member>;
 
 /// What is known where a part of a text is judged. Contracts see the environment of the
 /// definitions.
-#[derive(Drop)]
 pub struct Environment<'t> {
     names: Scope<'t>,
     types: Vec<TypeRow>,
@@ -34,6 +33,23 @@ pub struct Environment<'t> {
     processes: usize,
     monitors: usize,
     region: Region,
+}
+
+// A derived one would cost proofs more (docs/GATE.md).
+impl Drop for Environment<'_> {
+    fn drop(self) {
+        let Environment {
+            names: _,
+            types: _,
+            members: _,
+            routines: _,
+            parameters: _,
+            systems: _,
+            processes: _,
+            monitors: _,
+            region: _,
+        } = self;
+    }
 }
 
 impl<'t> Model for Environment<'t> {

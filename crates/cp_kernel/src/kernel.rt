@@ -6,7 +6,6 @@ ghost use Rattle.cp_kernel.specs.Fresh.{HasNoFresh};
 use cp_private::outside::{Gate, Stage};
 
 /// What is known of all monitors and processes, and the shared words.
-#[derive(Drop)]
 pub struct Kernel {
     /// The words of all monitors, and the parameters that wait for their processes.
     pub(crate) shared: Vec<i32>,
@@ -21,4 +20,17 @@ pub struct Kernel {
     ghost facts: { (length shared.items < 2 ^ 30) × (length transcripts.items ≡ length
         stages.items) },
     ghost fresh: { may_have_fresh ≡ false → HasNoFresh stages.items },
+}
+
+// A derived one would cost proofs more (docs/GATE.md).
+impl Drop for Kernel {
+    fn drop(self) {
+        let Kernel {
+            shared: _,
+            gates: _,
+            stages: _,
+            transcripts: _,
+            may_have_fresh: _,
+        } = self;
+    }
 }

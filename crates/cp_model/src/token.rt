@@ -21,9 +21,15 @@ enum Letters {
 
 /// A name: a word in lower case that, in the tokens of a text, isn't reserved. It takes 16 bytes.
 /// Contracts see it as the list of its bytes.
-#[derive(Drop)]
 pub struct Name {
     letters: Letters,
+}
+
+// A derived one would cost proofs more (docs/GATE.md).
+impl Drop for Name {
+    fn drop(self) {
+        let Name { letters: _ } = self;
+    }
 }
 
 impl Model for Name {
@@ -85,7 +91,8 @@ impl Name {
     pub fn into_kind(self) -> Kind
         ensures { kind_of result ≡ plain.Name self }
     {
-        match self.letters {
+        let Name { letters } = self;
+        match letters {
             Letters::Short(word) => Kind::Short(word),
             Letters::Long(word) => Kind::Long(word),
         }

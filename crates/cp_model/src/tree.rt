@@ -1,9 +1,9 @@
 //! The syntax tree of a text, with the place of each token that a rule of the language names.
 //!
-//! A place is the first byte of a token, counted from 0. Whatever the grammar repeats (operands,
-//! selectors, arguments, statements, declarations) is a `Vec`, so a tree is never deeper than the
-//! limit of nesting, however long its text. Which tokens a tree is read from is defined in
-//! `specs/Grammar*.antt`, over the plain data that `specs/View.antt` makes of these types.
+//! A place is the first byte of a token, counted from 0. What the grammar repeats is a `Vec`, so a
+//! tree is never deeper than the limit of nesting. `specs/Grammar*.antt` defines which tokens it is
+//! read from, over the plain data that `specs/View.antt` makes of it. Where a `Drop` is written
+//! out, a derived one would cost proofs more (docs/GATE.md).
 
 use crate::token::Name;
 
@@ -27,7 +27,6 @@ pub enum Constant {
 /// A type as it is written. Enumerations and system types occur only in definitions, each with its
 /// own name. Bounds and lists are boxed, so that it takes 32 bytes: most types are a name.
 #[cycle(types)]
-#[derive(Drop)]
 pub enum TypeExpression {
     Named(Identifier),
     Subrange(Box<(Constant, Constant)>),
@@ -41,6 +40,22 @@ pub enum TypeExpression {
         at: usize,
         groups: Box<Vec<Fields>>,
     },
+}
+
+impl Drop for TypeExpression {
+    #[cycle(types)]
+    fn drop(self) {
+        match self {
+            TypeExpression::Named(_)
+            | TypeExpression::Subrange(_)
+            | TypeExpression::Array {
+                at: _,
+                indices: _,
+                element: _,
+            }
+            | TypeExpression::Record { at: _, groups: _ } => {}
+        }
+    }
 }
 
 /// Fields of one type, or variables of one type.
@@ -78,7 +93,6 @@ pub enum Sign {
 
 /// An expression.
 #[cycle(expressions)]
-#[derive(Drop)]
 pub enum Expression {
     Number {
         at: usize,
@@ -111,6 +125,26 @@ pub enum Expression {
         first: Box<Expression>,
         rest: Vec<Operation>,
     },
+}
+
+impl Drop for Expression {
+    #[cycle(expressions)]
+    fn drop(self) {
+        match self {
+            Expression::Number { at: _, value: _ }
+            | Expression::Character { at: _, ordinal: _ }
+            | Expression::Designated(_)
+            | Expression::Call(_, _)
+            | Expression::Parenthesized { at: _, inner: _ }
+            | Expression::Not { at: _, operand: _ }
+            | Expression::Signed {
+                sign: _,
+                at: _,
+                operand: _,
+            }
+            | Expression::Chain { first: _, rest: _ } => {}
+        }
+    }
 }
 
 /// An operator, its place, and its right operand.
@@ -181,7 +215,6 @@ pub struct ProcedureCall {
 /// A statement. Its parts and lists are boxed, so that it takes 24 bytes: an empty one takes as
 /// much as any other, and a text can have a million of them.
 #[cycle(statements)]
-#[derive(Drop)]
 pub enum Statement {
     Empty,
     Assign(Box<Assignment>),
@@ -218,6 +251,41 @@ pub enum Statement {
         at: usize,
         items: Box<Vec<InitItem>>,
     },
+}
+
+impl Drop for Statement {
+    #[cycle(statements)]
+    fn drop(self) {
+        match self {
+            Statement::Empty
+            | Statement::Assign(_)
+            | Statement::Call(_)
+            | Statement::Compound(_)
+            | Statement::If {
+                condition: _,
+                then: _,
+            }
+            | Statement::IfElse {
+                condition: _,
+                branches: _,
+            }
+            | Statement::Case {
+                selector: _,
+                arms: _,
+            }
+            | Statement::While {
+                condition: _,
+                body: _,
+            }
+            | Statement::Repeat {
+                body: _,
+                condition: _,
+            }
+            | Statement::For { header: _, body: _ }
+            | Statement::Cycle(_)
+            | Statement::Init { at: _, items: _ } => {}
+        }
+    }
 }
 
 /// One labelled statement of a `case`. There is at least one label.
@@ -312,10 +380,20 @@ pub enum Section {
 }
 
 /// The syntax tree of a text. Its variables, routines and body are those of the initial process.
-#[derive(Drop)]
 pub struct Tree {
     pub sections: Vec<Section>,
     pub variables: Vec<Fields>,
     pub routines: Vec<Routine>,
     pub body: Body,
+}
+
+impl Drop for Tree {
+    fn drop(self) {
+        let Tree {
+            sections: _,
+            variables: _,
+            routines: _,
+            body: _,
+        } = self;
+    }
 }

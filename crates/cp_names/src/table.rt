@@ -11,10 +11,19 @@ use std::marker::Model;
 
 /// Names and what they stand for. Contracts see the list of them, in the order in which they were
 /// added. No name occurs twice.
-#[derive(Drop)]
 pub struct NameTable<'t, A: Copy> {
     entries: Vec<(&'t [u8], A)>,
     numbers: Index<'t>,
+}
+
+// A derived one would cost proofs more (docs/GATE.md).
+impl<A: Copy> Drop for NameTable<'_, A> {
+    fn drop(self) {
+        let NameTable {
+            entries: _,
+            numbers: _,
+        } = self;
+    }
 }
 
 impl<'t, A: Copy> Model for NameTable<'t, A> {

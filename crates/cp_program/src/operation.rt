@@ -177,14 +177,10 @@ impl Operation {
         ensures { view.operation result ≡ code.Set (view.spot to) assignment.bounds.low
             assignment.bounds.high (view.term assignment.value) assignment.next }
     {
-        let Spot { root, indices } = to;
-        match (root, indices.is_empty()) {
+        match (to.root, to.indices.is_empty()) {
             (Root::Local(at), true) => Operation::SetLocal { at, assignment },
             (Root::Member(at), true) => Operation::SetMember { at, assignment },
-            _ => Operation::Set {
-                to: Spot { root, indices },
-                assignment,
-            },
+            _ => Operation::Set { to, assignment },
         }
     }
 }

@@ -58,7 +58,6 @@ pub struct StartPlan {
 
 /// A program. Monitors have the numbers from 1 on, and so do processes, of which the first is the
 /// initial one.
-#[derive(Drop)]
 pub struct Program {
     operations: Vec<Operation>,
     /// The origin of each operation: the byte of the text, counted from 0, at which what it comes
@@ -69,6 +68,21 @@ pub struct Program {
     processes: Vec<Process>,
     plans: Vec<StartPlan>,
     shared: u32,
+}
+
+// A derived one would cost proofs more (docs/GATE.md).
+impl Drop for Program {
+    fn drop(self) {
+        let Program {
+            operations: _,
+            origins: _,
+            units: _,
+            monitors: _,
+            processes: _,
+            plans: _,
+            shared: _,
+        } = self;
+    }
 }
 
 impl Program {

@@ -114,10 +114,17 @@ pub struct Spot {
 
 /// An expression.
 #[cycle(terms)]
-#[derive(Drop)]
 pub struct Term {
     pub first: Operand,
     pub rest: Vec<Application>,
+}
+
+// A derived one would cost proofs more (docs/GATE.md).
+impl Drop for Term {
+    #[cycle(terms)]
+    fn drop(self) {
+        let Term { first: _, rest: _ } = self;
+    }
 }
 
 // Adds an item. The first one takes room for itself alone, since most lists have no other.
@@ -330,10 +337,12 @@ impl Term {
     fn into_operand(self, alloc: Global) -> Result<Operand, AllocError>
         ensures { IfOk result (λ x. view.operand x ≡ view.term self) }
     {
-        if self.rest.is_empty() {
-            return Ok(self.first);
+        let Term { first, rest } = self;
+        if rest.is_empty() {
+            return Ok(first);
         }
-        Ok(Operand::Nested(Box::new(alloc, self)?))
+        let term = Term { first, rest };
+        Ok(Operand::Nested(Box::new(alloc, term)?))
     }
 
     // The operator before a chain, if this term is a word.

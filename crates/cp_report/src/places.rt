@@ -36,19 +36,6 @@ impl Place {
     }
 }
 
-impl Walk {
-    // Returns the places that were kept.
-    fn into_places(self) -> Vec<Place> {
-        let Walk {
-            stack: _,
-            path: _,
-            at: _,
-            places,
-        } = self;
-        places
-    }
-}
-
 /// Returns the places of a component whose type has the number `row`.
 ///
 /// # Errors

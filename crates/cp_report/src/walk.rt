@@ -40,7 +40,6 @@ pub(crate) struct Cursor {
 }
 
 /// A walk over the variables of one component.
-#[derive(Drop)]
 pub struct Walk {
     /// What is left of the variables around the part, with the innermost last.
     pub(crate) stack: Vec<Cursor>,
@@ -53,6 +52,18 @@ pub struct Walk {
     pub(crate) places: Vec<Place>,
 }
 
+// A derived one would cost proofs more (docs/GATE.md).
+impl Drop for Walk {
+    fn drop(self) {
+        let Walk {
+            stack: _,
+            path: _,
+            at: _,
+            places: _,
+        } = self;
+    }
+}
+
 // Returns the index of an element of an array.
 fn index_at(low: i32, next: usize) -> i64
     requires { next < 2 ^ 62 }
@@ -62,6 +73,17 @@ fn index_at(low: i32, next: usize) -> i64
 }
 
 impl Walk {
+    /// Returns the places that were kept.
+    pub(crate) fn into_places(self) -> Vec<Place> {
+        let Walk {
+            stack: _,
+            path: _,
+            at: _,
+            places,
+        } = self;
+        places
+    }
+
     /// Returns a walk that begins at an address.
     pub fn new(alloc: Global, at: usize) -> Walk
         ensures { result.at ≡ at }

@@ -7,9 +7,10 @@ ghost use Rattle.cp_machine_model.specs.Machines as plain;
 ghost use Rattle.cp_program.specs.View as view;
 ghost use Rattle.cp_rounds.specs.InStates.{IsStarted, MakesRound, MakesRounds};
 ghost use Rattle.cp_rounds.specs.MachineOf.{input_of};
-ghost use Rattle.cp_rounds.specs.Views.{IsAfter, KeepsText, machine_of, processes_of};
+ghost use Rattle.cp_rounds.specs.Views.{IsAfter, KeepsText, halted_of, machine_of, processes_of};
 
 use crate::gate::TurnGate;
+use crate::halted::Halted;
 use crate::parts::Parts;
 use crate::run::{Rounds, make_rounds_of};
 use crate::setting::Setting;
@@ -38,7 +39,6 @@ fn rounds_at_once(waves: usize) -> u32
 }
 
 /// A machine. The module `reading` has the calls that read it.
-#[derive(Drop)]
 pub struct Machine<'r, 't> {
     /// The allocator from which rounds take their memory.
     pub(crate) alloc: Global,
@@ -48,6 +48,19 @@ pub struct Machine<'r, 't> {
     pub(crate) parts: Parts,
     /// The number of rounds made so far.
     pub(crate) rounds: u64,
+}
+
+// A derived one would cost proofs more (docs/GATE.md).
+impl Drop for Machine<'_, '_> {
+    fn drop(self) {
+        let Machine {
+            alloc: _,
+            setting: _,
+            tables: _,
+            parts: _,
+            rounds: _,
+        } = self;
+    }
 }
 
 /// The round of a run, counted from 1, in which memory ran out or a thread could not be started.
@@ -210,5 +223,23 @@ impl<'r, 't> Machine<'r, 't> {
     {
         law::rounds();
         self.make_all(rt, rounds, plan, gate)
+    }
+
+    /// Ends the rounds of the machine, and lets go of the tables of its text.
+    pub fn halt(self) -> Halted
+        ensures { halted_of result ≡ machine_of self.entry }
+    {
+        let Machine {
+            alloc: _,
+            setting,
+            tables: _,
+            parts,
+            rounds,
+        } = self;
+        Halted {
+            setting,
+            parts,
+            rounds,
+        }
     }
 }

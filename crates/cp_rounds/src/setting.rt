@@ -9,11 +9,21 @@ use cp_plan::tick::Tick;
 use cp_program::program::Program;
 
 /// The program, the inputs of its processes by number, and the tick.
-#[derive(Drop)]
 pub struct Setting {
     pub(crate) program: Program,
     pub(crate) inputs: Vec<Vec<u8>>,
     pub(crate) tick: Tick,
+}
+
+// A derived one would cost proofs more (docs/GATE.md).
+impl Drop for Setting {
+    fn drop(self) {
+        let Setting {
+            program: _,
+            inputs: _,
+            tick: _,
+        } = self;
+    }
 }
 
 impl Setting {

@@ -16,13 +16,25 @@ use std::alloc::{AllocError, Global};
 
 /// What the compiler asks of a text: the names and types of its outermost scope, the layouts of its
 /// types, its system types by their numbers in text order, and the initial process.
-#[derive(Drop)]
 pub struct Tables<'t> {
     pub names: Names<'t>,
     pub types: Types<'t>,
     pub layouts: Layouts<'t>,
     pub systems: Vec<SystemTable<'t>>,
     pub initial: SystemTable<'t>,
+}
+
+// A derived one would cost proofs more (docs/GATE.md).
+impl Drop for Tables<'_> {
+    fn drop(self) {
+        let Tables {
+            names: _,
+            types: _,
+            layouts: _,
+            systems: _,
+            initial: _,
+        } = self;
+    }
 }
 
 impl<'t> Layouts<'t> {
