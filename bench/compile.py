@@ -1,15 +1,13 @@
 #!/usr/bin/env python3
-"""Measures the compiler: milliseconds to compile texts of 256 KiB to 1 MiB, and the memory of the whole program at 1 MiB.
+"""Measures the compiler: instructions a byte on texts of 256 KiB and 1 MiB, with the tables that it makes of them, and the memory of the whole program. It
+takes some minutes."""
+import pathlib
+import tempfile
 
-A process scans and parses a text and compiles it once, and another compiles it so many times more. The difference of their
-processor times over these turns is what is shown, of the trial with the least. It takes some minutes.
-"""
-from measuring import BENCH, call, short_names, show
+from measuring import CPM, call, instructions, short_names, show
 
 KIB = 1024
-SIZES = [256 * KIB, 512 * KIB, 1024 * KIB]
-TURNS = 12
-TRIALS = 3
+SIZES = [256 * KIB, 1024 * KIB]
 
 
 def repeated(head, piece, tail):
@@ -37,24 +35,27 @@ TEXTS = {
     'cases': repeated('var x:integer;begin ', 'case x of 1:x:=2;2,3:x:=1;900:x:=x end;', 'end.'),
     'loops': repeated('var i,j:integer;begin ', 'for i:=1 to 9 do while j<i do j:=j+1;', 'end.'),
     'routines': named('', 'procedure NAME(x:integer);var y:integer;begin y:=x end;', 'begin end.'),
-    'calls of functions': repeated('var x:integer;function f(x:integer):integer;begin f:=x end;begin ', 'x:=f(x)+f(f(1));', 'end.'),
+    'calls of functions': repeated('var x:integer;function f(y:integer):integer;begin f:=y end;begin ', 'x:=f(x)+f(f(1));', 'end.'),
     'process types': named('type ', 'NAME=process;var x:integer;begin x:=1 end;', 'begin end.'),
     'record types': named('type ', 'NAME=record a,b:integer;c:char end;', 'begin end.'),
     'init items': repeated('type p=process;begin end;var x:p;begin init x', ',x', ' end.'),
 }
 
 
-def measure(text):
-    """Milliseconds a compilation, of the best trial, and the megabytes that the program takes."""
-    trials = [[call([BENCH, 'compile', times], text.encode(), ending=b' shared words\n') for times in (1 + TURNS, 1)] for _ in range(TRIALS)]
-    return min(more.processor - once.processor for more, once in trials) * 1000 / TURNS, min(once.megabytes for _, once in trials)
+def measure(file, text):
+    """Instructions a byte of the compiler, and the megabytes that the whole program takes."""
+    file.write_text(text)
+    words = [CPM, 'run', file, '--rounds', 0]
+    count, _ = instructions(words, within='cp_check::checking::compile_accepted')
+    return count / len(text), call(words).megabytes
 
 
 def main():
     rows = []
-    for name, make in TEXTS.items():
-        found = [measure(make(size)) for size in SIZES]
-        rows.append([name, *(f'{milliseconds:.0f}' for milliseconds, _ in found), f'{found[-1][1]:.0f}'])
+    with tempfile.TemporaryDirectory() as folder:
+        for name, make in TEXTS.items():
+            found = [measure(pathlib.Path(folder, 'text.cp'), make(size)) for size in SIZES]
+            rows.append([name, *(f'{count:.0f}' for count, _ in found), f'{found[-1][1]:.0f}'])
     show('the compiler', ['Text of', *(f'{size // KIB} KiB' for size in SIZES), 'MB at 1 MiB'], rows)
 
 

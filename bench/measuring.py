@@ -1,6 +1,6 @@
 """What the measuring scripts share: the programs, names for texts, what a call takes, and the tables of docs/PERFORMANCE.md.
 
-`rt run < stdin` in crates/cpm and in crates/bench leaves the programs that are measured; CPM and BENCH name others.
+`bash .ci/run` leaves the program that is measured in crates/cpm/out; CPM names another.
 """
 import itertools
 import os
@@ -14,7 +14,6 @@ from typing import NamedTuple
 
 ROOT = pathlib.Path(__file__).resolve().parent.parent
 CPM = pathlib.Path(os.environ.get('CPM', ROOT / 'crates' / 'cpm' / 'out' / 'cpm'))
-BENCH = pathlib.Path(os.environ.get('BENCH', ROOT / 'crates' / 'bench' / 'out' / 'bench'))
 PAGE = ROOT / 'docs' / 'PERFORMANCE.md'
 
 # Calls a program from a small process, and writes what it took to the file descriptor that the first argument names. Linux counts the
@@ -60,13 +59,17 @@ def least(trials, *words, **how):
     return Usage(*map(min, zip(*(call(*words, **how) for _ in range(trials)))))
 
 
-def instructions(words, status=0):
-    """The instructions that a program takes, which has to end with this status, and what it prints."""
-    command = ['valgrind', '--tool=callgrind', '--callgrind-out-file=/dev/null', *map(str, words)]
+def instructions(words, status=0, within=None):
+    """The instructions that a program takes, which has to end with this status, and what it prints. With the name of a function, as `nm` prints it, only
+    those of its calls and of what it calls."""
+    command = ['valgrind', '--tool=callgrind', '--callgrind-out-file=/dev/null', *([f'--toggle-collect={within}'] if within else []), *map(str, words)]
     run = subprocess.run(command, capture_output=True, text=True)
     if run.returncode != status:
         raise SystemExit(f'{words} ended with {run.returncode}')
-    return int(re.search(r'Collected : (\d+)', run.stderr)[1]), run.stdout
+    count = int(re.search(r'Collected : (\d+)', run.stderr)[1])
+    if not count:
+        raise SystemExit(f'{words[0]} has no function {within}')
+    return count, run.stdout
 
 
 def short_names():

@@ -1,16 +1,12 @@
 #!/usr/bin/env python3
-"""Measures the scanner: nanoseconds a byte on texts of words, numbers, comments, marks and more, from 64 KiB to 1 MiB.
+"""Measures the scanner: instructions a byte on texts of words, numbers, comments, marks and more, of 64 KiB and 1 MiB. It takes half a minute."""
+import pathlib
+import tempfile
 
-A process scans a text once, and another scans it so many times more that 16 MiB are scanned. The difference of their times over
-these bytes is what is shown, of the trial with the least: the processor time of the program itself, and in the last column, for
-1 MiB, that of the system on its behalf (it hands out the memory of the tokens, page by page). It takes half a minute.
-"""
-from measuring import BENCH, call, show
+from measuring import CPM, instructions, show
 
 KIB = 1024
-SIZES = [64 * KIB, 128 * KIB, 256 * KIB, 512 * KIB, 1024 * KIB]
-BYTES_A_TRIAL = 16 * 1024 * KIB
-TRIALS = 5
+SIZES = [64 * KIB, 1024 * KIB]
 
 # What each text repeats.
 PIECES = {
@@ -34,24 +30,21 @@ def texts(size):
     yield 'one number', b'0' * size
 
 
-def nanoseconds_a_byte(text):
-    """The program's own time and the system's, of the trial in which the first is least."""
-    turns = BYTES_A_TRIAL // len(text)
-    trials = []
-    for _ in range(TRIALS):
-        once, often = (call([BENCH, 'scan', times], text, ending=b' tokens\n') for times in (1, turns + 1))
-        spent = often.processor - once.processor, often.system - once.system
-        trials.append([seconds * 1e9 / (turns * len(text)) for seconds in spent])
-    return min(trials)
+def instructions_a_byte(folder, text):
+    """Of the scanner, in a `check` of the text, which is then refused: none of these texts is a program."""
+    file = folder / 'text.cp'
+    file.write_bytes(text)
+    count, _ = instructions([CPM, 'check', file], status=1, within='cp_scan::scanning::scan')
+    return count / len(text)
 
 
 def main():
     rows = {}
-    for size in SIZES:
-        for name, text in texts(size):
-            rows.setdefault(name, []).append(nanoseconds_a_byte(text))
-    show('the scanner', ['Text of', *(f'{size // KIB} KiB' for size in SIZES), 'system, 1024 KiB'],
-         [[name, *(f'{own:.1f}' for own, _ in cells), f'{cells[-1][1]:.1f}'] for name, cells in rows.items()])
+    with tempfile.TemporaryDirectory() as name:
+        for size in SIZES:
+            for kind, text in texts(size):
+                rows.setdefault(kind, []).append(f'{instructions_a_byte(pathlib.Path(name), text):.1f}')
+    show('the scanner', ['Text of', *(f'{size // KIB} KiB' for size in SIZES)], [[kind, *cells] for kind, cells in rows.items()])
 
 
 if __name__ == '__main__':
