@@ -14,15 +14,15 @@ fn word_of(sort: Sort) -> &'static str {
     }
 }
 
-fn component_line(page: &mut Page, instance: &Instance<'_>) -> Result<(), AllocError> {
-    page.blanks(instance.level.saturating_mul(2))?;
-    page.text(word_of(instance.sort))?;
-    page.bytes(&instance.path)?;
+fn component_line(page: &mut Page, instance: &Instance<'_>) {
+    page.blanks(instance.level.saturating_mul(2));
+    page.text(word_of(instance.sort));
+    page.bytes(&instance.path);
     if let Some(of) = instance.of {
-        page.bytes(b": ")?;
-        page.bytes(of.name.as_bytes())?;
+        page.bytes(b": ");
+        page.bytes(of.name.as_bytes());
     }
-    page.bytes(b"\n")
+    page.bytes(b"\n");
 }
 
 fn rights_line(
@@ -34,30 +34,26 @@ fn rights_line(
     if rights.is_empty() {
         return Ok(());
     }
-    page.bytes(&instance.path)?;
-    page.bytes(b" ->")?;
+    page.bytes(&instance.path);
+    page.bytes(b" ->");
     let mut is_first = true;
     for to in rights {
         if let Some(to) = instances.get(to) {
-            page.text(if is_first { " " } else { ", " })?;
-            page.bytes(&to.path)?;
+            page.text(if is_first { " " } else { ", " });
+            page.bytes(&to.path);
             is_first = false;
         }
     }
-    page.bytes(b"\n")
+    page.bytes(b"\n");
+    Ok(())
 }
 
-fn component_lines(
-    page: &mut Page,
-    instances: &Instances<'_>,
-    order: &[usize],
-) -> Result<(), AllocError> {
+fn component_lines(page: &mut Page, instances: &Instances<'_>, order: &[usize]) {
     for index in order {
         if let Some(instance) = instances.get(*index) {
-            component_line(page, instance)?;
+            component_line(page, instance);
         }
     }
-    Ok(())
 }
 
 fn rights_lines(
@@ -76,12 +72,13 @@ fn rights_lines(
 /// Writes the lines of all components. Fails only if memory runs out.
 pub(crate) fn write(page: &mut Page, instances: &Instances<'_>) -> Result<(), AllocError> {
     let order = instances.in_order()?;
-    page.text("accepted\nprocess initial\n")?;
-    component_lines(page, instances, &order)?;
+    page.text("accepted\nprocess initial\n");
+    component_lines(page, instances, &order);
     rights_lines(page, instances, &order)?;
     page.text(if instances.is_whole() {
         ""
     } else {
         "(there are more components and rights than are listed here)\n"
-    })
+    });
+    Ok(())
 }

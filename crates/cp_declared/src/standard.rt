@@ -1,7 +1,6 @@
 //! The names that are visible everywhere: what each stands for, and what it means.
 
 use cp_page::page::Page;
-use std::alloc::AllocError;
 
 /// A type that no text declares.
 #[derive(Clone, Copy)]
@@ -210,26 +209,26 @@ impl Standard {
     }
 
     // Adds the heading of a routine.
-    fn push_heading(&self, page: &mut Page) -> Result<(), AllocError> {
-        page.bytes(b"`")?;
-        page.text(self.kind_words())?;
-        page.bytes(b" ")?;
-        page.text(self.heading)?;
-        page.bytes(b"`")
+    fn push_heading(&self, page: &mut Page) {
+        page.bytes(b"`");
+        page.text(self.kind_words());
+        page.bytes(b" ");
+        page.text(self.heading);
+        page.bytes(b"`");
     }
 
     /// Adds a line that says that this name is a standard one, and what it means.
-    pub fn push(&self, page: &mut Page) -> Result<(), AllocError> {
-        page.bytes(b"  ")?;
-        page.quoted(self.name.as_bytes())?;
-        page.text(" is a standard ")?;
-        page.text(self.kind_words())?;
-        page.bytes(b": ")?;
+    pub fn push(&self, page: &mut Page) {
+        page.bytes(b"  ");
+        page.quoted(self.name.as_bytes());
+        page.text(" is a standard ");
+        page.text(self.kind_words());
+        page.bytes(b": ");
         if self.count().is_some() {
-            self.push_heading(page)?;
-            page.bytes(b", ")?;
+            self.push_heading(page);
+            page.bytes(b", ");
         }
-        page.text(self.meaning)?;
-        page.bytes(b".\n")
+        page.text(self.meaning);
+        page.bytes(b".\n");
     }
 }

@@ -5,7 +5,6 @@ use cp_declared::scope::{Declaration, Wanted};
 use cp_declared::types::{Type, type_of_operation};
 use cp_model::tree::{Designator, Expression, Identifier, Parameters, Selector, TypeExpression};
 use cp_page::page::Page;
-use std::alloc::AllocError;
 
 /// The type of one of two things that should agree, and what that thing is called.
 #[derive(Clone, Copy)]
@@ -40,9 +39,9 @@ fn make_side<'t>(called: &'static str, of: Type<'t>) -> Side<'t> {
     Side { called, of }
 }
 
-fn push_side(page: &mut Page, side: Side<'_>) -> Result<(), AllocError> {
-    page.text(side.called)?;
-    page.bytes(b": ")?;
+fn push_side(page: &mut Page, side: Side<'_>) {
+    page.text(side.called);
+    page.bytes(b": ");
     match (side.of.name(), side.of) {
         (Some(name), _) => page.quoted(name),
         (_, Type::Structured(_, TypeExpression::Array { .. })) => page.bytes(b"an array"),
@@ -75,22 +74,20 @@ impl<'t> Site<'t> {
             Pair::Bounds(..) => ("first", "second"),
             Pair::Label(..) => ("selector", "label"),
         };
-        let (left, right) = match pair {
-            Pair::Sides(d, e) => (scope.type_of_designator(d)?, scope.type_of_expression(e)?),
-            Pair::First(e, operation) => (
-                scope.type_of_expression(e)?,
-                scope.type_of_expression(&operation.operand)?,
-            ),
-            Pair::Later(operator, operation) => (
-                type_of_operation(operator),
-                scope.type_of_expression(&operation.operand)?,
-            ),
-            Pair::Bounds(low, high) => (
-                scope.type_of_constant(low)?,
-                scope.type_of_constant(high)?,
-            ),
-            Pair::Label(e, c) => (scope.type_of_expression(e)?, scope.type_of_constant(c)?),
+        let types = match pair {
+            Pair::Sides(d, e) => scope.type_of_designator(d).zip(scope.type_of_expression(e)),
+            Pair::First(e, operation) => scope
+                .type_of_expression(e)
+                .zip(scope.type_of_expression(&operation.operand)),
+            Pair::Later(operator, operation) => {
+                Some(type_of_operation(operator)).zip(scope.type_of_expression(&operation.operand))
+            }
+            Pair::Bounds(low, high) => scope
+                .type_of_constant(low)
+                .zip(scope.type_of_constant(high)),
+            Pair::Label(e, c) => scope.type_of_expression(e).zip(scope.type_of_constant(c)),
         };
+        let (left, right) = types?;
         Some((make_side(first, left), make_side(second, right)))
     }
 
@@ -104,24 +101,29 @@ impl<'t> Site<'t> {
         }
     }
 
+    fn type_of_group(&self, group: Option<&'t Parameters>) -> Option<Type<'t>> {
+        self.scope.type_of_name(&group?.of)
+    }
+
     // What is wanted of the expression at the place.
     fn wanted(&self) -> Option<Side<'t>> {
-        let scope = self.scope;
-        match self.purpose? {
+        let (called, of) = match self.purpose? {
             Purpose::Argument(d, number) => {
-                let group = self.parameter(d, number)?;
-                Some(make_side("parameter", scope.type_of_name(&group.of)?))
+                ("parameter", self.type_of_group(self.parameter(d, number)))
             }
             Purpose::InitArgument(x, number) => {
-                let group = self.init_parameter(x, number)?;
-                Some(make_side("parameter", scope.type_of_name(&group.of)?))
+                (
+                    "parameter",
+                    self.type_of_group(self.init_parameter(x, number)),
+                )
             }
             Purpose::Index(d, selector, number) => {
-                Some(make_side("index type", self.index_type(d, selector, number)?))
+                ("index type", self.index_type(d, selector, number))
             }
-            Purpose::Bound(x) => Some(make_side("variable", scope.type_of_root(x)?)),
-            Purpose::Condition | Purpose::Selector => None,
-        }
+            Purpose::Bound(x) => ("variable", self.scope.type_of_root(x)),
+            Purpose::Condition | Purpose::Selector => return None,
+        };
+        Some(make_side(called, of?))
     }
 
     // The expression at the place.
@@ -139,7 +141,7 @@ impl<'t> Site<'t> {
             Purpose::Index(..) => "index",
             _ => "bound",
         };
-        Some((self.wanted()?, self.given(called)?))
+        self.wanted().zip(self.given(called))
     }
 
     // Whether the place is that of an operator.
@@ -167,36 +169,31 @@ impl<'t> Site<'t> {
         Some((&group.of, self.declared_type(self.expression?)?))
     }
 
-    fn push_declared_types(
-        &self,
-        page: &mut Page,
-        parameter: &Identifier,
-        argument: &Identifier,
-    ) -> Result<(), AllocError> {
+    fn push_declared_types(&self, page: &mut Page, parameter: &Identifier, argument: &Identifier) {
         if parameter.name.as_bytes() == argument.name.as_bytes() {
-            return Ok(());
+            return;
         }
-        page.text("  parameter: ")?;
-        page.name(parameter)?;
-        page.text(", argument: ")?;
-        page.name(argument)?;
-        page.bytes(b"\n")
+        page.text("  parameter: ");
+        page.name(parameter);
+        page.text(", argument: ");
+        page.name(argument);
+        page.bytes(b"\n");
     }
 
     // Adds the type of what a condition or a `case` tests.
-    fn push_type(&self, page: &mut Page) -> Result<(), AllocError> {
-        match (self.purpose, self.given("its type")) {
-            (Some(Purpose::Condition | Purpose::Selector), Some(side)) => {
-                page.bytes(b"  ")?;
-                push_side(page, side)?;
-                page.bytes(b"\n")
-            }
-            _ => Ok(()),
+    fn push_type(&self, page: &mut Page) {
+        if let (Some(Purpose::Condition | Purpose::Selector), Some(side)) = (
+            self.purpose,
+            self.given("its type"),
+        ) {
+            page.bytes(b"  ");
+            push_side(page, side);
+            page.bytes(b"\n");
         }
     }
 
     /// Adds a line with the types that don't agree at the place, if they are known.
-    pub fn push_types(&self, page: &mut Page) -> Result<(), AllocError> {
+    pub fn push_types(&self, page: &mut Page) {
         if let Some((parameter, argument)) = self.declared_types() {
             return self.push_declared_types(page, parameter, argument);
         }
@@ -204,13 +201,13 @@ impl<'t> Site<'t> {
             return self.push_type(page);
         };
         if first.of.is(second.of) && !self.has_operands() {
-            return Ok(());
+            return;
         }
-        page.bytes(b"  ")?;
-        push_side(page, first)?;
-        page.bytes(b", ")?;
-        push_side(page, second)?;
-        page.bytes(b"\n")
+        page.bytes(b"  ");
+        push_side(page, first);
+        page.bytes(b", ");
+        push_side(page, second);
+        page.bytes(b"\n");
     }
 
     /// The enumeration that one of the two things at the place is of, and the other isn't.

@@ -5,7 +5,6 @@ use cp_declared::scope::{Declaration, Kind};
 use cp_declared::standard::{Standard, find_standard};
 use cp_model::tree::{Identifier, Parameters, Routine, Sort, System};
 use cp_page::page::Page;
-use std::alloc::AllocError;
 
 /// The number of parameters that these groups declare.
 pub fn count(groups: &[Parameters]) -> usize {
@@ -16,80 +15,74 @@ pub fn count(groups: &[Parameters]) -> usize {
     count
 }
 
-fn push_names(page: &mut Page, names: &[Identifier]) -> Result<(), AllocError> {
+fn push_names(page: &mut Page, names: &[Identifier]) {
     let mut lead = "";
     for x in names {
-        page.text(lead)?;
-        page.bytes(x.name.as_bytes())?;
+        page.text(lead);
+        page.bytes(x.name.as_bytes());
         lead = ", ";
     }
-    Ok(())
 }
 
-fn push_parameters(page: &mut Page, groups: &[Parameters]) -> Result<(), AllocError> {
+fn push_parameters(page: &mut Page, groups: &[Parameters]) {
     let mut lead = "(";
     for group in groups {
-        page.text(lead)?;
+        page.text(lead);
         page.text(if group.by_reference.is_some() {
             "var "
         } else {
             ""
-        })?;
-        push_names(page, &group.names)?;
-        page.bytes(b": ")?;
-        page.bytes(group.of.name.as_bytes())?;
+        });
+        push_names(page, &group.names);
+        page.bytes(b": ");
+        page.bytes(group.of.name.as_bytes());
         lead = "; ";
     }
-    page.text(if groups.is_empty() { "" } else { ")" })
+    page.text(if groups.is_empty() { "" } else { ")" });
 }
 
 // Adds the heading of a routine, as its text has it.
-fn push_routine(page: &mut Page, routine: &Routine) -> Result<(), AllocError> {
+fn push_routine(page: &mut Page, routine: &Routine) {
     page.text(match routine.result_type {
         Some(_) => "`function ",
         None => "`procedure ",
-    })?;
+    });
     page.text(if routine.entry.is_some() {
         "entry "
     } else {
         ""
-    })?;
-    page.bytes(routine.name.name.as_bytes())?;
-    push_parameters(page, &routine.parameters)?;
+    });
+    page.bytes(routine.name.name.as_bytes());
+    push_parameters(page, &routine.parameters);
     if let Some(of) = &routine.result_type {
-        page.bytes(b": ")?;
-        page.bytes(of.name.as_bytes())?;
+        page.bytes(b": ");
+        page.bytes(of.name.as_bytes());
     }
-    page.bytes(b"`")
+    page.bytes(b"`");
 }
 
-fn push_system(page: &mut Page, system: &System) -> Result<(), AllocError> {
+fn push_system(page: &mut Page, system: &System) {
     page.text(match system.sort {
         Sort::Process => "`process",
         Sort::Monitor => "`monitor",
         Sort::Class => "`class",
-    })?;
-    push_parameters(page, &system.parameters)?;
-    page.bytes(b"`")
+    });
+    push_parameters(page, &system.parameters);
+    page.bytes(b"`");
 }
 
 // Adds how many arguments something takes, and how many it was given.
-fn push_count(
-    page: &mut Page,
-    name: &Identifier,
-    takes: usize,
-    given: usize,
-) -> Result<(), AllocError> {
-    page.bytes(b"  ")?;
-    page.name(name)?;
-    page.text(" takes ")?;
-    page.number(takes)?;
+fn push_count(page: &mut Page, name: &Identifier, takes: usize, given: usize) {
+    page.bytes(b"  ");
+    page.name(name);
+    page.text(" takes ");
+    page.number(takes);
     page.text(if takes == 1 {
         " argument, not "
     } else {
         " arguments, not "
-    })?;
-    page.number(given)
+    });
+    page.number(given);
 }
 
 impl<'t> Site<'t> {
@@ -123,64 +116,48 @@ impl<'t> Site<'t> {
         }
     }
 
-    fn push_system_count(
-        &self,
-        page: &mut Page,
-        x: &Identifier,
-        system: &System,
-        given: usize,
-    ) -> Result<(), AllocError> {
+    fn push_system_count(&self, page: &mut Page, x: &Identifier, system: &System, given: usize) {
         let takes = count(&system.parameters);
         if takes == given {
-            return Ok(());
+            return;
         }
-        push_count(page, x, takes, given)?;
-        page.bytes(b": ")?;
-        push_system(page, system)?;
-        page.bytes(b".\n")
+        push_count(page, x, takes, given);
+        page.bytes(b": ");
+        push_system(page, system);
+        page.bytes(b".\n");
     }
 
-    fn push_routine_count(
-        &self,
-        page: &mut Page,
-        declared: Declaration<'_>,
-        given: usize,
-    ) -> Result<(), AllocError> {
+    fn push_routine_count(&self, page: &mut Page, declared: Declaration<'_>, given: usize) {
         let Some(routine) = declared.routine else {
-            return Ok(());
+            return;
         };
         let takes = count(&routine.parameters);
         if takes == given || !matches!(declared.kind, Kind::Procedure | Kind::Function) {
-            return Ok(());
+            return;
         }
-        push_count(page, declared.name, takes, given)?;
-        page.bytes(b": ")?;
-        push_routine(page, routine)?;
-        page.bytes(b".\n")
+        push_count(page, declared.name, takes, given);
+        page.bytes(b": ");
+        push_routine(page, routine);
+        page.bytes(b".\n");
     }
 
-    fn push_standard_count(
-        &self,
-        page: &mut Page,
-        x: &Identifier,
-        given: usize,
-    ) -> Result<(), AllocError> {
+    fn push_standard_count(&self, page: &mut Page, x: &Identifier, given: usize) {
         let Some(standard) = self.standard() else {
-            return Ok(());
+            return;
         };
         match standard.count() {
             Some(takes) if takes != given => {
-                push_count(page, x, takes, given)?;
-                page.bytes(b".\n")
+                push_count(page, x, takes, given);
+                page.bytes(b".\n");
             }
-            _ => Ok(()),
+            _ => {}
         }
     }
 
     /// Adds how many arguments what stands at the place takes, if it was given another number.
-    pub fn push_counts(&self, page: &mut Page) -> Result<(), AllocError> {
+    pub fn push_counts(&self, page: &mut Page) {
         let (Some((x, _)), Some(given)) = (self.name, self.arguments()) else {
-            return Ok(());
+            return;
         };
         if let Some(system) = self.initialised() {
             return self.push_system_count(page, x, system, given);
@@ -202,10 +179,9 @@ impl<'t> Site<'t> {
     }
 
     /// Adds what a standard routine takes, if its argument stands at the place.
-    pub fn push_standard_callee(&self, page: &mut Page) -> Result<(), AllocError> {
-        match self.standard_callee() {
-            Some(standard) => standard.push(page),
-            None => Ok(()),
+    pub fn push_standard_callee(&self, page: &mut Page) {
+        if let Some(standard) = self.standard_callee() {
+            standard.push(page);
         }
     }
 }

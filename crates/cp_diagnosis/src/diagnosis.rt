@@ -30,38 +30,33 @@ fn kind_words(kind: Kind) -> &'static str {
 }
 
 // Adds where the name at the place is declared.
-fn push_declaration(
-    page: &mut Page,
-    text: &[u8],
-    at: usize,
-    declared: Declaration<'_>,
-) -> Result<(), AllocError> {
-    page.bytes(b"  ")?;
-    page.name(declared.name)?;
-    page.text(" is declared as ")?;
-    page.text(kind_words(declared.kind))?;
+fn push_declaration(page: &mut Page, text: &[u8], at: usize, declared: Declaration<'_>) {
+    page.bytes(b"  ");
+    page.name(declared.name);
+    page.text(" is declared as ");
+    page.text(kind_words(declared.kind));
     page.text(if at < declared.name.at {
         " only at "
     } else {
         " at "
-    })?;
-    page.position(Position::of(text, declared.name.at))?;
+    });
+    page.position(Position::of(text, declared.name.at));
     page.text(if at < declared.name.at {
         ", after this place.\n"
     } else {
         ".\n"
-    })
+    });
 }
 
 // Adds where the initial process declares a name that isn't visible at the place.
-fn push_hidden(page: &mut Page, text: &[u8], declared: Declaration<'_>) -> Result<(), AllocError> {
-    page.bytes(b"  ")?;
-    page.name(declared.name)?;
-    page.text(" is declared by the initial process at ")?;
-    page.position(Position::of(text, declared.name.at))?;
+fn push_hidden(page: &mut Page, text: &[u8], declared: Declaration<'_>) {
+    page.bytes(b"  ");
+    page.name(declared.name);
+    page.text(" is declared by the initial process at ");
+    page.position(Position::of(text, declared.name.at));
     page.text(
         " and isn't visible here. Processes share only monitors: pass the right to one with `init`.\n",
-    )
+    );
 }
 
 // The sort and the number of the component that a name declares.
@@ -87,7 +82,7 @@ fn letters<'t>(x: Option<&'t Identifier>) -> Option<&'t [u8]> {
 
 impl<'t> Site<'t> {
     // Adds where the name at the place is declared, or what it means as a standard name.
-    fn push_declared(&self, page: &mut Page, text: &[u8], at: usize) -> Result<(), AllocError> {
+    fn push_declared(&self, page: &mut Page, text: &[u8], at: usize) {
         match (
             self.declaration(),
             self.hidden_declaration(),
@@ -96,7 +91,7 @@ impl<'t> Site<'t> {
             (Some(declared), _, _) => push_declaration(page, text, at, declared),
             (None, Some(declared), _) => push_hidden(page, text, declared),
             (None, None, Some(standard)) => standard.push(page),
-            _ => Ok(()),
+            _ => {}
         }
     }
 
@@ -113,22 +108,21 @@ impl<'t> Site<'t> {
         if rule == Rule::C1 && self.is_unknown() {
             self.push_meant(alloc, page)?;
         }
-        match rule {
-            Rule::C1 | Rule::C5 => self.push_members(page),
-            _ => Ok(()),
+        if matches!(rule, Rule::C1 | Rule::C5) {
+            self.push_members(page);
         }
+        Ok(())
     }
 
     // Adds what helps with types and numbers of arguments.
-    fn push_agreement(&self, page: &mut Page, rule: Rule) -> Result<(), AllocError> {
+    fn push_agreement(&self, page: &mut Page, rule: Rule) {
         if !matches!(rule, Rule::C2 | Rule::C10 | Rule::C12) {
-            return Ok(());
+            return;
         }
-        self.push_types(page)?;
-        self.push_counts(page)?;
-        match rule {
-            Rule::C2 => self.push_standard_callee(page),
-            _ => Ok(()),
+        self.push_types(page);
+        self.push_counts(page);
+        if rule == Rule::C2 {
+            self.push_standard_callee(page);
         }
     }
 }
@@ -163,9 +157,10 @@ impl<'t> Site<'t> {
         text: &[u8],
         violation: Violation,
     ) -> Result<(), AllocError> {
-        self.push_agreement(page, violation.rule)?;
+        self.push_agreement(page, violation.rule);
         self.push_names(alloc, page, violation.rule)?;
-        self.push_declared(page, text, violation.at)
+        self.push_declared(page, text, violation.at);
+        Ok(())
     }
 }
 
@@ -175,14 +170,14 @@ pub fn of_violation(
     text: &[u8],
     tree: &Tree,
     violation: Violation,
-) -> Result<Page, AllocError> {
+) -> Result<Vec<u8>, AllocError> {
     let Violation { rule, at } = violation;
     let site = site_of(alloc, tree, violation)?;
     let mut page = Page::new(alloc);
-    page.message(text, at, site.message(rule), site.about())?;
+    page.message(text, at, site.message(rule), site.about());
     site.push_facts(alloc, &mut page, text, violation)?;
-    page.hint("C", rule.number())?;
-    Ok(page)
+    page.hint("C", rule.number());
+    page.finish()
 }
 
 /// Explains a broken rule in short, after the heading: without advice and without the hint. Fails
@@ -192,12 +187,12 @@ pub fn of_violation_in_short(
     text: &[u8],
     tree: &Tree,
     violation: Violation,
-) -> Result<Page, AllocError> {
+) -> Result<Vec<u8>, AllocError> {
     let Violation { rule, at } = violation;
     let site = site_of(alloc, tree, violation)?;
     let mut page = Page::new(alloc);
-    page.template(site.message(rule).head, site.about())?;
-    page.place(text, at)?;
+    page.template(site.message(rule).head, site.about());
+    page.place(text, at);
     site.push_facts(alloc, &mut page, text, violation)?;
-    Ok(page)
+    page.finish()
 }

@@ -16,33 +16,33 @@ pub enum Owner<'t> {
 }
 
 // Adds a name to a list that begins with `lead`.
-fn push_item(page: &mut Page, lead: &str, x: &Identifier) -> Result<(), AllocError> {
-    page.text(lead)?;
-    page.name(x)
+fn push_item(page: &mut Page, lead: &str, x: &Identifier) {
+    page.text(lead);
+    page.name(x);
 }
 
-fn push_entries(page: &mut Page, of: &Identifier, routines: &[Routine]) -> Result<(), AllocError> {
+fn push_entries(page: &mut Page, of: &Identifier, routines: &[Routine]) {
     let mut lead = ": ";
-    page.text("  The entries of ")?;
-    page.name(of)?;
+    page.text("  The entries of ");
+    page.name(of);
     for routine in routines {
         if routine.entry.is_some() {
-            push_item(page, lead, &routine.name)?;
+            push_item(page, lead, &routine.name);
             lead = ", ";
         }
     }
-    page.text(if lead == ": " { ": none.\n" } else { ".\n" })
+    page.text(if lead == ": " { ": none.\n" } else { ".\n" });
 }
 
-fn push_fields(page: &mut Page, groups: &[Fields]) -> Result<(), AllocError> {
+fn push_fields(page: &mut Page, groups: &[Fields]) {
     let mut lead = "  The fields of this record: ";
     for group in groups {
         for x in &group.names {
-            push_item(page, lead, x)?;
+            push_item(page, lead, x);
             lead = ", ";
         }
     }
-    page.bytes(b".\n")
+    page.bytes(b".\n");
 }
 
 // The number of the selector that is the name at this place.
@@ -78,9 +78,9 @@ impl<'t> Site<'t> {
     }
 
     /// Adds what can stand after the `.` before the place.
-    pub fn push_members(&self, page: &mut Page) -> Result<(), AllocError> {
+    pub fn push_members(&self, page: &mut Page) {
         match self.owner() {
-            Some(Owner::Component(_, Sort::Process, _)) | None => Ok(()),
+            Some(Owner::Component(_, Sort::Process, _)) | None => {}
             Some(Owner::Component(of, _, routines)) => push_entries(page, of, routines),
             Some(Owner::Record(groups)) => push_fields(page, groups),
         }

@@ -125,14 +125,12 @@ impl<'t> Site<'t> {
     ) -> Result<(), AllocError> {
         let mut nearest = Nearest::to(name);
         self.offer_all(alloc, &mut nearest)?;
-        match nearest.found() {
-            Some(found) => {
-                page.text("  Did you mean ")?;
-                page.quoted(found)?;
-                page.bytes(b"?\n")
-            }
-            None => Ok(()),
+        if let Some(found) = nearest.found() {
+            page.text("  Did you mean ");
+            page.quoted(found);
+            page.bytes(b"?\n");
         }
+        Ok(())
     }
 
     /// Adds what is meant by the name at the place, which isn't declared there.
@@ -143,9 +141,10 @@ impl<'t> Site<'t> {
         let is_member = matches!(role, NameRole::Member(..));
         match foreign(x.name.as_bytes()) {
             Some(told) if !is_member => {
-                page.bytes(b"  ")?;
-                page.text(told)?;
-                page.bytes(b"\n")
+                page.bytes(b"  ");
+                page.text(told);
+                page.bytes(b"\n");
+                Ok(())
             }
             _ => self.push_nearest(alloc, page, x.name.as_bytes()),
         }

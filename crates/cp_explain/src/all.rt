@@ -22,64 +22,51 @@ pub(crate) fn most(text: &[u8]) -> usize {
 }
 
 // Adds where more is said than in short.
-fn push_hint(page: &mut Page, file: &[u8], list: &[Violation]) -> Result<(), AllocError> {
+fn push_hint(page: &mut Page, file: &[u8], list: &[Violation]) {
     let Some(first) = list.first() else {
-        return Ok(());
+        return;
     };
     let number = usize::from(first.rule.number());
-    page.text("`cpm explain C")?;
-    page.number(number)?;
-    page.text("` explains rule C")?;
-    page.number(number)?;
-    page.text(", and `cpm explain ")?;
-    page.bytes(file)?;
-    page.text("` how to mend the first violation.\n")
+    page.text("`cpm explain C");
+    page.number(number);
+    page.text("` explains rule C");
+    page.number(number);
+    page.text(", and `cpm explain ");
+    page.bytes(file);
+    page.text("` how to mend the first violation.\n");
 }
 
 // Adds how many violations there are, of which so many are told.
-fn push_count(page: &mut Page, count: usize, told: usize) -> Result<(), AllocError> {
-    page.number(count)?;
+fn push_count(page: &mut Page, count: usize, told: usize) {
+    page.number(count);
     page.text(if count == 1 {
         " violation"
     } else {
         " violations"
-    })?;
+    });
     if told < count {
-        page.text(", of which the first ")?;
-        page.number(told)?;
-        page.text(" are told")?;
+        page.text(", of which the first ");
+        page.number(told);
+        page.text(" are told");
     }
-    page.bytes(b"\n")
-}
-
-// Adds a violation in short, after its heading.
-fn push_violation(
-    alloc: Global,
-    page: &mut Page,
-    text: &[u8],
-    tree: &Tree,
-    violation: Violation,
-) -> Result<(), AllocError> {
-    let told = of_violation_in_short(alloc, text, tree, violation)?;
-    page.bytes(told.as_bytes())
+    page.bytes(b"\n");
 }
 
 /// All violations of a text in short, in the order of the text, and their number. The first comes
 /// without its heading. Fails only if memory runs out.
-pub fn of_all(alloc: Global, file: &[u8], text: &[u8], tree: &Tree) -> Result<Page, AllocError> {
+pub fn of_all(alloc: Global, file: &[u8], text: &[u8], tree: &Tree) -> Result<Vec<u8>, AllocError> {
     let mut page = Page::new(alloc);
     let list = violations(alloc, tree)?;
     let told = most(text).min(list.len());
     let mut is_first = true;
     for violation in list.iter().take(told) {
         if !is_first {
-            let heading = heading_of(alloc, file, text, &Refusal::from(*violation))?;
-            page.bytes(heading.as_bytes())?;
+            page.bytes(&heading_of(alloc, file, text, &Refusal::from(*violation))?);
         }
-        push_violation(alloc, &mut page, text, tree, *violation)?;
+        page.bytes(&of_violation_in_short(alloc, text, tree, *violation)?);
         is_first = false;
     }
-    push_hint(&mut page, file, &list)?;
-    push_count(&mut page, list.len(), told)?;
-    Ok(page)
+    push_hint(&mut page, file, &list);
+    push_count(&mut page, list.len(), told);
+    page.finish()
 }

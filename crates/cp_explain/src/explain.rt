@@ -19,10 +19,10 @@ use cp_accept::refusal::{Refusal, scan_number};
 use cp_accept::writing::write_all;
 use cp_access::graph::{Form, graph};
 use cp_diagnosis::of_violation;
+use cp_digits::decimal::push_natural;
 use cp_model::rules::Violation;
 use cp_model::tree::Tree;
 use cp_notes::add_notes;
-use cp_page::page::Page;
 use cp_page::position::Position;
 use cp_rules::text::{RuleError, judge};
 use std::alloc::{AllocError, Global};
@@ -41,7 +41,7 @@ pub enum Extent {
 /// The explanation of a text, and why it is refused, unless it is accepted.
 #[derive(Drop)]
 pub struct Explanation {
-    pub(crate) page: Page,
+    pub(crate) page: Vec<u8>,
     pub(crate) refusal: Option<Refusal>,
 }
 
@@ -60,20 +60,20 @@ pub(crate) fn place(refusal: &Refusal) -> usize
 }
 
 /// Adds the letter and the number of a refusal. Fails only if memory runs out.
-pub(crate) fn push_code(page: &mut Page, refusal: &Refusal) -> Result<(), AllocError>
-    ensures { OnOk result (page.new ≡ page.old ++ code_of refusal.now) }
+pub(crate) fn push_code(page: &mut Vec<u8>, refusal: &Refusal) -> Result<(), AllocError>
+    ensures { OnOk result (page.new.items ≡ page.old.items ++ code_of refusal.now) }
 {
     match refusal {
         Refusal::Scan { cause, .. } => {
-            page.bytes(b"S")?;
-            page.number(usize::from(scan_number(*cause)))
+            page.extend_from_slice(b"S")?;
+            push_natural(page, u64::from(scan_number(*cause)))
         }
-        Refusal::Unexpected { .. } => page.bytes(b"Y1"),
-        Refusal::Unfinished { .. } => page.bytes(b"Y2"),
-        Refusal::TooDeep { .. } => page.bytes(b"Y3"),
+        Refusal::Unexpected { .. } => page.extend_from_slice(b"Y1"),
+        Refusal::Unfinished { .. } => page.extend_from_slice(b"Y2"),
+        Refusal::TooDeep { .. } => page.extend_from_slice(b"Y3"),
         Refusal::Check { rule, .. } => {
-            page.bytes(b"C")?;
-            page.number(usize::from(rule.number()))
+            page.extend_from_slice(b"C")?;
+            push_natural(page, u64::from(rule.number()))
         }
         _ => Ok(()),
     }
@@ -86,19 +86,18 @@ pub(crate) fn heading_of(
     file: &[u8],
     text: &[u8],
     refusal: &Refusal,
-) -> Result<Page, AllocError>
-    ensures { IfOk result (λ page. page ≡ heading file.now text.now refusal.now) }
+) -> Result<Vec<u8>, AllocError>
+    ensures { IfOk result (λ page. page.items ≡ heading file.now text.now refusal.now) }
 {
     let position = Position::of(text, place(refusal));
-    let mut page = Page::new(alloc);
-    page.bytes(file)?;
-    page.bytes(b":")?;
-    page.number(position.line)?;
-    page.bytes(b":")?;
-    page.number(position.column)?;
-    page.bytes(b": ")?;
+    let mut page = Vec::from_slice(alloc, file)?;
+    page.extend_from_slice(b":")?;
+    push_natural(&mut page, position.line as u64)?;
+    page.extend_from_slice(b":")?;
+    push_natural(&mut page, position.column as u64)?;
+    page.extend_from_slice(b": ")?;
     push_code(&mut page, refusal)?;
-    page.bytes(b": ")?;
+    page.extend_from_slice(b": ")?;
     Ok(page)
 }
 
@@ -108,13 +107,13 @@ fn explain_refusal(
     file: &[u8],
     text: &[u8],
     refusal: Refusal,
-    told: &Page,
+    told: &[u8],
 ) -> Result<Explanation, AllocError>
     ensures refusal { IfOk result (λ e. e.refusal ≡ Some refusal) }
-    ensures heading { IfOk result (λ e. Begins (heading file.now text.now refusal) e.page) }
+    ensures heading { IfOk result (λ e. Begins (heading file.now text.now refusal) e.page.items) }
 {
     let mut page = heading_of(alloc, file, text, &refusal)?;
-    page.bytes(told.as_bytes())?;
+    page.extend_from_slice(told)?;
     Ok(Explanation {
         page,
         refusal: Some(refusal),
@@ -129,7 +128,7 @@ fn told_of_tree(
     tree: &Tree,
     violation: Violation,
     extent: Extent,
-) -> Result<Page, AllocError> {
+) -> Result<Vec<u8>, AllocError> {
     match extent {
         Extent::First => of_violation(alloc, text, tree, violation),
         Extent::All => of_all(alloc, file, text, tree),
@@ -142,12 +141,12 @@ fn told_of_no_tree(
     text: &[u8],
     refusal: Refusal,
     extent: Extent,
-) -> Result<Page, AllocError> {
+) -> Result<Vec<u8>, AllocError> {
     let mut page = of_no_tree(alloc, text, place(&refusal), refusal)?;
     if extent == Extent::All {
-        push_lacking(&mut page, text)?;
+        push_lacking(&mut page, text);
     }
-    Ok(page)
+    page.finish()
 }
 
 fn of_tree(
@@ -159,7 +158,7 @@ fn of_tree(
     extent: Extent,
 ) -> Result<Explanation, AllocError>
     requires text { IsTextOf text.now (view.tree tree.now) }
-    ensures { IfOk result (λ e. Explains file.now text.now e.refusal e.page) }
+    ensures { IfOk result (λ e. Explains file.now text.now e.refusal e.page.items) }
 {
     match judge(alloc, tree) {
         Ok(()) => {
@@ -168,7 +167,7 @@ fn of_tree(
                 add_notes(alloc, &mut page, file, text, tree)?;
             }
             Ok(Explanation {
-                page,
+                page: page.finish()?,
                 refusal: None,
             })
         }
@@ -189,7 +188,7 @@ pub fn explain(
     form: Form,
     extent: Extent,
 ) -> Result<Explanation, AllocError>
-    ensures { IfOk result (λ e. Explains file.now text.now e.refusal e.page) }
+    ensures { IfOk result (λ e. Explains file.now text.now e.refusal e.page.items) }
 {
     match tree_of(alloc, text) {
         Ok(tree) => of_tree(alloc, file, text, &tree, form, extent),
@@ -246,8 +245,8 @@ pub fn draw_text<R: Read, W: Write, E: Write>(
     let bytes = read(alloc, text)?;
     let Explanation { page, refusal } = explain(alloc, file, &bytes, Form::Dot, Extent::First)?;
     let written = match refusal {
-        None => write_all(out, page.as_bytes()),
-        Some(_) => write_all(errors, page.as_bytes()),
+        None => write_all(out, &page),
+        Some(_) => write_all(errors, &page),
     };
     match written {
         Ok(()) => Ok(refusal),
@@ -273,7 +272,7 @@ fn explain_to<R: Read, W: Write>(
 {
     let bytes = read(alloc, text)?;
     let Explanation { page, refusal } = explain(alloc, file, &bytes, form, extent)?;
-    match write_all(out, page.as_bytes()) {
+    match write_all(out, &page) {
         Ok(()) => Ok(refusal),
         Err(_) => Err(Refusal::Write),
     }

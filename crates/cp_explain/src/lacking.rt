@@ -5,7 +5,6 @@ ghost use Rattle.std.specs.Prelude.{◌≤◌, length};
 
 use cp_page::page::Page;
 use cp_page::position::Position;
-use std::alloc::AllocError;
 
 /// What this language leaves out of the book's.
 #[derive(Clone, Copy)]
@@ -52,17 +51,17 @@ impl Uses {
     }
 
     // Adds a line with these uses, if there are any.
-    fn push(&self, page: &mut Page, text: &[u8], called: &str) -> Result<(), AllocError> {
+    fn push(&self, page: &mut Page, text: &[u8], called: &str) {
         if self.count == 0 {
-            return Ok(());
+            return;
         }
-        page.bytes(b"  ")?;
-        page.text(called)?;
-        page.bytes(b": ")?;
-        page.number(self.count)?;
-        page.text(", the first at ")?;
-        page.position(Position::of(text, self.first))?;
-        page.bytes(b"\n")
+        page.bytes(b"  ");
+        page.text(called);
+        page.bytes(b": ");
+        page.number(self.count);
+        page.text(", the first at ");
+        page.position(Position::of(text, self.first));
+        page.bytes(b"\n");
     }
 }
 
@@ -277,17 +276,16 @@ impl Lacking {
 }
 
 /// Adds what a text uses of the book's language that this one hasn't: how often, and where first.
-/// Comments and what stands between apostrophes don't count. Fails only if memory runs out.
-pub fn push_lacking(page: &mut Page, text: &[u8]) -> Result<(), AllocError> {
+/// Comments and what stands between apostrophes don't count.
+pub fn push_lacking(page: &mut Page, text: &[u8]) {
     let lacking = Lacking::of(text);
     let is_used = lacking.called().iter().any(|(_, uses)| 0 < uses.count);
     page.text(if is_used {
         "Of the book's language, the text uses what this one leaves out:\n"
     } else {
         "The text uses no strings, reals, `with`, `univ` or sets.\n"
-    })?;
+    });
     for (called, uses) in lacking.called() {
-        uses.push(page, text, called)?;
+        uses.push(page, text, called);
     }
-    Ok(())
 }

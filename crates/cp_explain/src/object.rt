@@ -20,7 +20,6 @@ use cp_formats::object::line;
 use cp_model::rules::Violation;
 use cp_model::tree::Tree;
 use cp_notes::{ToldNote, notes};
-use cp_page::page::Page;
 use cp_page::position::Position;
 use cp_rules::text::{RuleError, judge, violations};
 use serde::Serialize;
@@ -76,18 +75,18 @@ fn violation_object(
     alloc: Global,
     text: &[u8],
     refusal: &Refusal,
-    told: &Page,
+    told: &[u8],
 ) -> Result<ViolationObject, AllocError> {
     let offset = place(refusal);
     let position = Position::of(text, offset);
-    let mut rule = Page::new(alloc);
+    let mut rule = Vec::new(alloc);
     push_code(&mut rule, refusal)?;
     Ok(ViolationObject {
-        rule: String::from_utf8_lossy(alloc, rule.as_bytes())?,
+        rule: String::from_utf8_lossy(alloc, &rule)?,
         line: position.line,
         column: position.column,
         offset,
-        message: String::from_utf8_lossy(alloc, first_line(told.as_bytes()))?,
+        message: String::from_utf8_lossy(alloc, first_line(told))?,
     })
 }
 
@@ -96,8 +95,8 @@ fn note_object(alloc: Global, note: &ToldNote) -> Result<NoteObject, AllocError>
         line: note.position.line,
         column: note.position.column,
         offset: note.at,
-        message: String::from_utf8_lossy(alloc, note.head.as_bytes())?,
-        advice: String::from_utf8_lossy(alloc, note.advice.as_bytes())?,
+        message: String::from_utf8_lossy(alloc, &note.head)?,
+        advice: String::from_utf8_lossy(alloc, &note.advice)?,
     })
 }
 
@@ -108,11 +107,9 @@ fn page_of<T: Serialize>(
     refusal: Option<Refusal>,
 ) -> Result<Explanation, AllocError>
     ensures refusal { IfOk result (λ e. e.refusal ≡ refusal) }
-    ensures line { IfOk result (λ e. IsJsonLine e.page) }
+    ensures line { IfOk result (λ e. IsJsonLine e.page.items) }
 {
-    let bytes = line(alloc, object)?;
-    let mut page = Page::new(alloc);
-    page.bytes(&bytes)?;
+    let page = line(alloc, object)?;
     Ok(Explanation { page, refusal })
 }
 
@@ -169,7 +166,7 @@ fn of_tree(
     extent: Extent,
 ) -> Result<Explanation, AllocError>
     requires text { IsTextOf text.now (view.tree tree.now) }
-    ensures { IfOk result (λ e. IsObjectOf text.now e.refusal e.page) }
+    ensures { IfOk result (λ e. IsObjectOf text.now e.refusal e.page.items) }
 {
     match judge(alloc, tree) {
         Ok(()) => {
@@ -190,9 +187,9 @@ fn of_tree(
 // Explains a text that has no tree.
 fn of_refusal(alloc: Global, text: &[u8], refusal: Refusal) -> Result<Explanation, AllocError>
     requires refused { Refuses text.now refusal }
-    ensures { IfOk result (λ e. IsObjectOf text.now e.refusal e.page) }
+    ensures { IfOk result (λ e. IsObjectOf text.now e.refusal e.page.items) }
 {
-    let told = of_no_tree(alloc, text, place(&refusal), refusal)?;
+    let told = of_no_tree(alloc, text, place(&refusal), refusal)?.finish()?;
     let mut violations = Vec::new(alloc);
     violations.push(violation_object(alloc, text, &refusal, &told)?)?;
     let refused = RefusedObject {
@@ -206,7 +203,7 @@ fn of_refusal(alloc: Global, text: &[u8], refusal: Refusal) -> Result<Explanatio
 /// Explains a text by an object: the notes on it if it is accepted, or else the first violation or
 /// all of them. Fails only if memory runs out.
 pub fn object(alloc: Global, text: &[u8], extent: Extent) -> Result<Explanation, AllocError>
-    ensures { IfOk result (λ e. IsObjectOf text.now e.refusal e.page) }
+    ensures { IfOk result (λ e. IsObjectOf text.now e.refusal e.page.items) }
 {
     match tree_of(alloc, text) {
         Ok(tree) => of_tree(alloc, text, &tree, extent),
@@ -236,7 +233,7 @@ pub fn explain_object<R: Read, W: Write>(
 {
     let bytes = read(alloc, text)?;
     let Explanation { page, refusal } = object(alloc, &bytes, extent)?;
-    match write_all(out, page.as_bytes()) {
+    match write_all(out, &page) {
         Ok(()) => Ok(refusal),
         Err(_) => Err(Refusal::Write),
     }

@@ -14,16 +14,12 @@ pub fn of_no_tree(
 ) -> Result<Page, AllocError> {
     let (mut page, letter, number) = match refusal {
         Refusal::Scan { cause, .. } => {
-            (
-                of_spelling(alloc, text, at, cause)?,
-                "S",
-                scan_number(cause),
-            )
+            (of_spelling(alloc, text, at, cause), "S", scan_number(cause))
         }
         Refusal::Unfinished { .. } => (of_unfinished(alloc, text, at)?, "Y", 2),
-        Refusal::TooDeep { .. } => (of_depth(alloc, text, at)?, "Y", 3),
+        Refusal::TooDeep { .. } => (of_depth(alloc, text, at), "Y", 3),
         _ => (of_unexpected(alloc, text, at)?, "Y", 1),
     };
-    page.hint(letter, number)?;
+    page.hint(letter, number);
     Ok(page)
 }

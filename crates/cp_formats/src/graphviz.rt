@@ -1,19 +1,18 @@
 //! Graphs for Graphviz: the names of nodes, and arrows from one to another.
 
 use cp_page::page::Page;
-use std::alloc::AllocError;
 
-/// Adds the name of a node, which has neither a `"` nor a `\`. Fails only if memory runs out.
-pub fn push_node(page: &mut Page, name: &[u8]) -> Result<(), AllocError> {
-    page.bytes(b"\"")?;
-    page.bytes(name)?;
-    page.bytes(b"\"")
+/// Adds the name of a node, which has neither a `"` nor a `\`.
+pub fn push_node(page: &mut Page, name: &[u8]) {
+    page.bytes(b"\"");
+    page.bytes(name);
+    page.bytes(b"\"");
 }
 
-/// Adds an arrow, up to its attributes or the `;` after it. Fails only if memory runs out.
-pub fn push_arrow(page: &mut Page, from: &[u8], to: &[u8]) -> Result<(), AllocError> {
-    page.bytes(b"  ")?;
-    push_node(page, from)?;
-    page.bytes(b" -> ")?;
-    push_node(page, to)
+/// Adds an arrow, up to its attributes or the `;` after it.
+pub fn push_arrow(page: &mut Page, from: &[u8], to: &[u8]) {
+    page.bytes(b"  ");
+    push_node(page, from);
+    page.bytes(b" -> ");
+    push_node(page, to);
 }

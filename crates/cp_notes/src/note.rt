@@ -123,14 +123,14 @@ impl<'t> Note<'t> {
     fn told(&self, alloc: Global, position: Position) -> Result<ToldNote, AllocError> {
         let words = message(self.saying);
         let mut head = Page::new(alloc);
-        head.template(words.head, self.about)?;
+        head.template(words.head, self.about);
         let mut advice = Page::new(alloc);
-        advice.template(words.advice, self.about)?;
+        advice.template(words.advice, self.about);
         Ok(ToldNote {
             at: self.at,
             position,
-            head,
-            advice,
+            head: head.finish()?,
+            advice: advice.finish()?,
         })
     }
 }
@@ -143,22 +143,22 @@ pub struct ToldNote {
     /// The position of that place.
     pub position: Position,
     /// What it says.
-    pub head: Page,
+    pub head: Vec<u8>,
     /// How to mend it.
-    pub advice: Page,
+    pub advice: Vec<u8>,
 }
 
 impl ToldNote {
     /// Adds the note to a page: its place and what it says, and a line of advice.
-    pub(crate) fn write(&self, page: &mut Page, file: &[u8]) -> Result<(), AllocError> {
-        page.bytes(file)?;
-        page.bytes(b":")?;
-        page.position(self.position)?;
-        page.bytes(b": note: ")?;
-        page.bytes(self.head.as_bytes())?;
-        page.bytes(b"\n  ")?;
-        page.bytes(self.advice.as_bytes())?;
-        page.bytes(b"\n")
+    pub(crate) fn write(&self, page: &mut Page, file: &[u8]) {
+        page.bytes(file);
+        page.bytes(b":");
+        page.position(self.position);
+        page.bytes(b": note: ");
+        page.bytes(&self.head);
+        page.bytes(b"\n  ");
+        page.bytes(&self.advice);
+        page.bytes(b"\n");
     }
 }
 

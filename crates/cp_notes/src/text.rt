@@ -139,7 +139,7 @@ pub fn add_notes(
     tree: &Tree,
 ) -> Result<(), AllocError> {
     for note in &notes(alloc, text, tree)? {
-        note.write(page, file)?;
+        note.write(page, file);
     }
     Ok(())
 }

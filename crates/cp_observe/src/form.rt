@@ -25,7 +25,7 @@ fn report_with_reasons<'t>(
     ensures { IfOk result (λ bytes. IsToldOf forms.Verdict machine.now verdict bytes.items) }
 {
     let reasons = reasons(alloc, &text.bytes, &text.tree, machine)?;
-    outcome(alloc, machine, verdict, reasons.as_bytes())
+    outcome(alloc, machine, verdict, &reasons)
 }
 
 /// Returns what is written of a machine that runs the program of a text, and of the verdict on it.

@@ -7,7 +7,6 @@ use crate::page::Page;
 use crate::position::Position;
 use cp_digits::hexadecimal::hex;
 use itoa::Buffer;
-use std::alloc::AllocError;
 
 /// The largest number of bytes that is shown of a line. A longer line is cut.
 const WIDTH: usize = 100;
@@ -19,40 +18,39 @@ const BEFORE: usize = 60;
 const CUT: &[u8] = b"...";
 
 // Adds what begins these bytes, which is shown like this.
-fn show(page: &mut Page, bytes: &[u8], glyph: Glyph) -> Result<(), AllocError> {
+fn show(page: &mut Page, bytes: &[u8], glyph: Glyph) {
     match (glyph, bytes) {
         (Glyph::Tab, _) => page.bytes(b"\t"),
         (Glyph::Character(count), _) => page.bytes(&bytes[..count.min(bytes.len())]),
         (Glyph::Escaped, [byte, ..]) => page.bytes(&[b'\\', hex(byte / 16), hex(byte % 16)]),
-        _ => Ok(()),
+        _ => {}
     }
 }
 
 // Adds blanks as wide as what is shown like this.
-fn show_blank(page: &mut Page, glyph: Glyph) -> Result<(), AllocError> {
+fn show_blank(page: &mut Page, glyph: Glyph) {
     match glyph {
         Glyph::Tab => page.bytes(b"\t"),
         Glyph::Character(_) => page.blanks(1),
         Glyph::Escaped => page.blanks(3),
-        Glyph::Hidden(_) => Ok(()),
+        Glyph::Hidden(_) => {}
     }
 }
 
 // Adds these bytes as an editor shows them, or blanks of the same width.
-fn show_all(page: &mut Page, bytes: &[u8], is_blank: bool) -> Result<(), AllocError> {
+fn show_all(page: &mut Page, bytes: &[u8], is_blank: bool) {
     let mut shown: usize = 0;
     for i in 0..bytes.len() {
         if shown <= i {
             let glyph = first_glyph(&bytes[i..]);
             if is_blank {
-                show_blank(page, glyph)?;
+                show_blank(page, glyph);
             } else {
-                show(page, &bytes[i..], glyph)?;
+                show(page, &bytes[i..], glyph);
             }
             shown = i.saturating_add(glyph.bytes());
         }
     }
-    Ok(())
 }
 
 // The end of the line that `at` is in.
@@ -88,28 +86,25 @@ fn digits(number: usize) -> usize {
 }
 
 // Adds what the two lines of an excerpt begin with.
-fn margin(page: &mut Page, line: usize, is_blank: bool) -> Result<(), AllocError> {
-    page.bytes(b"  ")?;
+fn margin(page: &mut Page, line: usize, is_blank: bool) {
+    page.bytes(b"  ");
     if is_blank {
-        page.blanks(digits(line))?;
+        page.blanks(digits(line));
     } else {
-        page.number(line)?;
+        page.number(line);
     }
-    page.bytes(b" | ")
+    page.bytes(b" | ");
 }
 
-fn cut(page: &mut Page, is_cut: bool) -> Result<(), AllocError> {
-    if is_cut { page.bytes(CUT) } else { Ok(()) }
+fn cut(page: &mut Page, is_cut: bool) {
+    if is_cut {
+        page.bytes(CUT);
+    }
 }
 
 /// Adds the line of the byte `at`, which has this position, and a line with a caret under that
 /// byte. `...` stands where the line is cut.
-pub fn excerpt(
-    page: &mut Page,
-    text: &[u8],
-    at: usize,
-    position: Position,
-) -> Result<(), AllocError> {
+pub fn excerpt(page: &mut Page, text: &[u8], at: usize, position: Position) {
     let at = at.min(text.len());
     let before = position.column.saturating_sub(1).min(at);
     let is_front_cut = WIDTH < before;
@@ -121,15 +116,15 @@ pub fn excerpt(
     };
     let end = line_end(text, at);
     let to = boundary(text, from.saturating_add(WIDTH).max(at).min(end), end);
-    margin(page, position.line, false)?;
-    cut(page, is_front_cut)?;
-    show_all(page, &text[from..to], false)?;
-    cut(page, to < end)?;
-    page.bytes(b"\n")?;
-    margin(page, position.line, true)?;
+    margin(page, position.line, false);
+    cut(page, is_front_cut);
+    show_all(page, &text[from..to], false);
+    cut(page, to < end);
+    page.bytes(b"\n");
+    margin(page, position.line, true);
     if is_front_cut {
-        page.blanks(CUT.len())?;
+        page.blanks(CUT.len());
     }
-    show_all(page, &text[from..at], true)?;
-    page.bytes(b"^\n")
+    show_all(page, &text[from..at], true);
+    page.bytes(b"^\n");
 }

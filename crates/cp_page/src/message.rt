@@ -3,7 +3,6 @@
 use crate::excerpt::excerpt;
 use crate::page::Page;
 use crate::position::Position;
-use std::alloc::AllocError;
 
 /// What is wrong, and how to fix it. `$` and `%` stand for the names that it tells of.
 #[derive(Clone, Copy)]
@@ -29,7 +28,7 @@ impl<'a> About<'a> {
 
 impl Page {
     // Adds one byte of a message.
-    fn message_byte(&mut self, byte: u8, about: About<'_>) -> Result<(), AllocError> {
+    fn message_byte(&mut self, byte: u8, about: About<'_>) {
         match (byte, about.name, about.other) {
             (b'$', Some(name), _) => self.bytes(name),
             (b'%', _, Some(other)) => self.bytes(other),
@@ -38,50 +37,37 @@ impl Page {
     }
 
     /// Adds a text, with its `$` and `%` replaced by the names that they stand for.
-    pub fn template(&mut self, text: &str, about: About<'_>) -> Result<(), AllocError> {
+    pub fn template(&mut self, text: &str, about: About<'_>) {
         for byte in text.as_bytes() {
-            self.message_byte(*byte, about)?;
+            self.message_byte(*byte, about);
         }
-        Ok(())
     }
 
     /// Adds the end of the first line, and the line of the place.
-    pub fn place(&mut self, text: &[u8], at: usize) -> Result<(), AllocError> {
-        self.bytes(b"\n")?;
-        excerpt(self, text, at, Position::of(text, at))
+    pub fn place(&mut self, text: &[u8], at: usize) {
+        self.bytes(b"\n");
+        excerpt(self, text, at, Position::of(text, at));
     }
 
     /// Adds the end of the first line, the line of the place, and the advice.
-    pub fn place_and_advice(
-        &mut self,
-        text: &[u8],
-        at: usize,
-        advice: &str,
-        about: About<'_>,
-    ) -> Result<(), AllocError> {
-        self.place(text, at)?;
-        self.bytes(b"  ")?;
-        self.template(advice, about)
+    pub fn place_and_advice(&mut self, text: &[u8], at: usize, advice: &str, about: About<'_>) {
+        self.place(text, at);
+        self.bytes(b"  ");
+        self.template(advice, about);
     }
 
     /// Adds a message, with the line of the place.
-    pub fn message(
-        &mut self,
-        text: &[u8],
-        at: usize,
-        message: Message,
-        about: About<'_>,
-    ) -> Result<(), AllocError> {
-        self.template(message.head, about)?;
-        self.place_and_advice(text, at, message.advice, about)?;
-        self.bytes(b"\n")
+    pub fn message(&mut self, text: &[u8], at: usize, message: Message, about: About<'_>) {
+        self.template(message.head, about);
+        self.place_and_advice(text, at, message.advice, about);
+        self.bytes(b"\n");
     }
 
     /// Adds a hint to the page that explains a rule, by its letter and number.
-    pub fn hint(&mut self, letter: &str, number: u8) -> Result<(), AllocError> {
-        self.text("  `cpm explain ")?;
-        self.text(letter)?;
-        self.number(usize::from(number))?;
-        self.text("` says more.\n")
+    pub fn hint(&mut self, letter: &str, number: u8) {
+        self.text("  `cpm explain ");
+        self.text(letter);
+        self.number(usize::from(number));
+        self.text("` says more.\n");
     }
 }

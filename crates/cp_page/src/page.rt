@@ -1,7 +1,8 @@
 //! A page of an explanation: text that grows at its end.
 
-ghost use Rattle.std.specs.Prelude.{◌≡◌, ◌++◌, OnOk};
+ghost use Rattle.std.specs.Prelude.{◌≡◌, IfOk, IfSome, Some};
 ghost use Rattle.cp_model.specs.Decimal.{natural};
+ghost use Rattle.cp_page.specs.Pages.{with_added};
 
 use crate::position::Position;
 use cp_digits::decimal::push_natural;
@@ -9,80 +10,93 @@ use cp_model::tree::Identifier;
 use std::alloc::{AllocError, Global};
 use std::marker::Model;
 
-/// Text that grows at its end. Each call fails only if memory runs out.
+/// Text that grows at its end. If memory runs out, the page takes no more, and `finish` fails: so
+/// what writes to a page needs no test.
 #[derive(Drop)]
 pub struct Page {
     bytes: Vec<u8>,
+    is_whole: bool,
 }
 
 impl Model for Page {
-    ghost use Rattle.std.specs.Prelude.{ℕ, List};
+    ghost use Rattle.std.specs.Prelude.{ℕ, List, Option, None, Some, if◌then◌else◌};
 
-    ghost Value = { List ℕ };
+    ghost Value = { Option (List ℕ) };
 
-    ghost view = { λ page. page.bytes.items };
+    ghost view = { λ page. if page.is_whole then Some page.bytes.items else None };
 }
 
 impl Page {
     /// Returns an empty page.
     pub fn new(alloc: Global) -> Page
-        ensures { result ≡ Rattle.std.specs.Prelude.[] }
+        ensures { result ≡ Some Rattle.std.specs.Prelude.[] }
     {
         Page {
             bytes: Vec::new(alloc),
+            is_whole: true,
         }
     }
 
-    /// The bytes of the page.
-    pub fn as_bytes(&self) -> &[u8]
-        ensures { result.now ≡ self.now }
+    /// Returns the bytes of the page.
+    ///
+    /// # Errors
+    ///
+    /// `AllocError` if memory ran out while the page was written.
+    pub fn finish(self) -> Result<Vec<u8>, AllocError>
+        ensures { IfOk result (λ bytes. self ≡ Some bytes.items) }
     {
-        self.bytes.as_slice()
+        let Page { bytes, is_whole } = self;
+        if is_whole { Ok(bytes) } else { Err(AllocError) }
     }
 
     /// Adds bytes.
-    pub fn bytes(&mut self, bytes: &[u8]) -> Result<(), AllocError>
-        ensures { OnOk result (self.new ≡ self.old ++ bytes.now) }
+    pub fn bytes(&mut self, bytes: &[u8])
+        ensures { IfSome self.new (λ new. with_added self.old bytes.now ≡ Some new) }
     {
-        self.bytes.extend_from_slice(bytes)
+        if self.is_whole {
+            self.is_whole = self.bytes.extend_from_slice(bytes).is_ok();
+        }
     }
 
     /// Adds a number in decimal digits.
-    pub fn number(&mut self, n: usize) -> Result<(), AllocError>
-        ensures { OnOk result (self.new ≡ self.old ++ natural n) }
+    pub fn number(&mut self, n: usize)
+        ensures { IfSome self.new (λ new. with_added self.old (natural n) ≡ Some new) }
     {
-        push_natural(&mut self.bytes, n as u64)
+        if self.is_whole {
+            self.is_whole = push_natural(&mut self.bytes, n as u64).is_ok();
+        }
     }
 
     /// Adds `count` blanks.
-    pub fn blanks(&mut self, count: usize) -> Result<(), AllocError> {
+    pub fn blanks(&mut self, count: usize) {
         for _ in 0..count {
-            self.bytes(b" ")?;
+            self.bytes(b" ");
         }
-        Ok(())
     }
 
     /// Adds a text.
-    pub fn text(&mut self, text: &str) -> Result<(), AllocError> {
-        self.bytes(text.as_bytes())
+    pub fn text(&mut self, text: &str)
+        ensures { IfSome self.new (λ new. with_added self.old text.now ≡ Some new) }
+    {
+        self.bytes(text.as_bytes());
     }
 
     /// Adds a name between backquotes.
-    pub fn name(&mut self, x: &Identifier) -> Result<(), AllocError> {
-        self.quoted(x.name.as_bytes())
+    pub fn name(&mut self, x: &Identifier) {
+        self.quoted(x.name.as_bytes());
     }
 
     /// Adds bytes between backquotes.
-    pub fn quoted(&mut self, bytes: &[u8]) -> Result<(), AllocError> {
-        self.bytes(b"`")?;
-        self.bytes(bytes)?;
-        self.bytes(b"`")
+    pub fn quoted(&mut self, bytes: &[u8]) {
+        self.bytes(b"`");
+        self.bytes(bytes);
+        self.bytes(b"`");
     }
 
     /// Adds a line and a column.
-    pub fn position(&mut self, position: Position) -> Result<(), AllocError> {
-        self.number(position.line)?;
-        self.bytes(b":")?;
-        self.number(position.column)
+    pub fn position(&mut self, position: Position) {
+        self.number(position.line);
+        self.bytes(b":");
+        self.number(position.column);
     }
 }

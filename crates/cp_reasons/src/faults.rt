@@ -6,7 +6,6 @@ use cp_model::state::Fault;
 use cp_page::page::Page;
 use cp_program::operation::Operation;
 use cp_report::status::fault_number;
-use std::alloc::AllocError;
 
 // What a fault means. The piece of the text stands after these words.
 fn words_of(fault: Fault) -> &'static str {
@@ -39,22 +38,16 @@ fn extent_of(operation: Option<&Operation>) -> Extent {
 
 impl<'r, 'm, 't> Subject<'r, 'm, 't> {
     /// Adds a fault that stopped a process at the operation with this number.
-    pub(crate) fn push_fault(
-        &self,
-        page: &mut Page,
-        fault: Fault,
-        operation: u32,
-    ) -> Result<(), AllocError> {
-        page.text("fault ")?;
-        page.number(fault_number(fault) as usize)?;
-        self.push_origin(page, operation)?;
-        page.text(": ")?;
-        page.text(words_of(fault))?;
+    pub(crate) fn push_fault(&self, page: &mut Page, fault: Fault, operation: u32) {
+        page.text("fault ");
+        page.number(fault_number(fault) as usize);
+        self.push_origin(page, operation);
+        page.text(": ");
+        page.text(words_of(fault));
         let program = self.machine.program();
-        let Some(at) = program.origin(operation) else {
-            return Ok(());
-        };
-        let extent = extent_of(program.operation(operation));
-        push_piece(page, self.text, &self.tokens, at, extent)
+        if let Some(at) = program.origin(operation) {
+            let extent = extent_of(program.operation(operation));
+            push_piece(page, self.text, &self.tokens, at, extent);
+        }
     }
 }

@@ -101,18 +101,15 @@ impl<'r, 'm, 't> Subject<'r, 'm, 't> {
     }
 
     /// Adds a place of the text.
-    pub(crate) fn push_place(&self, page: &mut Page, at: usize) -> Result<(), AllocError> {
-        page.position(Position::of(self.text, at))
+    pub(crate) fn push_place(&self, page: &mut Page, at: usize) {
+        page.position(Position::of(self.text, at));
     }
 
     /// Adds where in the text the operation with this number comes from.
-    pub(crate) fn push_origin(&self, page: &mut Page, operation: u32) -> Result<(), AllocError> {
-        match self.machine.program().origin(operation) {
-            Some(at) => {
-                page.text(" at ")?;
-                self.push_place(page, at)
-            }
-            None => Ok(()),
+    pub(crate) fn push_origin(&self, page: &mut Page, operation: u32) {
+        if let Some(at) = self.machine.program().origin(operation) {
+            page.text(" at ");
+            self.push_place(page, at);
         }
     }
 }

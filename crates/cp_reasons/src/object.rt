@@ -56,7 +56,8 @@ impl<'r, 'm, 't> Subject<'r, 'm, 't> {
         }
         let mut page = Page::new(self.alloc);
         self.push_why(&mut page, number, private)?;
-        Ok(Some(String::from_utf8_lossy(self.alloc, page.as_bytes())?))
+        let reason = page.finish()?;
+        Ok(Some(String::from_utf8_lossy(self.alloc, &reason)?))
     }
 
     fn process_object(&self, number: u32, private: &Private) -> Result<ProcessObject, AllocError> {

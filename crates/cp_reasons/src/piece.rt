@@ -4,7 +4,6 @@ ghost use Rattle.std.specs.Prelude.{◌≤◌, ◌<◌, IfSome, length};
 
 use cp_model::token::{Kind, Symbol, Token};
 use cp_page::page::Page;
-use std::alloc::AllocError;
 
 /// The largest number of bytes that is shown of a piece. What is left is cut off.
 const WIDTH: usize = 48;
@@ -111,7 +110,7 @@ fn spelling<'t>(text: &'t [u8], token: &Token) -> &'t [u8] {
 }
 
 // Adds a piece. One blank stands where something is between two tokens.
-fn push_tokens(page: &mut Page, text: &[u8], tokens: &[Token]) -> Result<(), AllocError> {
+fn push_tokens(page: &mut Page, text: &[u8], tokens: &[Token]) {
     let mut shown: usize = 0;
     let mut end = match tokens.first() {
         Some(token) => token.place(),
@@ -122,29 +121,28 @@ fn push_tokens(page: &mut Page, text: &[u8], tokens: &[Token]) -> Result<(), All
         let blanks = if end < token.place() { 1 } else { 0 };
         shown = shown.saturating_add(blanks).saturating_add(spelled.len());
         if WIDTH < shown {
-            return page.text(" ...");
+            page.text(" ...");
+            return;
         }
-        page.blanks(blanks)?;
-        page.bytes(spelled)?;
+        page.blanks(blanks);
+        page.bytes(spelled);
         end = token.end();
     }
-    Ok(())
 }
 
 /// Adds the piece of a text that begins at a place, between backquotes. These are the tokens of the
-/// text. Fails only if memory runs out.
+/// text.
 pub(crate) fn push_piece(
     page: &mut Page,
     text: &[u8],
     tokens: &[Token],
     at: usize,
     extent: Extent,
-) -> Result<(), AllocError> {
-    let Some(first) = token_at(tokens, at) else {
-        return Ok(());
-    };
-    let rest = &tokens[first..];
-    page.text("`")?;
-    push_tokens(page, text, &rest[..piece_length(rest, extent)])?;
-    page.text("`")
+) {
+    if let Some(first) = token_at(tokens, at) {
+        let rest = &tokens[first..];
+        page.text("`");
+        push_tokens(page, text, &rest[..piece_length(rest, extent)]);
+        page.text("`");
+    }
 }

@@ -62,15 +62,14 @@ impl<'r, 'm, 't> Subject<'r, 'm, 't> {
         Ok(callers)
     }
 
-    fn push_callers(&self, page: &mut Page, callers: &[u32]) -> Result<(), AllocError> {
+    fn push_callers(&self, page: &mut Page, callers: &[u32]) {
         if callers.is_empty() {
-            page.text("no other process")?;
+            page.text("no other process");
         }
         for (index, number) in callers.iter().enumerate() {
-            page.text(separator(index, callers.len()))?;
-            page.bytes(self.roster.process_name(*number))?;
+            page.text(separator(index, callers.len()));
+            page.bytes(self.roster.process_name(*number));
         }
-        Ok(())
     }
 
     // Adds the entries of a monitor that continue a queue in which a process is delayed, and who
@@ -82,20 +81,21 @@ impl<'r, 'm, 't> Subject<'r, 'm, 't> {
         entries: &[&Identifier],
         delayed: u32,
     ) -> Result<(), AllocError> {
-        page.text("; only ")?;
+        page.text("; only ");
         for (index, entry) in entries.iter().enumerate() {
-            page.text(separator(index, entries.len()))?;
-            page.bytes(self.roster.monitor_name(monitor))?;
-            page.text(".")?;
-            page.bytes(entry.name.as_bytes())?;
+            page.text(separator(index, entries.len()));
+            page.bytes(self.roster.monitor_name(monitor));
+            page.text(".");
+            page.bytes(entry.name.as_bytes());
         }
         page.text(if entries.len() == 1 {
             " continues it, which "
         } else {
             " continue it, which "
-        })?;
-        self.push_callers(page, &self.callers(monitor, entries, delayed)?)?;
-        page.text(" can call")
+        });
+        self.push_callers(page, &self.callers(monitor, entries, delayed)?);
+        page.text(" can call");
+        Ok(())
     }
 
     // Adds what can continue a process that is delayed in a queue.
@@ -111,16 +111,17 @@ impl<'r, 'm, 't> Subject<'r, 'm, 't> {
         };
         let entries = entries_that_continue(self.alloc, of, without_indices(queue))?;
         if entries.is_empty() {
-            return page.text("; nothing continues it");
+            page.text("; nothing continues it");
+            return Ok(());
         }
         self.push_entries(page, monitor, &entries, delayed)
     }
 
-    fn push_queue(&self, page: &mut Page, monitor: u32, queue: &[u8]) -> Result<(), AllocError> {
-        page.text("delayed in ")?;
-        page.bytes(self.roster.monitor_name(monitor))?;
-        page.text(".")?;
-        page.bytes(queue)
+    fn push_queue(&self, page: &mut Page, monitor: u32, queue: &[u8]) {
+        page.text("delayed in ");
+        page.bytes(self.roster.monitor_name(monitor));
+        page.text(".");
+        page.bytes(queue);
     }
 
     fn push_delay(
@@ -132,8 +133,8 @@ impl<'r, 'm, 't> Subject<'r, 'm, 't> {
         pause: u32,
     ) -> Result<(), AllocError> {
         let name = self.queue_name(queue)?;
-        self.push_queue(page, monitor, &name)?;
-        self.push_origin(page, pause)?;
+        self.push_queue(page, monitor, &name);
+        self.push_origin(page, pause);
         self.push_continuation(page, monitor, &name, number)
     }
 
@@ -141,29 +142,37 @@ impl<'r, 'm, 't> Subject<'r, 'm, 't> {
     fn push_why_held(&self, page: &mut Page, holder: u32) -> Result<(), AllocError> {
         match self.machine.state(holder) {
             ProcState::Delayed { monitor, queue } => {
-                page.text(", which is ")?;
-                self.push_queue(page, monitor, &self.queue_name(queue)?)
+                page.text(", which is ");
+                self.push_queue(page, monitor, &self.queue_name(queue)?);
             }
             ProcState::Asking(monitor) => {
-                page.text(", which asks for ")?;
-                page.bytes(self.roster.monitor_name(monitor))
+                page.text(", which asks for ");
+                page.bytes(self.roster.monitor_name(monitor));
             }
             ProcState::Faulted(_) => page.text(", which has faulted"),
-            _ => Ok(()),
+            _ => {}
         }
+        Ok(())
     }
 
     fn push_asking(&self, page: &mut Page, monitor: u32, pause: u32) -> Result<(), AllocError> {
-        page.text("asks for ")?;
-        page.bytes(self.roster.monitor_name(monitor))?;
-        self.push_origin(page, pause)?;
+        page.text("asks for ");
+        page.bytes(self.roster.monitor_name(monitor));
+        self.push_origin(page, pause);
         match self.machine.gate(monitor) {
             Holder::Process(holder) => {
-                page.text(", held by ")?;
-                page.bytes(self.roster.process_name(holder))?;
+                page.text(", held by ");
+                page.bytes(self.roster.process_name(holder));
                 self.push_why_held(page, holder)
             }
             Holder::Unset | Holder::Free => Ok(()),
+        }
+    }
+
+    fn push_places(&self, page: &mut Page, places: &[usize]) {
+        for (index, at) in places.iter().enumerate() {
+            page.text(separator(index, places.len()));
+            self.push_place(page, *at);
         }
     }
 
@@ -171,40 +180,32 @@ impl<'r, 'm, 't> Subject<'r, 'm, 't> {
     fn push_unstarted(&self, page: &mut Page, number: u32) -> Result<(), AllocError> {
         let name = self.roster.process_name(number);
         let places = places_of_init(self.alloc, &self.statements, name)?;
-        if places.is_empty() {
-            return page.text("never started; no init names it");
-        }
-        page.text(if places.len() == 1 {
-            "never started; only the init at "
-        } else {
-            "never started; only the inits at "
-        })?;
-        for (index, at) in places.iter().enumerate() {
-            page.text(separator(index, places.len()))?;
-            self.push_place(page, *at)?;
-        }
-        page.text(if places.len() == 1 {
-            " starts it"
-        } else {
-            " start it"
-        })
+        let (lead, end) = match places.len() {
+            0 => ("never started; no init names it", ""),
+            1 => ("never started; only the init at ", " starts it"),
+            _ => ("never started; only the inits at ", " start it"),
+        };
+        page.text(lead);
+        self.push_places(page, &places);
+        page.text(end);
+        Ok(())
     }
 
-    fn push_waiting(&self, page: &mut Page, private: &Private) -> Result<(), AllocError> {
-        page.text("waits for the clock")?;
-        self.push_origin(page, private.pause())
+    fn push_waiting(&self, page: &mut Page, private: &Private) {
+        page.text("waits for the clock");
+        self.push_origin(page, private.pause());
     }
 
-    fn push_ready(&self, page: &mut Page, private: &Private) -> Result<(), AllocError> {
+    fn push_ready(&self, page: &mut Page, private: &Private) {
         page.text(match self.machine.program().operation(private.counter()) {
             Some(Operation::Return { .. }) => "ready at the end of the routine",
             Some(Operation::EndBody | Operation::End) => "ready at the end of the body",
             _ => "ready",
-        })?;
-        self.push_origin(page, private.counter())
+        });
+        self.push_origin(page, private.counter());
     }
 
-    /// Adds why a process is where it is.
+    /// Adds why a process is where it is. Fails only if memory runs out.
     pub(crate) fn push_why(
         &self,
         page: &mut Page,
@@ -212,16 +213,17 @@ impl<'r, 'm, 't> Subject<'r, 'm, 't> {
         private: &Private,
     ) -> Result<(), AllocError> {
         match self.machine.state(number) {
-            ProcState::Unstarted => self.push_unstarted(page, number),
+            ProcState::Unstarted => self.push_unstarted(page, number)?,
             ProcState::Fresh | ProcState::Ready => self.push_ready(page, private),
-            ProcState::Asking(monitor) => self.push_asking(page, monitor, private.pause()),
+            ProcState::Asking(monitor) => self.push_asking(page, monitor, private.pause())?,
             ProcState::Delayed { monitor, queue } => {
-                self.push_delay(page, number, monitor, queue, private.pause())
+                self.push_delay(page, number, monitor, queue, private.pause())?;
             }
             ProcState::Waiting => self.push_waiting(page, private),
             ProcState::Ended => page.text("ended"),
             ProcState::Faulted(fault) => self.push_fault(page, fault, private.counter()),
         }
+        Ok(())
     }
 
     // Adds the line of a process, unless it has ended.
@@ -232,13 +234,14 @@ impl<'r, 'm, 't> Subject<'r, 'm, 't> {
         if matches!(self.machine.state(number), ProcState::Ended) {
             return Ok(());
         }
-        page.text("process ")?;
-        page.number(number as usize)?;
-        page.text(" ")?;
-        page.bytes(self.roster.process_name(number))?;
-        page.text(": ")?;
+        page.text("process ");
+        page.number(number as usize);
+        page.text(" ");
+        page.bytes(self.roster.process_name(number));
+        page.text(": ");
         self.push_why(page, number, private)?;
-        page.text("\n")
+        page.text("\n");
+        Ok(())
     }
 }
 
@@ -254,11 +257,11 @@ pub fn reasons<'t>(
     text: &[u8],
     tree: &'t Tree,
     machine: &Machine<'_, 't>,
-) -> Result<Page, AllocError> {
+) -> Result<Vec<u8>, AllocError> {
     let subject = Subject::of(alloc, text, tree, machine)?;
     let mut page = Page::new(alloc);
     for index in 0..machine.processes() {
         subject.push_reason(&mut page, small_number(index.saturating_add(1))?)?;
     }
-    Ok(page)
+    page.finish()
 }

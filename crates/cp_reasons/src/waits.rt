@@ -24,18 +24,18 @@ impl<'r, 'm, 't> Subject<'r, 'm, 't> {
         self.roster.process_name(number)
     }
 
-    fn add_process(&self, page: &mut Page, number: u32) -> Result<(), AllocError> {
+    fn add_process(&self, page: &mut Page, number: u32) {
         let state = self.machine.state(number);
         if matches!(state, ProcState::Ended) {
-            return Ok(());
+            return;
         }
-        page.text("  ")?;
-        push_node(page, self.node_of(number))?;
-        page.text(" [label=\"")?;
-        page.bytes(self.roster.process_name(number))?;
-        page.text("\\n")?;
-        page.text(word_of(state))?;
-        page.text("\", shape=ellipse];\n")
+        page.text("  ");
+        push_node(page, self.node_of(number));
+        page.text(" [label=\"");
+        page.bytes(self.roster.process_name(number));
+        page.text("\\n");
+        page.text(word_of(state));
+        page.text("\", shape=ellipse];\n");
     }
 
     // Whether a process is delayed in a monitor.
@@ -58,56 +58,55 @@ impl<'r, 'm, 't> Subject<'r, 'm, 't> {
     }
 
     fn add_monitor(&self, page: &mut Page, monitor: u32) -> Result<(), AllocError> {
-        if !self.is_used(monitor)? {
-            return Ok(());
+        if self.is_used(monitor)? {
+            page.text("  ");
+            push_node(page, self.roster.monitor_name(monitor));
+            page.text(" [shape=box];\n");
         }
-        page.text("  ")?;
-        push_node(page, self.roster.monitor_name(monitor))?;
-        page.text(" [shape=box];\n")
+        Ok(())
+    }
+
+    // Adds an arrow from a process to a monitor, up to its attributes or the `;` after it.
+    fn push_wait(&self, page: &mut Page, process: u32, monitor: u32) {
+        push_arrow(
+            page,
+            self.node_of(process),
+            self.roster.monitor_name(monitor),
+        );
     }
 
     // Adds what a process waits for.
     fn add_wait(&self, page: &mut Page, number: u32) -> Result<(), AllocError> {
         match self.machine.state(number) {
             ProcState::Asking(monitor) => {
-                push_arrow(
-                    page,
-                    self.node_of(number),
-                    self.roster.monitor_name(monitor),
-                )?;
-                page.text(";\n")
+                self.push_wait(page, number, monitor);
+                page.text(";\n");
             }
             ProcState::Delayed { monitor, queue } => {
-                push_arrow(
-                    page,
-                    self.node_of(number),
-                    self.roster.monitor_name(monitor),
-                )?;
-                page.text(" [label=\"")?;
-                page.bytes(&self.queue_name(queue)?)?;
-                page.text("\", style=dashed];\n")
+                self.push_wait(page, number, monitor);
+                page.text(" [label=\"");
+                page.bytes(&self.queue_name(queue)?);
+                page.text("\", style=dashed];\n");
             }
-            _ => Ok(()),
+            _ => {}
         }
+        Ok(())
     }
 
-    fn add_holder(&self, page: &mut Page, monitor: u32) -> Result<(), AllocError> {
-        match self.machine.gate(monitor) {
-            Holder::Process(number) => {
-                push_arrow(
-                    page,
-                    self.roster.monitor_name(monitor),
-                    self.node_of(number),
-                )?;
-                page.text(";\n")
-            }
-            Holder::Unset | Holder::Free => Ok(()),
+    fn add_holder(&self, page: &mut Page, monitor: u32) {
+        if let Holder::Process(number) = self.machine.gate(monitor) {
+            push_arrow(
+                page,
+                self.roster.monitor_name(monitor),
+                self.node_of(number),
+            );
+            page.text(";\n");
         }
     }
 
     fn add_processes(&self, page: &mut Page) -> Result<(), AllocError> {
         for index in 0..self.machine.processes() {
-            self.add_process(page, small_number(index.saturating_add(1))?)?;
+            self.add_process(page, small_number(index.saturating_add(1))?);
         }
         Ok(())
     }
@@ -128,19 +127,19 @@ impl<'r, 'm, 't> Subject<'r, 'm, 't> {
 
     fn add_holders(&self, page: &mut Page) -> Result<(), AllocError> {
         for index in 0..self.roster.monitors.len() {
-            self.add_holder(page, small_number(index.saturating_add(1))?)?;
+            self.add_holder(page, small_number(index.saturating_add(1))?);
         }
         Ok(())
     }
 
     // Returns the nodes and the arrows.
-    fn drawn(&self) -> Result<Page, AllocError> {
+    fn drawn(&self) -> Result<Vec<u8>, AllocError> {
         let mut page = Page::new(self.alloc);
         self.add_processes(&mut page)?;
         self.add_monitors(&mut page)?;
         self.add_waits(&mut page)?;
         self.add_holders(&mut page)?;
-        Ok(page)
+        page.finish()
     }
 }
 
@@ -172,6 +171,5 @@ pub fn waits<'t>(
     ensures some { IfOk result (λ bytes. 0 < length bytes.items) }
 {
     let subject = Subject::of(alloc, text, tree, machine)?;
-    let body = subject.drawn()?;
-    graph_of(alloc, body.as_bytes())
+    graph_of(alloc, &subject.drawn()?)
 }

@@ -188,17 +188,16 @@ impl Expected {
     }
 
     /// Adds a line with the tokens that can stand at the place, if they are known.
-    pub fn push(&self, page: &mut Page) -> Result<(), AllocError> {
+    pub fn push(&self, page: &mut Page) {
+        if self.candidates.is_empty() {
+            return;
+        }
         let mut lead = "  Expected one of: ";
         for (_, called) in &self.candidates {
-            page.text(lead)?;
-            page.text(called)?;
+            page.text(lead);
+            page.text(called);
             lead = ", ";
         }
-        if self.candidates.is_empty() {
-            Ok(())
-        } else {
-            page.bytes(b".\n")
-        }
+        page.bytes(b".\n");
     }
 }

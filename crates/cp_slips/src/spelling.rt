@@ -5,7 +5,7 @@ use crate::spelling_messages as m;
 use cp_page::message::{About, Message};
 use cp_page::page::Page;
 use cp_scan::Cause;
-use std::alloc::{AllocError, Global};
+use std::alloc::Global;
 
 /// How far after an apostrophe another one is looked for.
 const STRING: usize = 80;
@@ -93,15 +93,9 @@ fn of_cause(text: &[u8], at: usize, cause: Cause) -> Message {
     }
 }
 
-/// Explains why a text has no tokens, after the heading, without the hint. Fails only if memory
-/// runs out.
-pub fn of_spelling(
-    alloc: Global,
-    text: &[u8],
-    at: usize,
-    cause: Cause,
-) -> Result<Page, AllocError> {
+/// Explains why a text has no tokens, after the heading, without the hint.
+pub fn of_spelling(alloc: Global, text: &[u8], at: usize, cause: Cause) -> Page {
     let mut page = Page::new(alloc);
-    page.message(text, at, of_cause(text, at, cause), About::NOTHING)?;
-    Ok(page)
+    page.message(text, at, of_cause(text, at, cause), About::NOTHING);
+    page
 }

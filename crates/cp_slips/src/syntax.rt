@@ -72,16 +72,16 @@ fn habit(front: &Front<'_>, expected: &Expected) -> Option<Message> {
 }
 
 // Adds what is often missing, of what can stand at the place.
-fn push_often(page: &mut Page, expected: &Expected) -> Result<(), AllocError> {
+fn push_often(page: &mut Page, expected: &Expected) {
     let mut lead = " Often a ";
     for (symbol, called) in OFTEN.as_slice() {
         if expected.has(*symbol) {
-            page.text(lead)?;
-            page.text(called)?;
+            page.text(lead);
+            page.text(called);
             lead = " or ";
         }
     }
-    page.text(if lead == " or " { " is missing." } else { "" })
+    page.text(if lead == " or " { " is missing." } else { "" });
 }
 
 // Explains the token at a place.
@@ -91,28 +91,27 @@ fn push_unexpected(
     at: usize,
     message: Option<Message>,
     expected: &Expected,
-) -> Result<(), AllocError> {
+) {
     let about = About {
         name: front.spelling(),
         other: None,
     };
-    page.template("unexpected `$`", about)?;
+    page.template("unexpected `$`", about);
     let told = message.unwrap_or(m::UNEXPECTED);
     if message.is_some() {
-        page.text(": ")?;
+        page.text(": ");
     }
-    page.template(told.head, about)?;
-    page.place_and_advice(front.text, at, told.advice, about)?;
+    page.template(told.head, about);
+    page.place_and_advice(front.text, at, told.advice, about);
     if message.is_none() {
-        push_often(page, expected)?;
+        push_often(page, expected);
     }
-    page.bytes(b"\n")
+    page.bytes(b"\n");
 }
 
 /// Explains a token that no text has at its place, after the heading, without the hint. Fails only
 /// if memory runs out.
 pub fn of_unexpected(alloc: Global, text: &[u8], at: usize) -> Result<Page, AllocError> {
-    let mut page = Page::new(alloc);
     let tokens = tokens_of(alloc, text)?;
     let front = Front {
         text,
@@ -125,8 +124,9 @@ pub fn of_unexpected(alloc: Global, text: &[u8], at: usize) -> Result<Page, Allo
         Some(message) => Some(message),
         None => missing(alloc, &mut state, &front, &expected, at)?,
     };
-    push_unexpected(&mut page, &front, at, message, &expected)?;
-    expected.push(&mut page)?;
+    let mut page = Page::new(alloc);
+    push_unexpected(&mut page, &front, at, message, &expected);
+    expected.push(&mut page);
     Ok(page)
 }
 
@@ -144,19 +144,18 @@ fn of_end(tokens: &[Token], expected: &Expected) -> Message {
 /// Explains a text that ends too soon, after the heading, without the hint. Fails only if memory
 /// runs out.
 pub fn of_unfinished(alloc: Global, text: &[u8], at: usize) -> Result<Page, AllocError> {
-    let mut page = Page::new(alloc);
     let tokens = tokens_of(alloc, text)?;
     let mut state = state_before(alloc, text, at, tokens.len())?;
     let expected = Expected::after(alloc, &mut state, at)?;
-    page.message(text, at, of_end(&tokens, &expected), About::NOTHING)?;
-    expected.push(&mut page)?;
+    let mut page = Page::new(alloc);
+    page.message(text, at, of_end(&tokens, &expected), About::NOTHING);
+    expected.push(&mut page);
     Ok(page)
 }
 
-/// Explains a text that is nested too deeply, after the heading, without the hint. Fails only if
-/// memory runs out.
-pub fn of_depth(alloc: Global, text: &[u8], at: usize) -> Result<Page, AllocError> {
+/// Explains a text that is nested too deeply, after the heading, without the hint.
+pub fn of_depth(alloc: Global, text: &[u8], at: usize) -> Page {
     let mut page = Page::new(alloc);
-    page.message(text, at, m::DEEP, About::NOTHING)?;
-    Ok(page)
+    page.message(text, at, m::DEEP, About::NOTHING);
+    page
 }
