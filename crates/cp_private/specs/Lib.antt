@@ -6,5 +6,6 @@ pub mod Kinds
 pub mod Promises
 pub mod Resting
 pub mod Quick
+pub mod Assigning
 pub mod Plans
 pub mod Lending

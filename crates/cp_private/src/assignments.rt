@@ -6,6 +6,7 @@ ghost use Rattle.cp_program_model.specs.Terms.{Rooted};
 ghost use Rattle.cp_model.specs.Integers.{same_integer};
 ghost use Rattle.cp_machine_model.specs.Steps as plain;
 ghost use Rattle.cp_machine_model.specs.PrivateStates.{go_to, private_outcome};
+ghost use Rattle.cp_private.specs.Assigning.{assign};
 ghost use Rattle.cp_private.specs.Keeping.{IsAddressable, KeepsOwn, KeepsRest};
 ghost use Rattle.cp_private.specs.States.{IsStep, Stands, join, outcome};
 ghost use Rattle.cp_program.specs.Reaches.{cap_place};
@@ -30,9 +31,8 @@ impl Private {
     ) -> Result<Effect, Fault>
         requires { IsAddressable shared.old }
         ensures step { (input : List ℕ) (place : ℕ) → cap_place place ≡ at
-            → outcome (join self.new input shared.new) result ≡ plain.set_within
-            (join self.old input shared.old) assignment.now.bounds.low assignment.now.bounds.high
-            place n assignment.now.next }
+            → outcome (join self.new input shared.new) result ≡ assign assignment.now
+            (join self.old input shared.old) place n }
         ensures kept { KeepsRest self.old shared.old self.new shared.new }
         ensures stands { Stands self.old self.new }
     {
@@ -55,8 +55,7 @@ impl Private {
         requires { IsAddressable shared.old }
         ensures step { IsStep self.old shared.old outside.now self.new shared.new result
             (λ w o. plain.with_place w o (view.spot to.now) (λ at. plain.with_value w o
-            (view.term assignment.now.value) (λ n. plain.set_within o assignment.now.bounds.low
-            assignment.now.bounds.high at n assignment.now.next))) }
+            (view.term assignment.now.value) (λ n. assign assignment.now o at n))) }
         ensures kept { KeepsRest self.old shared.old self.new shared.new }
         ensures stands { Stands self.old self.new }
     {
@@ -77,8 +76,7 @@ impl Private {
         requires { IsAddressable shared.old }
         ensures step { IsStep self.old shared.old outside.now self.new shared.new result
             (λ w o. plain.with_place w o (Rooted (view.root root)) (λ at. plain.with_value w o
-            (view.term assignment.now.value) (λ n. plain.set_within o assignment.now.bounds.low
-            assignment.now.bounds.high at n assignment.now.next))) }
+            (view.term assignment.now.value) (λ n. assign assignment.now o at n))) }
         ensures kept { KeepsRest self.old shared.old self.new shared.new }
     {
         let at = self.reach(shared, outside).root_place(root);
@@ -95,8 +93,8 @@ impl Private {
     ) -> Result<Effect, Fault>
         requires { IsAddressable shared.old }
         ensures step { IsStep self.old shared.old outside.now self.new shared.new result
-            (λ w o. plain.with_value w o (view.term assignment.now.value) (λ n. plain.set_within o
-            assignment.now.bounds.low assignment.now.bounds.high o.base n assignment.now.next)) }
+            (λ w o. plain.with_value w o (view.term assignment.now.value) (λ n.
+            assign assignment.now o o.base n)) }
         ensures kept { KeepsRest self.old shared.old self.new shared.new }
     {
         let n = self.evaluate(shared, outside, &assignment.value)?;

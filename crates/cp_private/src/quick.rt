@@ -4,6 +4,7 @@
 //! and is made as any other step is. `W` says whether shared words are looked for.
 
 ghost use Rattle.std.specs.Prelude.{◌≡◌, ◌+◌, false, true, None, IfSome, pos, if◌then◌else◌};
+ghost use Rattle.cp_private.specs.Assigning.{assign};
 ghost use Rattle.cp_private.specs.Keeping.{IsAddressable, KeepsOwn, KeepsRest};
 ghost use Rattle.cp_private.specs.Quick.{Makes, Stays};
 ghost use Rattle.cp_private.specs.States.{Stands};
@@ -57,8 +58,7 @@ impl Private {
     ) -> bool
         requires { IsAddressable shared.old }
         ensures step { result ≡ true
-            → Makes (λ w o. plain.set_within o assignment.now.bounds.low assignment.now.bounds.high
-            at n assignment.now.next)
+            → Makes (λ w o. assign assignment.now o at n)
             self.old shared.old self.new shared.new NoEffect }
         ensures same { result ≡ false → Stays self.old shared.old self.new shared.new }
         ensures kept { KeepsRest self.old shared.old self.new shared.new }
@@ -82,8 +82,7 @@ impl Private {
         requires { IsAddressable shared.old }
         ensures step { result ≡ true → Makes (λ w o. plain.with_place w o (view.spot to.now) (λ at.
             plain.with_value w o (view.term assignment.now.value) (λ n.
-            plain.set_within o assignment.now.bounds.low assignment.now.bounds.high at n
-            assignment.now.next)))
+            assign assignment.now o at n)))
             self.old shared.old self.new shared.new NoEffect }
         ensures same { result ≡ false → Stays self.old shared.old self.new shared.new }
         ensures kept { KeepsRest self.old shared.old self.new shared.new }
@@ -110,8 +109,7 @@ impl Private {
         ensures step { result ≡ true
             → Makes (λ w o. plain.with_place w o (terms.Rooted (terms.Local at.now)) (λ at.
             plain.with_value w o (view.term assignment.now.value) (λ n.
-            plain.set_within o assignment.now.bounds.low assignment.now.bounds.high at n
-            assignment.now.next)))
+            assign assignment.now o at n)))
             self.old shared.old self.new shared.new NoEffect }
         ensures same { result ≡ false → Stays self.old shared.old self.new shared.new }
         ensures kept { KeepsRest self.old shared.old self.new shared.new }
@@ -135,8 +133,7 @@ impl Private {
         ensures step { result ≡ true
             → Makes (λ w o. plain.with_place w o (terms.Rooted (terms.Member at.now)) (λ at.
             plain.with_value w o (view.term assignment.now.value) (λ n.
-            plain.set_within o assignment.now.bounds.low assignment.now.bounds.high at n
-            assignment.now.next)))
+            assign assignment.now o at n)))
             self.old shared.old self.new shared.new NoEffect }
         ensures same { result ≡ false → Stays self.old shared.old self.new shared.new }
         ensures kept { KeepsRest self.old shared.old self.new shared.new }
@@ -154,8 +151,7 @@ impl Private {
         requires { IsAddressable shared.old }
         ensures step { result ≡ true
             → Makes (λ w o. plain.with_value w o (view.term assignment.now.value) (λ n.
-            plain.set_within o assignment.now.bounds.low assignment.now.bounds.high o.base n
-            assignment.now.next))
+            assign assignment.now o o.base n))
             self.old shared.old self.new shared.new NoEffect }
         ensures same { result ≡ false → Stays self.old shared.old self.new shared.new }
         ensures kept { KeepsRest self.old shared.old self.new shared.new }
