@@ -2,6 +2,7 @@
 
 ghost use Rattle.std.specs.Prelude.{◌≡◌, ◌≤◌, length, map, take};
 ghost use Rattle.cp_model.specs.Characters.{lower};
+ghost use Rattle.cp_model.specs.declared.short.TheConstants.{LONGEST_SHORT};
 
 /// The most letters of a short name: as many as let a kind of token, with them, take 16 bytes.
 pub const LONGEST_SHORT: usize = 14;
@@ -14,12 +15,12 @@ pub const FRONT: usize = 16;
 pub struct ShortWord {
     length: u8,
     letters: [u8; LONGEST_SHORT],
-    ghost fits: { length ≤ 14 },
+    ghost fits: { length ≤ LONGEST_SHORT },
 }
 
 impl ShortWord {
     pub(crate) fn in_lower_case(word: &[u8]) -> ShortWord
-        requires { length word.now ≤ 14 }
+        requires { length word.now ≤ LONGEST_SHORT }
         ensures { take result.length result.letters ≡ map lower word.now }
     {
         let mut letters = [0; LONGEST_SHORT];
@@ -35,7 +36,7 @@ impl ShortWord {
     /// Returns the word of the first `length` of these letters.
     #[inline(always)]
     pub fn of_front(front: &[u8; FRONT], length: usize) -> ShortWord
-        requires { length ≤ 14 }
+        requires { length ≤ LONGEST_SHORT }
         ensures { take result.length result.letters ≡ take length front.now }
     {
         let mut letters = [0; LONGEST_SHORT];

@@ -130,8 +130,8 @@ fn reserved_word(letters: &[u8]) -> Option<Symbol>
 
 // The letters at the front of a text that is long enough, in lower case.
 fn lower_front(text: &[u8]) -> [u8; FRONT]
-    requires { 16 ≤ length text.now }
-    ensures { take 16 result ≡ map lower (take 16 text.now) }
+    requires { FRONT ≤ length text.now }
+    ensures { take FRONT result ≡ map lower (take FRONT text.now) }
 {
     let mut letters = [0; FRONT];
     for i in 0..FRONT {
@@ -142,7 +142,7 @@ fn lower_front(text: &[u8]) -> [u8; FRONT]
 
 // The letters of a short text in lower case.
 fn lower_end(text: &[u8]) -> [u8; FRONT]
-    requires { length text.now < 16 }
+    requires { length text.now < FRONT }
     ensures { take (length text.now) result ≡ map lower text.now }
 {
     let mut letters = [0; FRONT];
