@@ -35,7 +35,7 @@ pub struct Environment<'t> {
     region: Region,
 }
 
-// A derived one would cost proofs more (docs/GATE.md).
+// A derived one would make proofs slower (docs/GATE.md).
 impl Drop for Environment<'_> {
     fn drop(self) {
         let Environment {

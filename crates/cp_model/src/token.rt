@@ -25,7 +25,7 @@ pub struct Name {
     letters: Letters,
 }
 
-// A derived one would cost proofs more (docs/GATE.md).
+// A derived one would make proofs slower (docs/GATE.md).
 impl Drop for Name {
     fn drop(self) {
         let Name { letters: _ } = self;

@@ -16,7 +16,7 @@ pub struct NameTable<'t, A: Copy> {
     numbers: Index<'t>,
 }
 
-// A derived one would cost proofs more (docs/GATE.md).
+// A derived one would make proofs slower (docs/GATE.md).
 impl<A: Copy> Drop for NameTable<'_, A> {
     fn drop(self) {
         let NameTable {

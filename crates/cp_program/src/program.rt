@@ -70,7 +70,7 @@ pub struct Program {
     shared: u32,
 }
 
-// A derived one would cost proofs more (docs/GATE.md).
+// A derived one would make proofs slower (docs/GATE.md).
 impl Drop for Program {
     fn drop(self) {
         let Program {

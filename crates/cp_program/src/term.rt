@@ -119,7 +119,7 @@ pub struct Term {
     pub rest: Vec<Application>,
 }
 
-// A derived one would cost proofs more (docs/GATE.md).
+// A derived one would make proofs slower (docs/GATE.md).
 impl Drop for Term {
     #[cycle(terms)]
     fn drop(self) {

@@ -40,6 +40,7 @@ pub(crate) struct Cursor {
 }
 
 /// A walk over the variables of one component.
+#[derive(Drop)]
 pub struct Walk {
     /// What is left of the variables around the part, with the innermost last.
     pub(crate) stack: Vec<Cursor>,
@@ -50,18 +51,6 @@ pub struct Walk {
     pub(crate) at: usize,
     /// The places that were visited to be kept.
     pub(crate) places: Vec<Place>,
-}
-
-// A derived one would cost proofs more (docs/GATE.md).
-impl Drop for Walk {
-    fn drop(self) {
-        let Walk {
-            stack: _,
-            path: _,
-            at: _,
-            places: _,
-        } = self;
-    }
 }
 
 // Returns the index of an element of an array.

@@ -13,7 +13,7 @@ pub struct Halted {
     pub(crate) rounds: u64,
 }
 
-// A derived one would cost proofs more (docs/GATE.md).
+// A derived one would make proofs slower (docs/GATE.md).
 impl Drop for Halted {
     fn drop(self) {
         let Halted {

@@ -50,7 +50,7 @@ pub struct Machine<'r, 't> {
     pub(crate) rounds: u64,
 }
 
-// A derived one would cost proofs more (docs/GATE.md).
+// A derived one would make proofs slower (docs/GATE.md).
 impl Drop for Machine<'_, '_> {
     fn drop(self) {
         let Machine {

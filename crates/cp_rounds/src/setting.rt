@@ -15,7 +15,7 @@ pub struct Setting {
     pub(crate) tick: Tick,
 }
 
-// A derived one would cost proofs more (docs/GATE.md).
+// A derived one would make proofs slower (docs/GATE.md).
 impl Drop for Setting {
     fn drop(self) {
         let Setting {

@@ -15,19 +15,10 @@ pub struct Value<'t> {
 }
 
 /// The constants and types of the outermost scope. A type is known by its number in `Types`.
+#[derive(Drop)]
 pub struct Names<'t> {
     pub constants: NameTable<'t, Value<'t>>,
     pub types: NameTable<'t, usize>,
-}
-
-// A derived one would cost proofs more (docs/GATE.md).
-impl Drop for Names<'_> {
-    fn drop(self) {
-        let Names {
-            constants: _,
-            types: _,
-        } = self;
-    }
 }
 
 impl<'t> Names<'t> {

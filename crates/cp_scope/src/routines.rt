@@ -19,25 +19,13 @@ use std::alloc::{AllocError, Global};
 /// A routine: its name, its parameters and variables in text order, where they lie in an activation
 /// (`locals` also has the size of the activation), and the number of the type of its result if it
 /// is a function.
+#[derive(Drop)]
 pub struct RoutineTable<'t> {
     pub name: &'t [u8],
     pub parameters: Vec<Declared<'t>>,
     pub variables: Vec<Declared<'t>>,
     pub(crate) locals: Locals<'t>,
     pub result: Option<usize>,
-}
-
-// A derived one would cost proofs more (docs/GATE.md).
-impl Drop for RoutineTable<'_> {
-    fn drop(self) {
-        let RoutineTable {
-            name: _,
-            parameters: _,
-            variables: _,
-            locals: _,
-            result: _,
-        } = self;
-    }
 }
 
 // The size of the result in words.

@@ -22,6 +22,7 @@ use std::alloc::{AllocError, Global};
 /// A system type: its parameters, variables and routines in text order, and where the members and
 /// rights of its components lie. `members` also has the size of a component. Parameters, variables,
 /// routines and the names of the types of parameters and variables can also be found by name.
+#[derive(Drop)]
 pub struct SystemTable<'t> {
     pub parameters: Vec<Declared<'t>>,
     pub variables: Vec<Declared<'t>>,
@@ -33,24 +34,6 @@ pub struct SystemTable<'t> {
     pub(crate) variable_types: NameTable<'t, &'t [u8]>,
     pub(crate) routines: Vec<RoutineTable<'t>>,
     pub(crate) routine_names: NameTable<'t, usize>,
-}
-
-// A derived one would cost proofs more (docs/GATE.md).
-impl Drop for SystemTable<'_> {
-    fn drop(self) {
-        let SystemTable {
-            parameters: _,
-            variables: _,
-            members: _,
-            rights: _,
-            parameter_names: _,
-            variable_names: _,
-            parameter_types: _,
-            variable_types: _,
-            routines: _,
-            routine_names: _,
-        } = self;
-    }
 }
 
 impl<'t> Layouts<'t> {

@@ -24,7 +24,7 @@ pub struct Tables<'t> {
     pub initial: SystemTable<'t>,
 }
 
-// A derived one would cost proofs more (docs/GATE.md).
+// A derived one would make proofs slower (docs/GATE.md).
 impl Drop for Tables<'_> {
     fn drop(self) {
         let Tables {

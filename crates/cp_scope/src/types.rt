@@ -53,21 +53,11 @@ pub enum TypeRow<'t> {
 }
 
 /// Types by their numbers, and system types by theirs. System types are in text order.
+#[derive(Drop)]
 pub struct Types<'t> {
     pub(crate) alloc: Global,
     pub(crate) rows: Vec<TypeRow<'t>>,
     pub(crate) systems: Vec<&'t System>,
-}
-
-// A derived one would cost proofs more (docs/GATE.md).
-impl Drop for Types<'_> {
-    fn drop(self) {
-        let Types {
-            alloc: _,
-            rows: _,
-            systems: _,
-        } = self;
-    }
 }
 
 impl<'t> Types<'t> {
