@@ -3,6 +3,8 @@ use Rattle.std.specs.Prelude.{◌≡◌, ◌≢◌, ◌≤◌, ℕ, Bool, false,
 use Rattle.clap.specs.Words.{kind_of}
 use Rattle.clap.specs.declared.error.Error.{Error}
 use Rattle.clap.specs.declared.error.kind.ErrorKind.TheVariants as kind
+use Rattle.cp_command.specs.declared.defaults.TheConstants.{CHUNK, ROUNDS, TICK, TURN, WAVE, WORKERS}
+use Rattle.cp_command.specs.declared.numbers.TheConstants.{LARGEST_NUMBER}
 use Rattle.cp_command.specs.declared.command.CommandError.{CommandError}
 use Rattle.cp_command.specs.declared.command.CommandError.TheVariants as error
 use Rattle.cp_command.specs.declared.command.Command.{Command}
@@ -21,15 +23,15 @@ Has rounds turn workers chunk wave tick chains run =
 abbrev pub HasReplay : ℕ → ℕ → Bool → Replay → Type 0
 HasReplay turn tick chains replay = (replay.turn.steps ≡ turn) × (replay.tick.rounds ≡ tick) × (replay.chains ≡ chains)
 
--- A run has at most 1,000,000 rounds, and so have one until nothing can move and one that is traced.
+-- A run has at most so many rounds, and so have one until nothing can move and one that is traced.
 abbrev pub HasRounds : Command → Type 0
 HasRounds command.Version = Unit {0}
 HasRounds (command.Check file) = Unit {0}
 HasRounds (command.Explain file what) = Unit {0}
 HasRounds (command.ExplainRule page) = Unit {0}
-HasRounds (command.Run file run input progress) = run.rounds ≤ 1000000
-HasRounds (command.Outcome file how form input progress) = how.limit ≤ 1000000
-HasRounds (command.Trace file how only input progress) = how.rounds ≤ 1000000
+HasRounds (command.Run file run input progress) = run.rounds ≤ LARGEST_NUMBER
+HasRounds (command.Outcome file how form input progress) = how.limit ≤ LARGEST_NUMBER
+HasRounds (command.Trace file how only input progress) = how.rounds ≤ LARGEST_NUMBER
 HasRounds (command.Replay file order replay input) = Unit {0}
 
 -- The command if there are no words after the program's name.
@@ -38,7 +40,7 @@ IsWithoutWords command.Version = ⊥
 IsWithoutWords (command.Check file) = ⊥
 IsWithoutWords (command.Explain file what) = ⊥
 IsWithoutWords (command.ExplainRule page) = ⊥
-IsWithoutWords (command.Run file run input progress) = (file ≡ None) × Has 2 100 2 1 255 1 false run × (input ≡ inputs.Empty) × (progress ≡ false)
+IsWithoutWords (command.Run file run input progress) = (file ≡ None) × Has ROUNDS TURN WORKERS CHUNK WAVE TICK false run × (input ≡ inputs.Empty) × (progress ≡ false)
 IsWithoutWords (command.Outcome file how form input progress) = ⊥
 IsWithoutWords (command.Trace file how only input progress) = ⊥
 IsWithoutWords (command.Replay file order replay input) = ⊥

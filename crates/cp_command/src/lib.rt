@@ -2,13 +2,14 @@
 //!
 //! - `command`: what cpm can be asked to do.
 //! - `reading`: parses the words by the `grammar`, and takes the command from what was parsed, with
-//!   the values of its `options`, which are `numbers`, and its `inputs`.
+//!   the values of its `options`, which are `numbers` or `defaults`, and its `inputs`.
 //! - `misuse`: what is wrong with words that the grammar lets pass.
 //!
 //! `specs/Commands.antt` and `specs/Numbers.antt` define what arguments mean.
 #![tactic(auto)]
 
 pub mod command;
+pub mod defaults;
 mod grammar;
 mod inputs;
 mod misuse;

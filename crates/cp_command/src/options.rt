@@ -1,12 +1,14 @@
 //! The values of options.
 
 ghost use Rattle.std.specs.Prelude.{◌≡◌, ◌≤◌, IfOk};
-ghost use Rattle.cp_plan.specs.Plans.{AreInRange};
+ghost use Rattle.cp_plan.specs.Plans.{AreInRange, IsTick, IsTurn};
 ghost use Rattle.cp_command.specs.Commands.{Has, HasReplay};
 
+use crate::defaults;
 use crate::misuse::Misuse;
-use crate::numbers::number;
+use crate::numbers::{LARGEST_NUMBER, number};
 use clap::ArgMatches;
+use cp_plan::limits::{LARGEST_PART, LONGEST_TICK, LONGEST_TURN, MOST_WORKERS};
 use cp_plan::outcome::{OutcomeForm, UntilStill};
 use cp_plan::plan::Plan;
 use cp_plan::run::{Replay, Run};
@@ -26,7 +28,7 @@ pub(crate) fn run_of(
     chains: bool,
 ) -> Run
     requires plan { AreInRange turn workers chunk wave }
-    requires tick { (1 ≤ tick) × (tick ≤ 1000000) }
+    requires tick { IsTick tick }
     ensures { Has rounds turn workers chunk wave tick chains result }
 {
     match (Plan::new(turn, workers, chunk, wave), Tick::new(tick)) {
@@ -42,8 +44,8 @@ pub(crate) fn run_of(
 
 // The replay with these numbers.
 fn replay_of(turn: u32, tick: u32, chains: bool) -> Replay
-    requires turn { (1 ≤ turn) × (turn ≤ 10000) }
-    requires tick { (1 ≤ tick) × (tick ≤ 1000000) }
+    requires turn { IsTurn turn }
+    requires tick { IsTick tick }
     ensures { HasReplay turn tick chains result }
 {
     match (Turn::new(turn), Tick::new(tick)) {
@@ -60,7 +62,7 @@ pub(crate) fn count<'a>(
     most: u32,
     otherwise: u32,
 ) -> Result<u32, Misuse<'a>>
-    requires small { most ≤ 1000000 }
+    requires small { most ≤ LARGEST_NUMBER }
     requires within { (low ≤ otherwise) × (otherwise ≤ most) }
     ensures within { IfOk result (λ n. (low ≤ n) × (n ≤ most)) }
 {
@@ -81,19 +83,19 @@ pub(crate) fn read_run<'a>(
 ) -> Result<Run, Misuse<'a>>
     ensures { IfOk result (λ run. run.rounds ≡ rounds) }
 {
-    let turn = count(matches, "turn", 1, 10_000, 100)?;
-    let workers = count(matches, "workers", 1, 64, 2)?;
-    let chunk = count(matches, "chunk", 1, 255, 1)?;
-    let wave = count(matches, "wave", 1, 255, 255)?;
-    let tick = count(matches, "tick", 1, 1_000_000, 1)?;
+    let turn = count(matches, "turn", 1, LONGEST_TURN, defaults::TURN)?;
+    let workers = count(matches, "workers", 1, MOST_WORKERS, defaults::WORKERS)?;
+    let chunk = count(matches, "chunk", 1, LARGEST_PART, defaults::CHUNK)?;
+    let wave = count(matches, "wave", 1, LARGEST_PART, defaults::WAVE)?;
+    let tick = count(matches, "tick", 1, LONGEST_TICK, defaults::TICK)?;
     Ok(run_of(rounds, turn, workers, chunk, wave, tick, chains))
 }
 
 /// The run until nothing can move that the options tell.
 pub(crate) fn read_outcome<'a>(matches: &ArgMatches<'a>) -> Result<UntilStill, Misuse<'a>>
-    ensures { IfOk result (λ how. how.limit ≤ 1000000) }
+    ensures { IfOk result (λ how. how.limit ≤ LARGEST_NUMBER) }
 {
-    let limit = count(matches, "limit", 0, 1_000_000, 10_000)?;
+    let limit = count(matches, "limit", 0, LARGEST_NUMBER, defaults::LIMIT)?;
     let Run { plan, tick, .. } = read_run(matches, limit, false)?;
     Ok(UntilStill { limit, plan, tick })
 }
@@ -123,11 +125,11 @@ fn read_trace_form<'a>(matches: &ArgMatches<'a>) -> TraceForm {
 
 /// The trace that the options tell. It ends with the last round that is told.
 pub(crate) fn read_trace<'a>(matches: &ArgMatches<'a>) -> Result<Tracing, Misuse<'a>>
-    ensures { IfOk result (λ how. how.rounds ≤ 1000000) }
+    ensures { IfOk result (λ how. how.rounds ≤ LARGEST_NUMBER) }
 {
-    let rounds = count(matches, "rounds", 0, 1_000_000, 2)?;
-    let from = count(matches, "from", 1, 1_000_000, 1)?;
-    let to = count(matches, "to", 1, 1_000_000, 1_000_000)?;
+    let rounds = count(matches, "rounds", 0, LARGEST_NUMBER, defaults::ROUNDS)?;
+    let from = count(matches, "from", 1, LARGEST_NUMBER, 1)?;
+    let to = count(matches, "to", 1, LARGEST_NUMBER, LARGEST_NUMBER)?;
     if to < from {
         return Err(Misuse::FromAboveTo);
     }
@@ -161,7 +163,7 @@ pub(crate) fn read_only<'a>(
 
 /// The replay that the options tell.
 pub(crate) fn read_replay<'a>(matches: &ArgMatches<'a>) -> Result<Replay, Misuse<'a>> {
-    let turn = count(matches, "turn", 1, 10_000, 100)?;
-    let tick = count(matches, "tick", 1, 1_000_000, 1)?;
+    let turn = count(matches, "turn", 1, LONGEST_TURN, defaults::TURN)?;
+    let tick = count(matches, "tick", 1, LONGEST_TICK, defaults::TICK)?;
     Ok(replay_of(turn, tick, matches.get_flag("chains")))
 }

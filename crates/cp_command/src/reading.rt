@@ -4,9 +4,11 @@ ghost use Rattle.std.specs.Prelude.{◌≡◌, ◌≤◌, IfOk, IsOk, length};
 ghost use Rattle.cp_command.specs.Commands.{HasRounds, IsWithoutWords};
 
 use crate::command::{Command, CommandError, Explaining, Inputs};
+use crate::defaults::{CHUNK, ROUNDS, TICK, TURN, WAVE, WORKERS};
 use crate::grammar::grammar;
 use crate::inputs::read_inputs;
 use crate::misuse::Misuse;
+use crate::numbers::LARGEST_NUMBER;
 use crate::options::{
     count, read_form, read_only, read_outcome, read_replay, read_run, read_trace, run_of,
 };
@@ -59,7 +61,7 @@ fn run<'a>(
 ) -> Result<Command<'a>, Misuse<'a>>
     ensures { IfOk result HasRounds }
 {
-    let rounds = count(matches, "rounds", 0, 1_000_000, 2)?;
+    let rounds = count(matches, "rounds", 0, LARGEST_NUMBER, ROUNDS)?;
     Ok(Command::Run {
         file: Some(file),
         run: read_run(matches, rounds, matches.get_flag("chains"))?,
@@ -149,7 +151,7 @@ fn without_words<'a>() -> Command<'a>
 {
     Command::Run {
         file: None,
-        run: run_of(2, 100, 2, 1, 255, 1, false),
+        run: run_of(ROUNDS, TURN, WORKERS, CHUNK, WAVE, TICK, false),
         input: Inputs::Empty,
         progress: false,
     }

@@ -1,4 +1,17 @@
-//! Numbers of a plan or a clock that are out of their range.
+//! The ranges of the numbers of a plan or a clock, which begin at 1, and a number that is out of
+//! its range.
+
+/// The most steps in a turn.
+pub const LONGEST_TURN: u32 = 10_000;
+
+/// The most workers of a plan.
+pub const MOST_WORKERS: u32 = 64;
+
+/// The most processes in a chunk or a wave.
+pub const LARGEST_PART: u32 = 255;
+
+/// The most rounds between two ticks of the clock.
+pub const LONGEST_TICK: u32 = 1_000_000;
 
 /// Refusal L1: the field of a plan or a clock whose number is out of its range.
 #[derive(Clone, Copy, Debug)]

@@ -1,9 +1,9 @@
 //! Plans: how long a turn is, and how a round is divided among workers.
 
 ghost use Rattle.std.specs.Prelude.{◌≡◌, ◌<◌, ◌≤◌, ◌+◌, ◌*◌, ◌/◌, ◌↔◌, ℕ, IfErr, IfOk, IsOk, IsTrue};
-ghost use Rattle.cp_plan.specs.Plans.{AreInRange, AreParts, AreThreads, IsFirstOut, wave_size};
+ghost use Rattle.cp_plan.specs.Plans.{AreInRange, ArePart, AreParts, AreThreads, AreWorkers, IsFirstOut, wave_size};
 
-use crate::limits::L1;
+use crate::limits::{L1, LARGEST_PART, MOST_WORKERS};
 use crate::turn::Turn;
 
 /// How a round is made: a turn has at most `turn` steps, and `workers` workers draw chunks of
@@ -18,9 +18,9 @@ pub struct Plan {
     pub chunk: u32,
     /// The processes of a wave, from 1 to 255.
     pub wave: u32,
-    ghost workers_in_range: { (1 ≤ workers) × (workers ≤ 64) },
-    ghost chunk_in_range: { (1 ≤ chunk) × (chunk ≤ 255) },
-    ghost wave_in_range: { (1 ≤ wave) × (wave ≤ 255) },
+    ghost workers_in_range: { AreWorkers workers },
+    ghost chunk_in_range: { ArePart chunk },
+    ghost wave_in_range: { ArePart wave },
 }
 
 fn is_within(number: u32, most: u32) -> bool
@@ -53,13 +53,13 @@ impl Plan {
         ensures first { IfErr result (IsFirstOut turn workers chunk wave) }
     {
         let turn = Turn::new(turn)?;
-        if !is_within(workers, 64) {
+        if !is_within(workers, MOST_WORKERS) {
             return Err(L1::Workers);
         }
-        if !is_within(chunk, 255) {
+        if !is_within(chunk, LARGEST_PART) {
             return Err(L1::Chunk);
         }
-        if !is_within(wave, 255) {
+        if !is_within(wave, LARGEST_PART) {
             return Err(L1::Wave);
         }
         Ok(Plan {
@@ -82,7 +82,7 @@ impl Plan {
     pub fn chunks(&self, wave: usize, processes: usize) -> usize
         ensures parts { AreParts result self.now.chunk
             (wave_size self.now.wave wave processes) }
-        ensures most { result ≤ 255 }
+        ensures most { result ≤ LARGEST_PART }
         ensures each { (j : ℕ) → j < self.now.wave → wave * self.now.wave + j < processes
             → j / self.now.chunk < result }
     {

@@ -1,15 +1,16 @@
 //! Turns: how many steps a process may make in a row.
 
-ghost use Rattle.std.specs.Prelude.{◌≡◌, ◌≤◌, ◌↔◌, IfErr, IfOk, IsOk};
+ghost use Rattle.std.specs.Prelude.{◌≡◌, ◌↔◌, IfErr, IfOk, IsOk};
+ghost use Rattle.cp_plan.specs.Plans.{IsTurn};
 ghost use Rattle.cp_plan.specs.declared.limits.L1.TheVariants as limit;
 
-use crate::limits::L1;
+use crate::limits::{L1, LONGEST_TURN};
 
 /// A number of steps, at least 1 and at most 10,000.
 #[derive(Clone, Copy)]
 pub struct Turn {
     pub steps: u32,
-    ghost in_range: { (1 ≤ steps) × (steps ≤ 10000) },
+    ghost in_range: { IsTurn steps },
 }
 
 impl Turn {
@@ -19,11 +20,11 @@ impl Turn {
     ///
     /// `L1::Turn` if the number isn't within 1..=10,000.
     pub fn new(steps: u32) -> Result<Turn, L1>
-        ensures range { IsOk result ↔ ((1 ≤ steps) × (steps ≤ 10000)) }
+        ensures range { IsOk result ↔ IsTurn steps }
         ensures steps { IfOk result (λ turn. turn.steps ≡ steps) }
         ensures field { IfErr result (λ e. e ≡ limit.Turn) }
     {
-        if 1 <= steps && steps <= 10_000 {
+        if 1 <= steps && steps <= LONGEST_TURN {
             Ok(Turn { steps })
         } else {
             Err(L1::Turn)
@@ -33,7 +34,7 @@ impl Turn {
     /// Returns the number of steps.
     pub fn steps(&self) -> u32
         ensures steps { result ≡ self.now.steps }
-        ensures range { (1 ≤ result) × (result ≤ 10000) }
+        ensures range { IsTurn result }
     {
         self.steps
     }

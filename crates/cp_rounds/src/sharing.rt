@@ -3,6 +3,7 @@
 
 ghost use Rattle.std.specs.Prelude.{◌≡◌};
 
+use cp_plan::limits::LARGEST_PART;
 use cp_plan::plan::Plan;
 use cp_plan::turn::Turn;
 
@@ -66,7 +67,7 @@ pub(crate) fn drawn_plan(plan: &Plan, processes: usize, does_nothing: bool) -> P
     Plan {
         turn: plan.turn,
         workers: plan.workers,
-        chunk: chunk.max(1).min(255) as u32,
+        chunk: chunk.max(1).min(LARGEST_PART as usize) as u32,
         wave: plan.wave,
     }
 }
