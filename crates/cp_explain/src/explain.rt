@@ -14,9 +14,9 @@ use crate::all::of_all;
 use crate::lacking::push_lacking;
 use crate::told::of_no_tree;
 use cp_accept::checking::tree_of;
-use cp_accept::reading::{ReadError, read_text};
+use cp_accept::reading::read_text;
 use cp_accept::refusal::{Refusal, scan_number};
-use cp_accept::writing::write_all;
+use cp_accept::writing::write_result;
 use cp_access::graph::{Form, graph};
 use cp_diagnosis::of_violation;
 use cp_digits::decimal::push_natural;
@@ -212,11 +212,7 @@ pub(crate) fn read<R: Read>(alloc: Global, text: &mut R) -> Result<Vec<u8>, Refu
     ensures fault { IfErr result IsFault }
     ensures unwritten { IfErr result (λ e. e ≡ refusal.Write → ⊥) }
 {
-    match read_text(alloc, text) {
-        Ok(bytes) => Ok(bytes),
-        Err(ReadError::Read) => Err(Refusal::Read),
-        Err(ReadError::Memory) => Err(Refusal::Memory),
-    }
+    Ok(read_text(alloc, text)?)
 }
 
 /// Draws the access graph of the text of a reader, or explains why it is refused. The graph goes to
@@ -244,14 +240,11 @@ pub fn draw_text<R: Read, W: Write, E: Write>(
 {
     let bytes = read(alloc, text)?;
     let Explanation { page, refusal } = explain(alloc, file, &bytes, Form::Dot, Extent::First)?;
-    let written = match refusal {
-        None => write_all(out, &page),
-        Some(_) => write_all(errors, &page),
-    };
-    match written {
-        Ok(()) => Ok(refusal),
-        Err(_) => Err(Refusal::Write),
+    match refusal {
+        None => write_result(out, &page)?,
+        Some(_) => write_result(errors, &page)?,
     }
+    Ok(refusal)
 }
 
 // Explains the text of a reader by as much as `extent` says.
@@ -272,10 +265,8 @@ fn explain_to<R: Read, W: Write>(
 {
     let bytes = read(alloc, text)?;
     let Explanation { page, refusal } = explain(alloc, file, &bytes, form, extent)?;
-    match write_all(out, &page) {
-        Ok(()) => Ok(refusal),
-        Err(_) => Err(Refusal::Write),
-    }
+    write_result(out, &page)?;
+    Ok(refusal)
 }
 
 /// Explains the text of a reader, and returns why it is refused, unless it is accepted.

@@ -14,7 +14,7 @@ use crate::explain::{Explanation, Extent, place, push_code, read};
 use crate::told::of_no_tree;
 use cp_accept::checking::tree_of;
 use cp_accept::refusal::Refusal;
-use cp_accept::writing::write_all;
+use cp_accept::writing::write_result;
 use cp_diagnosis::of_violation_in_short;
 use cp_formats::object::line;
 use cp_model::rules::Violation;
@@ -233,8 +233,6 @@ pub fn explain_object<R: Read, W: Write>(
 {
     let bytes = read(alloc, text)?;
     let Explanation { page, refusal } = object(alloc, &bytes, extent)?;
-    match write_all(out, &page) {
-        Ok(()) => Ok(refusal),
-        Err(_) => Err(Refusal::Write),
-    }
+    write_result(out, &page)?;
+    Ok(refusal)
 }

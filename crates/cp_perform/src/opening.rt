@@ -50,10 +50,7 @@ impl<F, I> Source<F, I> {
 ///
 /// I1 if a read fails, M if memory runs out.
 pub(crate) fn read_bytes<R: Read>(alloc: Global, text: &mut R) -> Result<Vec<u8>, Refusal> {
-    match read_text(alloc, text) {
-        Ok(bytes) => Ok(bytes),
-        Err(error) => Err(Refusal::from(error)),
-    }
+    Ok(read_text(alloc, text)?)
 }
 
 /// Opens what has this name, where `-` is standard input.

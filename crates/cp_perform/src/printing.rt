@@ -1,6 +1,7 @@
 //! Standard output.
 
 use cp_accept::refusal::Refusal;
+use cp_accept::writing::write_result;
 use cp_command::command::VERSION;
 use std::io::{self, Print, Write};
 
@@ -23,9 +24,7 @@ pub(crate) fn flush<W: Write>(out: &mut W) -> Result<(), Refusal> {
 /// I2 if a write fails.
 pub(crate) fn print_page<H: Print>(rt: &H, page: &str) -> Result<(), Refusal> {
     let mut out = io::writer(rt);
-    if out.write_all(page.as_bytes()).is_err() {
-        return Err(Refusal::Write);
-    }
+    write_result(&mut out, page.as_bytes())?;
     flush(&mut out)
 }
 
