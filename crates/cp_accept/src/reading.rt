@@ -50,15 +50,15 @@ fn fill<R: Read>(reader: &mut R, buffer: &mut [u8]) -> Result<usize, ReadError>
 // Reads once and appends the bytes to `text`. A read of no bytes means that the reader is at its
 // end.
 fn read_part<R: Read>(reader: &mut R, text: &mut Vec<u8>) -> Result<usize, ReadError>
-    requires room { vec_len text.old < 1048577 }
+    requires room { vec_len text.old < MOST_READ }
     ensures count { IfOk result (λ n. vec_len text.new ≡ vec_len text.old + n) }
-    ensures most { vec_len text.new ≤ 1048577 }
+    ensures most { vec_len text.new ≤ MOST_READ }
     ensures appends { IfOk result (λ n. (bs : List ℕ) × (text.new.items ≡ text.old.items ++ bs)
         × Consumes (R.remaining reader.old) (R.remaining reader.new) bs) }
     ensures end { IfOk result (λ n. n ≡ 0 → IsAtEnd (R.remaining reader.new)) }
     ensures failed { IfErr result
         (λ e. e ≡ error.Read → Keeps (R.remaining reader.old) (R.remaining reader.new)) }
-    ensures taken { OnErr result ((bs : List ℕ) × (vec_len text.old + length bs ≤ 1048577)
+    ensures taken { OnErr result ((bs : List ℕ) × (vec_len text.old + length bs ≤ MOST_READ)
         × Consumes (R.remaining reader.old) (R.remaining reader.new) bs) }
 {
     let mut buffer = [0u8; LONGEST_PART];
@@ -79,8 +79,8 @@ pub fn read_text<R: Read>(alloc: Global, reader: &mut R) -> Result<Vec<u8>, Read
     ensures bytes { IfOk result
         (λ text. IfSome (R.remaining reader.old) (λ xs. text.items ≡ front xs)) }
     ensures front { OnOk result (TakesFront (R.remaining reader.old) (R.remaining reader.new)) }
-    ensures most { IfOk result (λ text. vec_len text ≤ 1048577) }
-    ensures failed { IfErr result (λ e. e ≡ error.Read → (bs : List ℕ) × (length bs < 1048577)
+    ensures most { IfOk result (λ text. vec_len text ≤ MOST_READ) }
+    ensures failed { IfErr result (λ e. e ≡ error.Read → (bs : List ℕ) × (length bs < MOST_READ)
         × Consumes (R.remaining reader.old) (R.remaining reader.new) bs) }
     ensures taken { OnErr result (TakesUpTo (R.remaining reader.old) (R.remaining reader.new)) }
 {

@@ -103,7 +103,7 @@ fn next_line(text: &[u8]) -> (&[u8], &[u8])
 
 // Reads a text within the limit.
 fn read_lines(alloc: Global, text: &[u8], processes: usize) -> Result<Orders, OrderError>
-    requires within { length text.now ≤ 1048576 }
+    requires within { length text.now ≤ LONGEST_ORDER }
     ensures ok { IfOk result (λ orders. judged processes text.now ≡ Told (rounds_of orders)) }
     ensures refused { IfErr result (Refuses processes text.now) }
 {
