@@ -2,7 +2,7 @@
 
 ghost use Rattle.std.specs.Prelude.{◌≡◌, IfOk, IfSome, Some};
 ghost use Rattle.cp_model.specs.Decimal.{natural};
-ghost use Rattle.cp_page.specs.Pages.{with_added};
+ghost use Rattle.cp_page.specs.Pages.{quoted, told_position, with_added};
 
 use crate::position::Position;
 use cp_digits::decimal::push_natural;
@@ -82,19 +82,26 @@ impl Page {
     }
 
     /// Adds a name between backquotes.
-    pub fn name(&mut self, x: &Identifier) {
+    pub fn name(&mut self, x: &Identifier)
+        ensures { IfSome self.new (λ new. with_added self.old (quoted x.now.name) ≡ Some new) }
+    {
         self.quoted(x.name.as_bytes());
     }
 
     /// Adds bytes between backquotes.
-    pub fn quoted(&mut self, bytes: &[u8]) {
+    pub fn quoted(&mut self, bytes: &[u8])
+        ensures { IfSome self.new (λ new. with_added self.old (quoted bytes.now) ≡ Some new) }
+    {
         self.bytes(b"`");
         self.bytes(bytes);
         self.bytes(b"`");
     }
 
     /// Adds a line and a column.
-    pub fn position(&mut self, position: Position) {
+    pub fn position(&mut self, position: Position)
+        ensures { IfSome self.new
+            (λ new. with_added self.old (told_position position.line position.column) ≡ Some new) }
+    {
         self.number(position.line);
         self.bytes(b":");
         self.number(position.column);
