@@ -5,13 +5,11 @@ ghost use Rattle.cp_model.specs.Input.{cut};
 ghost use Rattle.cp_accept.specs.Cutting.{AreParts, after_separator, front_part, judge_input};
 
 use crate::refusal::Refusal;
+use cp_model::ordinals::LAST_CHARACTER;
 use std::alloc::{AllocError, Global};
 
 /// The largest number of bytes that an input may have.
 pub const LONGEST_INPUT: usize = 1_048_576;
-
-// The largest byte that is a character.
-pub(crate) const LAST_CHARACTER: u8 = 127;
 
 // The byte between the inputs of two processes.
 pub(crate) const SEPARATOR: u8 = 28;

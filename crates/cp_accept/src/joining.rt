@@ -4,7 +4,8 @@ ghost use Rattle.std.specs.Prelude.{◌≡◌, IfOk, None, length};
 ghost use Rattle.cp_accept.specs.Cutting.{AreParts, front_part};
 ghost use Rattle.cp_accept.specs.Joining.{AreWhole, joined, misplaced_from};
 
-use crate::cutting::{LAST_CHARACTER, SEPARATOR};
+use crate::cutting::SEPARATOR;
+use cp_model::ordinals::LAST_CHARACTER;
 use std::alloc::{AllocError, Global};
 
 /// The place of the first byte that is none of a process's input: a byte above 127, or byte 28,

@@ -1,5 +1,6 @@
 //! What names and types stand for.
 
+use cp_model::ordinals::{FIRST_INTEGER, LAST_CHARACTER, LAST_INTEGER};
 use cp_model::tree::{Sort, TypeExpression};
 
 /// The ordinals of a simple type.
@@ -19,13 +20,13 @@ impl Ordinals {
 /// The ordinals of the characters.
 pub const CHARACTERS: Ordinals = Ordinals {
     first: 0,
-    last: 127,
+    last: LAST_CHARACTER as i32,
 };
 
 /// The ordinals of the integers.
 pub const INTEGERS: Ordinals = Ordinals {
-    first: -32768,
-    last: 32767,
+    first: FIRST_INTEGER,
+    last: LAST_INTEGER,
 };
 
 /// The ordinals of the Booleans.

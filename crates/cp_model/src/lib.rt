@@ -2,12 +2,14 @@
 //! against.
 //!
 //! The types have no behaviour: tokens (`token`, `short`), the syntax tree (`tree`), what the rules
-//! refer to (`rules`), and why a process stops (`state`). The definitions are in `specs/`.
+//! refer to (`rules`), and why a process stops (`state`). `ordinals` has the ranges of integers and
+//! characters. The definitions are in `specs/`.
 //! docs/language.md and docs/meaning.md describe them in words, each next to the name of its file.
 //! The laws of rounds are the contracts of functions with empty bodies (`law`).
 #![tactic(auto)]
 
 pub mod law;
+pub mod ordinals;
 pub mod rules;
 pub mod short;
 pub mod state;

@@ -11,13 +11,19 @@ ghost use Rattle.cp_machine_model.specs.Values as values;
 ghost use Rattle.cp_program.specs.View as view;
 
 use crate::term::Function;
+use cp_model::ordinals::{FIRST_INTEGER, LAST_CHARACTER, LAST_INTEGER};
 use cp_model::state::Fault;
 use cp_model::tree::Operator;
+
+// The integers as numbers that hold the result of any operation on two of them.
+pub(crate) const FIRST: i64 = FIRST_INTEGER as i64;
+
+pub(crate) const LAST: i64 = LAST_INTEGER as i64;
 
 pub(crate) fn in_range(n: i64) -> Result<i32, Fault>
     ensures { result ≡ functions.in_range n }
 {
-    if -32768 <= n && n <= 32767 {
+    if FIRST <= n && n <= LAST {
         Ok(n as i32)
     } else {
         Err(Fault::Overflow)
@@ -103,7 +109,7 @@ pub(crate) fn standard(function: Function, n: i32) -> Result<i32, Fault>
             in_range(if n < 0 { -n } else { n })
         }
         Function::Ord => in_range(i64::from(n)),
-        Function::Chr => check_range(i64::from(n), 0, 127),
+        Function::Chr => check_range(i64::from(n), 0, i32::from(LAST_CHARACTER)),
         Function::Shift { by, low, high } => shift(n, by, low, high),
     }
 }

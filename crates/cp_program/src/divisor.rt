@@ -2,6 +2,8 @@
 
 ghost use Rattle.std.specs.Prelude.{◌≡◌, ◌≤ℤ◌, pos, IfSome};
 
+use cp_model::ordinals::LAST_INTEGER;
+
 /// A divisor by which no division faults, and whose remainders are all in range.
 #[derive(Clone, Copy)]
 pub struct Divisor {
@@ -13,7 +15,7 @@ impl Divisor {
     pub(crate) fn new(number: i32) -> Option<Divisor>
         ensures { IfSome result (λ d. d.number ≡ number) }
     {
-        if 0 < number && number <= 32767 {
+        if 0 < number && number <= LAST_INTEGER {
             Some(Divisor { number })
         } else {
             None

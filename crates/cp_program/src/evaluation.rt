@@ -15,6 +15,7 @@ use crate::arithmetic::{apply, in_range, standard, truth};
 use crate::memory::{natural, word};
 use crate::reach::Reach;
 use crate::term::{Application, Index, Operand, Root, Spot, Term};
+use cp_model::ordinals::LAST_INTEGER;
 use cp_model::state::Fault;
 use cp_model::tree::Operator;
 
@@ -95,11 +96,11 @@ impl<'a> Reach<'a> {
         }
     }
 
-    // The number of seconds since the start. Faults if it is greater than 32767.
+    // The number of ticks since the start. Faults if it is no integer.
     fn realtime(&self) -> Result<i32, Fault>
         ensures { result ≡ values.value_of (view_of self.now) terms.Realtime }
     {
-        if self.clock <= 32767 {
+        if self.clock <= LAST_INTEGER as u64 {
             Ok(self.clock as i32)
         } else {
             Err(Fault::Overflow)

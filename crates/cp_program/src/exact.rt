@@ -7,7 +7,7 @@ ghost use Rattle.cp_model.specs.Abstract as abstract;
 ghost use Rattle.cp_model.specs.Erase.{operator_of};
 ghost use Rattle.cp_machine_model.specs.Values as values;
 
-use crate::arithmetic::truth;
+use crate::arithmetic::{FIRST, LAST, truth};
 use crate::divisor::Divisor;
 use cp_model::tree::Operator;
 
@@ -15,7 +15,7 @@ use cp_model::tree::Operator;
 fn in_range(n: i64) -> Option<i32>
     ensures { IfSome result (λ m. functions.in_range n ≡ Ok m) }
 {
-    if -32768 <= n && n <= 32767 {
+    if FIRST <= n && n <= LAST {
         Some(n as i32)
     } else {
         None

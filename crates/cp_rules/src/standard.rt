@@ -7,6 +7,7 @@ ghost use Rattle.cp_rules.specs.StandardNames as standard_names;
 use cp_judge::Environment;
 use cp_judge::bases::{BOOLEAN, CHAR, INTEGER, QUEUE};
 use cp_judge::scope::Scope;
+use cp_model::ordinals::{FIRST_INTEGER, LAST_CHARACTER, LAST_INTEGER};
 use cp_model::rules::{Entity, Standard, Structure, TypeRow};
 use std::alloc::{AllocError, Global};
 
@@ -105,9 +106,9 @@ fn types(alloc: Global) -> Result<Vec<TypeRow>, AllocError>
     ensures { IfOk result (λ types. types.items ≡ r.standard_environment.types) }
 {
     let mut types = Vec::new(alloc);
-    types.push(simple(INTEGER, -32_768, 32_767))?;
+    types.push(simple(INTEGER, FIRST_INTEGER, LAST_INTEGER))?;
     types.push(simple(BOOLEAN, 0, 1))?;
-    types.push(simple(CHAR, 0, 127))?;
+    types.push(simple(CHAR, 0, LAST_CHARACTER as i32))?;
     types.push(TypeRow {
         structure: Structure::Queue,
         words: 1,

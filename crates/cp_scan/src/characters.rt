@@ -10,6 +10,7 @@ use crate::bytes::{APOSTROPHE, byte_at, digit_count, is_printable};
 use crate::numbers::capped_value;
 use crate::piece::Found;
 use crate::refusal::Cause;
+use cp_model::ordinals::LAST_CHARACTER;
 
 // Reads the rest of a character constant that gives an ordinal. The text before `rest` ends with
 // its `'(:`.
@@ -23,7 +24,7 @@ fn character_by_ordinal(rest: &[u8]) -> Found<u8>
     let is_closed = byte_at(behind, 0) == b':'
         && byte_at(behind, 1) == b')'
         && byte_at(behind, 2) == APOSTROPHE;
-    if 1 <= n && n <= 3 && value <= 127 && is_closed {
+    if 1 <= n && n <= 3 && value <= u32::from(LAST_CHARACTER) && is_closed {
         Ok((value as u8, n + 6))
     } else {
         Err(Cause::Character)

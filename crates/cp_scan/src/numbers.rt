@@ -10,9 +10,10 @@ ghost use Rattle.cp_scan.specs.Pieces as spec;
 use crate::bytes::digit_count;
 use crate::piece::Found;
 use crate::refusal::Cause;
+use cp_model::ordinals::LAST_INTEGER;
 
 // The largest number that a text may contain.
-const GREATEST_NUMBER: u32 = 32767;
+const GREATEST_NUMBER: u32 = LAST_INTEGER as u32;
 
 /// The value of decimal digits, or 32768 if it is larger.
 pub fn capped_value(digits: &[u8]) -> u32

@@ -21,6 +21,7 @@ ghost use Rattle.cp_scope.specs.Standing.{base_of, simple_of};
 use crate::designators::is_part;
 use crate::scope::{Callee, Meaning, Scope};
 use crate::types::{Base, Simple, TypeRow, Types};
+use cp_model::ordinals::{FIRST_INTEGER, LAST_CHARACTER, LAST_INTEGER};
 use cp_model::tree::{Designator, Expression, Operation, Operator, Sign};
 use std::alloc::AllocError;
 
@@ -29,7 +30,7 @@ pub fn first_ordinal(base: Base) -> i32
     ensures { result ≡ types.first_ordinal (base_of base.entry) }
 {
     match base {
-        Base::Integer => -32768,
+        Base::Integer => FIRST_INTEGER,
         _ => 0,
     }
 }
@@ -39,8 +40,8 @@ pub fn last_ordinal(base: Base) -> Result<i32, AllocError>
     ensures { IfOk result (λ n. n ≡ types.last_ordinal (base_of base.entry)) }
 {
     match base {
-        Base::Integer => Ok(32767),
-        Base::Char => Ok(127),
+        Base::Integer => Ok(LAST_INTEGER),
+        Base::Char => Ok(LAST_CHARACTER as i32),
         Base::Boolean => Ok(1),
         Base::Enumeration { last, .. } => { i32::try_from(last).map_err(|_| AllocError) }
     }

@@ -13,6 +13,7 @@ ghost use Rattle.cp_scope.specs.Standing.{MakesFields, Stands, base_of, entry, s
 use crate::names::{Names, Value};
 use crate::resolving::add_fields;
 use crate::types::{Base, Field, Simple, TypeRow, Types};
+use cp_model::ordinals::{FIRST_INTEGER, LAST_CHARACTER, LAST_INTEGER};
 use cp_model::tree::{
     ConstantDefinition, Defined, Identifier, Parameters, Section, System, Tree, TypeDefinition,
     TypeExpression,
@@ -158,9 +159,12 @@ impl<'t> Outer<'t> {
     {
         let queue = self.types.add(TypeRow::Queue)?;
         self.add_type(b"queue", queue)?;
-        self.add_base(b"char", simple(Base::Char, 0, 127))?;
+        self.add_base(b"char", simple(Base::Char, 0, LAST_CHARACTER as i32))?;
         self.add_base(b"boolean", simple(Base::Boolean, 0, 1))?;
-        self.add_base(b"integer", simple(Base::Integer, -32768, 32767))?;
+        self.add_base(
+            b"integer",
+            simple(Base::Integer, FIRST_INTEGER, LAST_INTEGER),
+        )?;
         self.add_constant(b"true", value(Base::Boolean, 1))?;
         self.add_constant(b"false", value(Base::Boolean, 0))
     }
