@@ -1,6 +1,6 @@
 //! A page of an explanation: text that grows at its end.
 
-ghost use Rattle.std.specs.Prelude.{◌≡◌, IfOk, IfSome, Some};
+ghost use Rattle.std.specs.Prelude.{◌≡◌, IfErr, IfOk, IfSome, None, Some};
 ghost use Rattle.cp_model.specs.Decimal.{natural};
 ghost use Rattle.cp_page.specs.Pages.{quoted, told_position, with_added};
 
@@ -43,7 +43,8 @@ impl Page {
     ///
     /// `AllocError` if memory ran out while the page was written.
     pub fn finish(self) -> Result<Vec<u8>, AllocError>
-        ensures { IfOk result (λ bytes. self ≡ Some bytes.items) }
+        ensures whole { IfOk result (λ bytes. self ≡ Some bytes.items) }
+        ensures lost { IfErr result (λ _. self ≡ None) }
     {
         let Page { bytes, is_whole } = self;
         if is_whole { Ok(bytes) } else { Err(AllocError) }
