@@ -64,17 +64,18 @@ def literal(text):
     return f'"{escaped}"'
 
 
-def table(name, told, document):
-    """The constant with the pages of the sections of a document."""
+def table(name, told, letters, document):
+    """The constant with the pages of those sections of a document that begin with one of the letters."""
     sections = re.split(r'^#+ ', (DOCS / document).read_text(), flags=re.M)
-    found = [re.match(r'([CSYFIO]\d+|M): ([^\n]*)\n(.*)', section, re.S) for section in sections]
+    found = [re.match(rf'([{letters}]\d*): ([^\n]*)\n(.*)', section, re.S) for section in sections]
     pages = [(match.group(1), page(*match.groups())) for match in found if match]
     rows = ''.join(f'    RulePage {{\n        rule: "{rule}",\n        text: {literal(text)},\n    }},\n' for rule, text in pages)
     return f'\n/// One page for each {told}, in the order of docs/{document}.\npub const {name}: [RulePage; {len(pages)}] = [\n{rows}];\n'
 
 
 def code():
-    return HEAD + table('RULES', 'rule', 'rules.md') + table('FAULTS', 'fault', 'faults.md')
+    rules = table('NAME_RULES', 'rule about names and types', 'C', 'rules.md') + table('OTHER_RULES', 'other rule', 'SYIOM', 'rules.md')
+    return HEAD + rules + table('FAULTS', 'fault', 'F', 'faults.md')
 
 
 if __name__ == '__main__':

@@ -8,8 +8,8 @@ pub struct RulePage {
     pub(crate) text: &'static str,
 }
 
-/// One page for each rule, in the order of docs/rules.md.
-pub const RULES: [RulePage; 28] = [
+/// One page for each rule about names and types, in the order of docs/rules.md.
+pub const NAME_RULES: [RulePage; 13] = [
     RulePage {
         rule: "C1",
         text: "C1: a name is declared before it is used, and once\n\nWhy: an undeclared name is a slip, and a name that hides another misleads the\nreader; so names are declared first, and none hides another.\nMend: spell the name as it is declared, or declare it. If it is declared\ntwice, rename one of the two.\n\nThis text is refused C1 at 89: the cycle assigns `totl`, which nobody\ndeclared.\n\n  \"A counter that misspells its variable.\"\n  var total: integer;\n  begin\n    total := 0;\n    cycle totl := total + 1 end\n  end.\n\nMended:\n\n  \"A counter.\"\n  var total: integer;\n  begin\n    total := 0;\n    cycle total := total + 1 end\n  end.\n",
@@ -62,6 +62,10 @@ pub const RULES: [RulePage; 28] = [
         rule: "C13",
         text: "C13: everything fits\n\nWhy: the memory of every process is known before it starts, and bounded:\n65,536 words for a type and for the owner of variables; 255 processes and 255\nmonitors.\nMend: use a smaller array, or spread the data over several processes.\n\nThis text is refused C13 at 57: the picture has 90,000 words.\n\n  \"A picture of 300 lines of 300 characters.\"\n  var picture: array [1..300, 1..300] of char;\n  begin\n    picture[1, 1] := '.'\n  end.\n\nMended:\n\n  \"A picture of 200 lines of 300 characters.\"\n  var picture: array [1..200, 1..300] of char;\n  begin\n    picture[1, 1] := '.'\n  end.\n",
     },
+];
+
+/// One page for each other rule, in the order of docs/rules.md.
+pub const OTHER_RULES: [RulePage; 15] = [
     RulePage {
         rule: "S1",
         text: "S1: a text is spelled with letters, digits, blanks and marks\n\nWhy: each character has one meaning, and what has none is a slip.\nMend: put remarks between `\"` and `\"`, and other characters into character\nconstants.\n\nThis text is refused S1 at 54: `#` can't appear there.\n\n  \"A remark as in another language.\"\n  begin\n    display(1) # one\n  end.\n\nMended:\n\n  \"A remark is a comment.\"\n  begin\n    display(1) \"one\"\n  end.\n",

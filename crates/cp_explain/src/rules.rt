@@ -1,6 +1,6 @@
 //! The page of a rule, or of a fault.
 
-use crate::pages::{FAULTS, RULES, RulePage};
+use crate::pages::{FAULTS, NAME_RULES, OTHER_RULES, RulePage};
 
 // The letters of rules and faults that have numbers.
 const LETTERS: &[u8] = b"SYCIOF";
@@ -9,20 +9,13 @@ const LETTERS: &[u8] = b"SYCIOF";
 pub const ALL: &str =
     "the rules are S1 to S6, Y1 to Y3, C1 to C13, I1 to I4, O1 and M, and the faults F1 to F9";
 
-fn upper(byte: u8) -> u8 {
-    match byte {
-        b'a'..=b'z' => byte - 32,
-        _ => byte,
-    }
-}
-
 // Whether a word is the name of this rule, in small or capital letters.
 fn is_name(word: &[u8], rule: &[u8]) -> bool {
     if word.len() != rule.len() {
         return false;
     }
     for i in 0..rule.len() {
-        if upper(word[i]) != rule[i] {
+        if word[i].to_ascii_uppercase() != rule[i] {
             return false;
         }
     }
@@ -39,9 +32,13 @@ fn text_of(pages: &'static [RulePage], word: &[u8]) -> Option<&'static str> {
     None
 }
 
-// The two tables are named in a function each: a proof that has the texts of both takes too long.
-fn page_of_rule(word: &[u8]) -> Option<&'static str> {
-    text_of(RULES.as_slice(), word)
+// Each table is named in a function of its own: a proof that has the texts of all takes too long.
+fn page_of_name_rule(word: &[u8]) -> Option<&'static str> {
+    text_of(NAME_RULES.as_slice(), word)
+}
+
+fn page_of_other_rule(word: &[u8]) -> Option<&'static str> {
+    text_of(OTHER_RULES.as_slice(), word)
 }
 
 fn page_of_fault(word: &[u8]) -> Option<&'static str> {
@@ -51,15 +48,19 @@ fn page_of_fault(word: &[u8]) -> Option<&'static str> {
 /// The page of a rule or a fault such as `C4`: what it says, the reason for it, a text that breaks
 /// it, and the text corrected. Returns `None` if there is no such rule.
 pub fn rule_page(rule: &str) -> Option<&'static str> {
-    match page_of_rule(rule.as_bytes()) {
-        Some(page) => Some(page),
-        None => page_of_fault(rule.as_bytes()),
+    let word = rule.as_bytes();
+    if let Some(page) = page_of_name_rule(word) {
+        return Some(page);
     }
+    if let Some(page) = page_of_other_rule(word) {
+        return Some(page);
+    }
+    page_of_fault(word)
 }
 
 fn are_digits(bytes: &[u8]) -> bool {
     for byte in bytes {
-        if *byte < b'0' || b'9' < *byte {
+        if !byte.is_ascii_digit() {
             return false;
         }
     }
@@ -69,7 +70,8 @@ fn are_digits(bytes: &[u8]) -> bool {
 /// Whether a word looks like the name of a rule: one of their letters, and digits.
 pub fn is_like_rule(word: &str) -> bool {
     match word.as_bytes() {
-        [letter, digits @ ..] => LETTERS.contains(&upper(*letter)) && are_digits(digits),
+        [letter, digits @ ..] => LETTERS.contains(&letter.to_ascii_uppercase())
+            && are_digits(digits),
         [] => false,
     }
 }
