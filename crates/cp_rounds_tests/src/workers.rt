@@ -4,7 +4,6 @@ use crate::gates::{
     Counting, CountingKernelTurns, EachWaits, Meeting, PrivateTurnsMeet, WavesMeet,
 };
 use crate::machines::on_machine;
-use crate::rounds::SEVENS;
 use crate::ways::Way;
 use cp_rounds::gate::TurnGate;
 use std::alloc::Global;
@@ -78,7 +77,7 @@ fn the_gate_is_called_once_for_each_turn(rt: HostRuntime) -> Result<(), Fail> {
         for wave in [1, 2, 3, 255] {
             let gate = Counting::new();
             let way = Way::new(is_run, 64, 1, wave);
-            make(&rt, rt.alloc(), SEVENS, way, 5, 1, &gate)?;
+            make(&rt, rt.alloc(), TWO, way, 5, 1, &gate)?;
             assert!(rt;
                 gate.calls() == [(0, 0), (5, 5), (5, 5), (5, 5)],
                 "run: {is_run}, wave {wave}"
