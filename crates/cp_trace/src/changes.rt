@@ -16,35 +16,54 @@ pub(crate) enum Value<'t> {
     Empty,
 }
 
-/// A change: what was, and what is now.
+/// What was, and what is now.
 #[derive(Drop, Serialize)]
-#[serde(tag = "change", rename_all = "lowercase")]
+pub(crate) struct Step<T> {
+    pub(crate) from: T,
+    pub(crate) to: T,
+}
+
+/// What a process wrote.
+#[derive(Drop, Serialize)]
+pub(crate) struct Output {
+    pub(crate) text: String,
+}
+
+/// The values of a variable or a queue.
+#[derive(Drop, Serialize)]
+pub(crate) struct VariableChange<'t> {
+    pub(crate) variable: &'t str,
+    pub(crate) from: Value<'t>,
+    pub(crate) to: Value<'t>,
+}
+
+/// A change.
+#[derive(Drop, Serialize)]
+#[serde(untagged)]
 pub(crate) enum Change<'t> {
     /// The status of a process, in the words of a report.
-    Status {
-        from: String,
-        to: String,
-    },
+    Status(Step<String>),
     /// What a process wrote.
-    Out {
-        text: String,
-    },
+    Out(Output),
     /// A variable or a queue.
-    Variable {
-        variable: &'t str,
-        from: Value<'t>,
-        to: Value<'t>,
-    },
+    Variable(VariableChange<'t>),
     /// The gate of a monitor: the name of its holder, `free` or `unset`.
-    Gate {
-        from: &'t str,
-        to: &'t str,
-    },
+    Gate(Step<&'t str>),
     /// The processes that ask for the gate of a monitor, by name.
-    Askers {
-        from: Vec<&'t str>,
-        to: Vec<&'t str>,
-    },
+    Askers(Step<Vec<&'t str>>),
+}
+
+impl Change<'_> {
+    /// Returns the word for its kind.
+    pub(crate) fn kind(&self) -> &'static str {
+        match self {
+            Change::Status(_) => "status",
+            Change::Out(_) => "out",
+            Change::Variable(_) => "variable",
+            Change::Gate(_) => "gate",
+            Change::Askers(_) => "askers",
+        }
+    }
 }
 
 /// What changed of a process or a monitor, in the order in which it is told.

@@ -1,12 +1,11 @@
 //! What the processes and monitors of a machine are after each of some rounds.
 
 use crate::members::{chosen, name_of};
+use crate::readings::Readings;
 use cp_model::state::Fault;
 use cp_private::outside::Holder;
 use cp_report::roster::{Member, Roster};
-use cp_rounds::machine::Machine;
 use cp_rounds::state::ProcState;
-use cp_scope::Tables;
 use std::alloc::{AllocError, Global};
 
 /// What a process or a monitor is after a round. The numbers are those of monitors and, in `Held`,
@@ -45,8 +44,8 @@ pub(crate) struct Grid<'t> {
     pub(crate) columns: usize,
 }
 
-fn cell_of_process(machine: &Machine, number: u32) -> Cell {
-    match machine.state(number) {
+fn cell_of_process<M: Readings>(machine: &M, number: u32) -> Cell {
+    match machine.state_of(number) {
         ProcState::Unstarted => Cell::Unstarted,
         // A process is fresh only within the round that starts it.
         ProcState::Fresh | ProcState::Ready => Cell::Ready,
@@ -58,15 +57,15 @@ fn cell_of_process(machine: &Machine, number: u32) -> Cell {
     }
 }
 
-fn cell_of_monitor(machine: &Machine, number: u32) -> Cell {
-    match machine.gate(number) {
+fn cell_of_monitor<M: Readings>(machine: &M, number: u32) -> Cell {
+    match machine.holder_of(number) {
         Holder::Unset => Cell::Unset,
         Holder::Free => Cell::Free,
         Holder::Process(process) => Cell::Held(process),
     }
 }
 
-fn cell_of(machine: &Machine, member: Member) -> Cell {
+fn cell_of<M: Readings>(machine: &M, member: Member) -> Cell {
     match member {
         Member::Process(number) => cell_of_process(machine, number),
         Member::Monitor(number) => cell_of_monitor(machine, number),
@@ -74,19 +73,18 @@ fn cell_of(machine: &Machine, member: Member) -> Cell {
 }
 
 impl<'t> Grid<'t> {
-    /// Returns the grid of a machine that is to make rounds, without cells. The machine runs the
-    /// program of a text with these tables. The names in `only` are those of a `Tracer`.
+    /// Returns the grid, without cells, of a machine that has made so many rounds and is to make
+    /// more. Its processes and monitors are these. The names in `only` are those of a `Tracer`.
     ///
     /// # Errors
     ///
     /// `AllocError` if memory runs out.
     pub(crate) fn of(
         alloc: Global,
-        tables: &Tables<'t>,
-        machine: &Machine,
+        roster: Roster<'t>,
+        rounds: u64,
         only: &[&str],
     ) -> Result<Grid<'t>, AllocError> {
-        let roster = Roster::of(alloc, tables)?;
         let mut rows = Vec::new(alloc);
         for member in chosen(alloc, &roster, only)? {
             rows.push(Row {
@@ -99,7 +97,7 @@ impl<'t> Grid<'t> {
             alloc,
             roster,
             rows,
-            first: machine.rounds().saturating_add(1),
+            first: rounds.saturating_add(1),
             columns: 0,
         })
     }
@@ -109,7 +107,7 @@ impl<'t> Grid<'t> {
     /// # Errors
     ///
     /// `AllocError` if memory runs out. The grid is then of no more use.
-    pub(crate) fn see(&mut self, machine: &Machine) -> Result<(), AllocError> {
+    pub(crate) fn see<M: Readings>(&mut self, machine: &M) -> Result<(), AllocError> {
         for row in self.rows.iter_mut() {
             row.cells.push(cell_of(machine, row.member))?;
         }

@@ -3,6 +3,7 @@
 //! - `tracer`: follows a machine, and tells of it in one of four forms.
 //! - `rounds`: makes the rounds of a machine, and writes what a tracer tells of them.
 //! - `members`: of whom is told.
+//! - `readings`: what is read of a machine.
 //! - `trace`: what was seen of a machine, and what changed since: of a `process`, of a `monitor`,
 //!   and of the `values` of variables, whose places are their `shapes`. `vocabulary`: names in
 //!   place of numbers.
@@ -25,6 +26,7 @@ mod members;
 mod monitor;
 mod objects;
 mod process;
+mod readings;
 pub mod rounds;
 mod shapes;
 mod svg;

@@ -3,7 +3,7 @@
 ghost use Rattle.std.specs.Prelude.{OnOk};
 ghost use Rattle.cp_trace.specs.Telling.{Adds, IsRound};
 
-use crate::changes::{Change, Changes, Value};
+use crate::changes::{Change, Changes, Output, Step, Value, VariableChange};
 use cp_digits::decimal::{push_integer, push_natural};
 use cp_report::roster::Member;
 use cp_report::text::push_all_escaped;
@@ -58,30 +58,38 @@ fn push_step(out: &mut Vec<u8>, from: &str, to: &str) -> Result<(), AllocError> 
     out.extend_from_slice(to.as_bytes())
 }
 
+fn push_output(out: &mut Vec<u8>, output: &Output) -> Result<(), AllocError> {
+    out.extend_from_slice(b"out ")?;
+    push_quoted(out, output.text.as_bytes())
+}
+
+fn push_variable(out: &mut Vec<u8>, change: &VariableChange<'_>) -> Result<(), AllocError> {
+    out.extend_from_slice(change.variable.as_bytes())?;
+    out.extend_from_slice(b" ")?;
+    push_value(out, &change.from)?;
+    push_arrow(out)?;
+    push_value(out, &change.to)
+}
+
+fn push_gate(out: &mut Vec<u8>, step: &Step<&str>) -> Result<(), AllocError> {
+    out.extend_from_slice(b"gate ")?;
+    push_step(out, step.from, step.to)
+}
+
+fn push_askers(out: &mut Vec<u8>, step: &Step<Vec<&str>>) -> Result<(), AllocError> {
+    out.extend_from_slice(b"askers ")?;
+    push_names(out, &step.from)?;
+    push_arrow(out)?;
+    push_names(out, &step.to)
+}
+
 fn push_change(out: &mut Vec<u8>, change: &Change<'_>) -> Result<(), AllocError> {
     match change {
-        Change::Status { from, to } => push_step(out, from.as_str(), to.as_str()),
-        Change::Out { text } => {
-            out.extend_from_slice(b"out ")?;
-            push_quoted(out, text.as_bytes())
-        }
-        Change::Variable { variable, from, to } => {
-            out.extend_from_slice(variable.as_bytes())?;
-            out.extend_from_slice(b" ")?;
-            push_value(out, from)?;
-            push_arrow(out)?;
-            push_value(out, to)
-        }
-        Change::Gate { from, to } => {
-            out.extend_from_slice(b"gate ")?;
-            push_step(out, from, to)
-        }
-        Change::Askers { from, to } => {
-            out.extend_from_slice(b"askers ")?;
-            push_names(out, from)?;
-            push_arrow(out)?;
-            push_names(out, to)
-        }
+        Change::Status(step) => push_step(out, step.from.as_str(), step.to.as_str()),
+        Change::Out(output) => push_output(out, output),
+        Change::Variable(change) => push_variable(out, change),
+        Change::Gate(step) => push_gate(out, step),
+        Change::Askers(step) => push_askers(out, step),
     }
 }
 

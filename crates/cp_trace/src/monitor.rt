@@ -1,12 +1,12 @@
 //! What was seen of a monitor, and what changed since.
 
-use crate::changes::Change;
+use crate::changes::{Change, Step};
+use crate::readings::Readings;
 use crate::values::Values;
 use crate::vocabulary::Vocabulary;
 use cp_private::outside::Holder;
 use cp_report::places::Place;
 use cp_report::roster::Member;
-use cp_rounds::machine::Machine;
 use std::alloc::{AllocError, Global};
 
 /// A monitor when it was seen last.
@@ -20,64 +20,64 @@ pub(crate) struct SeenMonitor {
 
 impl SeenMonitor {
     /// Returns a monitor of a machine with variables at these places, as it is.
-    pub(crate) fn of(
+    pub(crate) fn of<M: Readings>(
         alloc: Global,
         number: u32,
         places: &[Place],
-        machine: &Machine,
+        machine: &M,
     ) -> Result<SeenMonitor, AllocError> {
         Ok(SeenMonitor {
             number,
-            holder: machine.gate(number),
-            askers: Vec::from_slice(alloc, machine.askers(number))?,
+            holder: machine.holder_of(number),
+            askers: Vec::from_slice(alloc, machine.askers_of(number))?,
             values: Values::of(alloc, Member::Monitor(number), places, machine)?,
         })
     }
 
-    fn push_holder<'a, 't: 'a>(
+    fn push_holder<'a, 't: 'a, M: Readings>(
         &mut self,
-        vocabulary: &Vocabulary<'_, 't>,
-        machine: &Machine,
+        vocabulary: &Vocabulary<'t>,
+        machine: &M,
         changes: &mut Vec<Change<'a>>,
     ) -> Result<(), AllocError> {
-        let holder = machine.gate(self.number);
+        let holder = machine.holder_of(self.number);
         if holder == self.holder {
             return Ok(());
         }
-        changes.push(Change::Gate {
+        changes.push(Change::Gate(Step {
             from: vocabulary.holder(self.holder),
             to: vocabulary.holder(holder),
-        })?;
+        }))?;
         self.holder = holder;
         Ok(())
     }
 
-    fn push_askers<'a, 't: 'a>(
+    fn push_askers<'a, 't: 'a, M: Readings>(
         &mut self,
-        vocabulary: &Vocabulary<'_, 't>,
-        machine: &Machine,
+        vocabulary: &Vocabulary<'t>,
+        machine: &M,
         changes: &mut Vec<Change<'a>>,
     ) -> Result<(), AllocError> {
-        let askers = machine.askers(self.number);
+        let askers = machine.askers_of(self.number);
         if askers == self.askers.as_slice() {
             return Ok(());
         }
-        changes.push(Change::Askers {
+        changes.push(Change::Askers(Step {
             from: vocabulary.processes(&self.askers)?,
             to: vocabulary.processes(askers)?,
-        })?;
+        }))?;
         self.askers.clear();
         self.askers.extend_from_slice(askers)
     }
 
     /// Returns what changed since the monitor was seen last: its gate, its askers, and its
     /// variables and queues at these places. It has then been seen.
-    pub(crate) fn changes<'a, 't: 'a>(
+    pub(crate) fn changes<'a, 't: 'a, M: Readings>(
         &mut self,
         alloc: Global,
-        vocabulary: &Vocabulary<'_, 't>,
+        vocabulary: &Vocabulary<'t>,
         places: &'a [Place],
-        machine: &Machine,
+        machine: &M,
     ) -> Result<Vec<Change<'a>>, AllocError> {
         let mut changes = Vec::new(alloc);
         self.push_holder(vocabulary, machine, &mut changes)?;

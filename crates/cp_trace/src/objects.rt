@@ -18,8 +18,9 @@ struct ChangeObject<'a, 't> {
     #[serde(skip_serializing_if = "Option::is_none")]
     monitor: Option<u32>,
     name: &'t str,
+    change: &'static str,
     #[serde(flatten)]
-    change: &'a Change<'t>,
+    values: &'a Change<'t>,
 }
 
 // Adds an object for each change of a process or a monitor.
@@ -41,7 +42,8 @@ fn push_each(
             process,
             monitor,
             name: changes.name,
-            change,
+            change: change.kind(),
+            values: change,
         };
         out.extend_from_slice(&line(alloc, &object)?)?;
     }

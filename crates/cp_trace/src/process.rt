@@ -1,12 +1,12 @@
 //! What was seen of a process, and what changed since.
 
-use crate::changes::Change;
+use crate::changes::{Change, Output, Step};
 use crate::members::word;
+use crate::readings::Readings;
 use crate::values::Values;
 use crate::vocabulary::Vocabulary;
 use cp_report::places::Place;
 use cp_report::roster::Member;
-use cp_rounds::machine::Machine;
 use cp_rounds::state::ProcState;
 use std::alloc::{AllocError, Global};
 
@@ -26,75 +26,77 @@ fn from(bytes: &[u8], index: usize) -> &[u8] {
 }
 
 // The length of the transcript of a process.
-fn written(machine: &Machine, number: u32) -> usize {
-    let (kernel, own) = machine.transcript(number as usize);
+fn written<M: Readings>(machine: &M, number: u32) -> usize {
+    let (kernel, own) = machine.transcript_of(number);
     kernel.len().saturating_add(own.len())
 }
 
 impl SeenProcess {
     /// Returns a process of a machine with variables at these places, as it is.
-    pub(crate) fn of(
+    pub(crate) fn of<M: Readings>(
         alloc: Global,
         number: u32,
         places: &[Place],
-        machine: &Machine,
+        machine: &M,
     ) -> Result<SeenProcess, AllocError> {
         Ok(SeenProcess {
             number,
-            state: machine.state(number),
+            state: machine.state_of(number),
             written: written(machine, number),
             values: Values::of(alloc, Member::Process(number), places, machine)?,
         })
     }
 
-    fn push_status<'a>(
+    fn push_status<'a, M: Readings>(
         &mut self,
-        vocabulary: &Vocabulary<'_, '_>,
-        machine: &Machine,
+        alloc: Global,
+        vocabulary: &Vocabulary<'_>,
+        machine: &M,
         changes: &mut Vec<Change<'a>>,
     ) -> Result<(), AllocError> {
-        let state = machine.state(self.number);
-        if state != self.state {
-            let program = machine.program();
-            changes.push(Change::Status {
-                from: vocabulary.status(program, self.state)?,
-                to: vocabulary.status(program, state)?,
-            })?;
+        let state = machine.state_of(self.number);
+        if state == self.state {
+            return Ok(());
         }
+        let monitors = &vocabulary.roster.monitors;
+        changes.push(Change::Status(Step {
+            from: machine.words_of(alloc, monitors, self.state)?,
+            to: machine.words_of(alloc, monitors, state)?,
+        }))?;
         self.state = state;
         Ok(())
     }
 
-    fn push_output<'a>(
+    fn push_output<'a, M: Readings>(
         &mut self,
         alloc: Global,
-        machine: &Machine,
+        machine: &M,
         changes: &mut Vec<Change<'a>>,
     ) -> Result<(), AllocError> {
         let written = written(machine, self.number);
         if written <= self.written {
             return Ok(());
         }
-        let (kernel, own) = machine.transcript(self.number as usize);
+        let (kernel, own) = machine.transcript_of(self.number);
         let mut text = String::from_utf8_lossy(alloc, from(kernel, self.written))?;
         let seen = self.written.saturating_sub(kernel.len());
         text.push_str(word(from(own, seen)))?;
-        changes.push(Change::Out { text })?;
+        changes.push(Change::Out(Output { text }))?;
         self.written = written;
         Ok(())
     }
 
     /// Returns what changed since the process was seen last: its status, what it wrote, and its
     /// variables at these places. It has then been seen.
-    pub(crate) fn changes<'a, 't: 'a>(
+    pub(crate) fn changes<'a, 't: 'a, M: Readings>(
         &mut self,
         alloc: Global,
-        vocabulary: &Vocabulary<'_, 't>,
+        vocabulary: &Vocabulary<'t>,
         places: &'a [Place],
-        machine: &Machine,
+        machine: &M,
     ) -> Result<Vec<Change<'a>>, AllocError> {
         let mut changes = Vec::new(alloc);
-        self.push_status(vocabulary, machine, &mut changes)?;
+        self.push_status(alloc, vocabulary, machine, &mut changes)?;
         self.push_output(alloc, machine, &mut changes)?;
         self.values
             .push_changes(vocabulary, places, machine, &mut changes)?;

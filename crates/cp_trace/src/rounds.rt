@@ -24,10 +24,10 @@ use std::thread::Threads;
 const LONG: usize = 65_536;
 
 // Makes a round, and adds what is told of it at once.
-fn trace_round<H: Threads + Wait + Sync, G: TurnGate>(
+fn trace_round<'t, H: Threads + Wait + Sync, G: TurnGate>(
     rt: &H,
-    machine: &mut Machine,
-    tracer: &mut Tracer<'_, '_>,
+    machine: &mut Machine<'_, 't>,
+    tracer: &mut Tracer<'t>,
     plan: &Plan,
     gate: &G,
     buffer: &mut Vec<u8>,
@@ -61,11 +61,11 @@ fn write_if_long<W: Write>(out: &mut W, buffer: &mut Vec<u8>) -> Result<(), Refu
 }
 
 // Makes rounds, and writes what is told of them.
-fn trace_rounds<H: Threads + Wait + Sync, W: Write, G: TurnGate>(
+fn trace_rounds<'t, H: Threads + Wait + Sync, W: Write, G: TurnGate>(
     rt: &H,
     alloc: Global,
-    machine: &mut Machine,
-    tracer: &mut Tracer<'_, '_>,
+    machine: &mut Machine<'_, 't>,
+    tracer: &mut Tracer<'t>,
     rounds: u32,
     plan: &Plan,
     gate: &G,
@@ -120,6 +120,6 @@ pub fn trace<'t, H: Threads + Wait + Sync, W: Write, G: TurnGate>(
         return Err(Refusal::Memory);
     }
     let told = how.rounds - untold;
-    let mut tracer = Tracer::of(alloc, how.form, machine.tables(), tree, machine, told, only)?;
+    let mut tracer = Tracer::of(alloc, how.form, tree, machine, told, only)?;
     trace_rounds(rt, alloc, machine, &mut tracer, told, &how.plan, gate, out)
 }

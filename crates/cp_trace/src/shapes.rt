@@ -1,7 +1,7 @@
 //! Where the variables of components lie. Components of one type share their places.
 
-use cp_report::places::{Place, initial_places, places};
-use cp_scope::Tables;
+use crate::readings::Readings;
+use cp_report::places::Place;
 use std::alloc::{AllocError, Global};
 
 // The places of the components of a type.
@@ -28,19 +28,16 @@ impl Shapes {
 
     /// Returns the number of the shape of a type, which is added if it is new. `None` stands for
     /// the type of the initial process.
-    pub(crate) fn number_of(
+    pub(crate) fn number_of<M: Readings>(
         &mut self,
         alloc: Global,
-        tables: &Tables,
+        machine: &M,
         row: Option<usize>,
     ) -> Result<usize, AllocError> {
         if let Some(number) = self.shapes.iter().position(|shape| shape.row == row) {
             return Ok(number);
         }
-        let places = match row {
-            Some(row) => places(alloc, tables, row)?,
-            None => initial_places(alloc, tables)?,
-        };
+        let places = machine.places_of(alloc, row)?;
         let number = self.shapes.len();
         self.shapes.push(Shape { row, places })?;
         Ok(number)

@@ -10,8 +10,8 @@ use crate::bars::{Bar, bars};
 use crate::colours::{LEGEND_HEIGHT, LEGEND_WIDTH, STYLE, colour, push_legend};
 use crate::grid::{Cell, Grid, Row};
 use crate::markup::{Area, begin_rectangle, push_rectangle, push_text};
+use crate::readings::Readings;
 use cp_report::roster::Member;
-use cp_rounds::machine::Machine;
 use std::alloc::AllocError;
 use std::fmt::Write;
 
@@ -290,7 +290,11 @@ viewBox=\"0 0 {width} {height}\">"
     /// # Errors
     ///
     /// `AllocError` if memory runs out. The picture is then of no more use.
-    pub(crate) fn follow(&mut self, machine: &Machine, out: &mut Vec<u8>) -> Result<(), AllocError>
+    pub(crate) fn follow<M: Readings>(
+        &mut self,
+        machine: &M,
+        out: &mut Vec<u8>,
+    ) -> Result<(), AllocError>
         ensures { OnOk result (Adds IsAnything out.old.items out.new.items) }
     {
         self.grid.see(machine)?;

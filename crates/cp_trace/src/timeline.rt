@@ -4,8 +4,8 @@ ghost use Rattle.std.specs.Prelude.{OnOk};
 ghost use Rattle.cp_trace.specs.Telling.{Adds, IsAnything, IsSomething};
 
 use crate::grid::{Cell, Grid, Row};
+use crate::readings::Readings;
 use cp_report::roster::Member;
-use cp_rounds::machine::Machine;
 use std::alloc::AllocError;
 use std::fmt::Write;
 
@@ -120,7 +120,11 @@ impl<'t> Timeline<'t> {
     /// # Errors
     ///
     /// `AllocError` if memory runs out. The timeline is then of no more use.
-    pub(crate) fn follow(&mut self, machine: &Machine, out: &mut Vec<u8>) -> Result<(), AllocError>
+    pub(crate) fn follow<M: Readings>(
+        &mut self,
+        machine: &M,
+        out: &mut Vec<u8>,
+    ) -> Result<(), AllocError>
         ensures { OnOk result (Adds IsAnything out.old.items out.new.items) }
     {
         self.grid.see(machine)?;

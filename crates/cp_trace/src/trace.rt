@@ -4,13 +4,13 @@ use crate::changes::{Change, Changes};
 use crate::members::{chosen, name_of};
 use crate::monitor::SeenMonitor;
 use crate::process::SeenProcess;
+use crate::readings::Readings;
 use crate::shapes::Shapes;
 use crate::vocabulary::Vocabulary;
 use cp_model::tree::Tree;
 use cp_report::places::Place;
-use cp_report::roster::Member;
+use cp_report::roster::{Member, Roster};
 use cp_rounds::machine::Machine;
-use cp_scope::Tables;
 use std::alloc::{AllocError, Global};
 
 // A process or monitor as it was seen last.
@@ -22,11 +22,11 @@ enum Seen {
 
 impl Seen {
     // Returns a process or monitor with variables at these places, as it is.
-    fn of(
+    fn of<M: Readings>(
         alloc: Global,
         member: Member,
         places: &[Place],
-        machine: &Machine,
+        machine: &M,
     ) -> Result<Seen, AllocError> {
         Ok(match member {
             Member::Process(number) => {
@@ -38,12 +38,12 @@ impl Seen {
         })
     }
 
-    fn changes<'a, 't: 'a>(
+    fn changes<'a, 't: 'a, M: Readings>(
         &mut self,
         alloc: Global,
-        vocabulary: &Vocabulary<'_, 't>,
+        vocabulary: &Vocabulary<'t>,
         places: &'a [Place],
-        machine: &Machine,
+        machine: &M,
     ) -> Result<Vec<Change<'a>>, AllocError> {
         match self {
             Seen::Process(process) => process.changes(alloc, vocabulary, places, machine),
@@ -63,30 +63,39 @@ struct Traced {
 
 /// The processes and monitors of which a trace tells, as they were seen last.
 #[derive(Drop)]
-pub struct Trace<'r, 't> {
+pub struct Trace<'t> {
     pub(crate) alloc: Global,
-    vocabulary: Vocabulary<'r, 't>,
+    vocabulary: Vocabulary<'t>,
     shapes: Shapes,
     all: Vec<Traced>,
 }
 
-impl<'r, 't> Trace<'r, 't> {
+impl<'t> Trace<'t> {
     /// Returns the trace of a machine from what it is now. The machine runs the program of a text
-    /// with this tree and these tables. The trace tells of the processes and monitors with the
-    /// names in `only`, or of all if there are no names; a name that no process or monitor has
-    /// stands for none.
+    /// with this tree. The trace tells of the processes and monitors with the names in `only`, or
+    /// of all if there are no names; a name that no process or monitor has stands for none.
     ///
     /// # Errors
     ///
     /// `AllocError` if memory runs out.
     pub(crate) fn of(
         alloc: Global,
-        tables: &'r Tables<'t>,
         tree: &'t Tree,
-        machine: &Machine,
+        machine: &Machine<'_, 't>,
         only: &[&str],
-    ) -> Result<Trace<'r, 't>, AllocError> {
-        let vocabulary = Vocabulary::of(alloc, tables, tree)?;
+    ) -> Result<Trace<'t>, AllocError> {
+        let roster = Roster::of(alloc, machine.tables())?;
+        let vocabulary = Vocabulary::of(alloc, roster, tree)?;
+        Trace::with(alloc, vocabulary, machine, only)
+    }
+
+    // Returns the trace that tells of a machine in these words.
+    fn with<M: Readings>(
+        alloc: Global,
+        vocabulary: Vocabulary<'t>,
+        machine: &M,
+        only: &[&str],
+    ) -> Result<Trace<'t>, AllocError> {
         let members = chosen(alloc, &vocabulary.roster, only)?;
         let mut trace = Trace {
             alloc,
@@ -95,19 +104,14 @@ impl<'r, 't> Trace<'r, 't> {
             all: Vec::new(alloc),
         };
         for member in &members {
-            trace.add(tables, machine, *member)?;
+            trace.add(machine, *member)?;
         }
         Ok(trace)
     }
 
-    fn add(
-        &mut self,
-        tables: &Tables<'t>,
-        machine: &Machine,
-        member: Member,
-    ) -> Result<(), AllocError> {
+    fn add<M: Readings>(&mut self, machine: &M, member: Member) -> Result<(), AllocError> {
         let row = self.vocabulary.type_of(member);
-        let shape = self.shapes.number_of(self.alloc, tables, row)?;
+        let shape = self.shapes.number_of(self.alloc, machine, row)?;
         let places = self.shapes.places(shape);
         self.all.push(Traced {
             member,
@@ -123,7 +127,10 @@ impl<'r, 't> Trace<'r, 't> {
     /// # Errors
     ///
     /// `AllocError` if memory runs out. The trace is then of no more use.
-    pub(crate) fn changes(&mut self, machine: &Machine) -> Result<Vec<Changes<'_>>, AllocError> {
+    pub(crate) fn changes<M: Readings>(
+        &mut self,
+        machine: &M,
+    ) -> Result<Vec<Changes<'_>>, AllocError> {
         changes_of(
             self.alloc,
             &mut self.all,
@@ -135,12 +142,12 @@ impl<'r, 't> Trace<'r, 't> {
 }
 
 // Returns what changed of all of them. It borrows their places, and no longer them.
-fn changes_of<'a, 't: 'a>(
+fn changes_of<'a, 't: 'a, M: Readings>(
     alloc: Global,
     all: &mut [Traced],
-    vocabulary: &Vocabulary<'_, 't>,
+    vocabulary: &Vocabulary<'t>,
     shapes: &'a Shapes,
-    machine: &Machine,
+    machine: &M,
 ) -> Result<Vec<Changes<'a>>, AllocError> {
     let mut changed = Vec::new(alloc);
     for traced in all.iter_mut() {

@@ -11,27 +11,37 @@ use crate::timeline::Timeline;
 use crate::trace::Trace;
 use cp_model::tree::Tree;
 use cp_plan::trace::TraceForm;
+use cp_report::roster::Roster;
 use cp_rounds::machine::Machine;
-use cp_scope::Tables;
 use std::alloc::{AllocError, Global};
 
 /// Who follows a machine and tells of it. What it has seen takes memory that doesn't grow with the
 /// rounds.
 #[derive(Drop)]
-pub enum Tracer<'r, 't> {
-    Lines(Trace<'r, 't>),
-    Json(Trace<'r, 't>),
+pub enum Tracer<'t> {
+    Lines(Trace<'t>),
+    Json(Trace<'t>),
     Timeline(Timeline<'t>),
     Svg(Picture<'t>),
 }
 
-impl<'r, 't> Tracer<'r, 't> {
+// Returns the grid of a machine.
+fn grid_of<'t>(
+    alloc: Global,
+    machine: &Machine<'_, 't>,
+    only: &[&str],
+) -> Result<Grid<'t>, AllocError> {
+    let roster = Roster::of(alloc, machine.tables())?;
+    Grid::of(alloc, roster, machine.rounds(), only)
+}
+
+impl<'t> Tracer<'t> {
     ghost use Rattle.cp_trace.specs.Tracers.{IsPart, IsTrace, TellsRound, form_of};
 
     /// Returns who follows a machine from what it is now for so many rounds, and tells in this form
     /// of the processes and monitors with the names in `only`, or of all if there are none. A name
     /// that no process or monitor has stands for none. The machine runs the program of a text with
-    /// this tree and these tables.
+    /// this tree.
     ///
     /// # Errors
     ///
@@ -39,23 +49,18 @@ impl<'r, 't> Tracer<'r, 't> {
     pub fn of(
         alloc: Global,
         form: TraceForm,
-        tables: &'r Tables<'t>,
         tree: &'t Tree,
-        machine: &Machine,
+        machine: &Machine<'_, 't>,
         rounds: u32,
         only: &[&str],
-    ) -> Result<Tracer<'r, 't>, AllocError>
+    ) -> Result<Tracer<'t>, AllocError>
         ensures { IfOk result (λ tracer. form_of tracer ≡ form) }
     {
         Ok(match form {
-            TraceForm::Lines => Tracer::Lines(Trace::of(alloc, tables, tree, machine, only)?),
-            TraceForm::Json => Tracer::Json(Trace::of(alloc, tables, tree, machine, only)?),
-            TraceForm::Timeline => {
-                Tracer::Timeline(Timeline::of(Grid::of(alloc, tables, machine, only)?))
-            }
-            TraceForm::Svg => {
-                Tracer::Svg(Picture::of(Grid::of(alloc, tables, machine, only)?, rounds))
-            }
+            TraceForm::Lines => Tracer::Lines(Trace::of(alloc, tree, machine, only)?),
+            TraceForm::Json => Tracer::Json(Trace::of(alloc, tree, machine, only)?),
+            TraceForm::Timeline => Tracer::Timeline(Timeline::of(grid_of(alloc, machine, only)?)),
+            TraceForm::Svg => Tracer::Svg(Picture::of(grid_of(alloc, machine, only)?, rounds)),
         })
     }
 
@@ -78,7 +83,7 @@ impl<'r, 't> Tracer<'r, 't> {
     /// # Errors
     ///
     /// `AllocError` if memory runs out. The tracer is then of no more use.
-    pub fn follow(&mut self, machine: &Machine, out: &mut Vec<u8>) -> Result<(), AllocError>
+    pub fn follow(&mut self, machine: &Machine<'_, 't>, out: &mut Vec<u8>) -> Result<(), AllocError>
         ensures added { OnOk result (Adds (TellsRound (form_of self.old) machine.now.rounds)
             out.old.items out.new.items) }
         ensures form { OnOk result (form_of self.new ≡ form_of self.old) }

@@ -1,11 +1,11 @@
 //! The values of the variables of a component.
 
-use crate::changes::Change;
+use crate::changes::{Change, VariableChange};
 use crate::members::word;
+use crate::readings::Readings;
 use crate::vocabulary::Vocabulary;
 use cp_report::places::Place;
 use cp_report::roster::Member;
-use cp_rounds::machine::Machine;
 use cp_rounds::place::Value;
 use std::alloc::{AllocError, Global};
 
@@ -20,50 +20,50 @@ pub(crate) struct Values {
 impl Values {
     /// Returns the values that the variables at these places of a process or monitor have in a
     /// machine.
-    pub(crate) fn of(
+    pub(crate) fn of<M: Readings>(
         alloc: Global,
         of: Member,
         places: &[Place],
-        machine: &Machine,
+        machine: &M,
     ) -> Result<Values, AllocError> {
         let mut seen = Vec::with_capacity(alloc, places.len())?;
         for place in places {
-            seen.push(machine.value(&place.in_owner(of)))?;
+            seen.push(machine.value_at(&place.in_owner(of)))?;
         }
         Ok(Values { of, seen })
     }
 
     // Adds the change of the variable at the place with a number, if there is one.
-    fn push_change<'a, 't: 'a>(
+    fn push_change<'a, 't: 'a, M: Readings>(
         &mut self,
-        vocabulary: &Vocabulary<'_, 't>,
+        vocabulary: &Vocabulary<'t>,
         number: usize,
         place: &'a Place,
-        machine: &Machine,
+        machine: &M,
         changes: &mut Vec<Change<'a>>,
     ) -> Result<(), AllocError> {
-        let now = machine.value(&place.in_owner(self.of));
+        let now = machine.value_at(&place.in_owner(self.of));
         let Some(seen) = self.seen.get_mut(number) else {
             return Ok(());
         };
         if *seen == now {
             return Ok(());
         }
-        changes.push(Change::Variable {
+        changes.push(Change::Variable(VariableChange {
             variable: word(&place.path),
-            from: vocabulary.value(place.of, *seen),
-            to: vocabulary.value(place.of, now),
-        })?;
+            from: vocabulary.value(machine, place.of, *seen),
+            to: vocabulary.value(machine, place.of, now),
+        }))?;
         *seen = now;
         Ok(())
     }
 
     /// Adds each change of the variables at these places, in their order.
-    pub(crate) fn push_changes<'a, 't: 'a>(
+    pub(crate) fn push_changes<'a, 't: 'a, M: Readings>(
         &mut self,
-        vocabulary: &Vocabulary<'_, 't>,
+        vocabulary: &Vocabulary<'t>,
         places: &'a [Place],
-        machine: &Machine,
+        machine: &M,
         changes: &mut Vec<Change<'a>>,
     ) -> Result<(), AllocError> {
         for (number, place) in places.iter().enumerate() {

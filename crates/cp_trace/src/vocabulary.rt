@@ -2,16 +2,13 @@
 
 use crate::changes::Value;
 use crate::members::{name_of, word};
+use crate::readings::Readings;
 use cp_model::tree::{Defined, Identifier, Section, Tree, TypeDefinition};
 use cp_names::NameTable;
 use cp_private::outside::Holder;
-use cp_program::program::Program;
 use cp_report::roster::{Member, Roster};
-use cp_report::status::push_state;
-use cp_report::walk::Walk;
 use cp_rounds::place;
-use cp_rounds::state::ProcState;
-use cp_scope::{Base, Tables, TypeRow};
+use cp_scope::Base;
 use std::alloc::{AllocError, Global};
 
 // The values of each enumeration, by its name.
@@ -19,9 +16,8 @@ type Enumerations<'t> = NameTable<'t, &'t [Identifier]>;
 
 /// What a text calls its components and its values.
 #[derive(Drop)]
-pub(crate) struct Vocabulary<'r, 't> {
+pub(crate) struct Vocabulary<'t> {
     alloc: Global,
-    tables: &'r Tables<'t>,
     pub(crate) roster: Roster<'t>,
     enumerations: Enumerations<'t>,
 }
@@ -51,17 +47,16 @@ fn enumerations<'t>(alloc: Global, tree: &'t Tree) -> Result<Enumerations<'t>, A
     Ok(enumerations)
 }
 
-impl<'r, 't> Vocabulary<'r, 't> {
-    /// Returns the vocabulary of a text with this tree and these tables.
+impl<'t> Vocabulary<'t> {
+    /// Returns the vocabulary of a text with this tree, whose processes and monitors these are.
     pub(crate) fn of(
         alloc: Global,
-        tables: &'r Tables<'t>,
+        roster: Roster<'t>,
         tree: &'t Tree,
-    ) -> Result<Vocabulary<'r, 't>, AllocError> {
+    ) -> Result<Vocabulary<'t>, AllocError> {
         Ok(Vocabulary {
             alloc,
-            tables,
-            roster: Roster::of(alloc, tables)?,
+            roster,
             enumerations: enumerations(alloc, tree)?,
         })
     }
@@ -76,15 +71,6 @@ impl<'r, 't> Vocabulary<'r, 't> {
             Member::Monitor(number) => self.roster.monitor(number)?,
         };
         Some(component.of)
-    }
-
-    /// Returns the status of a process, in the words of a report.
-    pub(crate) fn status(&self, program: &Program, state: ProcState) -> Result<String, AllocError> {
-        let mut walk = Walk::new(self.alloc, 0);
-        let mut words = Vec::new(self.alloc);
-        let monitors = &self.roster.monitors;
-        push_state(&mut walk, self.tables, program, monitors, state, &mut words)?;
-        String::from_utf8_lossy(self.alloc, &words)
     }
 
     /// Returns the name of the process with a number.
@@ -123,23 +109,25 @@ impl<'r, 't> Vocabulary<'r, 't> {
         }
     }
 
-    // Returns the value with an ordinal, of a type with the number `of`.
-    fn ordinal(&self, of: usize, ordinal: i32) -> Value<'t> {
-        let Some(TypeRow::Simple(simple)) = self.tables.types.row(of) else {
-            return Value::Integer(ordinal);
-        };
-        match simple.base {
-            Base::Integer => Value::Integer(ordinal),
-            Base::Char => character(ordinal),
-            Base::Boolean => Value::Boolean(ordinal != 0),
-            Base::Enumeration { name, .. } => self.enumerated(name, ordinal),
+    // Returns the value with an ordinal, of a base type.
+    fn ordinal(&self, base: Option<Base<'_>>, ordinal: i32) -> Value<'t> {
+        match base {
+            Some(Base::Integer) | None => Value::Integer(ordinal),
+            Some(Base::Char) => character(ordinal),
+            Some(Base::Boolean) => Value::Boolean(ordinal != 0),
+            Some(Base::Enumeration { name, .. }) => self.enumerated(name, ordinal),
         }
     }
 
     /// Returns the value of a variable of a type with the number `of`, as it is told.
-    pub(crate) fn value(&self, of: usize, value: place::Value) -> Value<'t> {
+    pub(crate) fn value<M: Readings>(
+        &self,
+        machine: &M,
+        of: usize,
+        value: place::Value,
+    ) -> Value<'t> {
         match value {
-            place::Value::Ordinal(ordinal) => self.ordinal(of, ordinal),
+            place::Value::Ordinal(ordinal) => self.ordinal(machine.base_of(of), ordinal),
             place::Value::Queue(Some(process)) => Value::Name(self.process(process)),
             place::Value::Queue(None) => Value::Empty,
         }
