@@ -3,9 +3,6 @@
 ghost use Rattle.std.specs.Prelude.{◌≡◌, IfOk, length};
 ghost use Rattle.cp_program.specs.View as view;
 
-use crate::texts::{compiled, tree_of};
-use cp_check::checking::CompiledText;
-use cp_model::tree::Tree;
 use cp_plan::tick::Tick;
 use cp_private::private::Activity;
 use cp_program::program::Program;
@@ -38,69 +35,6 @@ pub(crate) fn machine_of<'r, 't>(
     let tick = Tick::new(1)?;
     let inputs = inputs_for(alloc, &program)?;
     Ok(Machine::new(alloc, program, tables, inputs, tick)?)
-}
-
-// Tests the program and the tables of a tree. A function that owns a tree, its program and tables
-// or its machine has to give up all of them wherever it can fail, and takes minutes to prove: so
-// each of these owns one, and lends it to the next.
-fn on_tree<T: Drop, F: Copy + Fn(Program, &Tables<'_>) -> Result<T, Fail>>(
-    alloc: Global,
-    tree: &Tree,
-    test: F,
-) -> Result<T, Fail>
-    requires { F.IsAlwaysCallable test }
-{
-    let CompiledText { program, tables } = compiled(alloc, tree)?;
-    test(program, &tables)
-}
-
-// Tests the program and the tables of a text.
-pub(crate) fn on_program<T: Drop, F: Copy + Fn(Program, &Tables<'_>) -> Result<T, Fail>>(
-    alloc: Global,
-    text: &str,
-    test: F,
-) -> Result<T, Fail>
-    requires { F.IsAlwaysCallable test }
-{
-    let tree = tree_of(alloc, text)?;
-    on_tree(alloc, &tree, test)
-}
-
-// Tests the machine of a program.
-fn on_machine_of<T: Drop, F: Copy + Fn(&mut Machine<'_, '_>) -> Result<T, Fail>>(
-    alloc: Global,
-    program: Program,
-    tables: &Tables<'_>,
-    test: F,
-) -> Result<T, Fail>
-    requires { F.IsAlwaysCallable test }
-{
-    let mut machine = machine_of(alloc, program, tables)?;
-    test(&mut machine)
-}
-
-// Tests the machine of a tree.
-fn on_machine_of_tree<T: Drop, F: Copy + Fn(&mut Machine<'_, '_>) -> Result<T, Fail>>(
-    alloc: Global,
-    tree: &Tree,
-    test: F,
-) -> Result<T, Fail>
-    requires { F.IsAlwaysCallable test }
-{
-    let CompiledText { program, tables } = compiled(alloc, tree)?;
-    on_machine_of(alloc, program, &tables, test)
-}
-
-// Tests the machine of a text, with a tick of one round and without input.
-pub(crate) fn on_machine<T: Drop, F: Copy + Fn(&mut Machine<'_, '_>) -> Result<T, Fail>>(
-    alloc: Global,
-    text: &str,
-    test: F,
-) -> Result<T, Fail>
-    requires { F.IsAlwaysCallable test }
-{
-    let tree = tree_of(alloc, text)?;
-    on_machine_of_tree(alloc, &tree, test)
 }
 
 pub(crate) fn activity(machine: &Machine, p: usize) -> Result<Activity, Fail> {

@@ -2,12 +2,15 @@
 //!
 //! A program that is too large is always refused. Allocations and thread starts succeed in a plain
 //! run. If one is made to fail, as `trials/refusals.py` has a library do that is loaded before the
-//! C library, the last three tests report it and look at the machine.
+//! C library, the last four tests report it and look at the machine.
 
-use crate::machines::{activity, has_written, inputs_for, on_machine, on_program};
+use crate::cases::{Case, MachineCase, passes};
+use crate::machines::{activity, has_written, inputs_for};
 use crate::ways::{Way, is_young};
+use cp_orders::reading::read_orders;
 use cp_plan::plan::Plan;
 use cp_plan::tick::Tick;
+use cp_plan::turn::Turn;
 use cp_private::outside::{Holder, Stage};
 use cp_private::private::Activity;
 use cp_program::operation::Operation;
@@ -65,47 +68,29 @@ fn machine_unless_refused<'r, 't>(
     Ok(Machine::new(alloc, program, tables, inputs, tick).ok())
 }
 
-// Returns the activity of the process of such a program after a round, unless the machine is
-// refused. The tables are of no use to the program.
-fn activity_with<R: Threads + Wait + Sync>(
-    rt: &R,
+// Whether the machine of such a program is refused. The tables are of no use to the program.
+pub(crate) fn is_refused(
     alloc: Global,
     words: u32,
     shared: u32,
     tables: &Tables<'_>,
-) -> Result<Option<Activity>, Fail> {
+) -> Result<bool, Fail> {
     let program = ending_program(alloc, words, shared)?;
-    let Some(mut machine) = machine_unless_refused(alloc, program, tables)? else {
-        return Ok(None);
-    };
-    Way::new(true, 1, 1, 1).make(rt, &mut machine, 1, 1, &Open)?;
-    Ok(Some(activity(&machine, 1)?))
-}
-
-fn activity_after_round<R: Threads + Wait + Sync>(
-    rt: &R,
-    alloc: Global,
-    words: u32,
-    shared: u32,
-) -> Result<Option<Activity>, Fail> {
-    on_program(
-        alloc,
-        "begin end.",
-        |_program, tables| -> Result<Option<Activity>, Fail> {
-            activity_with(rt, alloc, words, shared, tables)
-        },
-    )
+    Ok(machine_unless_refused(alloc, program, tables)?.is_none())
 }
 
 #[test]
 fn a_machine_has_fewer_than_2_to_the_30_words(rt: HostRuntime) -> Result<(), Fail> {
-    assert_eq!(rt;
-        activity_after_round(&rt, rt.alloc(), 1, 1)?,
-        Some(Activity::Ended)
-    );
-    for many in [1 << 30, u32::MAX] {
-        assert_eq!(rt; activity_after_round(&rt, rt.alloc(), many, 1)?, None);
-        assert_eq!(rt; activity_after_round(&rt, rt.alloc(), 1, many)?, None);
+    for (words, shared, is_refused) in [
+        (1, 1, false),
+        (1 << 30, 1, true),
+        (u32::MAX, 1, true),
+        (1, 1 << 30, true),
+        (1, u32::MAX, true),
+    ] {
+        let case: Case<'_, Open> = Case::IsRefused { words, shared };
+        let passes = passes(&rt, rt.alloc(), "begin end.", &case)?;
+        assert!(rt; passes == is_refused, "{words} words, {shared} shared");
     }
     Ok(())
 }
@@ -155,33 +140,37 @@ fn count<R: Threads + Wait + Sync>(rt: &R, machine: &mut Machine) -> Result<(), 
     Ok(())
 }
 
-// Returns whether a machine of the counters is refused. If it isn't, it makes its rounds.
-fn is_refused_of<R: Threads + Wait + Sync>(
+// Whether a machine of the counters isn't refused. It then makes its rounds.
+pub(crate) fn is_made<R: Threads + Wait + Sync>(
     rt: &R,
     alloc: Global,
     program: Program,
     tables: &Tables<'_>,
 ) -> Result<bool, Fail> {
     let Some(mut machine) = machine_unless_refused(alloc, program, tables)? else {
-        return Ok(true);
+        return Ok(false);
     };
     count(rt, &mut machine)?;
-    Ok(false)
-}
-
-fn is_refused<R: Threads + Wait + Sync>(rt: &R, alloc: Global) -> Result<bool, Fail> {
-    on_program(alloc, COUNTERS, |program, tables| -> Result<bool, Fail> {
-        is_refused_of(rt, alloc, program, tables)
-    })
+    Ok(true)
 }
 
 #[test]
 fn a_refused_machine_is_made_again(rt: HostRuntime) -> Result<(), Fail> {
-    if is_refused(&rt, rt.alloc())? {
+    let case: Case<'_, Open> = Case::IsMade;
+    if !passes(&rt, rt.alloc(), COUNTERS, &case)? {
         println!(rt; "a machine is refused")?;
-        assert!(rt; !is_refused(&rt, rt.alloc())?);
+        assert!(rt; passes(&rt, rt.alloc(), COUNTERS, &case)?);
     }
     Ok(())
+}
+
+// Whether the counters count, as this machine is tested.
+fn counts<R: Print + Threads + Wait + Sync>(
+    rt: &R,
+    alloc: Global,
+    case: MachineCase<'_, Open>,
+) -> Result<bool, Fail> {
+    passes(rt, alloc, COUNTERS, &Case::OnMachine(case))
 }
 
 // Makes a round, and makes it again if it is refused.
@@ -202,7 +191,7 @@ fn make_round<R: Print + Threads + Wait + Sync>(
 
 // Makes the rounds of the counters one after another. Returns whether they have counted, as they
 // have only if a refused round left the machine as it was.
-fn count_by_rounds<R: Print + Threads + Wait + Sync>(
+pub(crate) fn count_by_rounds<R: Print + Threads + Wait + Sync>(
     rt: &R,
     machine: &mut Machine,
     plan: &Plan,
@@ -217,9 +206,7 @@ fn count_by_rounds<R: Print + Threads + Wait + Sync>(
 fn a_refused_round_leaves_the_machine_as_it_was(rt: HostRuntime) -> Result<(), Fail> {
     for (workers, wave) in WAYS {
         let plan = plan_of(workers, wave)?;
-        let counted = on_machine(rt.alloc(), COUNTERS, |machine| -> Result<bool, Fail> {
-            count_by_rounds(&rt, machine, &plan)
-        })?;
+        let counted = counts(&rt, rt.alloc(), MachineCase::ByRounds(plan))?;
         assert!(rt; counted, "{workers} workers, wave {wave}");
     }
     Ok(())
@@ -228,7 +215,7 @@ fn a_refused_round_leaves_the_machine_as_it_was(rt: HostRuntime) -> Result<(), F
 // Makes the rounds of the counters in one run. If it is refused, makes those that it hasn't made.
 // Returns whether the counters have counted, as they have only if those before the refused round
 // were made, and no others.
-fn count_by_run<R: Print + Threads + Wait + Sync>(
+pub(crate) fn count_by_run<R: Print + Threads + Wait + Sync>(
     rt: &R,
     machine: &mut Machine,
     plan: &Plan,
@@ -247,10 +234,55 @@ fn count_by_run<R: Print + Threads + Wait + Sync>(
 fn a_refused_run_has_made_the_rounds_before(rt: HostRuntime) -> Result<(), Fail> {
     for (workers, wave) in WAYS {
         let plan = plan_of(workers, wave)?;
-        let counted = on_machine(rt.alloc(), COUNTERS, |machine| -> Result<bool, Fail> {
-            count_by_run(&rt, machine, &plan)
-        })?;
+        let counted = counts(&rt, rt.alloc(), MachineCase::ByRun(plan))?;
         assert!(rt; counted, "{workers} workers, wave {wave}");
     }
+    Ok(())
+}
+
+// One of the rounds in the order of one processor, with three steps a turn.
+const ROUND: &[u8] = b"P1 P1 P1 P2 P2 P2 P3 P3 P3 P4 P4 P4 K1 K2 K3 K4";
+
+// Replays a round, and replays it again if it is refused.
+fn replay_round<R: Print>(
+    rt: &R,
+    alloc: Global,
+    machine: &mut Machine,
+    turn: Turn,
+) -> Result<(), Fail> {
+    is_young(machine)?;
+    let Ok(orders) = read_orders(alloc, ROUND, machine.processes()) else {
+        return Err("the order can't be read".into());
+    };
+    let Some(events) = orders.round(0) else {
+        return Err("the order has no round".into());
+    };
+    if machine.replay(events, turn).is_err() {
+        println!(rt; "a replay is refused")?;
+        is_young(machine)?;
+        machine.replay(events, turn)?;
+    }
+    Ok(())
+}
+
+// Replays the rounds of the counters. Returns whether they have counted, as they have only if a
+// refused replay left the machine as it was.
+pub(crate) fn count_by_replays<R: Print>(
+    rt: &R,
+    alloc: Global,
+    machine: &mut Machine,
+    turn: Turn,
+) -> Result<bool, Fail> {
+    for _round in 0..ROUNDS {
+        replay_round(rt, alloc, machine, turn)?;
+    }
+    have_counted(machine)
+}
+
+#[test]
+fn a_refused_replay_leaves_the_machine_as_it_was(rt: HostRuntime) -> Result<(), Fail> {
+    let turn = Turn::new(3)?;
+    let counted = counts(&rt, rt.alloc(), MachineCase::ByReplays(turn))?;
+    assert!(rt; counted);
     Ok(())
 }

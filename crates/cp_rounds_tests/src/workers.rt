@@ -1,12 +1,14 @@
 //! Rounds by several threads: which turns are made at the same time, and when the gate is called.
 
+use crate::cases::{Case, MachineCase, passes};
 use crate::gates::{
     Counting, CountingKernelTurns, EachWaits, Meeting, PrivateTurnsMeet, WavesMeet,
 };
-use crate::machines::on_machine;
 use crate::ways::Way;
 use cp_rounds::gate::TurnGate;
+use cp_rounds::machine::Machine;
 use std::alloc::Global;
+use std::io::Print;
 use std::sync::Wait;
 use std::test::Fail;
 use std::thread::Threads;
@@ -21,8 +23,30 @@ const FOUR: &str =
 const COUNTERS: &str = "type p = process; var x: integer; begin cycle x := (x + 1) mod 100 end end;
     var a, b: p; begin init a, b end.";
 
+// Rounds of a machine with a gate.
+#[derive(Drop)]
+pub(crate) struct Rounds<'g, G> {
+    way: Way,
+    rounds: u32,
+    turn: u32,
+    gate: &'g G,
+}
+
+impl<'g, G: TurnGate> Rounds<'g, G> {
+    // Makes them. Returns true.
+    pub(crate) fn make<R: Threads + Wait + Sync>(
+        &self,
+        rt: &R,
+        machine: &mut Machine,
+    ) -> Result<bool, Fail> {
+        self.way
+            .make(rt, machine, self.rounds, self.turn, self.gate)?;
+        Ok(true)
+    }
+}
+
 // Makes rounds of the machine of a text.
-fn make<R: Threads + Wait + Sync, G: TurnGate>(
+fn make<R: Print + Threads + Wait + Sync, G: TurnGate>(
     rt: &R,
     alloc: Global,
     text: &str,
@@ -31,9 +55,15 @@ fn make<R: Threads + Wait + Sync, G: TurnGate>(
     turn: u32,
     gate: &G,
 ) -> Result<(), Fail> {
-    on_machine(alloc, text, |machine| -> Result<(), Fail> {
-        way.make(rt, machine, rounds, turn, gate)
-    })
+    let rounds = Rounds {
+        way,
+        rounds,
+        turn,
+        gate,
+    };
+    let case = Case::OnMachine(MachineCase::Rounds(rounds));
+    passes(rt, alloc, text, &case)?;
+    Ok(())
 }
 
 #[test]
