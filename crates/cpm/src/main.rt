@@ -1,12 +1,30 @@
 //! cpm checks, explains and runs texts of Concurrent Pascal. It parses its arguments, opens the
 //! files that they name, and prints what was asked for.
+//!
+//! - `perform`: which command does what.
+//! - `opening`: what a command reads, by name: a file, standard input, or bytes in memory.
+//! - `inputs`: the inputs of a run.
+//! - `running`: checks, runs, outcomes, traces and replays. `explaining`: explanations.
+//! - `progress`: the round that is being made, on standard error.
+//! - `printing`: standard output. `status`: why a command has no result, and the exit statuses.
+//!
+//! `specs/Sources.antt` defines what is left to read.
 #![tactic(auto)]
 
-use cp_perform::Refusal;
-use cp_perform::command::command::CommandError;
-use cp_perform::command::reading::read_command;
-use cp_perform::perform::perform;
-use cp_perform::status::{Failure, USAGE};
+mod explaining;
+mod inputs;
+mod opening;
+mod perform;
+mod printing;
+mod progress;
+mod running;
+mod status;
+
+use crate::perform::perform;
+use crate::status::{Failure, USAGE};
+use cp_accept::refusal::Refusal;
+use cp_command::command::CommandError;
+use cp_command::reading::read_command;
 use std::process::ExitCode;
 use std::{env, io};
 

@@ -3,8 +3,9 @@
 use crate::explaining::explain;
 use crate::printing::{print_page, print_version};
 use crate::running::{check, outcome, replay, run, trace};
-use crate::status::{Failure, status_of};
+use crate::status::Failure;
 use cp_command::command::Command;
+use cp_outcome::status::status_of;
 use std::alloc::Global;
 use std::fs::Files;
 use std::io::{Input, Print, Write};
@@ -24,12 +25,11 @@ use std::thread::Threads;
 /// `NoMember` if a name of a trace is unknown, and the refusals of `execute` and `execute_order` of
 /// cp_execute, of `execute_outcome` and `execute_trace` of cp_observe, and of `explain_text`,
 /// `explain_all_text` and `explain_object` of cp_explain.
-pub fn perform<'a, H: Clock + Eprint + Files + Input + Print + Threads + Wait + Sync, E: Write>(
-    rt: &H,
-    alloc: Global,
-    command: &Command<'a>,
-    errors: &mut E,
-) -> Result<u8, Failure<'a>> {
+pub(crate) fn perform<
+    'a,
+    H: Clock + Eprint + Files + Input + Print + Threads + Wait + Sync,
+    E: Write,
+>(rt: &H, alloc: Global, command: &Command<'a>, errors: &mut E) -> Result<u8, Failure<'a>> {
     match command {
         Command::Version => print_version(rt)?,
         Command::Check { file } => check(rt, alloc, file)?,

@@ -2,11 +2,10 @@
 
 ghost use Rattle.std.specs.Prelude.{◌≡◌};
 ghost use Rattle.cp_accept.specs.declared.refusal.Refusal.TheVariants as refusal;
-ghost use Rattle.cp_perform.specs.declared.status.Failure.TheVariants as failure;
+ghost use Rattle.cpm.specs.declared.status.Failure.TheVariants as failure;
 
 use cp_accept::refusal::{Refusal, exit_of};
 use cp_inputs::named::InputError;
-pub use cp_outcome::status::status_of;
 use std::alloc::AllocFailed;
 use std::io;
 use thiserror::Error;
@@ -15,13 +14,13 @@ use thiserror::Error;
 const FAULT: u8 = 4;
 
 /// The exit status if the arguments are wrong or ask for help.
-pub const USAGE: u8 = 2;
+pub(crate) const USAGE: u8 = 2;
 
 const REFUSED: u8 = 1;
 
 /// Why a command has no result.
 #[derive(Debug, Drop, Error)]
-pub enum Failure<'a> {
+pub(crate) enum Failure<'a> {
     /// The text or the input is refused, memory ran out, or a read or a write failed.
     #[error("{0}")]
     Refused(Refusal),
@@ -42,7 +41,7 @@ pub enum Failure<'a> {
 impl<'a> Failure<'a> {
     /// The exit status: 1 if the text or the input is refused, 2 if the text hasn't a process or
     /// monitor that is named, 3 if memory runs out, 4 if opening, reading or writing fails.
-    pub fn exit(&self) -> u8 {
+    pub(crate) fn exit(&self) -> u8 {
         match self {
             Failure::Refused(refusal) => exit_of(refusal),
             Failure::Input(error) => exit_of_input(error),

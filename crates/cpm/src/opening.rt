@@ -3,7 +3,7 @@
 ghost use Rattle.std.specs.Prelude.{◌≡◌};
 ghost use Rattle.std.specs.Io.{ReadsAtMost};
 ghost use Rattle.std.specs.Io.KnownBytes.{ReadConsumes};
-ghost use Rattle.cp_perform.specs.Sources.{remaining_of};
+ghost use Rattle.cpm.specs.Sources.{remaining_of};
 
 use crate::status::Failure;
 use cp_accept::reading::read_text;
