@@ -6,6 +6,7 @@ ghost use Rattle.cp_trace.specs.Telling.{Adds};
 use crate::grid::Grid;
 use crate::lines::push_round;
 use crate::objects::push_objects;
+use crate::readings::Readings;
 use crate::svg::Picture;
 use crate::timeline::Timeline;
 use crate::trace::Trace;
@@ -78,6 +79,30 @@ impl<'t> Tracer<'t> {
         }
     }
 
+    // Sees a machine after so many rounds, and adds what is told at once. What calls this is given
+    // the machine, and is the dearer to prove the more such calls it makes.
+    fn tell<M: Readings>(
+        &mut self,
+        rounds: u64,
+        machine: &M,
+        out: &mut Vec<u8>,
+    ) -> Result<(), AllocError>
+        ensures added { OnOk result (Adds (TellsRound (form_of self.old) rounds)
+            out.old.items out.new.items) }
+        ensures form { OnOk result (form_of self.new ≡ form_of self.old) }
+    {
+        match self {
+            Tracer::Lines(trace) => {
+                push_round(trace.alloc, rounds, &trace.changes(machine)?, out)
+            }
+            Tracer::Json(trace) => {
+                push_objects(trace.alloc, rounds, &trace.changes(machine)?, out)
+            }
+            Tracer::Timeline(timeline) => timeline.follow(machine, out),
+            Tracer::Svg(picture) => picture.follow(machine, out),
+        }
+    }
+
     /// Sees the machine after a round, and adds what is told at once.
     ///
     /// # Errors
@@ -88,16 +113,7 @@ impl<'t> Tracer<'t> {
             out.old.items out.new.items) }
         ensures form { OnOk result (form_of self.new ≡ form_of self.old) }
     {
-        match self {
-            Tracer::Lines(trace) => {
-                push_round(trace.alloc, machine.rounds(), &trace.changes(machine)?, out)
-            }
-            Tracer::Json(trace) => {
-                push_objects(trace.alloc, machine.rounds(), &trace.changes(machine)?, out)
-            }
-            Tracer::Timeline(timeline) => timeline.follow(machine, out),
-            Tracer::Svg(picture) => picture.follow(machine, out),
-        }
+        self.tell(machine.rounds(), machine, out)
     }
 
     /// Adds what stands behind all rounds.
