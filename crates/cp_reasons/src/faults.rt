@@ -5,6 +5,7 @@ use crate::piece::{Extent, push_piece};
 use cp_model::state::Fault;
 use cp_page::page::Page;
 use cp_program::operation::Operation;
+use cp_program::program::Program;
 use cp_report::status::fault_number;
 
 // What a fault means. The piece of the text stands after these words.
@@ -36,15 +37,20 @@ fn extent_of(operation: Option<&Operation>) -> Extent {
     }
 }
 
-impl<'r, 'm, 't> Subject<'r, 'm, 't> {
-    /// Adds a fault that stopped a process at the operation with this number.
-    pub(crate) fn push_fault(&self, page: &mut Page, fault: Fault, operation: u32) {
+impl<'t> Subject<'_, 't> {
+    /// Adds a fault that stopped a process at the operation of a program with this number.
+    pub(crate) fn push_fault(
+        &self,
+        program: &Program,
+        page: &mut Page,
+        fault: Fault,
+        operation: u32,
+    ) {
         page.text("fault ");
         page.number(fault_number(fault) as usize);
-        self.push_origin(page, operation);
+        self.push_origin(program, page, operation);
         page.text(": ");
         page.text(words_of(fault));
-        let program = self.machine.program();
         if let Some(at) = program.origin(operation) {
             let extent = extent_of(program.operation(operation));
             push_piece(page, self.text, &self.tokens, at, extent);

@@ -6,6 +6,7 @@ use cp_model::token::Token;
 use cp_model::tree::{Statement, System, Tree};
 use cp_page::page::Page;
 use cp_page::position::Position;
+use cp_program::program::Program;
 use cp_report::roster::Roster;
 use cp_report::status::push_queue;
 use cp_report::walk::Walk;
@@ -15,12 +16,12 @@ use cp_scan::scan;
 use cp_scope::{Tables, TypeRow};
 use std::alloc::{AllocError, Global};
 
-/// A machine that runs the program of a text, and what the text says.
+/// What the text of a machine says. The machine isn't in it: each function that reads it from here
+/// would take seconds more to prove (docs/GATE.md).
 #[derive(Drop)]
-pub(crate) struct Subject<'r, 'm, 't> {
+pub(crate) struct Subject<'r, 't> {
     pub(crate) alloc: Global,
     pub(crate) text: &'r [u8],
-    pub(crate) machine: &'r Machine<'m, 't>,
     /// The tokens of the text, if a process has faulted.
     pub(crate) tokens: Vec<Token>,
     pub(crate) roster: Roster<'t>,
@@ -49,14 +50,14 @@ fn tokens_of(alloc: Global, text: &[u8], machine: &Machine) -> Result<Vec<Token>
     }
 }
 
-impl<'r, 'm, 't> Subject<'r, 'm, 't> {
+impl<'r, 't> Subject<'r, 't> {
     /// Collects what the reasons are told of. Fails only if memory runs out.
     pub(crate) fn of(
         alloc: Global,
         text: &'r [u8],
         tree: &'t Tree,
-        machine: &'r Machine<'m, 't>,
-    ) -> Result<Subject<'r, 'm, 't>, AllocError> {
+        machine: &Machine<'_, 't>,
+    ) -> Result<Subject<'r, 't>, AllocError> {
         let tables = machine.tables();
         let roster = Roster::of(alloc, tables)?;
         let mut parts = Parts::new(alloc);
@@ -65,7 +66,6 @@ impl<'r, 'm, 't> Subject<'r, 'm, 't> {
         Ok(Subject {
             alloc,
             text,
-            machine,
             tokens: tokens_of(alloc, text, machine)?,
             roster,
             statements: parts.statements,
@@ -73,26 +73,26 @@ impl<'r, 'm, 't> Subject<'r, 'm, 't> {
         })
     }
 
-    fn tables(&self) -> &'m Tables<'t> {
-        self.machine.tables()
-    }
-
     /// The type of a monitor by its number, from 1.
-    pub(crate) fn monitor_type(&self, number: u32) -> Option<&'t System> {
-        match self.tables().types.row(self.roster.monitor(number)?.of) {
-            Some(TypeRow::Component { system, .. }) => self.tables().types.system(*system),
+    pub(crate) fn monitor_type(&self, tables: &Tables<'t>, number: u32) -> Option<&'t System> {
+        match tables.types.row(self.roster.monitor(number)?.of) {
+            Some(TypeRow::Component { system, .. }) => tables.types.system(*system),
             _ => None,
         }
     }
 
     /// The name of the queue at an address of the shared words, with its indices.
-    pub(crate) fn queue_name(&self, address: u32) -> Result<Vec<u8>, AllocError> {
+    pub(crate) fn queue_name(
+        &self,
+        machine: &Machine<'_, 't>,
+        address: u32,
+    ) -> Result<Vec<u8>, AllocError> {
         let mut walk = Walk::new(self.alloc, 0);
         let mut name = Vec::new(self.alloc);
         push_queue(
             &mut walk,
-            self.tables(),
-            self.machine.program(),
+            machine.tables(),
+            machine.program(),
             &self.roster.monitors,
             address as usize,
             &mut name,
@@ -105,9 +105,9 @@ impl<'r, 'm, 't> Subject<'r, 'm, 't> {
         page.position(Position::of(self.text, at));
     }
 
-    /// Adds where in the text the operation with this number comes from.
-    pub(crate) fn push_origin(&self, page: &mut Page, operation: u32) {
-        if let Some(at) = self.machine.program().origin(operation) {
+    /// Adds where in the text the operation of a program with this number comes from.
+    pub(crate) fn push_origin(&self, program: &Program, page: &mut Page, operation: u32) {
+        if let Some(at) = program.origin(operation) {
             page.text(" at ");
             self.push_place(page, at);
         }

@@ -4,7 +4,7 @@ ghost use Rattle.std.specs.Prelude.{IfOk};
 ghost use Rattle.cp_formats.specs.Json.{IsJsonLine};
 
 use crate::names::Subject;
-use crate::states::word_of;
+use crate::states::{place_of, word_of};
 use cp_formats::object::line;
 use cp_model::tree::Tree;
 use cp_outcome::verdict::Verdict;
@@ -48,39 +48,47 @@ fn word_of_verdict(verdict: Verdict) -> &'static str {
     }
 }
 
-impl<'r, 'm, 't> Subject<'r, 'm, 't> {
+impl<'t> Subject<'_, 't> {
     // Why a process is where it is, unless it has ended.
-    fn reason(&self, number: u32, private: &Private) -> Result<Option<String>, AllocError> {
-        if matches!(self.machine.state(number), ProcState::Ended) {
+    fn reason(
+        &self,
+        machine: &Machine<'_, 't>,
+        number: u32,
+        private: &Private,
+    ) -> Result<Option<String>, AllocError> {
+        if matches!(machine.state(number), ProcState::Ended) {
             return Ok(None);
         }
         let mut page = Page::new(self.alloc);
-        self.push_why(&mut page, number, private)?;
+        self.push_why(machine, &mut page, number, private)?;
         let reason = page.finish()?;
         Ok(Some(String::from_utf8_lossy(self.alloc, &reason)?))
     }
 
-    fn process_object(&self, number: u32, private: &Private) -> Result<ProcessObject, AllocError> {
-        let position = self
-            .place_of(number, private)
-            .map(|at| Position::of(self.text, at));
+    fn process_object(
+        &self,
+        machine: &Machine<'_, 't>,
+        number: u32,
+        private: &Private,
+    ) -> Result<ProcessObject, AllocError> {
+        let position = place_of(machine, number, private).map(|at| Position::of(self.text, at));
         Ok(ProcessObject {
             process: number,
             name: String::from_utf8_lossy(self.alloc, self.roster.process_name(number))?,
-            state: word_of(self.machine.state(number)),
+            state: word_of(machine.state(number)),
             line: position.map(|position| position.line),
             column: position.map(|position| position.column),
-            reason: self.reason(number, private)?,
+            reason: self.reason(machine, number, private)?,
         })
     }
 
     // All processes, by number.
-    fn process_objects(&self) -> Result<Vec<ProcessObject>, AllocError> {
+    fn process_objects(&self, machine: &Machine<'_, 't>) -> Result<Vec<ProcessObject>, AllocError> {
         let mut all = Vec::new(self.alloc);
-        for index in 0..self.machine.processes() {
+        for index in 0..machine.processes() {
             let number = index.saturating_add(1);
-            if let Some(private) = self.machine.private(number) {
-                all.push(self.process_object(small_number(number)?, private)?)?;
+            if let Some(private) = machine.private(number) {
+                all.push(self.process_object(machine, small_number(number)?, private)?)?;
             }
         }
         Ok(all)
@@ -107,7 +115,7 @@ pub fn object<'t>(
     let outcome = OutcomeObject {
         verdict: word_of_verdict(verdict),
         round: machine.rounds(),
-        processes: subject.process_objects()?,
+        processes: subject.process_objects(machine)?,
     };
     line(alloc, &outcome)
 }

@@ -8,6 +8,7 @@ use cp_page::page::Page;
 use cp_private::outside::Holder;
 use cp_private::private::Private;
 use cp_program::operation::Operation;
+use cp_program::program::Program;
 use cp_rounds::machine::Machine;
 use cp_rounds::state::ProcState;
 use cp_scope::small_number;
@@ -34,28 +35,29 @@ fn without_indices(name: &[u8]) -> &[u8] {
     name
 }
 
-impl<'r, 'm, 't> Subject<'r, 'm, 't> {
-    // Whether a process can still make a step, now or later.
-    fn is_alive(&self, number: u32) -> bool {
-        !matches!(
-            self.machine.state(number),
-            ProcState::Ended | ProcState::Faulted(_)
-        )
-    }
+// Whether a process can still make a step, now or later.
+fn is_alive(machine: &Machine, number: u32) -> bool {
+    !matches!(
+        machine.state(number),
+        ProcState::Ended | ProcState::Faulted(_)
+    )
+}
 
+impl<'t> Subject<'_, 't> {
     // The processes, other than this one, that can call one of these entries of a monitor.
     fn callers(
         &self,
+        machine: &Machine<'_, 't>,
         monitor: u32,
         entries: &[&Identifier],
         other: u32,
     ) -> Result<Vec<u32>, AllocError> {
-        let processes = self.machine.processes();
+        let processes = machine.processes();
         let can = self.rights.callers(monitor as usize, entries, processes)?;
         let mut callers = Vec::new(self.alloc);
         for index in 1..can.len() {
             let number = small_number(index)?;
-            if can[index] && number != other && self.is_alive(number) {
+            if can[index] && number != other && is_alive(machine, number) {
                 callers.push(number)?;
             }
         }
@@ -76,6 +78,7 @@ impl<'r, 'm, 't> Subject<'r, 'm, 't> {
     // can call them.
     fn push_entries(
         &self,
+        machine: &Machine<'_, 't>,
         page: &mut Page,
         monitor: u32,
         entries: &[&Identifier],
@@ -93,7 +96,7 @@ impl<'r, 'm, 't> Subject<'r, 'm, 't> {
         } else {
             " continue it, which "
         });
-        self.push_callers(page, &self.callers(monitor, entries, delayed)?);
+        self.push_callers(page, &self.callers(machine, monitor, entries, delayed)?);
         page.text(" can call");
         Ok(())
     }
@@ -101,12 +104,13 @@ impl<'r, 'm, 't> Subject<'r, 'm, 't> {
     // Adds what can continue a process that is delayed in a queue.
     fn push_continuation(
         &self,
+        machine: &Machine<'_, 't>,
         page: &mut Page,
         monitor: u32,
         queue: &[u8],
         delayed: u32,
     ) -> Result<(), AllocError> {
-        let Some(of) = self.monitor_type(monitor) else {
+        let Some(of) = self.monitor_type(machine.tables(), monitor) else {
             return Ok(());
         };
         let entries = entries_that_continue(self.alloc, of, without_indices(queue))?;
@@ -114,7 +118,7 @@ impl<'r, 'm, 't> Subject<'r, 'm, 't> {
             page.text("; nothing continues it");
             return Ok(());
         }
-        self.push_entries(page, monitor, &entries, delayed)
+        self.push_entries(machine, page, monitor, &entries, delayed)
     }
 
     fn push_queue(&self, page: &mut Page, monitor: u32, queue: &[u8]) {
@@ -126,24 +130,30 @@ impl<'r, 'm, 't> Subject<'r, 'm, 't> {
 
     fn push_delay(
         &self,
+        machine: &Machine<'_, 't>,
         page: &mut Page,
         number: u32,
         monitor: u32,
         queue: u32,
         pause: u32,
     ) -> Result<(), AllocError> {
-        let name = self.queue_name(queue)?;
+        let name = self.queue_name(machine, queue)?;
         self.push_queue(page, monitor, &name);
-        self.push_origin(page, pause);
-        self.push_continuation(page, monitor, &name, number)
+        self.push_origin(machine.program(), page, pause);
+        self.push_continuation(machine, page, monitor, &name, number)
     }
 
     // Adds why the holder of a gate doesn't leave the monitor, if it can't.
-    fn push_why_held(&self, page: &mut Page, holder: u32) -> Result<(), AllocError> {
-        match self.machine.state(holder) {
+    fn push_why_held(
+        &self,
+        machine: &Machine<'_, 't>,
+        page: &mut Page,
+        holder: u32,
+    ) -> Result<(), AllocError> {
+        match machine.state(holder) {
             ProcState::Delayed { monitor, queue } => {
                 page.text(", which is ");
-                self.push_queue(page, monitor, &self.queue_name(queue)?);
+                self.push_queue(page, monitor, &self.queue_name(machine, queue)?);
             }
             ProcState::Asking(monitor) => {
                 page.text(", which asks for ");
@@ -155,15 +165,21 @@ impl<'r, 'm, 't> Subject<'r, 'm, 't> {
         Ok(())
     }
 
-    fn push_asking(&self, page: &mut Page, monitor: u32, pause: u32) -> Result<(), AllocError> {
+    fn push_asking(
+        &self,
+        machine: &Machine<'_, 't>,
+        page: &mut Page,
+        monitor: u32,
+        pause: u32,
+    ) -> Result<(), AllocError> {
         page.text("asks for ");
         page.bytes(self.roster.monitor_name(monitor));
-        self.push_origin(page, pause);
-        match self.machine.gate(monitor) {
+        self.push_origin(machine.program(), page, pause);
+        match machine.gate(monitor) {
             Holder::Process(holder) => {
                 page.text(", held by ");
                 page.bytes(self.roster.process_name(holder));
-                self.push_why_held(page, holder)
+                self.push_why_held(machine, page, holder)
             }
             Holder::Unset | Holder::Free => Ok(()),
         }
@@ -191,47 +207,67 @@ impl<'r, 'm, 't> Subject<'r, 'm, 't> {
         Ok(())
     }
 
-    fn push_waiting(&self, page: &mut Page, private: &Private) {
+    fn push_waiting(&self, program: &Program, page: &mut Page, private: &Private) {
         page.text("waits for the clock");
-        self.push_origin(page, private.pause());
+        self.push_origin(program, page, private.pause());
     }
 
-    fn push_ready(&self, page: &mut Page, private: &Private) {
-        page.text(match self.machine.program().operation(private.counter()) {
+    fn push_ready(&self, program: &Program, page: &mut Page, private: &Private) {
+        page.text(match program.operation(private.counter()) {
             Some(Operation::Return { .. }) => "ready at the end of the routine",
             Some(Operation::EndBody | Operation::End) => "ready at the end of the body",
             _ => "ready",
         });
-        self.push_origin(page, private.counter());
+        self.push_origin(program, page, private.counter());
     }
 
     /// Adds why a process is where it is. Fails only if memory runs out.
     pub(crate) fn push_why(
         &self,
+        machine: &Machine<'_, 't>,
         page: &mut Page,
         number: u32,
         private: &Private,
     ) -> Result<(), AllocError> {
-        match self.machine.state(number) {
+        match machine.state(number) {
             ProcState::Unstarted => self.push_unstarted(page, number)?,
-            ProcState::Fresh | ProcState::Ready => self.push_ready(page, private),
-            ProcState::Asking(monitor) => self.push_asking(page, monitor, private.pause())?,
+            ProcState::Fresh | ProcState::Ready => self.push_ready(
+                machine.program(),
+                page,
+                private,
+            ),
+            ProcState::Asking(monitor) => self.push_asking(
+                machine,
+                page,
+                monitor,
+                private.pause(),
+            )?,
             ProcState::Delayed { monitor, queue } => {
-                self.push_delay(page, number, monitor, queue, private.pause())?;
+                self.push_delay(machine, page, number, monitor, queue, private.pause())?;
             }
-            ProcState::Waiting => self.push_waiting(page, private),
+            ProcState::Waiting => self.push_waiting(machine.program(), page, private),
             ProcState::Ended => page.text("ended"),
-            ProcState::Faulted(fault) => self.push_fault(page, fault, private.counter()),
+            ProcState::Faulted(fault) => self.push_fault(
+                machine.program(),
+                page,
+                fault,
+                private.counter(),
+            ),
         }
         Ok(())
     }
 
     // Adds the line of a process, unless it has ended.
-    fn push_reason(&self, page: &mut Page, number: u32) -> Result<(), AllocError> {
-        let Some(private) = self.machine.private(number as usize) else {
+    fn push_reason(
+        &self,
+        machine: &Machine<'_, 't>,
+        page: &mut Page,
+        number: u32,
+    ) -> Result<(), AllocError> {
+        let Some(private) = machine.private(number as usize) else {
             return Ok(());
         };
-        if matches!(self.machine.state(number), ProcState::Ended) {
+        if matches!(machine.state(number), ProcState::Ended) {
             return Ok(());
         }
         page.text("process ");
@@ -239,7 +275,7 @@ impl<'r, 'm, 't> Subject<'r, 'm, 't> {
         page.text(" ");
         page.bytes(self.roster.process_name(number));
         page.text(": ");
-        self.push_why(page, number, private)?;
+        self.push_why(machine, page, number, private)?;
         page.text("\n");
         Ok(())
     }
@@ -261,7 +297,7 @@ pub fn reasons<'t>(
     let subject = Subject::of(alloc, text, tree, machine)?;
     let mut page = Page::new(alloc);
     for index in 0..machine.processes() {
-        subject.push_reason(&mut page, small_number(index.saturating_add(1))?)?;
+        subject.push_reason(machine, &mut page, small_number(index.saturating_add(1))?)?;
     }
     page.finish()
 }

@@ -15,7 +15,26 @@ use cp_rounds::state::ProcState;
 use cp_scope::small_number;
 use std::alloc::{AllocError, Global};
 
-impl<'r, 'm, 't> Subject<'r, 'm, 't> {
+// Whether a process is delayed in a monitor.
+fn has_delayed(machine: &Machine, monitor: u32) -> Result<bool, AllocError> {
+    for index in 0..machine.processes() {
+        let number = small_number(index.saturating_add(1))?;
+        match machine.state(number) {
+            ProcState::Delayed { monitor: of, .. } if of == monitor => return Ok(true),
+            _ => {}
+        }
+    }
+    Ok(false)
+}
+
+// Whether a monitor is held, or processes ask for it or are delayed in it.
+fn is_used(machine: &Machine, monitor: u32) -> Result<bool, AllocError> {
+    let is_held = matches!(machine.gate(monitor), Holder::Process(_));
+    let is_asked = !machine.askers(monitor).is_empty();
+    Ok(is_held || is_asked || has_delayed(machine, monitor)?)
+}
+
+impl<'t> Subject<'_, 't> {
     // The node of a process. That of process 1 has a blank, which no name of a text has.
     fn node_of(&self, number: u32) -> &[u8] {
         if number == 1 {
@@ -24,8 +43,8 @@ impl<'r, 'm, 't> Subject<'r, 'm, 't> {
         self.roster.process_name(number)
     }
 
-    fn add_process(&self, page: &mut Page, number: u32) {
-        let state = self.machine.state(number);
+    // Adds a process in a state, unless it has ended.
+    fn add_process(&self, page: &mut Page, number: u32, state: ProcState) {
         if matches!(state, ProcState::Ended) {
             return;
         }
@@ -38,32 +57,10 @@ impl<'r, 'm, 't> Subject<'r, 'm, 't> {
         page.text("\", shape=ellipse];\n");
     }
 
-    // Whether a process is delayed in a monitor.
-    fn has_delayed(&self, monitor: u32) -> Result<bool, AllocError> {
-        for index in 0..self.machine.processes() {
-            let number = small_number(index.saturating_add(1))?;
-            match self.machine.state(number) {
-                ProcState::Delayed { monitor: of, .. } if of == monitor => return Ok(true),
-                _ => {}
-            }
-        }
-        Ok(false)
-    }
-
-    // Whether a monitor is held, or processes ask for it or are delayed in it.
-    fn is_used(&self, monitor: u32) -> Result<bool, AllocError> {
-        let is_held = matches!(self.machine.gate(monitor), Holder::Process(_));
-        let is_asked = !self.machine.askers(monitor).is_empty();
-        Ok(is_held || is_asked || self.has_delayed(monitor)?)
-    }
-
-    fn add_monitor(&self, page: &mut Page, monitor: u32) -> Result<(), AllocError> {
-        if self.is_used(monitor)? {
-            page.text("  ");
-            push_node(page, self.roster.monitor_name(monitor));
-            page.text(" [shape=box];\n");
-        }
-        Ok(())
+    fn add_monitor(&self, page: &mut Page, monitor: u32) {
+        page.text("  ");
+        push_node(page, self.roster.monitor_name(monitor));
+        page.text(" [shape=box];\n");
     }
 
     // Adds an arrow from a process to a monitor, up to its attributes or the `;` after it.
@@ -76,8 +73,13 @@ impl<'r, 'm, 't> Subject<'r, 'm, 't> {
     }
 
     // Adds what a process waits for.
-    fn add_wait(&self, page: &mut Page, number: u32) -> Result<(), AllocError> {
-        match self.machine.state(number) {
+    fn add_wait(
+        &self,
+        machine: &Machine<'_, 't>,
+        page: &mut Page,
+        number: u32,
+    ) -> Result<(), AllocError> {
+        match machine.state(number) {
             ProcState::Asking(monitor) => {
                 self.push_wait(page, number, monitor);
                 page.text(";\n");
@@ -85,7 +87,7 @@ impl<'r, 'm, 't> Subject<'r, 'm, 't> {
             ProcState::Delayed { monitor, queue } => {
                 self.push_wait(page, number, monitor);
                 page.text(" [label=\"");
-                page.bytes(&self.queue_name(queue)?);
+                page.bytes(&self.queue_name(machine, queue)?);
                 page.text("\", style=dashed];\n");
             }
             _ => {}
@@ -93,8 +95,8 @@ impl<'r, 'm, 't> Subject<'r, 'm, 't> {
         Ok(())
     }
 
-    fn add_holder(&self, page: &mut Page, monitor: u32) {
-        if let Holder::Process(number) = self.machine.gate(monitor) {
+    fn add_holder(&self, page: &mut Page, monitor: u32, holder: Holder) {
+        if let Holder::Process(number) = holder {
             push_arrow(
                 page,
                 self.roster.monitor_name(monitor),
@@ -104,41 +106,46 @@ impl<'r, 'm, 't> Subject<'r, 'm, 't> {
         }
     }
 
-    fn add_processes(&self, page: &mut Page) -> Result<(), AllocError> {
-        for index in 0..self.machine.processes() {
-            self.add_process(page, small_number(index.saturating_add(1))?);
+    fn add_processes(&self, machine: &Machine<'_, 't>, page: &mut Page) -> Result<(), AllocError> {
+        for index in 0..machine.processes() {
+            let number = small_number(index.saturating_add(1))?;
+            self.add_process(page, number, machine.state(number));
         }
         Ok(())
     }
 
-    fn add_monitors(&self, page: &mut Page) -> Result<(), AllocError> {
+    fn add_monitors(&self, machine: &Machine<'_, 't>, page: &mut Page) -> Result<(), AllocError> {
         for index in 0..self.roster.monitors.len() {
-            self.add_monitor(page, small_number(index.saturating_add(1))?)?;
+            let monitor = small_number(index.saturating_add(1))?;
+            if is_used(machine, monitor)? {
+                self.add_monitor(page, monitor);
+            }
         }
         Ok(())
     }
 
-    fn add_waits(&self, page: &mut Page) -> Result<(), AllocError> {
-        for index in 0..self.machine.processes() {
-            self.add_wait(page, small_number(index.saturating_add(1))?)?;
+    fn add_waits(&self, machine: &Machine<'_, 't>, page: &mut Page) -> Result<(), AllocError> {
+        for index in 0..machine.processes() {
+            self.add_wait(machine, page, small_number(index.saturating_add(1))?)?;
         }
         Ok(())
     }
 
-    fn add_holders(&self, page: &mut Page) -> Result<(), AllocError> {
+    fn add_holders(&self, machine: &Machine<'_, 't>, page: &mut Page) -> Result<(), AllocError> {
         for index in 0..self.roster.monitors.len() {
-            self.add_holder(page, small_number(index.saturating_add(1))?);
+            let monitor = small_number(index.saturating_add(1))?;
+            self.add_holder(page, monitor, machine.gate(monitor));
         }
         Ok(())
     }
 
     // Returns the nodes and the arrows.
-    fn drawn(&self) -> Result<Vec<u8>, AllocError> {
+    fn drawn(&self, machine: &Machine<'_, 't>) -> Result<Vec<u8>, AllocError> {
         let mut page = Page::new(self.alloc);
-        self.add_processes(&mut page)?;
-        self.add_monitors(&mut page)?;
-        self.add_waits(&mut page)?;
-        self.add_holders(&mut page)?;
+        self.add_processes(machine, &mut page)?;
+        self.add_monitors(machine, &mut page)?;
+        self.add_waits(machine, &mut page)?;
+        self.add_holders(machine, &mut page)?;
         page.finish()
     }
 }
@@ -171,5 +178,5 @@ pub fn waits<'t>(
     ensures some { IfOk result (λ bytes. 0 < length bytes.items) }
 {
     let subject = Subject::of(alloc, text, tree, machine)?;
-    graph_of(alloc, &subject.drawn()?)
+    graph_of(alloc, &subject.drawn(machine)?)
 }
