@@ -26,7 +26,7 @@ LEAST_OF_TRACE = {'READ': 300, 'WRITE': 255}
 
 # The tests of cp_rounds_tests that look at a machine after a refusal, and the fewest times that they have to see one.
 TESTS = {'a_refused_machine_is_made_again': 12, 'a_refused_round_leaves_the_machine_as_it_was': 550, 'a_refused_run_has_made_the_rounds_before': 200,
-         'a_refused_replay_leaves_the_machine_as_it_was': 1}
+         'a_refused_replay_leaves_the_machine_as_it_was': 240}
 
 
 class Refusing:
