@@ -11,7 +11,7 @@ import re
 import sys
 
 ROOT = pathlib.Path(__file__).resolve().parent.parent
-ROW = re.compile(r'^\| (cpm?_?\w*) \| ([\d,]+) \| [\d,]* \| (\d*) \| ([\d.]*) \| ([\d.]*) \| ([\d.]*) \|$', re.MULTILINE)
+ROW = re.compile(r'^\| (cp\w+) \| ([\d,]+) \| [\d,]* \| (\d*) \| ([\d.]*) \| ([\d.]*) \| ([\d.]*) \|$', re.MULTILINE)
 Crate = collections.namedtuple('Crate', 'lines edits proof tests trying')
 Task = collections.namedtuple('Task', 'after lines minutes')
 # What of the minutes of a crate's edits the first of several takes, which is a proof of the crate.
