@@ -18,161 +18,312 @@ Help and refusals go to standard error, results to standard output.";
 
 const SUBCOMMAND_EXITS: &str = "'cpm --help' lists the exits. Help goes to standard error.";
 
-// An option that takes a value.
+// How an argument is given.
 #[derive(Clone, Copy)]
-struct Valued {
-    name: &'static str,
-    value: &'static str,
-    about: &'static str,
+enum Form {
+    // By its place. It has to be there.
+    Place,
+    // By its name and a value of this kind.
+    Value(&'static str),
+    // The same, and it has to be there.
+    Required(&'static str),
+    // The same, any number of times.
+    Repeated(&'static str),
+    // By its name alone.
+    Flag,
 }
 
-const ROUNDS: Valued = Valued {
+// An argument of a command.
+#[derive(Clone, Copy)]
+struct Argument {
+    name: &'static str,
+    form: Form,
+    about: &'static str,
+    // The arguments that can't be given beside it.
+    without: &'static [&'static str],
+}
+
+// A command.
+#[derive(Clone, Copy)]
+struct Words {
+    name: &'static str,
+    about: &'static str,
+    arguments: &'static [Argument],
+}
+
+const TEXT: Argument = Argument {
+    name: "FILE",
+    form: Form::Place,
+    about: "the text; - for standard input",
+    without: &[],
+};
+
+const TEXT_OR_RULE: Argument = Argument {
+    name: "FILE",
+    form: Form::Place,
+    about: "the text, - for standard input, or a rule or fault such as C4 or F3",
+    without: &[],
+};
+
+const ORDER: Argument = Argument {
+    name: "ORDER",
+    form: Form::Place,
+    about: "the order: the events of each round, a line a round; - for standard input",
+    without: &[],
+};
+
+const ROUNDS: Argument = Argument {
     name: "rounds",
-    value: "N",
+    form: Form::Required("N"),
     about: "how many rounds to run, up to 1000000",
+    without: &[],
 };
 
-const LIMIT: Valued = Valued {
+const LIMIT: Argument = Argument {
     name: "limit",
-    value: "N",
+    form: Form::Value("N"),
     about: "the largest number of rounds, up to 1000000 (default 10000)",
+    without: &[],
 };
 
-const FROM: Valued = Valued {
+const FROM: Argument = Argument {
     name: "from",
-    value: "A",
+    form: Form::Value("A"),
     about: "the first round that is told, from 1 (default 1)",
+    without: &[],
 };
 
-const TO: Valued = Valued {
+const TO: Argument = Argument {
     name: "to",
-    value: "B",
+    form: Form::Value("B"),
     about: "the last round that is told, from 1 (default the last)",
+    without: &[],
 };
 
-const ONLY: Valued = Valued {
+const ONLY: Argument = Argument {
     name: "only",
-    value: "NAME,..",
+    form: Form::Value("NAME,.."),
     about: "the processes and monitors that are told (default all)",
+    without: &[],
 };
 
-const TURN: Valued = Valued {
+const TURN: Argument = Argument {
     name: "turn",
-    value: "N",
+    form: Form::Value("N"),
     about: "steps in a turn, 1 to 10000 (default 100)",
+    without: &[],
 };
 
-const WORKERS: Valued = Valued {
+const WORKERS: Argument = Argument {
     name: "workers",
-    value: "N",
+    form: Form::Value("N"),
     about: "threads that make private turns, 1 to 64 (default 2)",
+    without: &[],
 };
 
-const CHUNK: Valued = Valued {
+const CHUNK: Argument = Argument {
     name: "chunk",
-    value: "N",
+    form: Form::Value("N"),
     about: "least number of processes that a worker takes at once, 1 to 255 (default 1)",
+    without: &[],
 };
 
-const WAVE: Valued = Valued {
+const WAVE: Argument = Argument {
     name: "wave",
-    value: "N",
+    form: Form::Value("N"),
     about: "processes in a wave, 1 to 255 (default 255)",
+    without: &[],
 };
 
-const TICK: Valued = Valued {
+const TICK: Argument = Argument {
     name: "tick",
-    value: "N",
+    form: Form::Value("N"),
     about: "rounds between two ticks of the clock, 1 to 1000000 (default 1)",
+    without: &[],
 };
 
-const INPUT: Valued = Valued {
+const INPUT: Argument = Argument {
     name: "input",
-    value: "FILE",
+    form: Form::Value("FILE"),
     about: "the inputs of the processes, with byte 28 between them; - for standard input",
+    without: &["in"],
 };
 
-const IN: Valued = Valued {
+const IN: Argument = Argument {
     name: "in",
-    value: "NAME=FILE",
+    form: Form::Repeated("NAME=FILE"),
     about: "the input of the process NAME, for each process that has one; - for standard input",
+    without: &[],
 };
 
-const OUT: Valued = Valued {
+const CHAINS: Argument = Argument {
+    name: "chains",
+    form: Form::Flag,
+    about: "adds who waits for whom: a line for each process that asks for a gate",
+    without: &[],
+};
+
+const PROGRESS: Argument = Argument {
+    name: "progress",
+    form: Form::Flag,
+    about: "shows the round that is being made on standard error, once a second",
+    without: &[],
+};
+
+const EXPLAIN_DOT: Argument = Argument {
+    name: "dot",
+    form: Form::Flag,
+    about: "writes the access graph of an accepted text for Graphviz",
+    without: &[],
+};
+
+const EXPLAIN_JSON: Argument = Argument {
+    name: "json",
+    form: Form::Flag,
+    about: "writes the violations of a text, or the notes on it, as a JSON object",
+    without: &["dot"],
+};
+
+const ALL: Argument = Argument {
+    name: "all",
+    form: Form::Flag,
+    about: "tells all violations of a text, each in short",
+    without: &["dot"],
+};
+
+const OUT: Argument = Argument {
     name: "out",
-    value: "NAME",
+    form: Form::Value("NAME"),
     about: "writes what the process NAME has written, as raw bytes, in place of the verdict",
+    without: &["dot", "json"],
 };
 
-const DOT: &str = "dot";
+const OUTCOME_DOT: Argument = Argument {
+    name: "dot",
+    form: Form::Flag,
+    about: "writes who waits for whom, for Graphviz, in place of the verdict",
+    without: &["json"],
+};
 
-const JSON: &str = "json";
+const OUTCOME_JSON: Argument = Argument {
+    name: "json",
+    form: Form::Flag,
+    about: "writes the verdict and all processes as a JSON object",
+    without: &[],
+};
 
-const TIMELINE: &str = "timeline";
+const TRACE_JSON: Argument = Argument {
+    name: "json",
+    form: Form::Flag,
+    about: "writes each change as a JSON object on a line",
+    without: &["timeline", "svg"],
+};
 
-const SVG: &str = "svg";
+const TIMELINE: Argument = Argument {
+    name: "timeline",
+    form: Form::Flag,
+    about: "writes a row for each process and monitor, a character a round, in place of changes",
+    without: &["svg"],
+};
 
-impl Valued {
-    fn arg<'a>(self, alloc: Global) -> Arg<'a> {
-        Arg::new(alloc, self.name)
-            .long(self.name)
-            .value_name(self.value)
-            .help(self.about)
+const SVG: Argument = Argument {
+    name: "svg",
+    form: Form::Flag,
+    about: "writes the same as a picture",
+    without: &[],
+};
+
+const CHECK: Words = Words {
+    name: "check",
+    about: "Checks a text against the rules of the language",
+    arguments: &[TEXT],
+};
+
+const EXPLAIN: Words = Words {
+    name: "explain",
+    about: "Explains what is wrong with a text, who has which right in an accepted text, or a rule",
+    arguments: &[TEXT_OR_RULE, EXPLAIN_DOT, EXPLAIN_JSON, ALL],
+};
+
+const RUN: Words = Words {
+    name: "run",
+    about: "Runs a text and reports its state",
+    arguments: &[
+        TEXT, ROUNDS, TURN, WORKERS, CHUNK, WAVE, TICK, INPUT, IN, CHAINS, PROGRESS,
+    ],
+};
+
+const OUTCOME: Words = Words {
+    name: "outcome",
+    about: "Runs a text until nothing can move, and tells what became of each process",
+    arguments: &[
+        TEXT,
+        LIMIT,
+        TURN,
+        WORKERS,
+        CHUNK,
+        WAVE,
+        TICK,
+        INPUT,
+        IN,
+        OUT,
+        OUTCOME_DOT,
+        OUTCOME_JSON,
+        PROGRESS,
+    ],
+};
+
+const TRACE: Words = Words {
+    name: "trace",
+    about: "Runs a text and tells what each round changed",
+    arguments: &[
+        TEXT, ROUNDS, FROM, TO, ONLY, TURN, WORKERS, CHUNK, WAVE, TICK, INPUT, IN, TRACE_JSON,
+        TIMELINE, SVG, PROGRESS,
+    ],
+};
+
+const REPLAY: Words = Words {
+    name: "replay",
+    about: "Replays a text in the order of steps that a file tells, and reports its state",
+    arguments: &[TEXT, ORDER, TURN, TICK, INPUT, IN, CHAINS],
+};
+
+impl Argument {
+    // The argument as it is given, without its conflicts.
+    fn given<'a>(&self, alloc: Global) -> Arg<'a> {
+        let argument = Arg::new(alloc, self.name).help(self.about);
+        match self.form {
+            Form::Place => argument.required(true),
+            Form::Value(value) => argument.long(self.name).value_name(value),
+            Form::Required(value) => argument.long(self.name).value_name(value).required(true),
+            Form::Repeated(value) => argument
+                .long(self.name)
+                .value_name(value)
+                .action(ArgAction::Append),
+            Form::Flag => argument.long(self.name).action(ArgAction::SetTrue),
+        }
+    }
+
+    fn argument<'a>(&self, alloc: Global) -> Result<Arg<'a>, AllocError> {
+        let mut argument = self.given(alloc);
+        for other in self.without {
+            argument = argument.conflicts_with(*other)?;
+        }
+        Ok(argument)
     }
 }
 
-fn flag<'a>(alloc: Global, name: &'a str, about: &'a str) -> Arg<'a> {
-    Arg::new(alloc, name)
-        .long(name)
-        .action(ArgAction::SetTrue)
-        .help(about)
-}
-
-// The argument, which can't be given beside another one.
-fn without<'a>(argument: Arg<'a>, other: &'a str) -> Result<Arg<'a>, AllocError> {
-    argument.conflicts_with(other)
-}
-
-// The argument, which can't be given beside either of two others.
-fn without_both<'a>(
-    argument: Arg<'a>,
-    first: &'a str,
-    second: &'a str,
-) -> Result<Arg<'a>, AllocError> {
-    without(argument, first)?.conflicts_with(second)
-}
-
-fn file<'a>(alloc: Global, name: &'a str, about: &'a str) -> Arg<'a> {
-    Arg::new(alloc, name).required(true).help(about)
-}
-
-// A command that takes a file.
-fn command<'a>(
-    alloc: Global,
-    name: &'a str,
-    about: &'a str,
-    of_file: &'a str,
-) -> Result<clap::Command<'a>, AllocError> {
-    clap::Command::new(alloc, name)
-        .about(about)
-        .after_help(SUBCOMMAND_EXITS)
-        .arg(file(alloc, "FILE", of_file))
-}
-
-// Adds options.
-fn with<'a>(
-    alloc: Global,
-    command: clap::Command<'a>,
-    options: &[Valued],
-) -> Result<clap::Command<'a>, AllocError> {
-    let mut command = command;
-    for option in options {
-        command = command.arg(option.arg(alloc))?;
+fn command<'a>(alloc: Global, words: &Words) -> Result<clap::Command<'a>, AllocError> {
+    let mut command = clap::Command::new(alloc, words.name)
+        .about(words.about)
+        .after_help(SUBCOMMAND_EXITS);
+    for argument in words.arguments {
+        command = with_argument(command, argument.argument(alloc))?;
     }
     Ok(command)
 }
 
-// Adds an argument, unless memory ran out for it. Arguments and subcommands are made before they are
+// Adds an argument, unless memory ran out for it. Arguments and commands are made before they are
 // added, and one at a time: one that is alive where memory runs out has to be given up there, which
 // makes proofs long.
 fn with_argument<'a>(
@@ -182,141 +333,12 @@ fn with_argument<'a>(
     command.arg(argument?)
 }
 
-// Adds where the inputs of the processes come from.
-fn with_inputs<'a>(
-    alloc: Global,
-    command: clap::Command<'a>,
+// Adds a command, unless memory ran out for it.
+fn with_command<'a>(
+    cpm: clap::Command<'a>,
+    command: Result<clap::Command<'a>, AllocError>,
 ) -> Result<clap::Command<'a>, AllocError> {
-    let command = with_argument(command, without(INPUT.arg(alloc), IN.name))?;
-    command.arg(IN.arg(alloc).action(ArgAction::Append))
-}
-
-const TEXT: &str = "the text; - for standard input";
-
-fn check_words<'a>(alloc: Global) -> Result<clap::Command<'a>, AllocError> {
-    command(
-        alloc,
-        "check",
-        "Checks a text against the rules of the language",
-        TEXT,
-    )
-}
-
-fn explain_words<'a>(alloc: Global) -> Result<clap::Command<'a>, AllocError> {
-    let explain = command(
-        alloc,
-        "explain",
-        "Explains what is wrong with a text, who has which right in an accepted text, or a rule",
-        "the text, - for standard input, or a rule or fault such as C4 or F3",
-    )?;
-    let dot = "writes the access graph of an accepted text for Graphviz";
-    let explain = explain.arg(flag(alloc, DOT, dot))?;
-    let json = "writes the violations of a text, or the notes on it, as a JSON object";
-    let explain = with_argument(explain, without(flag(alloc, JSON, json), DOT))?;
-    let all = "tells all violations of a text, each in short";
-    with_argument(explain, without(flag(alloc, "all", all), DOT))
-}
-
-fn progress<'a>(alloc: Global) -> Arg<'a> {
-    flag(
-        alloc,
-        "progress",
-        "shows the round that is being made on standard error, once a second",
-    )
-}
-
-fn chains<'a>(alloc: Global) -> Arg<'a> {
-    flag(
-        alloc,
-        "chains",
-        "adds who waits for whom: a line for each process that asks for a gate",
-    )
-}
-
-fn run_words<'a>(alloc: Global) -> Result<clap::Command<'a>, AllocError> {
-    let run = command(alloc, "run", "Runs a text and reports its state", TEXT)?;
-    let run = run.arg(ROUNDS.arg(alloc).required(true))?;
-    let run = with(alloc, run, &[TURN, WORKERS, CHUNK, WAVE, TICK])?;
-    with_inputs(alloc, run)?
-        .arg(chains(alloc))?
-        .arg(progress(alloc))
-}
-
-// Adds the forms of an outcome, of which only one may be given.
-fn with_forms<'a>(
-    alloc: Global,
-    command: clap::Command<'a>,
-) -> Result<clap::Command<'a>, AllocError> {
-    let command = with_argument(command, without_both(OUT.arg(alloc), DOT, JSON))?;
-    let dot = "writes who waits for whom, for Graphviz, in place of the verdict";
-    let command = with_argument(command, without(flag(alloc, DOT, dot), JSON))?;
-    let json = "writes the verdict and all processes as a JSON object";
-    command.arg(flag(alloc, JSON, json))
-}
-
-fn outcome_words<'a>(alloc: Global) -> Result<clap::Command<'a>, AllocError> {
-    let outcome = command(
-        alloc,
-        "outcome",
-        "Runs a text until nothing can move, and tells what became of each process",
-        TEXT,
-    )?;
-    let outcome = with(alloc, outcome, &[LIMIT, TURN, WORKERS, CHUNK, WAVE, TICK])?;
-    with_forms(alloc, with_inputs(alloc, outcome)?)?.arg(progress(alloc))
-}
-
-// Adds the forms of a trace other than its lines, of which only one may be given.
-fn with_trace_forms<'a>(
-    alloc: Global,
-    command: clap::Command<'a>,
-) -> Result<clap::Command<'a>, AllocError> {
-    let json = "writes each change as a JSON object on a line";
-    let json = without_both(flag(alloc, JSON, json), TIMELINE, SVG);
-    let command = with_argument(command, json)?;
-    let timeline =
-        "writes a row for each process and monitor, a character a round, in place of changes";
-    let command = with_argument(command, without(flag(alloc, TIMELINE, timeline), SVG))?;
-    command.arg(flag(alloc, SVG, "writes the same as a picture"))
-}
-
-fn trace_words<'a>(alloc: Global) -> Result<clap::Command<'a>, AllocError> {
-    let trace = command(
-        alloc,
-        "trace",
-        "Runs a text and tells what each round changed",
-        TEXT,
-    )?;
-    let trace = trace.arg(ROUNDS.arg(alloc).required(true))?;
-    let trace = with(
-        alloc,
-        trace,
-        &[FROM, TO, ONLY, TURN, WORKERS, CHUNK, WAVE, TICK],
-    )?;
-    with_trace_forms(alloc, with_inputs(alloc, trace)?)?.arg(progress(alloc))
-}
-
-fn replay_words<'a>(alloc: Global) -> Result<clap::Command<'a>, AllocError> {
-    let replay = command(
-        alloc,
-        "replay",
-        "Replays a text in the order of steps that a file tells, and reports its state",
-        TEXT,
-    )?;
-    let order = file(
-        alloc,
-        "ORDER",
-        "the order: the events of each round, a line a round; - for standard input",
-    );
-    let replay = with(alloc, replay.arg(order)?, &[TURN, TICK])?;
-    with_inputs(alloc, replay)?.arg(chains(alloc))
-}
-
-// Adds a subcommand, unless memory ran out for it.
-fn with_subcommand<'a>(
-    command: clap::Command<'a>,
-    subcommand: Result<clap::Command<'a>, AllocError>,
-) -> Result<clap::Command<'a>, AllocError> {
-    command.subcommand(subcommand?)
+    cpm.subcommand(command?)
 }
 
 /// Returns the grammar of the command line.
@@ -325,15 +347,13 @@ fn with_subcommand<'a>(
 ///
 /// `AllocError` if memory runs out.
 pub(crate) fn grammar<'a>(alloc: Global) -> Result<clap::Command<'a>, AllocError> {
-    let cpm = clap::Command::new(alloc, "cpm")
+    let mut cpm = clap::Command::new(alloc, "cpm")
         .about("Checks and runs texts of Concurrent Pascal")
         .version(VERSION)
         .after_help(EXITS)
         .subcommand_required(true);
-    let cpm = with_subcommand(cpm, check_words(alloc))?;
-    let cpm = with_subcommand(cpm, explain_words(alloc))?;
-    let cpm = with_subcommand(cpm, run_words(alloc))?;
-    let cpm = with_subcommand(cpm, outcome_words(alloc))?;
-    let cpm = with_subcommand(cpm, trace_words(alloc))?;
-    with_subcommand(cpm, replay_words(alloc))
+    for words in [CHECK, EXPLAIN, RUN, OUTCOME, TRACE, REPLAY] {
+        cpm = with_command(cpm, command(alloc, &words))?;
+    }
+    Ok(cpm)
 }
