@@ -57,6 +57,13 @@ impl Kernel {
         matches!(self.stage(p), Stage::Begun)
     }
 
+    /// Returns all shared words.
+    pub fn all_words(&self) -> &[i32]
+        ensures { result.now ≡ (kernel_of self.now).shared }
+    {
+        &self.shared
+    }
+
     /// Returns the shared word at an address. A missing word reads as 0.
     pub fn word(&self, at: usize) -> i32
         ensures { result ≡ word (kernel_of self.now).shared at }

@@ -8,7 +8,7 @@ use Rattle.cp_accept.specs.Takings.{TakesFront, TakesInputAt, concern}
 use Rattle.cp_accept.specs.Texts.{IsAccepted}
 use Rattle.cp_accept.specs.declared.refusal.Refusal.{Refusal}
 use Rattle.cp_accept.specs.declared.refusal.Refusal.TheVariants as refusal
-use Rattle.cp_trace.specs.Writing.{IsMemoryOrWrite}
+use Rattle.cp_observe.specs.Writing.{IsMemoryOrWrite}
 use Rattle.cp_observe.specs.Traces.{IsTraced, Traces}
 use Rattle.cp_plan.specs.declared.trace.Tracing.{Tracing}
 use Rattle.cp_accept.proofs.Faults.{memory_fault, write_fault}

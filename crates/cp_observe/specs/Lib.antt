@@ -1,3 +1,4 @@
 pub mod Forms
 pub mod Outcomes
 pub mod Traces
+pub mod Writing

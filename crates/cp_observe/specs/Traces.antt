@@ -1,4 +1,4 @@
--- What a trace promises about the machine that it runs. `specs/Writing.antt` of cp_trace says what it writes.
+-- What a trace promises about the machine that it runs. `specs/Writing.antt` says what it writes.
 use Rattle.std.specs.Prelude.{◌≡◌, ℕ, List, Ok, Option, Some}
 use Rattle.cp_model.specs.Syntax as s
 use Rattle.cp_model.specs.Rounds.{run}

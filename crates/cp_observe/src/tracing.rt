@@ -3,9 +3,10 @@
 ghost use Rattle.std.specs.Prelude.{◌≡◌, IfErr, IfOk, OnOk};
 ghost use Rattle.cp_model.specs.Rules.{Accepted};
 ghost use Rattle.cp_model.specs.View as view;
-ghost use Rattle.cp_trace.specs.Writing.{Extends, IsMemoryOrWrite, WritesTrace};
+ghost use Rattle.cp_observe.specs.Writing.{Extends, IsMemoryOrWrite, WritesTrace};
 ghost use Rattle.cp_observe.specs.Traces.{IsTraced, IsTracedFrom};
 
+use crate::rounds::trace;
 use cp_accept::refusal::Refusal;
 use cp_check::checking::{CompiledText, compile_accepted};
 use cp_execute::running::machine_at_start;
@@ -14,7 +15,6 @@ use cp_plan::trace::Tracing;
 use cp_rounds::gate::TurnGate;
 use cp_rounds::halted::Halted;
 use cp_rounds::machine::Machine;
-use cp_trace::rounds::trace;
 use std::alloc::Global;
 use std::io::Write;
 use std::sync::Wait;

@@ -11,8 +11,8 @@ use Rattle.cp_model.specs.States.{Setup, State, numbers_from, process_count}
 use Rattle.cp_rounds.specs.ProcessStates.{StatusMeans, state_at}
 use Rattle.cp_rounds.specs.Views.{machine_of, processes_of}
 use Rattle.cp_rounds.specs.declared.machine.Machine.{Machine}
-use Rattle.cp_rounds.specs.declared.state.ProcState.{ProcState}
-use Rattle.cp_rounds.specs.declared.state.ProcState.TheVariants as state
+use Rattle.cp_members.specs.declared.state.ProcState.{ProcState}
+use Rattle.cp_members.specs.declared.state.ProcState.TheVariants as state
 use Rattle.cp_rounds.proofs.InStates.{process_count_is}
 use Rattle.cp_rounds.proofs.Shown.{state_shown}
 use Rattle.cp_outcome.specs.Verdicts.{TellsAll, all_pass, ended, has_ended, has_no_fault, sound}

@@ -6,8 +6,8 @@ use Rattle.cp_model.specs.States.{Setup, State, processes}
 use Rattle.cp_machine_model.specs.InState.{IsIn}
 use Rattle.cp_rounds.specs.Views.{machine_of}
 use Rattle.cp_rounds.specs.declared.machine.Machine.{Machine}
-use Rattle.cp_rounds.specs.declared.state.ProcState.{ProcState}
-use Rattle.cp_rounds.specs.declared.state.ProcState.TheVariants as state
+use Rattle.cp_members.specs.declared.state.ProcState.{ProcState}
+use Rattle.cp_members.specs.declared.state.ProcState.TheVariants as state
 use Rattle.cp_stillness.specs.Stillness.{is_still}
 use Rattle.cp_outcome.specs.declared.verdict.Verdict.{Verdict}
 use Rattle.cp_outcome.specs.declared.verdict.Verdict.TheVariants.{Ended, Fault, Running, Stuck}

@@ -245,6 +245,13 @@ impl Private {
         words::read(&self.memory.words, &[], at)
     }
 
+    /// Returns all words.
+    pub fn all_words(&self) -> &[i32]
+        ensures { (input : List ℕ) → result.now ≡ (private_of self.now input).words }
+    {
+        &self.memory.words
+    }
+
     /// Returns the output that isn't in the transcript yet.
     pub fn output(&self) -> &[u8]
         ensures { (input : List ℕ) → result.now ≡ (private_of self.now input).output }

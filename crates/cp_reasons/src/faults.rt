@@ -2,11 +2,10 @@
 
 use crate::names::Subject;
 use crate::piece::{Extent, push_piece};
+use crate::standing::{ProcessStanding, Site};
+use cp_members::status::fault_number;
 use cp_model::state::Fault;
 use cp_page::page::Page;
-use cp_program::operation::Operation;
-use cp_program::program::Program;
-use cp_report::status::fault_number;
 
 // What a fault means. The piece of the text stands after these words.
 fn words_of(fault: Fault) -> &'static str {
@@ -24,36 +23,24 @@ fn words_of(fault: Fault) -> &'static str {
 }
 
 // How much of the text an operation comes from, from its origin on.
-fn extent_of(operation: Option<&Operation>) -> Extent {
-    match operation {
-        Some(
-            Operation::Function { .. }
-            | Operation::InitClass { .. }
-            | Operation::InitMonitor { .. }
-            | Operation::InitProcess { .. },
-        ) => Extent::Call,
-        Some(Operation::Return { .. } | Operation::EndBody | Operation::End) => Extent::Name,
-        _ => Extent::Statement,
+fn extent_of(site: Site) -> Extent {
+    match site {
+        Site::Call => Extent::Call,
+        Site::EndOfRoutine | Site::EndOfBody => Extent::Name,
+        Site::Statement => Extent::Statement,
     }
 }
 
 impl<'t> Subject<'_, 't> {
-    /// Adds a fault that stopped a process at the operation of a program with this number.
-    pub(crate) fn push_fault(
-        &self,
-        program: &Program,
-        page: &mut Page,
-        fault: Fault,
-        operation: u32,
-    ) {
+    /// Adds a fault that stopped a process.
+    pub(crate) fn push_fault(&self, page: &mut Page, process: &ProcessStanding, fault: Fault) {
         page.text("fault ");
         page.number(fault_number(fault) as usize);
-        self.push_origin(program, page, operation);
+        self.push_origin(page, process);
         page.text(": ");
         page.text(words_of(fault));
-        if let Some(at) = program.origin(operation) {
-            let extent = extent_of(program.operation(operation));
-            push_piece(page, self.text, &self.tokens, at, extent);
+        if let Some(at) = process.at {
+            push_piece(page, self.text, &self.tokens, at, extent_of(process.site));
         }
     }
 }

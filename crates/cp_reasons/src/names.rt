@@ -2,46 +2,66 @@
 
 use crate::parts::Parts;
 use crate::rights::Rights;
+use crate::standing::{ProcessStanding, Standing};
+use cp_members::roster::Roster;
 use cp_model::token::Token;
 use cp_model::tree::{Statement, System, Tree};
 use cp_page::page::Page;
 use cp_page::position::Position;
-use cp_program::program::Program;
-use cp_report::roster::Roster;
-use cp_report::status::push_queue;
-use cp_report::walk::Walk;
-use cp_rounds::machine::Machine;
-use cp_rounds::state::ProcState;
 use cp_scan::scan;
-use cp_scope::{Tables, TypeRow};
+use cp_scope::{Field, Tables, TypeRow};
 use std::alloc::{AllocError, Global};
 
-/// What the text of a machine says. The machine isn't in it: each function that reads it from here
-/// would take seconds more to prove (docs/GATE.md).
+/// A machine that has made its rounds: its text, and where all stand in it.
+#[derive(Clone, Copy)]
+pub struct Source<'r, 't> {
+    pub bytes: &'r [u8],
+    pub tree: &'t Tree,
+    pub tables: &'r Tables<'t>,
+    /// Where all stand in the machine.
+    pub standing: &'r Standing,
+}
+
+/// What the text of a machine says.
 #[derive(Drop)]
 pub(crate) struct Subject<'r, 't> {
     pub(crate) alloc: Global,
     pub(crate) text: &'r [u8],
+    pub(crate) standing: &'r Standing,
     /// The tokens of the text, if a process has faulted.
     pub(crate) tokens: Vec<Token>,
     pub(crate) roster: Roster<'t>,
     /// The statements of the initial process that contain no others.
     pub(crate) statements: Vec<&'t Statement>,
     pub(crate) rights: Rights<'t>,
+    /// The types of the monitors, by number.
+    types: Vec<Option<&'t System>>,
 }
 
-fn has_fault(machine: &Machine) -> bool {
-    for index in 0..machine.processes() {
-        if let ProcState::Faulted(_) = machine.state(index as u32 + 1) {
-            return true;
-        }
+// The system type with a number, if it is one.
+fn system_type<'t>(tables: &Tables<'t>, number: usize) -> Option<&'t System> {
+    match tables.types.row(number) {
+        Some(TypeRow::Component { system, .. }) => tables.types.system(*system),
+        _ => None,
     }
-    false
+}
+
+// The system types of these components, in their order.
+fn types_of<'t>(
+    alloc: Global,
+    tables: &Tables<'t>,
+    components: &[Field<'t>],
+) -> Result<Vec<Option<&'t System>>, AllocError> {
+    let mut types = Vec::with_capacity(alloc, components.len())?;
+    for component in components {
+        types.push(system_type(tables, component.of))?;
+    }
+    Ok(types)
 }
 
 // The tokens of a text, if a process has faulted.
-fn tokens_of(alloc: Global, text: &[u8], machine: &Machine) -> Result<Vec<Token>, AllocError> {
-    if !has_fault(machine) {
+fn tokens_of(alloc: Global, text: &[u8], standing: &Standing) -> Result<Vec<Token>, AllocError> {
+    if !standing.has_fault() {
         return Ok(Vec::new(alloc));
     }
     match scan(alloc, text) {
@@ -51,22 +71,24 @@ fn tokens_of(alloc: Global, text: &[u8], machine: &Machine) -> Result<Vec<Token>
 }
 
 impl<'r, 't> Subject<'r, 't> {
-    /// Collects what the reasons are told of. Fails only if memory runs out.
-    pub(crate) fn of(
-        alloc: Global,
-        text: &'r [u8],
-        tree: &'t Tree,
-        machine: &Machine<'_, 't>,
-    ) -> Result<Subject<'r, 't>, AllocError> {
-        let tables = machine.tables();
+    /// Collects what the reasons are told of: the text of a machine. Fails only if memory runs out.
+    pub(crate) fn of(alloc: Global, source: Source<'r, 't>) -> Result<Subject<'r, 't>, AllocError> {
+        let Source {
+            bytes,
+            tree,
+            tables,
+            standing,
+        } = source;
         let roster = Roster::of(alloc, tables)?;
         let mut parts = Parts::new(alloc);
         parts.add(&tree.body.statements)?;
         let rights = Rights::of(alloc, tables, &parts.statements, roster.monitors.len())?;
         Ok(Subject {
             alloc,
-            text,
-            tokens: tokens_of(alloc, text, machine)?,
+            text: bytes,
+            standing,
+            tokens: tokens_of(alloc, bytes, standing)?,
+            types: types_of(alloc, tables, &roster.monitors)?,
             roster,
             statements: parts.statements,
             rights,
@@ -74,30 +96,8 @@ impl<'r, 't> Subject<'r, 't> {
     }
 
     /// The type of a monitor by its number, from 1.
-    pub(crate) fn monitor_type(&self, tables: &Tables<'t>, number: u32) -> Option<&'t System> {
-        match tables.types.row(self.roster.monitor(number)?.of) {
-            Some(TypeRow::Component { system, .. }) => tables.types.system(*system),
-            _ => None,
-        }
-    }
-
-    /// The name of the queue at an address of the shared words, with its indices.
-    pub(crate) fn queue_name(
-        &self,
-        machine: &Machine<'_, 't>,
-        address: u32,
-    ) -> Result<Vec<u8>, AllocError> {
-        let mut walk = Walk::new(self.alloc, 0);
-        let mut name = Vec::new(self.alloc);
-        push_queue(
-            &mut walk,
-            machine.tables(),
-            machine.program(),
-            &self.roster.monitors,
-            address as usize,
-            &mut name,
-        )?;
-        Ok(name)
+    pub(crate) fn monitor_type(&self, number: u32) -> Option<&'t System> {
+        *self.types.get((number as usize).checked_sub(1)?)?
     }
 
     /// Adds a place of the text.
@@ -105,9 +105,9 @@ impl<'r, 't> Subject<'r, 't> {
         page.position(Position::of(self.text, at));
     }
 
-    /// Adds where in the text the operation of a program with this number comes from.
-    pub(crate) fn push_origin(&self, program: &Program, page: &mut Page, operation: u32) {
-        if let Some(at) = program.origin(operation) {
+    /// Adds where in the text the operation comes from at which a process is.
+    pub(crate) fn push_origin(&self, page: &mut Page, process: &ProcessStanding) {
+        if let Some(at) = process.at {
             page.text(" at ");
             self.push_place(page, at);
         }

@@ -3,17 +3,12 @@
 ghost use Rattle.std.specs.Prelude.{IfOk};
 ghost use Rattle.cp_formats.specs.Json.{IsJsonLine};
 
-use crate::names::Subject;
-use crate::states::{place_of, word_of};
+use crate::names::{Source, Subject};
+use crate::standing::ProcessStanding;
+use crate::states::word_of;
 use cp_formats::object::line;
-use cp_model::tree::Tree;
-use cp_outcome::verdict::Verdict;
 use cp_page::page::Page;
 use cp_page::position::Position;
-use cp_private::private::Private;
-use cp_rounds::machine::Machine;
-use cp_rounds::state::ProcState;
-use cp_scope::small_number;
 use serde::Serialize;
 use std::alloc::{AllocError, Global};
 
@@ -33,89 +28,61 @@ struct ProcessObject {
 
 // What became of a run.
 #[derive(Drop, Serialize)]
-struct OutcomeObject {
-    verdict: &'static str,
+struct OutcomeObject<'a> {
+    verdict: &'a str,
     round: u64,
     processes: Vec<ProcessObject>,
 }
 
-fn word_of_verdict(verdict: Verdict) -> &'static str {
-    match verdict {
-        Verdict::Ended => "ended",
-        Verdict::Stuck => "stuck",
-        Verdict::Fault => "fault",
-        Verdict::Running => "running",
-    }
-}
-
 impl<'t> Subject<'_, 't> {
     // Why a process is where it is, unless it has ended.
-    fn reason(
-        &self,
-        machine: &Machine<'_, 't>,
-        number: u32,
-        private: &Private,
-    ) -> Result<Option<String>, AllocError> {
-        if matches!(machine.state(number), ProcState::Ended) {
+    fn reason(&self, process: &ProcessStanding) -> Result<Option<String>, AllocError> {
+        if process.has_ended() {
             return Ok(None);
         }
         let mut page = Page::new(self.alloc);
-        self.push_why(machine, &mut page, number, private)?;
+        self.push_why(&mut page, process)?;
         let reason = page.finish()?;
         Ok(Some(String::from_utf8_lossy(self.alloc, &reason)?))
     }
 
-    fn process_object(
-        &self,
-        machine: &Machine<'_, 't>,
-        number: u32,
-        private: &Private,
-    ) -> Result<ProcessObject, AllocError> {
-        let position = place_of(machine, number, private).map(|at| Position::of(self.text, at));
+    fn process_object(&self, process: &ProcessStanding) -> Result<ProcessObject, AllocError> {
+        let position = process.at.map(|at| Position::of(self.text, at));
+        let name = self.roster.process_name(process.number);
         Ok(ProcessObject {
-            process: number,
-            name: String::from_utf8_lossy(self.alloc, self.roster.process_name(number))?,
-            state: word_of(machine.state(number)),
+            process: process.number,
+            name: String::from_utf8_lossy(self.alloc, name)?,
+            state: word_of(process.state),
             line: position.map(|position| position.line),
             column: position.map(|position| position.column),
-            reason: self.reason(machine, number, private)?,
+            reason: self.reason(process)?,
         })
     }
 
     // All processes, by number.
-    fn process_objects(&self, machine: &Machine<'_, 't>) -> Result<Vec<ProcessObject>, AllocError> {
+    fn process_objects(&self) -> Result<Vec<ProcessObject>, AllocError> {
         let mut all = Vec::new(self.alloc);
-        for index in 0..machine.processes() {
-            let number = index.saturating_add(1);
-            if let Some(private) = machine.private(number) {
-                all.push(self.process_object(machine, small_number(number)?, private)?)?;
-            }
+        for process in &self.standing.processes {
+            all.push(self.process_object(process)?)?;
         }
         Ok(all)
     }
 }
 
-/// Returns the outcome of a machine as a line with a JSON object: the verdict on it, the number of
-/// rounds, and each process with its state, its place, and why it is there. The machine runs the
-/// program of a text with these bytes and this tree.
+/// Returns the outcome of a machine as a line with a JSON object: the word for its verdict, the
+/// number of rounds, and each process with its state, its place, and why it is there.
 ///
 /// # Errors
 ///
 /// `AllocError` if memory runs out.
-pub fn object<'t>(
-    alloc: Global,
-    text: &[u8],
-    tree: &'t Tree,
-    machine: &Machine<'_, 't>,
-    verdict: Verdict,
-) -> Result<Vec<u8>, AllocError>
+pub fn object(alloc: Global, source: Source<'_, '_>, verdict: &str) -> Result<Vec<u8>, AllocError>
     ensures { IfOk result (λ bytes. IsJsonLine bytes.items) }
 {
-    let subject = Subject::of(alloc, text, tree, machine)?;
+    let subject = Subject::of(alloc, source)?;
     let outcome = OutcomeObject {
-        verdict: word_of_verdict(verdict),
-        round: machine.rounds(),
-        processes: subject.process_objects(machine)?,
+        verdict,
+        round: subject.standing.rounds,
+        processes: subject.process_objects()?,
     };
     line(alloc, &outcome)
 }

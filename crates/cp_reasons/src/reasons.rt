@@ -1,17 +1,13 @@
 //! The lines of the processes that haven't ended.
 
-use crate::names::Subject;
+use crate::names::{Source, Subject};
 use crate::queues::entries_that_continue;
+use crate::standing::{ProcessStanding, Site};
 use crate::starts::places_of_init;
-use cp_model::tree::{Identifier, Tree};
+use cp_members::state::ProcState;
+use cp_model::tree::Identifier;
 use cp_page::page::Page;
 use cp_private::outside::Holder;
-use cp_private::private::Private;
-use cp_program::operation::Operation;
-use cp_program::program::Program;
-use cp_rounds::machine::Machine;
-use cp_rounds::state::ProcState;
-use cp_scope::small_number;
 use std::alloc::{AllocError, Global};
 
 // What stands before an item of a list with so many items, such as `a, b and c`.
@@ -35,30 +31,21 @@ fn without_indices(name: &[u8]) -> &[u8] {
     name
 }
 
-// Whether a process can still make a step, now or later.
-fn is_alive(machine: &Machine, number: u32) -> bool {
-    !matches!(
-        machine.state(number),
-        ProcState::Ended | ProcState::Faulted(_)
-    )
-}
-
 impl<'t> Subject<'_, 't> {
     // The processes, other than this one, that can call one of these entries of a monitor.
     fn callers(
         &self,
-        machine: &Machine<'_, 't>,
         monitor: u32,
         entries: &[&Identifier],
         other: u32,
     ) -> Result<Vec<u32>, AllocError> {
-        let processes = machine.processes();
+        let processes = self.standing.processes.len();
         let can = self.rights.callers(monitor as usize, entries, processes)?;
         let mut callers = Vec::new(self.alloc);
-        for index in 1..can.len() {
-            let number = small_number(index)?;
-            if can[index] && number != other && is_alive(machine, number) {
-                callers.push(number)?;
+        for process in &self.standing.processes {
+            let calls = matches!(can.get(process.number as usize), Some(true));
+            if calls && process.number != other && process.is_alive() {
+                callers.push(process.number)?;
             }
         }
         Ok(callers)
@@ -78,7 +65,6 @@ impl<'t> Subject<'_, 't> {
     // can call them.
     fn push_entries(
         &self,
-        machine: &Machine<'_, 't>,
         page: &mut Page,
         monitor: u32,
         entries: &[&Identifier],
@@ -96,29 +82,28 @@ impl<'t> Subject<'_, 't> {
         } else {
             " continue it, which "
         });
-        self.push_callers(page, &self.callers(machine, monitor, entries, delayed)?);
+        self.push_callers(page, &self.callers(monitor, entries, delayed)?);
         page.text(" can call");
         Ok(())
     }
 
-    // Adds what can continue a process that is delayed in a queue.
+    // Adds what can continue a process that is delayed in a queue of a monitor.
     fn push_continuation(
         &self,
-        machine: &Machine<'_, 't>,
         page: &mut Page,
         monitor: u32,
-        queue: &[u8],
-        delayed: u32,
+        process: &ProcessStanding,
     ) -> Result<(), AllocError> {
-        let Some(of) = self.monitor_type(machine.tables(), monitor) else {
+        let Some(of) = self.monitor_type(monitor) else {
             return Ok(());
         };
-        let entries = entries_that_continue(self.alloc, of, without_indices(queue))?;
+        let queue = without_indices(&process.queue);
+        let entries = entries_that_continue(self.alloc, of, queue)?;
         if entries.is_empty() {
             page.text("; nothing continues it");
             return Ok(());
         }
-        self.push_entries(machine, page, monitor, &entries, delayed)
+        self.push_entries(page, monitor, &entries, process.number)
     }
 
     fn push_queue(&self, page: &mut Page, monitor: u32, queue: &[u8]) {
@@ -130,30 +115,24 @@ impl<'t> Subject<'_, 't> {
 
     fn push_delay(
         &self,
-        machine: &Machine<'_, 't>,
         page: &mut Page,
-        number: u32,
+        process: &ProcessStanding,
         monitor: u32,
-        queue: u32,
-        pause: u32,
     ) -> Result<(), AllocError> {
-        let name = self.queue_name(machine, queue)?;
-        self.push_queue(page, monitor, &name);
-        self.push_origin(machine.program(), page, pause);
-        self.push_continuation(machine, page, monitor, &name, number)
+        self.push_queue(page, monitor, &process.queue);
+        self.push_origin(page, process);
+        self.push_continuation(page, monitor, process)
     }
 
     // Adds why the holder of a gate doesn't leave the monitor, if it can't.
-    fn push_why_held(
-        &self,
-        machine: &Machine<'_, 't>,
-        page: &mut Page,
-        holder: u32,
-    ) -> Result<(), AllocError> {
-        match machine.state(holder) {
-            ProcState::Delayed { monitor, queue } => {
+    fn push_why_held(&self, page: &mut Page, holder: u32) {
+        let Some(process) = self.standing.process(holder) else {
+            return;
+        };
+        match process.state {
+            ProcState::Delayed { monitor, .. } => {
                 page.text(", which is ");
-                self.push_queue(page, monitor, &self.queue_name(machine, queue)?);
+                self.push_queue(page, monitor, &process.queue);
             }
             ProcState::Asking(monitor) => {
                 page.text(", which asks for ");
@@ -162,26 +141,16 @@ impl<'t> Subject<'_, 't> {
             ProcState::Faulted(_) => page.text(", which has faulted"),
             _ => {}
         }
-        Ok(())
     }
 
-    fn push_asking(
-        &self,
-        machine: &Machine<'_, 't>,
-        page: &mut Page,
-        monitor: u32,
-        pause: u32,
-    ) -> Result<(), AllocError> {
+    fn push_asking(&self, page: &mut Page, process: &ProcessStanding, monitor: u32) {
         page.text("asks for ");
         page.bytes(self.roster.monitor_name(monitor));
-        self.push_origin(machine.program(), page, pause);
-        match machine.gate(monitor) {
-            Holder::Process(holder) => {
-                page.text(", held by ");
-                page.bytes(self.roster.process_name(holder));
-                self.push_why_held(machine, page, holder)
-            }
-            Holder::Unset | Holder::Free => Ok(()),
+        self.push_origin(page, process);
+        if let Holder::Process(holder) = self.standing.holder_of(monitor) {
+            page.text(", held by ");
+            page.bytes(self.roster.process_name(holder));
+            self.push_why_held(page, holder);
         }
     }
 
@@ -207,97 +176,65 @@ impl<'t> Subject<'_, 't> {
         Ok(())
     }
 
-    fn push_waiting(&self, program: &Program, page: &mut Page, private: &Private) {
+    fn push_waiting(&self, page: &mut Page, process: &ProcessStanding) {
         page.text("waits for the clock");
-        self.push_origin(program, page, private.pause());
+        self.push_origin(page, process);
     }
 
-    fn push_ready(&self, program: &Program, page: &mut Page, private: &Private) {
-        page.text(match program.operation(private.counter()) {
-            Some(Operation::Return { .. }) => "ready at the end of the routine",
-            Some(Operation::EndBody | Operation::End) => "ready at the end of the body",
-            _ => "ready",
+    fn push_ready(&self, page: &mut Page, process: &ProcessStanding) {
+        page.text(match process.site {
+            Site::EndOfRoutine => "ready at the end of the routine",
+            Site::EndOfBody => "ready at the end of the body",
+            Site::Call | Site::Statement => "ready",
         });
-        self.push_origin(program, page, private.counter());
+        self.push_origin(page, process);
     }
 
     /// Adds why a process is where it is. Fails only if memory runs out.
     pub(crate) fn push_why(
         &self,
-        machine: &Machine<'_, 't>,
         page: &mut Page,
-        number: u32,
-        private: &Private,
+        process: &ProcessStanding,
     ) -> Result<(), AllocError> {
-        match machine.state(number) {
-            ProcState::Unstarted => self.push_unstarted(page, number)?,
-            ProcState::Fresh | ProcState::Ready => self.push_ready(
-                machine.program(),
-                page,
-                private,
-            ),
-            ProcState::Asking(monitor) => self.push_asking(
-                machine,
-                page,
-                monitor,
-                private.pause(),
-            )?,
-            ProcState::Delayed { monitor, queue } => {
-                self.push_delay(machine, page, number, monitor, queue, private.pause())?;
-            }
-            ProcState::Waiting => self.push_waiting(machine.program(), page, private),
+        match process.state {
+            ProcState::Unstarted => self.push_unstarted(page, process.number)?,
+            ProcState::Fresh | ProcState::Ready => self.push_ready(page, process),
+            ProcState::Asking(monitor) => self.push_asking(page, process, monitor),
+            ProcState::Delayed { monitor, .. } => self.push_delay(page, process, monitor)?,
+            ProcState::Waiting => self.push_waiting(page, process),
             ProcState::Ended => page.text("ended"),
-            ProcState::Faulted(fault) => self.push_fault(
-                machine.program(),
-                page,
-                fault,
-                private.counter(),
-            ),
+            ProcState::Faulted(fault) => self.push_fault(page, process, fault),
         }
         Ok(())
     }
 
     // Adds the line of a process, unless it has ended.
-    fn push_reason(
-        &self,
-        machine: &Machine<'_, 't>,
-        page: &mut Page,
-        number: u32,
-    ) -> Result<(), AllocError> {
-        let Some(private) = machine.private(number as usize) else {
-            return Ok(());
-        };
-        if matches!(machine.state(number), ProcState::Ended) {
+    fn push_reason(&self, page: &mut Page, process: &ProcessStanding) -> Result<(), AllocError> {
+        if process.has_ended() {
             return Ok(());
         }
         page.text("process ");
-        page.number(number as usize);
+        page.number(process.number as usize);
         page.text(" ");
-        page.bytes(self.roster.process_name(number));
+        page.bytes(self.roster.process_name(process.number));
         page.text(": ");
-        self.push_why(machine, page, number, private)?;
+        self.push_why(page, process)?;
         page.text("\n");
         Ok(())
     }
 }
 
 /// Returns a line for each process of a machine that hasn't ended, by number: where it is, why, and
-/// where in the text that is. The machine runs the program of a text with these bytes and this
-/// tree.
+/// where in the text that is.
 ///
 /// # Errors
 ///
 /// `AllocError` if memory runs out.
-pub fn reasons<'t>(
-    alloc: Global,
-    text: &[u8],
-    tree: &'t Tree,
-    machine: &Machine<'_, 't>,
-) -> Result<Vec<u8>, AllocError> {
-    let subject = Subject::of(alloc, text, tree, machine)?;
+pub fn reasons(alloc: Global, source: Source<'_, '_>) -> Result<Vec<u8>, AllocError> {
+    let subject = Subject::of(alloc, source)?;
     let mut page = Page::new(alloc);
-    for index in 0..machine.processes() {
-        subject.push_reason(machine, &mut page, small_number(index.saturating_add(1))?)?;
+    for process in &subject.standing.processes {
+        subject.push_reason(&mut page, process)?;
     }
     page.finish()
 }

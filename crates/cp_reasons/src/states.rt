@@ -1,8 +1,6 @@
-//! In which state a process is, in a word, and at which operation.
+//! In which state a process is, in a word.
 
-use cp_private::private::Private;
-use cp_rounds::machine::Machine;
-use cp_rounds::state::ProcState;
+use cp_members::state::ProcState;
 
 /// The word of a state, as a report has it.
 pub(crate) fn word_of(state: ProcState) -> &'static str {
@@ -16,14 +14,4 @@ pub(crate) fn word_of(state: ProcState) -> &'static str {
         ProcState::Ended => "ended",
         ProcState::Faulted(_) => "fault",
     }
-}
-
-/// The place in the text of the operation at which a process is, if it has begun and hasn't ended.
-pub(crate) fn place_of(machine: &Machine, number: u32, private: &Private) -> Option<usize> {
-    let operation = match machine.state(number) {
-        ProcState::Unstarted | ProcState::Ended => return None,
-        ProcState::Asking(_) | ProcState::Delayed { .. } | ProcState::Waiting => private.pause(),
-        ProcState::Fresh | ProcState::Ready | ProcState::Faulted(_) => private.counter(),
-    };
-    machine.program().origin(operation)
 }

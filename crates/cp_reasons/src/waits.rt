@@ -4,35 +4,14 @@
 ghost use Rattle.std.specs.Prelude.{◌≡◌, ◌<◌, IfOk, length};
 ghost use Rattle.cp_reasons.specs.Graphs.{graph};
 
-use crate::names::Subject;
+use crate::names::{Source, Subject};
+use crate::standing::ProcessStanding;
 use crate::states::word_of;
 use cp_formats::graphviz::{push_arrow, push_node};
-use cp_model::tree::Tree;
+use cp_members::state::ProcState;
 use cp_page::page::Page;
 use cp_private::outside::Holder;
-use cp_rounds::machine::Machine;
-use cp_rounds::state::ProcState;
-use cp_scope::small_number;
 use std::alloc::{AllocError, Global};
-
-// Whether a process is delayed in a monitor.
-fn has_delayed(machine: &Machine, monitor: u32) -> Result<bool, AllocError> {
-    for index in 0..machine.processes() {
-        let number = small_number(index.saturating_add(1))?;
-        match machine.state(number) {
-            ProcState::Delayed { monitor: of, .. } if of == monitor => return Ok(true),
-            _ => {}
-        }
-    }
-    Ok(false)
-}
-
-// Whether a monitor is held, or processes ask for it or are delayed in it.
-fn is_used(machine: &Machine, monitor: u32) -> Result<bool, AllocError> {
-    let is_held = matches!(machine.gate(monitor), Holder::Process(_));
-    let is_asked = !machine.askers(monitor).is_empty();
-    Ok(is_held || is_asked || has_delayed(machine, monitor)?)
-}
 
 impl<'t> Subject<'_, 't> {
     // The node of a process. That of process 1 has a blank, which no name of a text has.
@@ -43,17 +22,17 @@ impl<'t> Subject<'_, 't> {
         self.roster.process_name(number)
     }
 
-    // Adds a process in a state, unless it has ended.
-    fn add_process(&self, page: &mut Page, number: u32, state: ProcState) {
-        if matches!(state, ProcState::Ended) {
+    // Adds a process, unless it has ended.
+    fn add_process(&self, page: &mut Page, process: &ProcessStanding) {
+        if process.has_ended() {
             return;
         }
         page.text("  ");
-        push_node(page, self.node_of(number));
+        push_node(page, self.node_of(process.number));
         page.text(" [label=\"");
-        page.bytes(self.roster.process_name(number));
+        page.bytes(self.roster.process_name(process.number));
         page.text("\\n");
-        page.text(word_of(state));
+        page.text(word_of(process.state));
         page.text("\", shape=ellipse];\n");
     }
 
@@ -73,26 +52,20 @@ impl<'t> Subject<'_, 't> {
     }
 
     // Adds what a process waits for.
-    fn add_wait(
-        &self,
-        machine: &Machine<'_, 't>,
-        page: &mut Page,
-        number: u32,
-    ) -> Result<(), AllocError> {
-        match machine.state(number) {
+    fn add_wait(&self, page: &mut Page, process: &ProcessStanding) {
+        match process.state {
             ProcState::Asking(monitor) => {
-                self.push_wait(page, number, monitor);
+                self.push_wait(page, process.number, monitor);
                 page.text(";\n");
             }
-            ProcState::Delayed { monitor, queue } => {
-                self.push_wait(page, number, monitor);
+            ProcState::Delayed { monitor, .. } => {
+                self.push_wait(page, process.number, monitor);
                 page.text(" [label=\"");
-                page.bytes(&self.queue_name(machine, queue)?);
+                page.bytes(&process.queue);
                 page.text("\", style=dashed];\n");
             }
             _ => {}
         }
-        Ok(())
     }
 
     fn add_holder(&self, page: &mut Page, monitor: u32, holder: Holder) {
@@ -106,46 +79,39 @@ impl<'t> Subject<'_, 't> {
         }
     }
 
-    fn add_processes(&self, machine: &Machine<'_, 't>, page: &mut Page) -> Result<(), AllocError> {
-        for index in 0..machine.processes() {
-            let number = small_number(index.saturating_add(1))?;
-            self.add_process(page, number, machine.state(number));
+    fn add_processes(&self, page: &mut Page) {
+        for process in &self.standing.processes {
+            self.add_process(page, process);
         }
-        Ok(())
     }
 
-    fn add_monitors(&self, machine: &Machine<'_, 't>, page: &mut Page) -> Result<(), AllocError> {
-        for index in 0..self.roster.monitors.len() {
-            let monitor = small_number(index.saturating_add(1))?;
-            if is_used(machine, monitor)? {
-                self.add_monitor(page, monitor);
+    fn add_monitors(&self, page: &mut Page) {
+        for monitor in &self.standing.monitors {
+            if self.standing.is_used(monitor) {
+                self.add_monitor(page, monitor.number);
             }
         }
-        Ok(())
     }
 
-    fn add_waits(&self, machine: &Machine<'_, 't>, page: &mut Page) -> Result<(), AllocError> {
-        for index in 0..machine.processes() {
-            self.add_wait(machine, page, small_number(index.saturating_add(1))?)?;
+    fn add_waits(&self, page: &mut Page) {
+        for process in &self.standing.processes {
+            self.add_wait(page, process);
         }
-        Ok(())
     }
 
-    fn add_holders(&self, machine: &Machine<'_, 't>, page: &mut Page) -> Result<(), AllocError> {
-        for index in 0..self.roster.monitors.len() {
-            let monitor = small_number(index.saturating_add(1))?;
-            self.add_holder(page, monitor, machine.gate(monitor));
+    fn add_holders(&self, page: &mut Page) {
+        for monitor in &self.standing.monitors {
+            self.add_holder(page, monitor.number, monitor.holder);
         }
-        Ok(())
     }
 
     // Returns the nodes and the arrows.
-    fn drawn(&self, machine: &Machine<'_, 't>) -> Result<Vec<u8>, AllocError> {
+    fn drawn(&self) -> Result<Vec<u8>, AllocError> {
         let mut page = Page::new(self.alloc);
-        self.add_processes(machine, &mut page)?;
-        self.add_monitors(machine, &mut page)?;
-        self.add_waits(machine, &mut page)?;
-        self.add_holders(machine, &mut page)?;
+        self.add_processes(&mut page);
+        self.add_monitors(&mut page);
+        self.add_waits(&mut page);
+        self.add_holders(&mut page);
         page.finish()
     }
 }
@@ -163,20 +129,14 @@ fn graph_of(alloc: Global, body: &[u8]) -> Result<Vec<u8>, AllocError>
 }
 
 /// Returns who waits for whom in a machine, as a graph for Graphviz: its processes that haven't
-/// ended, and its monitors that are held, asked for or waited in. The machine runs the program of a
-/// text with these bytes and this tree.
+/// ended, and its monitors that are held, asked for or waited in.
 ///
 /// # Errors
 ///
 /// `AllocError` if memory runs out.
-pub fn waits<'t>(
-    alloc: Global,
-    text: &[u8],
-    tree: &'t Tree,
-    machine: &Machine<'_, 't>,
-) -> Result<Vec<u8>, AllocError>
+pub fn waits(alloc: Global, source: Source<'_, '_>) -> Result<Vec<u8>, AllocError>
     ensures some { IfOk result (λ bytes. 0 < length bytes.items) }
 {
-    let subject = Subject::of(alloc, text, tree, machine)?;
-    graph_of(alloc, &subject.drawn(machine)?)
+    let subject = Subject::of(alloc, source)?;
+    graph_of(alloc, &subject.drawn()?)
 }

@@ -18,7 +18,7 @@ use Rattle.cp_scope.specs.Variables.{AreDeclared, declared_entry, variables_of}
 use Rattle.cp_scope.specs.declared.tables.Tables.{Tables}
 use Rattle.cp_scope.specs.declared.types.Types.{Types}
 use Rattle.cp_scope.specs.declared.variables.Declared.{Declared}
-use Rattle.cp_report.specs.Lists.{AreListed, Lists, declared_member}
+use Rattle.cp_members.specs.Lists.{AreListed, Lists, declared_member}
 use Rattle.cp_report.specs.Lines.{rounds_line}
 
 pub declared_members : (types : Types) (ds : List Declared) (vs : List (Name × Variable)) → AreDeclared types (map declared_entry ds) vs

@@ -6,7 +6,7 @@ use Rattle.cp_model.specs.Declarations.{Variable}
 use Rattle.cp_model.specs.Report.{Text}
 use Rattle.cp_scope.specs.Standing.{Stands}
 use Rattle.cp_scope.specs.declared.types.Types.{Types}
-use Rattle.cp_report.specs.Lists.{AreListed}
+use Rattle.cp_members.specs.Lists.{AreListed}
 
 abbrev pub Lines : Type 0
 Lines = ℕ → List (Name × Variable) → Text

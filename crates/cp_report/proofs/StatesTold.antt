@@ -7,7 +7,7 @@ use Rattle.cp_machine_model.specs.KernelSteps.{Asking, Begun, Delayed, Fresh, St
 use Rattle.cp_machine_model.specs.PrivateStates.{Activity, Ended, Faulted, NotBegun, Running, Waiting}
 use Rattle.cp_machine_model.specs.Reports.{stage_text}
 use Rattle.cp_rounds.specs.ProcessStates.{state_of}
-use Rattle.cp_report.specs.Statuses.{asks_for_gate, state_text}
+use Rattle.cp_members.specs.Statuses.{asks_for_gate, state_text}
 
 pub stage_told : (setup : Setup) (program : Program) (y : Stage) (a : Activity) → stage_text setup program y a ≡ state_text setup program (state_of y a)
 stage_told setup program Unstarted a = refl

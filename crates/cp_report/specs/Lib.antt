@@ -1,8 +1,3 @@
-pub mod Left
-pub mod Walks
-pub mod Tellings
-pub mod Lists
-pub mod Statuses
 pub mod Lines
 pub mod Subjects
 pub mod WholeReports

@@ -17,7 +17,7 @@ use Rattle.cp_rounds.specs.Views.{machine_of, output_of}
 use Rattle.cp_scope.specs.Standing.{ScopeStands, Stands, entry}
 use Rattle.cp_scope.specs.Texts.{TablesStand}
 use Rattle.cp_report.specs.Lines.{front_lines}
-use Rattle.cp_report.specs.Lists.{AreListed}
+use Rattle.cp_members.specs.Lists.{AreListed}
 use Rattle.cp_report.specs.declared.subject.Subject.{Subject}
 
 abbrev pub machine_in : Subject → plain.Machine

@@ -6,12 +6,12 @@ ghost use Rattle.cp_machine_model.specs.KernelSteps.{stage_of};
 ghost use Rattle.cp_kernel.specs.ChainOf.{processes_left};
 ghost use Rattle.cp_rounds.specs.Views.{machine_of};
 ghost use Rattle.cp_report.specs.Lines.{number_text};
-ghost use Rattle.cp_report.specs.Statuses.{asks_for_gate};
+ghost use Rattle.cp_members.specs.Statuses.{asks_for_gate};
 
 use crate::gates::push_number;
 use cp_kernel::chain::Chain;
+use cp_members::state::ProcState;
 use cp_rounds::machine::Machine;
-use cp_rounds::state::ProcState;
 use cp_scope::small_number;
 use std::alloc::AllocError;
 

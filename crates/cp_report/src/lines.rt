@@ -4,8 +4,8 @@ ghost use Rattle.std.specs.Prelude.{◌≡◌, ◌++◌, OnOk};
 ghost use Rattle.cp_machine_model.specs.Reports.{transcript_line};
 ghost use Rattle.cp_report.specs.Lines.{rounds_line, title};
 
-use crate::text::push_all_escaped;
 use cp_digits::decimal::push_natural;
+use cp_members::text::push_all_escaped;
 use std::alloc::AllocError;
 
 /// Adds the first line, with the number of rounds made.

@@ -5,35 +5,35 @@ ghost use Rattle.cp_report.specs.Subjects.{TellsMonitor, TellsMonitors};
 
 use crate::gates::push_gate_line;
 use crate::subject::Subject;
-use crate::telling::{Telling, Words};
-use crate::walk::Walk;
-use cp_rounds::place::monitor_start;
+use cp_members::place::monitor_start;
+use cp_members::telling::Telling;
+use cp_members::walk::Walk;
 use cp_scope::small_number;
 use std::alloc::AllocError;
 
 impl<'r, 'm, 't> Subject<'r, 'm, 't> {
     // Reports a monitor by its number: its gate and its variables.
     fn push_monitor(
-        &self,
+        self,
         walk: &mut Walk,
         out: &mut Vec<u8>,
         number: u32,
         name: &[u8],
         row: usize,
     ) -> Result<(), AllocError>
-        ensures { OnOk result (TellsMonitor self.now number name.now row
+        ensures { OnOk result (TellsMonitor self.entry number name.now row
             out.old.items out.new.items) }
     {
         let askers = self.machine.askers(number);
         push_gate_line(out, name, self.machine.gate(number), askers)?;
         let start = monitor_start(self.machine.program(), number as usize);
-        let lines = Telling::Lines(Words::Shared(self.machine.kernel()));
+        let lines = Telling::Lines(self.machine.kernel().all_words());
         walk.component(self.tables, &lines, out, row, start)
     }
 
     /// Reports all monitors by number.
-    pub(crate) fn push_monitors(&self, walk: &mut Walk, out: &mut Vec<u8>) -> Result<(), AllocError>
-        ensures { OnOk result (TellsMonitors self.now out.old.items out.new.items) }
+    pub(crate) fn push_monitors(self, walk: &mut Walk, out: &mut Vec<u8>) -> Result<(), AllocError>
+        ensures { OnOk result (TellsMonitors self.entry out.old.items out.new.items) }
     {
         for (index, monitor) in self.monitors.iter().enumerate() {
             let number = small_number(index + 1)?;

@@ -8,21 +8,22 @@ use cp_outcome::verdict::Verdict;
 use cp_rounds::machine::Machine;
 use std::alloc::{AllocError, Global};
 
-fn push_word(out: &mut Vec<u8>, verdict: Verdict) -> Result<(), AllocError>
-    ensures { OnOk result (out.new.items ≡ out.old.items ++ verdict_word verdict) }
+/// Returns the word for a verdict.
+pub fn word_of(verdict: Verdict) -> &'static [u8]
+    ensures { result.now ≡ verdict_word verdict }
 {
     match verdict {
-        Verdict::Ended => out.extend_from_slice(b"ended"),
-        Verdict::Stuck => out.extend_from_slice(b"stuck"),
-        Verdict::Fault => out.extend_from_slice(b"fault"),
-        Verdict::Running => out.extend_from_slice(b"running"),
+        Verdict::Ended => b"ended",
+        Verdict::Stuck => b"stuck",
+        Verdict::Fault => b"fault",
+        Verdict::Running => b"running",
     }
 }
 
 fn push_verdict(out: &mut Vec<u8>, verdict: Verdict, rounds: u64) -> Result<(), AllocError>
     ensures { OnOk result (out.new.items ≡ out.old.items ++ verdict_line verdict rounds) }
 {
-    push_word(out, verdict)?;
+    out.extend_from_slice(word_of(verdict))?;
     out.extend_from_slice(b" after round ")?;
     push_natural(out, rounds)?;
     out.extend_from_slice(b"\n")

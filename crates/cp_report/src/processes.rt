@@ -6,17 +6,17 @@ ghost use Rattle.cp_report.specs.Subjects.{TellsFront, TellsInitial, TellsStatus
 ghost use Rattle.cp_report.specs.Subjects.{TellsProcess, TellsProcesses};
 
 use crate::lines::{push_title, push_transcript_line};
-use crate::status::push_state;
 use crate::subject::Subject;
-use crate::telling::{Telling, Words};
-use crate::walk::Walk;
+use cp_members::status::push_state;
+use cp_members::telling::Telling;
+use cp_members::walk::Walk;
 use cp_scope::{Field, small_number};
 use std::alloc::AllocError;
 
 impl<'r, 'm, 't> Subject<'r, 'm, 't> {
     // Adds the status of a process.
-    fn push_status(&self, walk: &mut Walk, out: &mut Vec<u8>, number: u32) -> Result<(), AllocError>
-        ensures { OnOk result (TellsStatus self.now number out.old.items out.new.items) }
+    fn push_status(self, walk: &mut Walk, out: &mut Vec<u8>, number: u32) -> Result<(), AllocError>
+        ensures { OnOk result (TellsStatus self.entry number out.old.items out.new.items) }
     {
         let program = self.machine.program();
         let state = self.machine.state(number);
@@ -25,13 +25,13 @@ impl<'r, 'm, 't> Subject<'r, 'm, 't> {
 
     // Adds the two lines before the variables of a process.
     fn push_front(
-        &self,
+        self,
         walk: &mut Walk,
         out: &mut Vec<u8>,
         number: u32,
         name: &[u8],
     ) -> Result<(), AllocError>
-        ensures { OnOk result (TellsFront self.now number name.now out.old.items out.new.items) }
+        ensures { OnOk result (TellsFront self.entry number name.now out.old.items out.new.items) }
     {
         push_title(out, number, name)?;
         self.push_status(walk, out, number)?;
@@ -42,44 +42,44 @@ impl<'r, 'm, 't> Subject<'r, 'm, 't> {
 
     // Reports a process by its number: its status, its output and its variables.
     fn push_process(
-        &self,
+        self,
         walk: &mut Walk,
         out: &mut Vec<u8>,
         number: u32,
         name: &[u8],
         row: usize,
     ) -> Result<(), AllocError>
-        ensures { OnOk result (TellsProcess self.now number name.now row
+        ensures { OnOk result (TellsProcess self.entry number name.now row
             out.old.items out.new.items) }
     {
         let Some(private) = self.machine.private(number as usize) else {
             return Ok(());
         };
         self.push_front(walk, out, number, name)?;
-        let lines = Telling::Lines(Words::Own(private));
+        let lines = Telling::Lines(private.all_words());
         walk.component(self.tables, &lines, out, row, 0)
     }
 
     /// Reports the initial process, whose number is 1.
-    pub(crate) fn push_initial(&self, walk: &mut Walk, out: &mut Vec<u8>) -> Result<(), AllocError>
-        ensures { OnOk result (TellsInitial self.now out.old.items out.new.items) }
+    pub(crate) fn push_initial(self, walk: &mut Walk, out: &mut Vec<u8>) -> Result<(), AllocError>
+        ensures { OnOk result (TellsInitial self.entry out.old.items out.new.items) }
     {
         let Some(private) = self.machine.private(1) else {
             return Ok(());
         };
         self.push_front(walk, out, 1, b"initial")?;
-        let lines = Telling::Lines(Words::Own(private));
+        let lines = Telling::Lines(private.all_words());
         walk.initial(self.tables, &lines, out)
     }
 
     /// Reports the other processes, by number.
     pub(crate) fn push_processes(
-        &self,
+        self,
         walk: &mut Walk,
         out: &mut Vec<u8>,
         processes: &[Field],
     ) -> Result<(), AllocError>
-        ensures { OnOk result (TellsProcesses self.now (map entry processes.now)
+        ensures { OnOk result (TellsProcesses self.entry (map entry processes.now)
             out.old.items out.new.items) }
     {
         for (index, process) in processes.iter().enumerate() {

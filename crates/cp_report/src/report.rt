@@ -8,9 +8,9 @@ ghost use Rattle.cp_report.specs.WholeReports.{IsReport, IsReportWithChains};
 
 use crate::chains::push_chains;
 use crate::lines::push_rounds;
-use crate::roster::Roster;
 use crate::subject::Subject;
-use crate::walk::Walk;
+use cp_members::roster::Roster;
+use cp_members::walk::Walk;
 use cp_rounds::machine::Machine;
 use cp_scope::Field;
 use std::alloc::{AllocError, Global};
@@ -18,12 +18,12 @@ use std::alloc::{AllocError, Global};
 impl<'r, 'm, 't> Subject<'r, 'm, 't> {
     // Reports everything. `processes` are all processes except the initial one.
     fn push_all(
-        &self,
+        self,
         walk: &mut Walk,
         out: &mut Vec<u8>,
         processes: &[Field],
     ) -> Result<(), AllocError>
-        ensures { OnOk result (TellsAll self.now (map entry processes.now)
+        ensures { OnOk result (TellsAll self.entry (map entry processes.now)
             out.old.items out.new.items) }
     {
         push_rounds(out, self.machine.rounds())?;

@@ -14,8 +14,8 @@ use Rattle.cp_machine_model.specs.PrivateStates as activity
 use Rattle.cp_machine_model.specs.PrivateStates.{Activity}
 use Rattle.cp_rounds.specs.Views.{machine_of}
 use Rattle.cp_rounds.specs.declared.machine.Machine.{Machine}
-use Rattle.cp_rounds.specs.declared.state.ProcState.{ProcState}
-use Rattle.cp_rounds.specs.declared.state.ProcState.TheVariants as state
+use Rattle.cp_members.specs.declared.state.ProcState.{ProcState}
+use Rattle.cp_members.specs.declared.state.ProcState.TheVariants as state
 
 -- The state of a process with this stage and this activity.
 abbrev pub state_of : Stage → Activity → ProcState

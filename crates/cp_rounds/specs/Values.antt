@@ -13,22 +13,17 @@ use Rattle.cp_machine_model.specs.InState.{IsIn}
 use Rattle.cp_machine_model.specs.KernelOf.{kernel_ground}
 use Rattle.cp_machine_model.specs.Laws.{ground_of}
 use Rattle.cp_machine_model.specs.Machines as plain
-use Rattle.cp_machine_model.specs.Means.{process_of_word}
 use Rattle.cp_machine_model.specs.Passing.{monitor_start}
+use Rattle.cp_members.specs.Values.{value_in}
 use Rattle.cp_rounds.specs.Views.{machine_of, words_of}
 use Rattle.cp_rounds.specs.declared.machine.Machine.{Machine}
-use Rattle.cp_rounds.specs.declared.place.Kind.{Kind}
-use Rattle.cp_rounds.specs.declared.place.Kind.TheVariants as kind
-use Rattle.cp_rounds.specs.declared.place.Owner.{Owner}
-use Rattle.cp_rounds.specs.declared.place.Owner.TheVariants as owner
-use Rattle.cp_rounds.specs.declared.place.Place.{Place}
-use Rattle.cp_rounds.specs.declared.place.Value.{Value}
-use Rattle.cp_rounds.specs.declared.place.Value.TheVariants as value
-
--- What a word holds. The number 0 in a queue stands for nobody.
-abbrev pub value_in : Kind → ℤ → Value
-value_in kind.Simple n = value.Ordinal n
-value_in kind.Queue n = value.Queue (process_of_word n)
+use Rattle.cp_members.specs.declared.place.Kind.{Kind}
+use Rattle.cp_members.specs.declared.place.Kind.TheVariants as kind
+use Rattle.cp_members.specs.declared.place.Owner.{Owner}
+use Rattle.cp_members.specs.declared.place.Owner.TheVariants as owner
+use Rattle.cp_members.specs.declared.place.Place.{Place}
+use Rattle.cp_members.specs.declared.place.Value.{Value}
+use Rattle.cp_members.specs.declared.place.Value.TheVariants as value
 
 -- The word at an address among those of its owner. A missing word reads as 0.
 abbrev pub word_of : plain.Machine → Owner → ℕ → ℤ

@@ -7,7 +7,7 @@
 //!
 //! - `machine`, `reading`, `chain`, `stillness`, `until_still`, `halted`: the public calls.
 //!   `starting`: how a machine starts.
-//! - `state`, `place`: what they tell of processes and variables.
+//! - `state`: the state of a process, by what the kernel and it know of it.
 //! - `setting`, `parts`, `moment`: what no round changes, what rounds change, and the time of a
 //!   round.
 //! - `gate`: what is called before each turn.
@@ -41,7 +41,6 @@ mod moment;
 mod open_round;
 mod pace;
 mod parts;
-pub mod place;
 mod quiet;
 pub mod reading;
 pub mod replay;
@@ -51,7 +50,7 @@ mod setting;
 mod sharing;
 mod slot;
 mod starting;
-pub mod state;
+mod state;
 mod stillness;
 mod task;
 mod turns;

@@ -1,4 +1,2 @@
 pub mod ObjectLines
 pub mod Parts
-pub mod RoundsMade
-pub mod Told

@@ -2,10 +2,11 @@
 
 use crate::members::{chosen, name_of};
 use crate::readings::Readings;
+use crate::topic::Topic;
+use cp_members::roster::{Member, Roster};
+use cp_members::state::ProcState;
 use cp_model::state::Fault;
 use cp_private::outside::Holder;
-use cp_report::roster::{Member, Roster};
-use cp_rounds::state::ProcState;
 use std::alloc::{AllocError, Global};
 
 /// What a process or a monitor is after a round. The numbers are those of monitors and, in `Held`,
@@ -73,31 +74,25 @@ fn cell_of<M: Readings>(machine: &M, member: Member) -> Cell {
 }
 
 impl<'t> Grid<'t> {
-    /// Returns the grid, without cells, of a machine that has made so many rounds and is to make
-    /// more. Its processes and monitors are these. The names in `only` are those of a `Tracer`.
+    /// Returns the grid, without cells, of the rounds of a topic.
     ///
     /// # Errors
     ///
     /// `AllocError` if memory runs out.
-    pub(crate) fn of(
-        alloc: Global,
-        roster: Roster<'t>,
-        rounds: u64,
-        only: &[&str],
-    ) -> Result<Grid<'t>, AllocError> {
+    pub(crate) fn of(alloc: Global, topic: Topic<'_, 't>) -> Result<Grid<'t>, AllocError> {
         let mut rows = Vec::new(alloc);
-        for member in chosen(alloc, &roster, only)? {
+        for member in chosen(alloc, &topic.roster, topic.only)? {
             rows.push(Row {
                 member,
-                name: name_of(&roster, member),
+                name: name_of(&topic.roster, member),
                 cells: Vec::new(alloc),
             })?;
         }
         Ok(Grid {
             alloc,
-            roster,
+            roster: topic.roster,
             rows,
-            first: rounds.saturating_add(1),
+            first: topic.done.saturating_add(1),
             columns: 0,
         })
     }

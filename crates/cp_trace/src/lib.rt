@@ -1,9 +1,9 @@
 //! A trace: what becomes of each process and monitor of a machine, round by round.
 //!
 //! - `tracer`: follows a machine, and tells of it in one of four forms.
-//! - `rounds`: makes the rounds of a machine, and writes what a tracer tells of them.
+//! - `topic`: of what is told.
 //! - `members`: of whom is told.
-//! - `readings`: what is read of a machine.
+//! - `readings`: what is read of a machine, which stands above.
 //! - `trace`: what was seen of a machine, and what changed since: of a `process`, of a `monitor`,
 //!   and of the `values` of variables, whose places are their `shapes`. `vocabulary`: names in
 //!   place of numbers.
@@ -13,7 +13,7 @@
 //!
 //! What is seen of a machine takes memory once: it doesn't grow with the rounds. All of this serves
 //! people, and is tested. `specs/Telling.antt` and `specs/Tracers.antt` say what is
-//! added to the buffer, `specs/Writing.antt` what is written.
+//! added to the buffer.
 #![tactic(auto)]
 
 mod bars;
@@ -26,12 +26,12 @@ mod members;
 mod monitor;
 mod objects;
 mod process;
-mod readings;
-pub mod rounds;
+pub mod readings;
 mod shapes;
 mod svg;
 mod timeline;
+pub mod topic;
 mod trace;
-mod tracer;
+pub mod tracer;
 mod values;
 mod vocabulary;

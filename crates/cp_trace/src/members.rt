@@ -1,6 +1,6 @@
 //! The processes and monitors of which a trace tells, and their names.
 
-use cp_report::roster::{Member, Roster};
+use cp_members::roster::{Member, Roster};
 use cp_scope::small_number;
 use std::alloc::{AllocError, Global};
 

@@ -4,9 +4,9 @@ use crate::changes::{Change, Step};
 use crate::readings::Readings;
 use crate::values::Values;
 use crate::vocabulary::Vocabulary;
+use cp_members::places::Place;
+use cp_members::roster::Member;
 use cp_private::outside::Holder;
-use cp_report::places::Place;
-use cp_report::roster::Member;
 use std::alloc::{AllocError, Global};
 
 /// A monitor when it was seen last.

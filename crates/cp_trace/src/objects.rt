@@ -5,7 +5,7 @@ ghost use Rattle.cp_trace.specs.Telling.{Adds, AreObjects};
 
 use crate::changes::{Change, Changes};
 use cp_formats::object::line;
-use cp_report::roster::Member;
+use cp_members::roster::Member;
 use serde::Serialize;
 use std::alloc::{AllocError, Global};
 

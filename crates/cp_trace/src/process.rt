@@ -5,9 +5,9 @@ use crate::members::word;
 use crate::readings::Readings;
 use crate::values::Values;
 use crate::vocabulary::Vocabulary;
-use cp_report::places::Place;
-use cp_report::roster::Member;
-use cp_rounds::state::ProcState;
+use cp_members::places::Place;
+use cp_members::roster::Member;
+use cp_members::state::ProcState;
 use std::alloc::{AllocError, Global};
 
 /// A process when it was seen last.

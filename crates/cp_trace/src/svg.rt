@@ -11,7 +11,7 @@ use crate::colours::{LEGEND_HEIGHT, LEGEND_WIDTH, STYLE, colour, push_legend};
 use crate::grid::{Cell, Grid, Row};
 use crate::markup::{Area, begin_rectangle, push_rectangle, push_text};
 use crate::readings::Readings;
-use cp_report::roster::Member;
+use cp_members::roster::Member;
 use std::alloc::AllocError;
 use std::fmt::Write;
 

@@ -5,7 +5,7 @@ ghost use Rattle.cp_trace.specs.Telling.{Adds, IsAnything, IsSomething};
 
 use crate::grid::{Cell, Grid, Row};
 use crate::readings::Readings;
-use cp_report::roster::Member;
+use cp_members::roster::Member;
 use std::alloc::AllocError;
 use std::fmt::Write;
 

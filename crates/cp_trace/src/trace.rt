@@ -6,11 +6,10 @@ use crate::monitor::SeenMonitor;
 use crate::process::SeenProcess;
 use crate::readings::Readings;
 use crate::shapes::Shapes;
+use crate::topic::Topic;
 use crate::vocabulary::Vocabulary;
-use cp_model::tree::Tree;
-use cp_report::places::Place;
-use cp_report::roster::{Member, Roster};
-use cp_rounds::machine::Machine;
+use cp_members::places::Place;
+use cp_members::roster::Member;
 use std::alloc::{AllocError, Global};
 
 // A process or monitor as it was seen last.
@@ -71,35 +70,20 @@ pub struct Trace<'t> {
 }
 
 impl<'t> Trace<'t> {
-    /// Returns the trace of a machine from what it is now. The machine runs the program of a text
-    /// with this tree. The trace tells of the processes and monitors with the names in `only`, or
-    /// of all if there are no names; a name that no process or monitor has stands for none.
+    /// Returns the trace of a machine from what it is now.
     ///
     /// # Errors
     ///
     /// `AllocError` if memory runs out.
-    pub(crate) fn of(
+    pub(crate) fn of<M: Readings>(
         alloc: Global,
-        tree: &'t Tree,
-        machine: &Machine<'_, 't>,
-        only: &[&str],
-    ) -> Result<Trace<'t>, AllocError> {
-        let roster = Roster::of(alloc, machine.tables())?;
-        let vocabulary = Vocabulary::of(alloc, roster, tree)?;
-        Trace::with(alloc, vocabulary, machine, only)
-    }
-
-    // Returns the trace that tells of a machine in these words.
-    fn with<M: Readings>(
-        alloc: Global,
-        vocabulary: Vocabulary<'t>,
+        topic: Topic<'_, 't>,
         machine: &M,
-        only: &[&str],
     ) -> Result<Trace<'t>, AllocError> {
-        let members = chosen(alloc, &vocabulary.roster, only)?;
+        let members = chosen(alloc, &topic.roster, topic.only)?;
         let mut trace = Trace {
             alloc,
-            vocabulary,
+            vocabulary: Vocabulary::of(alloc, topic.roster, topic.tree)?,
             shapes: Shapes::new(alloc),
             all: Vec::new(alloc),
         };

@@ -9,11 +9,9 @@ use crate::objects::push_objects;
 use crate::readings::Readings;
 use crate::svg::Picture;
 use crate::timeline::Timeline;
+use crate::topic::Topic;
 use crate::trace::Trace;
-use cp_model::tree::Tree;
 use cp_plan::trace::TraceForm;
-use cp_report::roster::Roster;
-use cp_rounds::machine::Machine;
 use std::alloc::{AllocError, Global};
 
 /// Who follows a machine and tells of it. What it has seen takes memory that doesn't grow with the
@@ -26,42 +24,31 @@ pub enum Tracer<'t> {
     Svg(Picture<'t>),
 }
 
-// Returns the grid of a machine.
-fn grid_of<'t>(
-    alloc: Global,
-    machine: &Machine<'_, 't>,
-    only: &[&str],
-) -> Result<Grid<'t>, AllocError> {
-    let roster = Roster::of(alloc, machine.tables())?;
-    Grid::of(alloc, roster, machine.rounds(), only)
-}
-
 impl<'t> Tracer<'t> {
     ghost use Rattle.cp_trace.specs.Tracers.{IsPart, IsTrace, TellsRound, form_of};
 
-    /// Returns who follows a machine from what it is now for so many rounds, and tells in this form
-    /// of the processes and monitors with the names in `only`, or of all if there are none. A name
-    /// that no process or monitor has stands for none. The machine runs the program of a text with
-    /// this tree.
+    /// Returns who follows a machine from what it is now, and tells of it in this form. The machine
+    /// runs the program of the topic's text, and has made the rounds before those that are told.
     ///
     /// # Errors
     ///
     /// `AllocError` if memory runs out.
-    pub fn of(
+    pub fn of<M: Readings>(
         alloc: Global,
         form: TraceForm,
-        tree: &'t Tree,
-        machine: &Machine<'_, 't>,
-        rounds: u32,
-        only: &[&str],
+        topic: Topic<'_, 't>,
+        machine: &M,
     ) -> Result<Tracer<'t>, AllocError>
         ensures { IfOk result (λ tracer. form_of tracer ≡ form) }
     {
         Ok(match form {
-            TraceForm::Lines => Tracer::Lines(Trace::of(alloc, tree, machine, only)?),
-            TraceForm::Json => Tracer::Json(Trace::of(alloc, tree, machine, only)?),
-            TraceForm::Timeline => Tracer::Timeline(Timeline::of(grid_of(alloc, machine, only)?)),
-            TraceForm::Svg => Tracer::Svg(Picture::of(grid_of(alloc, machine, only)?, rounds)),
+            TraceForm::Lines => Tracer::Lines(Trace::of(alloc, topic, machine)?),
+            TraceForm::Json => Tracer::Json(Trace::of(alloc, topic, machine)?),
+            TraceForm::Timeline => Tracer::Timeline(Timeline::of(Grid::of(alloc, topic)?)),
+            TraceForm::Svg => {
+                let rounds = topic.rounds;
+                Tracer::Svg(Picture::of(Grid::of(alloc, topic)?, rounds))
+            }
         })
     }
 
@@ -79,9 +66,12 @@ impl<'t> Tracer<'t> {
         }
     }
 
-    // Sees a machine after so many rounds, and adds what is told at once. What calls this is given
-    // the machine, and is the dearer to prove the more such calls it makes.
-    fn tell<M: Readings>(
+    /// Sees the machine after so many rounds, and adds what is told at once.
+    ///
+    /// # Errors
+    ///
+    /// `AllocError` if memory runs out. The tracer is then of no more use.
+    pub fn follow<M: Readings>(
         &mut self,
         rounds: u64,
         machine: &M,
@@ -101,19 +91,6 @@ impl<'t> Tracer<'t> {
             Tracer::Timeline(timeline) => timeline.follow(machine, out),
             Tracer::Svg(picture) => picture.follow(machine, out),
         }
-    }
-
-    /// Sees the machine after a round, and adds what is told at once.
-    ///
-    /// # Errors
-    ///
-    /// `AllocError` if memory runs out. The tracer is then of no more use.
-    pub fn follow(&mut self, machine: &Machine<'_, 't>, out: &mut Vec<u8>) -> Result<(), AllocError>
-        ensures added { OnOk result (Adds (TellsRound (form_of self.old) machine.now.rounds)
-            out.old.items out.new.items) }
-        ensures form { OnOk result (form_of self.new ≡ form_of self.old) }
-    {
-        self.tell(machine.rounds(), machine, out)
     }
 
     /// Adds what stands behind all rounds.

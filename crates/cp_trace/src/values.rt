@@ -4,9 +4,9 @@ use crate::changes::{Change, VariableChange};
 use crate::members::word;
 use crate::readings::Readings;
 use crate::vocabulary::Vocabulary;
-use cp_report::places::Place;
-use cp_report::roster::Member;
-use cp_rounds::place::Value;
+use cp_members::place::Value;
+use cp_members::places::Place;
+use cp_members::roster::Member;
 use std::alloc::{AllocError, Global};
 
 /// The values of the variables of a component when they were seen last.

@@ -3,11 +3,11 @@
 use crate::changes::Value;
 use crate::members::{name_of, word};
 use crate::readings::Readings;
+use cp_members::place;
+use cp_members::roster::{Member, Roster};
 use cp_model::tree::{Defined, Identifier, Section, Tree, TypeDefinition};
 use cp_names::NameTable;
 use cp_private::outside::Holder;
-use cp_report::roster::{Member, Roster};
-use cp_rounds::place;
 use cp_scope::Base;
 use std::alloc::{AllocError, Global};
 

@@ -7,7 +7,7 @@ use Rattle.cp_accept.proofs.Faults.{known_text_fault}
 use Rattle.cp_accept.proofs.Takings.{input_kept, text_at}
 use Rattle.cp_accept.proofs.TextRefusals.{run_refused_input, run_refused_text}
 use Rattle.cp_observe.specs.Traces.{IsTraced}
-use Rattle.cp_trace.proofs.RoundsMade.{extends_nothing}
+use Rattle.cp_observe.proofs.RoundsMade.{extends_nothing}
 use Rattle.cp_observe.proofs.Traced.{fault_input, fault_is, fault_refused, trace_due}
 use Rattle.cp_observe.proofs.execute_trace.execute_trace.Goals as goal
 

@@ -16,9 +16,11 @@ returns c =
     let before = c.push_natural.new.out.items in
     let first : before ≡ ((out ++ word) ++ after) ++ n =
     c.in_ok-push_natural.ensures
-    ∙ ap (λ (t : Text). t ++ n) (c.in_ok-extend_from_slice.ensures.items ∙ ap (λ (t : Text). t ++ after) c.in_ok-push_word.ensures) in
-    let all : OnOk c.extend_from_slice-2.result (c.extend_from_slice-2.new.self.items ≡ before ++ 10 ∷ []) = search rules in
-    on_ok_weaker c.extend_from_slice-2.result
+    ∙ ap (λ (t : Text). t ++ n)
+    (c.in_ok-extend_from_slice-2.ensures.items
+    ∙ ap (λ (t : Text). t ++ after) (c.in_ok-extend_from_slice.ensures.items ∙ ap (λ (t : Text). out ++ t) c.word_of.ensures)) in
+    let all : OnOk c.extend_from_slice-3.result (c.extend_from_slice-3.new.self.items ≡ before ++ 10 ∷ []) = search rules in
+    on_ok_weaker c.extend_from_slice-3.result
     (λ told. told
     ∙ (ap (λ (t : Text). t ++ 10 ∷ []) first
     ∙ (append_assoc ((out ++ word) ++ after) n (10 ∷ [])

@@ -6,7 +6,7 @@ use Rattle.cp_model.specs.Report.{components_of}
 use Rattle.cp_machine_model.specs.Reports.{machine_report}
 use Rattle.cp_scope.specs.Standing.{entry}
 use Rattle.cp_scope.specs.Texts.{TablesStand}
-use Rattle.cp_report.specs.Lists.{AreListed}
+use Rattle.cp_members.specs.Lists.{AreListed}
 use Rattle.cp_report.proofs.Initial.{listed}
 use Rattle.cp_report.proofs.report.report.Goals as goal
 

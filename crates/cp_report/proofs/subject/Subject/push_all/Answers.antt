@@ -15,7 +15,7 @@ pub returns : goal.returns
 returns c =
     on_ok_weaker c.push_monitors.result
     (λ told setup text is stand of processes.
-    let m = machine_in c.args.self.now in
+    let m = machine_in c.args.self in
     let g = globals setup.tree in
     let initial = process_lines setup m 1 (codes "initial") (head_words g setup.tree.initial) (reported_members g setup.tree.initial) in
     let out = c.args.out.now.items in

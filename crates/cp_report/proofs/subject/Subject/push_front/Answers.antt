@@ -14,7 +14,7 @@ pub returns : goal.returns
 returns c =
     on_ok_weaker c.push_transcript_line.result
     (λ told setup of.
-    let m = machine_in c.args.self.now in
+    let m = machine_in c.args.self in
     let p = c.args.number in
     let x = c.args.name.now in
     let out = c.args.out.now.items in

@@ -17,7 +17,7 @@ pub returns : goal.returns
 returns c =
     on_ok_weaker c.initial.result
     (λ told setup text is stand of.
-    let s = c.args.self.now in
+    let s = c.args.self in
     let m = machine_in s in
     let g = globals setup.tree in
     let input = input_of s.machine.now.setting.inputs.items 1 in
@@ -29,5 +29,5 @@ returns c =
     let members = told g (members_from vs NoMembers) of.0 stand in
     process_told setup m 1 (codes "initial") (head_words g setup.tree.initial) (reported_members g setup.tree.initial) o c.args.out.now.items mid c.initial.new.out.items there
     (c.in_ok-push_front.ensures setup of)
-    (members ∙ (λ i. mid ++ visit_members g (lines_visit o.words) [] (sym (initial_head setup text is g) i) (sym (initial_members setup text is g) i))))
+    (members ∙ (λ i. mid ++ visit_members g (lines_visit (c.all_words.ensures input i)) [] (sym (initial_head setup text is g) i) (sym (initial_members setup text is g) i))))
     c.initial.ensures

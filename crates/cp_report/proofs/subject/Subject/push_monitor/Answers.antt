@@ -4,6 +4,7 @@ use Rattle.cp_kernel.specs.KernelOf.{kernel_of}
 use Rattle.cp_model.specs.Declarations.{globals}
 use Rattle.cp_private.specs.States.{holder}
 use Rattle.cp_machine_model.specs.KernelSteps.{gate_of}
+use Rattle.cp_machine_model.specs.Reports.{lines_visit, visit_component}
 use Rattle.cp_program.specs.View as view
 use Rattle.cp_report.specs.Lines.{gate_line_of}
 use Rattle.cp_report.specs.Subjects.{machine_in}
@@ -14,7 +15,7 @@ pub returns : goal.returns
 returns c =
     on_ok_weaker c.component.result
     (λ told setup t of stands.
-    let m = machine_in c.args.self.now in
+    let m = machine_in c.args.self in
     let n = c.args.number in
     let x = c.args.name.now in
     let out = c.args.out.now.items in
@@ -24,5 +25,6 @@ returns c =
     monitor_told setup m n x t k (view.program c.program.result.now) (holder c.gate.result) c.askers-askers.result.now c.monitor_start-start.result out c.push_gate_line.new.out.items
     c.component.new.out.items is c.program.ensures (c.gate.ensures.part ∙ sym (ap (λ j. (gate_of j.gates n).holder) is))
     (c.askers-askers.ensures.part ∙ sym (ap (λ j. (gate_of j.gates n).askers) is)) c.monitor_start-start.ensures line
-    (told (globals setup.tree) t of.0 stands))
+    (told (globals setup.tree) t of.0 stands
+    ∙ ap (λ ws. c.push_gate_line.new.out.items ++ visit_component (globals setup.tree) (lines_visit ws) c.monitor_start-start.result t) c.all_words.ensures))
     c.component.ensures

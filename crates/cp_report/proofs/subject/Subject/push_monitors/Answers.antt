@@ -7,13 +7,13 @@ use Rattle.cp_scope.specs.Standing.{entry}
 use Rattle.cp_scope.specs.declared.types.Field.{Field}
 use Rattle.cp_report.specs.Subjects.{machine_in}
 use Rattle.cp_report.proofs.LinesTold.{LinesToTell, one_component}
-use Rattle.cp_report.proofs.MembersTold.{drop_first}
+use Rattle.cp_members.proofs.MembersTold.{drop_first}
 use Rattle.cp_report.proofs.subject.Subject.push_monitors.Goals as goal
 
 pub loop-index-preserved : goal.loop-index-preserved
 loop-index-preserved c =
     λ setup of.
-    let s = c.args.self.now in
+    let s = c.args.self in
     let m = machine_in s in
     let types = s.tables.now.types in
     let xs = s.monitors.now in

@@ -17,7 +17,7 @@ pub returns : goal.returns
 returns c =
     on_ok_weaker c.component.result
     (λ told setup t of stands.
-    let s = c.args.self.now in
+    let s = c.args.self in
     let m = machine_in s in
     let g = globals setup.tree in
     let p = c.args.number in
@@ -26,5 +26,7 @@ returns c =
     let there : slice_get m.parts (p - 1) ≡ Some o = sym c.private.ensures ∙ ap (option_map (λ x. private_of x.now input)) c.in-Some.is in
     process_told setup m p c.args.name.now (head_of g t) (component_members t) o c.args.out.now.items c.push_front.new.out.items c.component.new.out.items there
     (c.in_ok-push_front.ensures setup of)
-    (told g t of.0 stands ∙ ap (λ n. c.push_front.new.out.items ++ visit_members g (lines_visit o.words) [] n (component_members t)) (from_start (head_of g t))))
+    (told g t of.0 stands
+    ∙ (ap (λ ws. c.push_front.new.out.items ++ visit_members g (lines_visit ws) [] (0 + head_of g t) (component_members t)) (c.all_words.ensures input)
+    ∙ ap (λ n. c.push_front.new.out.items ++ visit_members g (lines_visit o.words) [] n (component_members t)) (from_start (head_of g t)))))
     c.component.ensures

@@ -2,7 +2,7 @@ use Rattle.std.proofs.Common.{◌++◌, sym, ap, ◌∙◌}
 use Rattle.std.proofs.lemmas.Result.{on_ok_weaker}
 use Rattle.cp_machine_model.specs.KernelSteps.{stage_of}
 use Rattle.cp_rounds.specs.ProcessStates.{activity_at}
-use Rattle.cp_report.specs.Statuses.{state_text}
+use Rattle.cp_members.specs.Statuses.{state_text}
 use Rattle.cp_report.specs.Subjects.{machine_in}
 use Rattle.cp_report.proofs.StatesTold.{stage_told}
 use Rattle.cp_report.proofs.subject.Subject.push_status.Goals as goal
@@ -11,7 +11,7 @@ pub returns : goal.returns
 returns c =
     on_ok_weaker c.push_state.result
     (λ told setup of.
-    let m = machine_in c.args.self.now in
+    let m = machine_in c.args.self in
     let p = c.args.number in
     let out = c.args.out.now.items in
     told setup of.0 of.1

@@ -1,0 +1,10 @@
+pub mod Paths
+pub mod Stacks
+pub mod Rows
+pub mod Going
+pub mod Entering
+pub mod Visiting
+pub mod MembersTold
+pub mod Listed
+pub mod QueuesTold
+pub mod ListedNames

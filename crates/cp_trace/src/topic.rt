@@ -1,0 +1,20 @@
+//! Of what a trace tells.
+
+use cp_members::roster::Roster;
+use cp_model::tree::Tree;
+
+/// Of what a trace tells: the processes and monitors of a text, in some rounds of its machine.
+#[derive(Drop)]
+pub struct Topic<'a, 't> {
+    /// The tree of the text.
+    pub tree: &'t Tree,
+    /// Its processes and monitors.
+    pub roster: Roster<'t>,
+    /// The names of those that are told of, or none if all are. A name that no process or monitor
+    /// has stands for none.
+    pub only: &'a [&'a str],
+    /// How many rounds were made before.
+    pub done: u64,
+    /// How many rounds are told.
+    pub rounds: u32,
+}
