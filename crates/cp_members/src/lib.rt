@@ -10,6 +10,7 @@
 //! - `heads`, `components`: how many words come before members, and the parts of whole components.
 //! - `places`: the places of the variables of a component.
 //! - `status`: the state of a process in words.
+//! - `readings`: what a trace reads of a machine, which stands above.
 //! - `text`: queues and bytes as text.
 #![tactic(auto)]
 
@@ -18,6 +19,7 @@ mod heads;
 pub mod listing;
 pub mod place;
 pub mod places;
+pub mod readings;
 pub mod roster;
 pub mod state;
 pub mod status;

@@ -3,8 +3,7 @@
 //! - `execute_outcome`: runs until nothing can move. `execute_trace`: what each round changed.
 //! - `until_still`, `tracing`: builds the program of an accepted text, runs it, and makes the
 //!   outcome or the trace. `form`: what is written of an outcome. `standing`: where all stand.
-//! - `rounds`, `readings`: makes the rounds of a machine and writes what is told of them, and what
-//!   a trace reads of it.
+//! - `rounds`: makes the rounds of a machine, and writes what is told of them.
 //!
 //! Reading, judging and refusals are cp_accept's, and the machine at its start is cp_execute's.
 //! `specs/Outcomes.antt` with `specs/Forms.antt`, and `specs/Traces.antt` with `specs/Writing.antt`
@@ -14,7 +13,6 @@
 pub mod execute_outcome;
 pub mod execute_trace;
 pub mod form;
-mod readings;
 mod rounds;
 mod standing;
 pub mod tracing;

@@ -7,7 +7,6 @@ ghost use Rattle.cp_trace.specs.Tracers.{IsPart, form_of};
 ghost use Rattle.cp_observe.specs.Writing.{Extends, IsMemoryOrWrite, Moves, WritesTrace};
 ghost use Rattle.cp_accept.specs.declared.refusal.Refusal.TheVariants as refusal;
 
-use crate::readings::Subject;
 use cp_accept::refusal::Refusal;
 use cp_accept::writing::write_result;
 use cp_members::roster::Roster;
@@ -53,7 +52,7 @@ fn tracer_of<'t>(
 ) -> Result<Tracer<'t>, AllocError>
     ensures { IfOk result (λ tracer. form_of tracer ≡ form) }
 {
-    Tracer::of(alloc, form, topic, &Subject { machine })
+    Tracer::of(alloc, form, topic, machine)
 }
 
 // Makes a round, and adds what is told of it at once.
@@ -75,7 +74,7 @@ fn trace_round<'t, H: Threads + Wait + Sync, G: TurnGate>(
 {
     machine.round(rt, plan, gate)?;
     let rounds = machine.rounds();
-    tracer.follow(rounds, &Subject { machine }, buffer)?;
+    tracer.follow(rounds, &*machine, buffer)?;
     Ok(())
 }
 

@@ -7,7 +7,8 @@
 //!
 //! - `machine`, `reading`, `chain`, `stillness`, `until_still`, `halted`: the public calls.
 //!   `starting`: how a machine starts.
-//! - `state`: the state of a process, by what the kernel and it know of it.
+//! - `state`: the state of a process, by what the kernel and it know of it. `readings`: what a
+//!   trace reads of a machine.
 //! - `setting`, `parts`, `moment`: what no round changes, what rounds change, and the time of a
 //!   round.
 //! - `gate`: what is called before each turn.
@@ -43,6 +44,7 @@ mod pace;
 mod parts;
 mod quiet;
 pub mod reading;
+mod readings;
 pub mod replay;
 mod round;
 mod run;

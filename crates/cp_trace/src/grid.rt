@@ -1,8 +1,8 @@
 //! What the processes and monitors of a machine are after each of some rounds.
 
 use crate::members::{chosen, name_of};
-use crate::readings::Readings;
 use crate::topic::Topic;
+use cp_members::readings::Readings;
 use cp_members::roster::{Member, Roster};
 use cp_members::state::ProcState;
 use cp_model::state::Fault;

@@ -3,7 +3,6 @@
 //! - `tracer`: follows a machine, and tells of it in one of four forms.
 //! - `topic`: of what is told.
 //! - `members`: of whom is told.
-//! - `readings`: what is read of a machine, which stands above.
 //! - `trace`: what was seen of a machine, and what changed since: of a `process`, of a `monitor`,
 //!   and of the `values` of variables, whose places are their `shapes`. `vocabulary`: names in
 //!   place of numbers.
@@ -26,7 +25,6 @@ mod members;
 mod monitor;
 mod objects;
 mod process;
-pub mod readings;
 mod shapes;
 mod svg;
 mod timeline;

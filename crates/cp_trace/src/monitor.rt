@@ -1,10 +1,10 @@
 //! What was seen of a monitor, and what changed since.
 
 use crate::changes::{Change, Step};
-use crate::readings::Readings;
 use crate::values::Values;
 use crate::vocabulary::Vocabulary;
 use cp_members::places::Place;
+use cp_members::readings::Readings;
 use cp_members::roster::Member;
 use cp_private::outside::Holder;
 use std::alloc::{AllocError, Global};

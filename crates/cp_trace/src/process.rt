@@ -2,10 +2,10 @@
 
 use crate::changes::{Change, Output, Step};
 use crate::members::word;
-use crate::readings::Readings;
 use crate::values::Values;
 use crate::vocabulary::Vocabulary;
 use cp_members::places::Place;
+use cp_members::readings::Readings;
 use cp_members::roster::Member;
 use cp_members::state::ProcState;
 use std::alloc::{AllocError, Global};

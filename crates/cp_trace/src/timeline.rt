@@ -4,7 +4,7 @@ ghost use Rattle.std.specs.Prelude.{OnOk};
 ghost use Rattle.cp_trace.specs.Telling.{Adds, IsAnything, IsSomething};
 
 use crate::grid::{Cell, Grid, Row};
-use crate::readings::Readings;
+use cp_members::readings::Readings;
 use cp_members::roster::Member;
 use std::alloc::AllocError;
 use std::fmt::Write;

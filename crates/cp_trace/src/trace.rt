@@ -4,11 +4,11 @@ use crate::changes::{Change, Changes};
 use crate::members::{chosen, name_of};
 use crate::monitor::SeenMonitor;
 use crate::process::SeenProcess;
-use crate::readings::Readings;
 use crate::shapes::Shapes;
 use crate::topic::Topic;
 use crate::vocabulary::Vocabulary;
 use cp_members::places::Place;
+use cp_members::readings::Readings;
 use cp_members::roster::Member;
 use std::alloc::{AllocError, Global};
 

@@ -6,11 +6,11 @@ ghost use Rattle.cp_trace.specs.Telling.{Adds};
 use crate::grid::Grid;
 use crate::lines::push_round;
 use crate::objects::push_objects;
-use crate::readings::Readings;
 use crate::svg::Picture;
 use crate::timeline::Timeline;
 use crate::topic::Topic;
 use crate::trace::Trace;
+use cp_members::readings::Readings;
 use cp_plan::trace::TraceForm;
 use std::alloc::{AllocError, Global};
 

@@ -2,10 +2,10 @@
 
 use crate::changes::{Change, VariableChange};
 use crate::members::word;
-use crate::readings::Readings;
 use crate::vocabulary::Vocabulary;
 use cp_members::place::Value;
 use cp_members::places::Place;
+use cp_members::readings::Readings;
 use cp_members::roster::Member;
 use std::alloc::{AllocError, Global};
 

@@ -2,8 +2,8 @@
 
 use crate::changes::Value;
 use crate::members::{name_of, word};
-use crate::readings::Readings;
 use cp_members::place;
+use cp_members::readings::Readings;
 use cp_members::roster::{Member, Roster};
 use cp_model::tree::{Defined, Identifier, Section, Tree, TypeDefinition};
 use cp_names::NameTable;

@@ -1,8 +1,8 @@
 //! What a trace reads of a machine.
 
-use cp_members::place;
-use cp_members::places::Place;
-use cp_members::state::ProcState;
+use crate::place;
+use crate::places::Place;
+use crate::state::ProcState;
 use cp_private::outside::Holder;
 use cp_scope::{Base, Field};
 use std::alloc::{AllocError, Global};
