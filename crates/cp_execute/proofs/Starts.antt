@@ -16,8 +16,8 @@ use Rattle.cp_machine_model.specs.InState.{IsIn, NoneFresh}
 use Rattle.cp_machine_model.specs.Machines.{Machine}
 use Rattle.cp_machine_model.specs.RoundLaws.{ReportIsReport}
 use Rattle.cp_rounds.specs.InStates.{HaveInputs}
-use Rattle.cp_rounds.specs.MachineOf.{bytes_or_none, input_of}
-use Rattle.cp_rounds.proofs.Lists.{got_at}
+use Rattle.cp_desk.specs.Inputs.{bytes_or_none, input_of}
+use Rattle.cp_desk.proofs.Lists.{got_at}
 use Rattle.cp_rounds.specs.Views.{KeepsText}
 use Rattle.cp_rounds.specs.declared.machine.Machine as rounds
 use Rattle.cp_scope.specs.Texts.{TablesStand}

@@ -14,10 +14,10 @@ use Rattle.cp_machine_model.specs.PrivateStates.{PrivateState}
 use Rattle.cp_model.specs.States.{numbers_from}
 use Rattle.cp_private.specs.States as states
 use Rattle.cp_private.specs.declared.private.Private.{Private}
+use Rattle.cp_desk.specs.Inputs.{input_of}
+use Rattle.cp_desk.specs.Turned.{with_turn_taken}
+use Rattle.cp_desk.specs.declared.setting.Setting.{Setting}
 use Rattle.cp_rounds.specs.Ahead.{IsReadyAhead, PartsAhead, turns_ahead}
-use Rattle.cp_rounds.specs.MachineOf.{input_of}
-use Rattle.cp_rounds.specs.Turned.{with_turn_taken}
-use Rattle.cp_rounds.specs.declared.setting.Setting.{Setting}
 use Rattle.cp_rounds.proofs.AheadPasses.{has_made_one, round_is}
 use Rattle.cp_rounds.proofs.AheadTurns.{fewer_bytes}
 use Rattle.cp_rounds.proofs.Made.{parts_count}

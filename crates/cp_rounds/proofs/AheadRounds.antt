@@ -18,15 +18,15 @@ use Rattle.cp_machine_model.specs.PrivateStates.{PrivateState}
 use Rattle.cp_private.specs.States.{private_of}
 use Rattle.cp_private.specs.declared.private.Private.{Private}
 use Rattle.cp_program.specs.View as view
+use Rattle.cp_desk.specs.Inputs.{input_at, input_of}
+use Rattle.cp_desk.specs.Tasks.{HasRoomLeft, IsWide}
+use Rattle.cp_desk.specs.Turned.{moment_of}
+use Rattle.cp_desk.specs.declared.moment.Moment.{Moment}
+use Rattle.cp_desk.specs.declared.setting.Setting.{Setting}
+use Rattle.cp_desk.proofs.Lists.{below_or, got_at, got_below, got_set, mapped_get}
 use Rattle.cp_rounds.specs.Ahead.{IsReadyAhead, IsTime, PartsAhead, turns_ahead}
 use Rattle.cp_rounds.specs.Ends.{RoundEnds}
-use Rattle.cp_rounds.specs.MachineOf.{input_at, input_of}
-use Rattle.cp_rounds.specs.Tasks.{HasRoomLeft, IsWide}
-use Rattle.cp_rounds.specs.Turned.{moment_of}
-use Rattle.cp_rounds.specs.declared.moment.Moment.{Moment}
-use Rattle.cp_rounds.specs.declared.setting.Setting.{Setting}
 use Rattle.cp_rounds.proofs.AheadTurns.{fewer_bytes}
-use Rattle.cp_rounds.proofs.Lists.{below_or, got_at, got_below, got_set, mapped_get}
 use Rattle.cp_rounds.proofs.Made.{input_there, part_at, parts_count}
 use Rattle.cp_rounds.proofs.Rooms.{fewer_askers, moved_stages, numbered_set}
 use Rattle.cp_ahead.proofs.Turns.{set_length}

@@ -1,67 +1,35 @@
 -- What the tasks of several rounds made says of a machine some of whose processes are ahead.
-use Rattle.std.specs.Prelude.{◌≡◌, ◌≢◌, ◌≤◌, ◌<◌, ◌+◌, ◌-◌, ◌*◌, refl, ℕ, zero, suc, Bool, true, false, if◌then◌else◌, List, [], ◌∷◌, Some, get_or, length, map, slice_get, vec_len}
+use Rattle.std.specs.Prelude.{◌≡◌, ◌≢◌, ◌≤◌, ◌<◌, ◌+◌, ◌-◌, ◌*◌, refl, ℕ, zero, suc, Bool, true, false, List, Some, get_or, length, map, slice_get, vec_len}
 use Rattle.std.proofs.Common.{sym, ◌∙◌, ap, subst, arith}
 use Rattle.std.proofs.lemmas.Bool.{true≢false}
 use Rattle.std.proofs.lemmas.List.{length-map}
 use Rattle.cp_model.proofs.Options.{same_some}
 use native.Mathlib.Nat.{mul-le-mul_right, suc-mul}
-use Rattle.cp_ahead.specs.Ahead.{HasBegun, IsAhead, IsQuiet, turn_at}
-use Rattle.cp_ahead.proofs.Quiet.{needs_none}
+use Rattle.cp_ahead.specs.Ahead.{HasBegun, IsAhead, turn_at}
 use Rattle.cp_ahead.proofs.Turns.{map_got, turn_number}
 use Rattle.cp_kernel.specs.KernelOf.{Bytes, HasRoomForAskers, HasRoomForBytes, kernel_of}
 use Rattle.cp_kernel.specs.Turns.{parts_of}
 use Rattle.cp_kernel.specs.declared.kernel.Kernel.{Kernel}
 use Rattle.cp_program_model.specs.Programs.{Program}
-use Rattle.cp_machine_model.specs.PrivateStates.{PrivateState, is_running}
-use Rattle.cp_machine_model.specs.KernelSteps.{Asking, Begun, Delayed, Fresh, Stage, Unstarted, is_begun, needs_kernel, stage_of}
-use Rattle.cp_machine_model.specs.Steps.{is_private, operation_of}
+use Rattle.cp_machine_model.specs.PrivateStates.{PrivateState}
+use Rattle.cp_machine_model.specs.KernelSteps.{Asking, Begun, Delayed, Fresh, Stage, Unstarted, is_begun, stage_of}
 use Rattle.cp_machine_model.proofs.StagesKept.{stage_is}
 use Rattle.cp_private.specs.States.{private_of}
-use Rattle.cp_private.specs.Kinds.{kind_of}
-use Rattle.cp_private.specs.declared.kind.Kind.{Kind}
-use Rattle.cp_private.specs.declared.kind.Kind.TheVariants as kind
 use Rattle.cp_private.specs.declared.private.Private.{Private}
 use Rattle.cp_program.specs.View as view
+use Rattle.cp_desk.specs.Inputs.{input_at, input_of}
+use Rattle.cp_desk.specs.Numbers.{AreNumbered}
+use Rattle.cp_desk.specs.Tasks.{AllFree, AreMade, AreTaken, IsCourseOf, StaysQuiet}
+use Rattle.cp_desk.specs.Turned.{AreTimes, moment_of, take_turn, with_turn_taken}
+use Rattle.cp_desk.specs.declared.moment.Moment.{Moment}
+use Rattle.cp_desk.specs.declared.setting.Setting.{Setting}
+use Rattle.cp_desk.proofs.Lists.{got_at, got_below}
+use Rattle.cp_desk.proofs.MadeTurns.{quiet_is}
 use Rattle.cp_rounds.specs.Ahead.{AreBack, IsReadyAhead, PartsAhead, turns_ahead}
-use Rattle.cp_rounds.specs.MachineOf.{input_at, input_of, machine_with}
+use Rattle.cp_rounds.specs.MachineOf.{machine_with}
 use Rattle.cp_rounds.specs.Made.{IsReadyFor}
-use Rattle.cp_rounds.specs.Numbers.{AreNumbered}
-use Rattle.cp_rounds.specs.Quiet.{is_quiet, is_quiet_by}
-use Rattle.cp_rounds.specs.Runs.{AreTimes}
-use Rattle.cp_rounds.specs.Tasks.{AllFree, AreMade, AreTaken, IsCourseOf, StaysQuiet, is_some}
-use Rattle.cp_rounds.specs.Turned.{moment_of, take_turn, with_turn_taken}
-use Rattle.cp_rounds.specs.declared.moment.Moment.{Moment}
-use Rattle.cp_rounds.specs.declared.setting.Setting.{Setting}
-use Rattle.cp_rounds.proofs.Lists.{got_at, got_below}
 use Rattle.cp_rounds.proofs.Made.{part_at, parts_count}
 use Rattle.cp_rounds.proofs.Rooms.{fewer_askers}
-
--- ---- Quiet processes
-
-abbrev is_of_kernel : Kind → Bool
-is_of_kernel kind.Private = false
-is_of_kernel kind.Kernel = true
-is_of_kernel kind.None = false
-
-quiet_by : (k : Kind) (written : List ℕ) → is_quiet_by k written ≡ true → (is_of_kernel k ≡ false) × (written ≡ [])
-quiet_by kind.Private [] h = (refl, refl)
-quiet_by kind.Private (b ∷ written) h = absurd (true≢false (sym h))
-quiet_by kind.Kernel written h = absurd (true≢false (sym h))
-quiet_by kind.None [] h = (refl, refl)
-quiet_by kind.None (b ∷ written) h = absurd (true≢false (sym h))
-
-pub quiet_is : (program : Program) (o : PrivateState) → is_quiet program o ≡ true → IsQuiet program o
-quiet_is program o h =
-    let both = quiet_by (kind_of program o) o.output h in
-    let x = operation_of program o in
-    record { next = λ runs. by (is_running o.activity) (is_private o x) (needs_kernel o x) (needs_none o x) runs both.0; silent = both.1 }
-  where
-    by : (a b c : Bool) → (b ≡ true → c ≡ false) → a ≡ true
-        → is_of_kernel (if a then (if b then kind.Private else (if c then kind.Kernel else kind.None)) else kind.None) ≡ false → c ≡ false
-    by true true c none runs e = none refl
-    by true false true none runs e = absurd (true≢false e)
-    by true false false none runs e = refl
-    by false b c none runs e = absurd (true≢false (sym runs))
 
 -- The private state at an index of the parts of a machine.
 pub part_of : (inputs : List Bytes) (zs : List Private) (i : ℕ) (o : PrivateState) → slice_get (parts_of (input_of inputs) 1 zs) i ≡ Some o
@@ -81,46 +49,6 @@ begun_is k i h = record { stage = by (get_or (kernel_of k).stages i Begun) (sym 
     by Fresh e = absurd (true≢false (sym e))
     by (Asking q) e = absurd (true≢false (sym e))
     by (Delayed q w) e = absurd (true≢false (sym e))
-
--- ---- One turn more
-
-module _ (quiet : PrivateState → Bool) (turned : Moment → PrivateState → PrivateState) (moment : ℕ → Moment) where
-  stays_more : (round n : ℕ) (o y : PrivateState) → StaysQuiet quiet turned moment round n o y → quiet y ≡ true
-      → StaysQuiet quiet turned moment round (suc n) o (turned (moment (round + n)) y)
-  stays_more round zero o y is now =
-      let same : round + zero ≡ round = omega arith in
-      (ap quiet (sym is) ∙ now, (λ i. turned (moment (same i)) (is i)))
-  stays_more round (suc n) o y (first, rest) now =
-      let same : suc round + n ≡ round + suc n = omega arith in (
-        first,
-        subst (λ (r : ℕ). StaysQuiet quiet turned moment (suc round) (suc n) (turned (moment round) o) (turned (moment r) y)) same
-            (stays_more (suc round) n (turned (moment round) o) y rest now),
-      )
-
-  made_suc : (round n : ℕ) (o y : PrivateState) → AreMade quiet turned moment round n o y → (n ≢ 0 → quiet y ≡ true)
-      → AreMade quiet turned moment round (suc n) o (turned (moment (round + n)) y)
-  made_suc round zero o y is now =
-      let same : round + zero ≡ round = omega arith in
-      λ i. turned (moment (same i)) (is i)
-  made_suc round (suc n) o y was now =
-      let same : suc round + n ≡ round + suc n = omega arith in
-      let some : suc n ≢ 0 = λ e. omega (arith, e) in
-      subst (λ (r : ℕ). StaysQuiet quiet turned moment (suc round) (suc n) (turned (moment round) o) (turned (moment r) y)) same
-      (stays_more (suc round) n (turned (moment round) o) y was (now some))
-
-  pub made_more : (round n : ℕ) (o y : PrivateState) → AreMade quiet turned moment round n o y → (n ≢ 0 → quiet y ≡ true)
-      → AreMade quiet turned moment round (n + 1) o (turned (moment (round + n)) y)
-  made_more round n o y was now =
-      let next : suc n ≡ n + 1 = omega arith in
-      subst (λ (k : ℕ). AreMade quiet turned moment round k o (turned (moment (round + n)) y)) next (made_suc round n o y was now)
-
-pub is_some_next : (n : ℕ) → is_some (n + 1) ≡ true
-is_some_next zero = refl
-is_some_next (suc n) = let next : suc (n + 1) ≡ suc n + 1 = omega arith in sym (ap is_some next)
-
-pub is_some_of : (n : ℕ) → n ≢ 0 → is_some n ≡ true
-is_some_of zero some = absurd (some refl)
-is_some_of (suc n) some = refl
 
 -- ---- All processes
 

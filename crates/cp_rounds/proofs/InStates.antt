@@ -13,8 +13,8 @@ use Rattle.cp_machine_model.specs.Machines.{first_machine, first_part, first_par
 use Rattle.cp_machine_model.specs.PrivateStates.{PrivateState}
 use Rattle.cp_machine_model.specs.RoundLaws.{LawfulReplayIsRound, ReplayIsReplay, RoundIsRound, RoundsAreRun, StartIsIn}
 use Rattle.cp_machine_model.specs.Replays.{AreWithin, replay}
+use Rattle.cp_desk.specs.Inputs.{input_of}
 use Rattle.cp_rounds.specs.InStates.{IsStarted, MakesReplay, MakesRounds}
-use Rattle.cp_rounds.specs.MachineOf.{input_of}
 use Rattle.cp_rounds.specs.Views.{machine_of, processes_of}
 use Rattle.cp_rounds.specs.declared.machine.Machine.{Machine}
 use Rattle.cp_rounds.proofs.Made.{parts_count}

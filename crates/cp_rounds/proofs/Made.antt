@@ -14,13 +14,14 @@ use Rattle.cp_machine_model.specs.Machines.{Machine, after_kernel_turn, clock, e
 use Rattle.cp_machine_model.specs.PrivateStates.{PrivateState}
 use Rattle.cp_program.specs.View as view
 use Rattle.cp_kernel.specs.Turns.{IsTurned, parts_of}
+use Rattle.cp_desk.specs.Inputs.{input_at, input_of}
+use Rattle.cp_desk.specs.Turned.{moment_of, take_turn, with_turn_taken}
+use Rattle.cp_desk.specs.declared.setting.Setting.{Setting}
+use Rattle.cp_desk.proofs.Lists.{got_below, got_left, got_snoc, mapped_get, none_some}
 use Rattle.cp_rounds.specs.Ends.{RoundEnds}
 use Rattle.cp_rounds.specs.Made.{Stands, TurnsMade}
-use Rattle.cp_rounds.specs.MachineOf.{input_at, input_of, machine_with}
+use Rattle.cp_rounds.specs.MachineOf.{machine_with}
 use Rattle.cp_rounds.specs.Runs.{AreSame, RoundsMade, TurnsTaken}
-use Rattle.cp_rounds.specs.Turned.{moment_of, take_turn, with_turn_taken}
-use Rattle.cp_rounds.specs.declared.setting.Setting.{Setting}
-use Rattle.cp_rounds.proofs.Lists.{got_below, got_left, got_snoc, mapped_get, none_some}
 use Rattle.cp_ahead.proofs.Turns.{set_apart}
 use Rattle.cp_rounds.proofs.Rounds.{Remains, kernel_turn_is, longer, rounds_after, private_turns_made, set_here, turned_count, turns_apart, turns_next, turns_remain}
 

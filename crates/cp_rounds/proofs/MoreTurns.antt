@@ -9,15 +9,15 @@ use Rattle.cp_machine_model.specs.PrivateStates.{PrivateState}
 use Rattle.cp_private.specs.States.{private_of}
 use Rattle.cp_private.specs.declared.private.Private.{Private}
 use Rattle.cp_program.specs.View as view
+use Rattle.cp_desk.specs.Inputs.{input_at}
+use Rattle.cp_desk.specs.Numbers.{AreNumbered}
+use Rattle.cp_desk.specs.Tasks.{IsCourseOf, IsTaken}
+use Rattle.cp_desk.specs.Turned.{moment_of, take_turn}
+use Rattle.cp_desk.specs.declared.moment.Moment.{Moment}
+use Rattle.cp_desk.specs.declared.setting.Setting.{Setting}
+use Rattle.cp_desk.proofs.Lists.{got_at}
 use Rattle.cp_rounds.specs.Made.{IsReady}
-use Rattle.cp_rounds.specs.MachineOf.{input_at}
-use Rattle.cp_rounds.specs.Numbers.{AreNumbered}
 use Rattle.cp_rounds.specs.Runs.{TurnsTaken}
-use Rattle.cp_rounds.specs.Tasks.{IsCourseOf, IsTaken}
-use Rattle.cp_rounds.specs.Turned.{moment_of, take_turn}
-use Rattle.cp_rounds.specs.declared.moment.Moment.{Moment}
-use Rattle.cp_rounds.specs.declared.setting.Setting.{Setting}
-use Rattle.cp_rounds.proofs.Lists.{got_at}
 use Rattle.cp_rounds.proofs.Made.{process_made_at}
 use Rattle.cp_rounds.proofs.Rooms.{fewer_askers, moved_stages, numbered_more}
 

@@ -18,15 +18,16 @@ use Rattle.cp_machine_model.specs.PrivateStates.{PrivateState}
 use Rattle.cp_machine_model.specs.Replays.{AreWithin, event, process_of}
 use Rattle.cp_machine_model.specs.Steps.{private_steps}
 use Rattle.cp_program.specs.View as view
+use Rattle.cp_desk.specs.Inputs.{input_at, input_of}
+use Rattle.cp_desk.specs.Numbers.{AreNumbered}
+use Rattle.cp_desk.specs.Turned.{moment_of, woken}
+use Rattle.cp_desk.specs.declared.moment.Moment.{Moment}
+use Rattle.cp_desk.specs.declared.setting.Setting.{Setting}
+use Rattle.cp_desk.proofs.Lists.{each_more, got_at, got_below}
 use Rattle.cp_rounds.specs.Ends.{RoundEnds}
-use Rattle.cp_rounds.specs.MachineOf.{input_at, input_of, machine_with}
-use Rattle.cp_rounds.specs.Numbers.{AreNumbered}
+use Rattle.cp_rounds.specs.MachineOf.{machine_with}
 use Rattle.cp_rounds.specs.Replayed.{AreWoken, EachWoken, Leads, StepsInto, TurnsInto}
 use Rattle.cp_rounds.specs.Runs.{AreSame}
-use Rattle.cp_rounds.specs.Turned.{moment_of, woken}
-use Rattle.cp_rounds.specs.declared.moment.Moment.{Moment}
-use Rattle.cp_rounds.specs.declared.setting.Setting.{Setting}
-use Rattle.cp_rounds.proofs.Lists.{each_more, got_at, got_below}
 use Rattle.cp_rounds.proofs.Made.{part_at, same_machine}
 use Rattle.cp_rounds.proofs.Rooms.{moved_stages, numbered_set, same_stages}
 use Rattle.cp_ahead.proofs.Turns.{set_length}

@@ -9,12 +9,12 @@ use Rattle.cp_kernel.specs.declared.kernel.Kernel.{Kernel}
 use Rattle.cp_private.specs.States as states
 use Rattle.cp_private.specs.States.{private_of}
 use Rattle.cp_private.specs.declared.private.Private.{Private}
-use Rattle.cp_rounds.specs.Numbers.{AreNumbered}
 use Rattle.cp_machine_model.specs.KernelSteps as plain
 use Rattle.cp_machine_model.specs.Machines.{next_stage}
 use Rattle.cp_machine_model.specs.PrivateStates.{PrivateState}
+use Rattle.cp_desk.specs.Numbers.{AreNumbered}
+use Rattle.cp_desk.proofs.Lists.{got_at, got_below, got_set, got_snoc, mapped_get}
 use Rattle.cp_rounds.specs.Runs.{AreSame, IsSame}
-use Rattle.cp_rounds.proofs.Lists.{got_at, got_below, got_set, got_snoc, mapped_get}
 use Rattle.cp_ahead.proofs.Turns.{set_length}
 
 pub fewer_askers : (k : Kernel) (n m : ℕ) → m ≤ n → HasRoomForAskers k n → HasRoomForAskers k m

@@ -9,7 +9,7 @@ use Rattle.cp_machine_model.specs.KernelSteps.{kernel_steps}
 use Rattle.cp_machine_model.specs.Machines.{Machine, after_kernel_turn, clock, kernel_turn, kernel_turns, phased_round, phased_rounds, private_turn, private_turns, wake, wake_one}
 use Rattle.cp_machine_model.specs.PrivateStates.{PrivateState}
 use Rattle.cp_machine_model.specs.Steps.{private_steps}
-use Rattle.cp_rounds.specs.Turned.{moment_of, take_turn, with_turn_taken, woken}
+use Rattle.cp_desk.specs.Turned.{moment_of, take_turn, with_turn_taken, woken}
 
 -- ---- Lists
 

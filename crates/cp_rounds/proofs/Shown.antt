@@ -26,7 +26,8 @@ use Rattle.cp_machine_model.specs.PrivateStates as machine
 use Rattle.cp_machine_model.specs.PrivateStates.{Activity, PrivateState}
 use Rattle.cp_members.specs.Values.{value_in}
 use Rattle.cp_private.specs.declared.private.Private.{Private}
-use Rattle.cp_rounds.specs.Numbers.{AreNumbered}
+use Rattle.cp_desk.specs.Numbers.{AreNumbered}
+use Rattle.cp_desk.proofs.Lists.{got_at, none_some}
 use Rattle.cp_rounds.specs.Gates.{ShowsAskers, ShowsHolder}
 use Rattle.cp_rounds.specs.ProcessStates.{ShowsState, StatusMeans, activity_at, state_at, state_of}
 use Rattle.cp_rounds.specs.Values.{IsKindOf, IsOwner, IsValue, LiesAt, ShowsValue, location_of, value_at, word_of}
@@ -37,7 +38,6 @@ use Rattle.cp_members.specs.declared.place.Kind.TheVariants as kind
 use Rattle.cp_members.specs.declared.place.Owner.{Owner}
 use Rattle.cp_members.specs.declared.place.Owner.TheVariants as owner
 use Rattle.cp_members.specs.declared.place.Place.{Place}
-use Rattle.cp_rounds.proofs.Lists.{got_at, none_some}
 
 -- ---- Processes
 

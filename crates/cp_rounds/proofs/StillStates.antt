@@ -25,14 +25,15 @@ use Rattle.cp_private.specs.States.{activity, private_of}
 use Rattle.cp_private.specs.declared.private.Private.{Private}
 use Rattle.cp_stillness.specs.Laws.{StillAfterMoreRounds}
 use Rattle.cp_stillness.specs.Stillness.{can_move, is_still, none_can_move}
-use Rattle.cp_rounds.specs.MachineOf.{input_at, input_of, machine_with}
+use Rattle.cp_desk.specs.Inputs.{input_at, input_of}
+use Rattle.cp_desk.proofs.Lists.{got_at, got_below}
+use Rattle.cp_rounds.specs.MachineOf.{machine_with}
 use Rattle.cp_rounds.specs.Runs.{AreSame}
 use Rattle.cp_rounds.specs.Stillness.{Advances, NoneStillBefore, RestBelow, RestsAt, TellsStill, goes_on, moves}
 use Rattle.cp_rounds.specs.Views.{IsAfter, machine_of, processes_of}
 use Rattle.cp_rounds.specs.declared.machine.Machine.{Machine}
 use Rattle.cp_rounds.proofs.After.{after_more}
 use Rattle.cp_rounds.proofs.InStates.{makes_rounds}
-use Rattle.cp_rounds.proofs.Lists.{got_at, got_below}
 use Rattle.cp_rounds.proofs.Made.{part_at, parts_count, same_machine_with}
 
 -- ---- One process

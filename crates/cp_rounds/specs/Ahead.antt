@@ -8,12 +8,12 @@ use Rattle.cp_machine_model.specs.Machines.{Machine}
 use Rattle.cp_machine_model.specs.PrivateStates.{PrivateState}
 use Rattle.cp_private.specs.declared.private.Private.{Private}
 use Rattle.cp_program.specs.View as view
-use Rattle.cp_rounds.specs.MachineOf.{input_of}
-use Rattle.cp_rounds.specs.Numbers.{AreNumbered}
-use Rattle.cp_rounds.specs.Tasks.{AreMade, AreTaken, HasRoomLeft, IsWide}
-use Rattle.cp_rounds.specs.Turned.{moment_of}
-use Rattle.cp_rounds.specs.declared.moment.Moment.{Moment}
-use Rattle.cp_rounds.specs.declared.setting.Setting.{Setting}
+use Rattle.cp_desk.specs.Inputs.{input_of}
+use Rattle.cp_desk.specs.Numbers.{AreNumbered}
+use Rattle.cp_desk.specs.Tasks.{AreMade, AreTaken, HasRoomLeft, IsWide}
+use Rattle.cp_desk.specs.Turned.{moment_of}
+use Rattle.cp_desk.specs.declared.moment.Moment.{Moment}
+use Rattle.cp_desk.specs.declared.setting.Setting.{Setting}
 
 -- How many turns the process at an index is ahead.
 abbrev pub turns_ahead : List ℕ → ℕ → ℕ

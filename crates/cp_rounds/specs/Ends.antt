@@ -6,8 +6,8 @@ use Rattle.cp_kernel.specs.declared.kernel.Kernel.{Kernel}
 use Rattle.cp_private.specs.declared.private.Private.{Private}
 use Rattle.cp_machine_model.specs.Machines.{begin_one, next_stage}
 use Rattle.cp_program.specs.View as view
-use Rattle.cp_rounds.specs.Numbers.{AreNumbered}
-use Rattle.cp_rounds.specs.declared.setting.Setting.{Setting}
+use Rattle.cp_desk.specs.Numbers.{AreNumbered}
+use Rattle.cp_desk.specs.declared.setting.Setting.{Setting}
 
 -- What is reserved stays.
 pub record KeepsRoom (xs : List Private) (k : Kernel) (ys : List Private) (k' : Kernel) : Type 0 where

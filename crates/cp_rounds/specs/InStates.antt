@@ -8,7 +8,7 @@ use Rattle.cp_model.specs.Rounds.{Event, phased_round, replay_round, run, sequen
 use Rattle.cp_model.specs.Start.{start}
 use Rattle.cp_model.specs.States.{Setup, State, processes}
 use Rattle.cp_machine_model.specs.InState.{IsIn}
-use Rattle.cp_rounds.specs.MachineOf.{input_of}
+use Rattle.cp_desk.specs.Inputs.{input_of}
 use Rattle.cp_rounds.specs.Views.{machine_of}
 use Rattle.cp_rounds.specs.declared.machine.Machine.{Machine}
 

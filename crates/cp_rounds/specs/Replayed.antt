@@ -9,11 +9,11 @@ use Rattle.cp_machine_model.specs.KernelSteps.{kernel_steps}
 use Rattle.cp_machine_model.specs.Machines as plain
 use Rattle.cp_machine_model.specs.Machines.{transcript_of}
 use Rattle.cp_machine_model.specs.Steps.{private_steps}
+use Rattle.cp_desk.specs.Numbers.{AreNumbered}
+use Rattle.cp_desk.specs.Turned.{moment_of, woken}
+use Rattle.cp_desk.specs.declared.moment.Moment.{Moment}
+use Rattle.cp_desk.specs.declared.setting.Setting.{Setting}
 use Rattle.cp_rounds.specs.MachineOf.{machine_with}
-use Rattle.cp_rounds.specs.Numbers.{AreNumbered}
-use Rattle.cp_rounds.specs.Turned.{moment_of, woken}
-use Rattle.cp_rounds.specs.declared.moment.Moment.{Moment}
-use Rattle.cp_rounds.specs.declared.setting.Setting.{Setting}
 
 -- Each private state of ys is the one of xs at its index, woken in a round in which the processes
 -- that wait go on.

@@ -8,14 +8,13 @@ use Rattle.cp_model.specs.States.{numbers_from}
 use Rattle.cp_private.specs.States.{private_of}
 use Rattle.cp_private.specs.declared.private.Private.{Private}
 use Rattle.cp_machine_model.specs.Machines.{phased_rounds}
+use Rattle.cp_desk.specs.Numbers.{AreNumbered}
+use Rattle.cp_desk.specs.Tasks.{AreHere, AreLeft}
+use Rattle.cp_desk.specs.Turned.{with_turn_taken}
+use Rattle.cp_desk.specs.declared.setting.Setting.{Setting}
 use Rattle.cp_rounds.specs.Made.{IsReadyFor, TurnsMade}
 use Rattle.cp_rounds.specs.MachineOf.{machine_with}
-use Rattle.cp_rounds.specs.Numbers.{AreNumbered}
-use Rattle.cp_rounds.specs.Tasks.{AreHere, AreLeft}
-use Rattle.cp_rounds.specs.Turned.{moment_of, with_turn_taken}
-use Rattle.cp_rounds.specs.declared.moment.Moment.{Moment}
 use Rattle.cp_rounds.specs.declared.parts.Parts.{Parts}
-use Rattle.cp_rounds.specs.declared.setting.Setting.{Setting}
 
 -- ---- Room
 
@@ -66,7 +65,3 @@ name_of (Some c) = c.id
 -- The cell of each round has the name that the run chooses for it.
 abbrev pub AreNamed : (ℕ → ℕ) → List Named → Type 0
 AreNamed cell cells = (i : ℕ) → cell i ≡ name_of (slice_get cells i)
-
--- The times of the rounds after the first `rounds` rounds.
-abbrev pub AreTimes : (ℕ → Moment) → Setting → ℕ → Type 0
-AreTimes moment g rounds = (i : ℕ) → moment i ≡ moment_of g.tick.rounds (rounds + i)

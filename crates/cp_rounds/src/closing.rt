@@ -2,7 +2,7 @@
 
 ghost use Rattle.cp_rounds.specs.Ends.{RoundEnds};
 
-use crate::setting::Setting;
+use cp_desk::setting::Setting;
 use cp_kernel::closing::end_round;
 use cp_kernel::kernel::Kernel;
 use cp_private::resident::Resident;

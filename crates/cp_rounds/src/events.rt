@@ -9,12 +9,12 @@ ghost use Rattle.cp_machine_model.specs.Replays as plain;
 ghost use Rattle.cp_machine_model.specs.Replays.{AreWithin, process_of};
 ghost use Rattle.cp_orders.specs.Events.{event_of, events_of};
 ghost use Rattle.cp_program.specs.View as view;
-ghost use Rattle.cp_rounds.specs.MachineOf.{input_at};
-ghost use Rattle.cp_rounds.specs.Numbers.{AreNumbered};
+ghost use Rattle.cp_desk.specs.Inputs.{input_at};
+ghost use Rattle.cp_desk.specs.Numbers.{AreNumbered};
 ghost use Rattle.cp_rounds.specs.Replayed.{Leads, StepsInto, TurnsInto};
 
-use crate::moment::Moment;
-use crate::setting::Setting;
+use cp_desk::moment::Moment;
+use cp_desk::setting::Setting;
 use cp_kernel::kernel::Kernel;
 use cp_kernel::turns::kernel_turn;
 use cp_orders::event::Event;

@@ -1,17 +1,17 @@
 //! What the calling thread holds in a round.
 
 ghost use Rattle.std.specs.Prelude.{◌≡◌, ◌<◌, ◌≤◌, ◌-◌};
-ghost use Rattle.cp_rounds.specs.Tasks.{AreMade, AreTaken};
+ghost use Rattle.cp_desk.specs.Tasks.{AreMade, AreTaken};
 
-use crate::cursor::Cursor;
-use crate::desk::{Tasks, room_for_tasks};
-use crate::desk_turns::DeskTurns;
-use crate::gate::TurnGate;
-use crate::open_round::OpenRound;
-use crate::pace::Pace;
 use crate::run::Run;
-use crate::task::Course;
 use cp_crew::{Rack, Wave};
+use cp_desk::cursor::Cursor;
+use cp_desk::desk::{Tasks, room_for_tasks};
+use cp_desk::desk_turns::DeskTurns;
+use cp_desk::gate::TurnGate;
+use cp_desk::open_round::OpenRound;
+use cp_desk::pace::Pace;
+use cp_desk::task::Course;
 use cp_private::resident::Resident;
 use std::alloc::{AllocError, Global};
 use std::sync::Wait;

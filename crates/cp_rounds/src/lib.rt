@@ -9,15 +9,11 @@
 //!   `starting`: how a machine starts.
 //! - `state`: the state of a process, by what the kernel and it know of it. `readings`: what a
 //!   trace reads of a machine.
-//! - `setting`, `parts`, `moment`: what no round changes, what rounds change, and the time of a
-//!   round.
-//! - `gate`: what is called before each turn.
-//! - `turns`, `closing`: a private turn, and the end of a round.
-//! - `run`, `round`, `open_round`, `sharing`: rounds by threads that are kept, which draw the
-//!   chunks of each wave from its board, and how the turns are shared out.
-//! - `desk`, `slot`, `task`, `desk_turns`, `cursor`: private turns on their way between threads,
-//!   and how the threads make them.
-//! - `ahead`, `ahead_turns`, `quiet`, `pace`: several rounds at once, while processes only compute.
+//! - `gate`, of cp_desk: what is called before each turn.
+//! - `parts`: what rounds change. `closing`: the end of a round.
+//! - `run`, `round`: rounds by threads that are kept, which draw the chunks of each wave from its
+//!   board and make their private turns at a desk (cp_desk).
+//! - `ahead`, `ahead_turns`: several rounds at once, while processes only compute.
 //! - `hand`, `finishing`: what the calling thread holds in a round, how it takes private states
 //!   back, and how it finishes their turns.
 //! - `replay`, `copies`, `events`: one round in any order of events, on the calling thread.
@@ -28,32 +24,20 @@ mod ahead_turns;
 mod chain;
 mod closing;
 mod copies;
-mod cursor;
-mod desk;
-mod desk_turns;
 mod events;
 mod finishing;
-pub mod gate;
 pub mod halted;
 mod hand;
-mod law;
 pub mod machine;
-mod moment;
-mod open_round;
-mod pace;
 mod parts;
-mod quiet;
 pub mod reading;
 mod readings;
 pub mod replay;
 mod round;
 mod run;
-mod setting;
-mod sharing;
-mod slot;
 mod starting;
 mod state;
 mod stillness;
-mod task;
-mod turns;
 mod until_still;
+
+pub use cp_desk::gate;

@@ -5,16 +5,16 @@ ghost use Rattle.std.specs.Prelude.{◌≡◌, ◌<◌, ◌≤◌, ◌+◌, ◌-
 ghost use Rattle.cp_model.specs.States.{numbers_from};
 ghost use Rattle.cp_machine_model.specs.Machines as plain;
 ghost use Rattle.cp_program.specs.View as view;
+ghost use Rattle.cp_desk.specs.Inputs.{input_of};
 ghost use Rattle.cp_rounds.specs.InStates.{IsStarted, MakesRound, MakesRounds};
-ghost use Rattle.cp_rounds.specs.MachineOf.{input_of};
 ghost use Rattle.cp_rounds.specs.Views.{IsAfter, KeepsText, halted_of, machine_of, processes_of};
 
-use crate::gate::TurnGate;
 use crate::halted::Halted;
 use crate::parts::Parts;
 use crate::run::{Rounds, make_rounds_of};
-use crate::setting::Setting;
 use crate::starting::first_parts;
+use cp_desk::gate::TurnGate;
+use cp_desk::setting::Setting;
 use cp_machine_model::law;
 use cp_plan::plan::Plan;
 use cp_plan::tick::Tick;

@@ -13,7 +13,7 @@ use crate::copies::woken_copies;
 use crate::events::make_events;
 use crate::machine::Machine;
 use crate::parts::Parts;
-use crate::setting::Setting;
+use cp_desk::setting::Setting;
 use cp_machine_model::law;
 use cp_orders::event::Event;
 use cp_plan::turn::Turn;

@@ -1,23 +1,24 @@
 //! Rounds by threads that are kept from one round to the next. The module `round` makes each round.
 
 ghost use Rattle.std.specs.Prelude.{◌≡◌, ◌<◌, ◌≤◌, ◌+◌, ◌-◌, ◌*◌, ◌^◌, IfErr, IfOk, length, slice_get};
-ghost use Rattle.cp_rounds.specs.Runs.{AreNamed, AreTimes, PartsAfter, name_of};
-ghost use Rattle.cp_rounds.specs.Tasks.{IsCourseOf};
+ghost use Rattle.cp_desk.specs.Turned.{AreTimes};
+ghost use Rattle.cp_desk.specs.Tasks.{IsCourseOf};
+ghost use Rattle.cp_rounds.specs.Runs.{AreNamed, PartsAfter, name_of};
 ghost use Rattle.cp_rounds.specs.declared.parts.Parts.{Parts};
 
 use crate::ahead::make_ahead;
-use crate::desk::Desk;
-use crate::desk_turns::DeskTurns;
-use crate::gate::TurnGate;
 use crate::hand::Hand;
-use crate::law::settings_are_shared;
-use crate::pace::Pace;
 use crate::parts::Parts;
 use crate::round::make_round;
-use crate::setting::Setting;
-use crate::sharing::drawn_plan;
-use crate::task::{Course, Start};
 use cp_crew::{Rack, Sheet, Wave, start};
+use cp_desk::desk::Desk;
+use cp_desk::desk_turns::DeskTurns;
+use cp_desk::gate::TurnGate;
+use cp_desk::law::settings_are_shared;
+use cp_desk::pace::Pace;
+use cp_desk::setting::Setting;
+use cp_desk::sharing::drawn_plan;
+use cp_desk::task::{Course, Start};
 use cp_plan::plan::Plan;
 use std::alloc::{AllocError, Global};
 use std::marker::Brand;

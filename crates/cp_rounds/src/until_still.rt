@@ -9,8 +9,8 @@ ghost use Rattle.cp_rounds.specs.InStates.{MakesRounds};
 ghost use Rattle.cp_rounds.specs.Stillness.{Advances, NoneStillBefore, TellsStill};
 ghost use Rattle.cp_rounds.specs.Views.{IsAfter, KeepsText, processes_of};
 
-use crate::gate::TurnGate;
 use crate::machine::{Machine, MemoryAt};
+use cp_desk::gate::TurnGate;
 use cp_machine_model::law::rounds as rounds_are_run;
 use cp_plan::plan::Plan;
 use cp_stillness::law::lasting;

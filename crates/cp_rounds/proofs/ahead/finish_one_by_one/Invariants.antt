@@ -1,8 +1,8 @@
 use Rattle.std.proofs.Common.{◌≡◌, ◌+◌, length}
 use Rattle.cp_machine_model.specs.Machines.{Machine, phased_rounds}
 use Rattle.cp_model.specs.States.{numbers_from}
+use Rattle.cp_desk.specs.Turned.{with_turn_taken}
 use Rattle.cp_rounds.specs.Ahead.{IsReadyAhead, IsTime, PartsAhead}
-use Rattle.cp_rounds.specs.Turned.{with_turn_taken}
 use Rattle.cp_rounds.proofs.ahead.finish_one_by_one.Given as goal
 
 abbrev pub invariant-loop-next : goal.invariant-loop-next

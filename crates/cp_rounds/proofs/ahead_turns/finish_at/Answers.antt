@@ -4,12 +4,12 @@ use Rattle.cp_kernel.specs.Turns.{IsTurned}
 use Rattle.cp_machine_model.specs.KernelSteps.{kernel_steps}
 use Rattle.cp_private.specs.declared.private.Private.{Private}
 use Rattle.cp_program.specs.View as view
+use Rattle.cp_desk.specs.Inputs.{input_at}
+use Rattle.cp_desk.proofs.Lists.{got_at, got_or}
 use Rattle.cp_rounds.specs.Ahead.{turns_ahead}
-use Rattle.cp_rounds.specs.MachineOf.{input_at}
 use Rattle.cp_rounds.proofs.AheadPasses.{turns_at}
 use Rattle.cp_rounds.proofs.AheadRounds.{ahead_made, ready_ahead, ready_turned, turn_made_ahead}
 use Rattle.cp_rounds.proofs.AheadTurns.{fewer_bytes}
-use Rattle.cp_rounds.proofs.Lists.{got_at, got_or}
 use Rattle.cp_rounds.proofs.ahead_turns.finish_at.Goals as goal
 
 some_ahead : (n a : ℕ) → n ≡ a → 0 < n → a ≢ 0

@@ -5,8 +5,8 @@ use Rattle.cp_machine_model.specs.Replays.{process_of}
 use Rattle.cp_orders.specs.Events.{event_of}
 use Rattle.cp_orders.specs.declared.event.Event.{Event}
 use Rattle.cp_private.specs.declared.private.Private.{Private}
+use Rattle.cp_desk.proofs.Lists.{got_or}
 use Rattle.cp_rounds.specs.Replayed.{Leads}
-use Rattle.cp_rounds.proofs.Lists.{got_or}
 use Rattle.cp_rounds.proofs.Replays.{step_leads, turn_leads}
 use Rattle.cp_rounds.proofs.events.make_event.Goals as goal
 

@@ -3,7 +3,7 @@ use Rattle.cp_private.specs.States.{private_of}
 use Rattle.cp_machine_model.specs.PrivateStates.{PrivateState}
 use Rattle.cp_machine_model.specs.Steps.{private_steps}
 use Rattle.cp_program.specs.View as view
-use Rattle.cp_rounds.specs.MachineOf.{input_at}
+use Rattle.cp_desk.specs.Inputs.{input_at}
 use Rattle.cp_rounds.proofs.events.make_step.Goals as goal
 
 pub returns : goal.returns

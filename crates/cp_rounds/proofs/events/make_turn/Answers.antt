@@ -4,7 +4,7 @@ use Rattle.cp_kernel.specs.Turns.{IsTurned}
 use Rattle.cp_kernel.proofs.Asking.{room_kept}
 use Rattle.cp_machine_model.specs.PrivateStates.{PrivateState}
 use Rattle.cp_program.specs.View as view
-use Rattle.cp_rounds.specs.MachineOf.{input_at}
+use Rattle.cp_desk.specs.Inputs.{input_at}
 use Rattle.cp_rounds.proofs.Replays.{turn_with_room}
 use Rattle.cp_rounds.proofs.Rooms.{same_stages}
 use Rattle.cp_rounds.proofs.events.make_turn.Goals as goal

@@ -1,7 +1,7 @@
 use Rattle.std.proofs.Common.{List, sym, ◌∙◌, subst, arith}
 use Rattle.std.proofs.lemmas.List.{take_more_set}
 use Rattle.cp_private.specs.declared.private.Private.{Private}
-use Rattle.cp_rounds.specs.Numbers.{AreNumbered}
+use Rattle.cp_desk.specs.Numbers.{AreNumbered}
 use Rattle.cp_rounds.specs.Runs.{TurnsTaken}
 use Rattle.cp_rounds.proofs.MoreTurns.{numbers_more, ready_more, taken_more}
 use Rattle.cp_ahead.proofs.Turns.{set_apart}

@@ -1,9 +1,9 @@
 use Rattle.std.proofs.Common.{rules, ◌≡◌, ℕ, IfSome, List, sym, subst}
 use Rattle.cp_private.specs.declared.private.Private.{Private}
+use Rattle.cp_desk.specs.Numbers.{AreNumbered}
+use Rattle.cp_desk.specs.Tasks.{AllFree, is_none}
 use Rattle.cp_rounds.specs.Made.{IsReadyFor}
-use Rattle.cp_rounds.specs.Numbers.{AreNumbered}
 use Rattle.cp_rounds.specs.Runs.{IsOpened}
-use Rattle.cp_rounds.specs.Tasks.{AllFree, is_none}
 use Rattle.cp_rounds.proofs.AheadTurns.{ready_fewer}
 use Rattle.cp_rounds.proofs.round.open_round.Goals as goal
 

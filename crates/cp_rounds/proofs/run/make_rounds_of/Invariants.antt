@@ -1,9 +1,9 @@
 use Rattle.std.proofs.Common.{◌+◌, ◌*◌, slice_get}
 use Rattle.cp_program.specs.View as view
-use Rattle.cp_rounds.specs.MachineOf.{input_at}
-use Rattle.cp_rounds.specs.Quiet.{is_quiet}
+use Rattle.cp_desk.specs.Inputs.{input_at}
+use Rattle.cp_desk.specs.Quiet.{is_quiet}
+use Rattle.cp_desk.specs.Turned as plain
 use Rattle.cp_rounds.specs.Runs.{name_of}
-use Rattle.cp_rounds.specs.Turned as plain
 use Rattle.cp_rounds.proofs.run.make_rounds_of.Given as goal
 
 abbrev pub ghosts-make_rounds_by_threads-C-Course : goal.ghosts-make_rounds_by_threads-C-Course

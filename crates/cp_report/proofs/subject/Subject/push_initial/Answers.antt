@@ -4,7 +4,7 @@ use Rattle.std.proofs.lemmas.Result.{on_ok_weaker}
 use Rattle.cp_model.specs.Declarations.{globals, members_from, reported_members}
 use Rattle.cp_model.specs.Types.{NoMembers}
 use Rattle.cp_program_model.specs.Layout.{head_words}
-use Rattle.cp_rounds.specs.MachineOf.{input_of}
+use Rattle.cp_desk.specs.Inputs.{input_of}
 use Rattle.cp_private.specs.States.{private_of}
 use Rattle.cp_scope.specs.Variables.{variables_of}
 use Rattle.cp_machine_model.specs.Reports.{lines_visit, visit_members}

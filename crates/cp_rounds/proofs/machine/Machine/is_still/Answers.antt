@@ -3,9 +3,9 @@ use Rattle.cp_kernel.specs.KernelOf.{kernel_of}
 use Rattle.cp_machine_model.specs.KernelSteps.{stage_of}
 use Rattle.cp_private.specs.States.{activity}
 use Rattle.cp_private.specs.declared.private.Private.{Private}
+use Rattle.cp_desk.proofs.Lists.{got_or}
 use Rattle.cp_rounds.specs.Stillness.{moves}
 use Rattle.cp_rounds.specs.Views.{processes_of}
-use Rattle.cp_rounds.proofs.Lists.{got_or}
 use Rattle.cp_rounds.proofs.StillStates.{rests_more, tell_moving, tell_still}
 use Rattle.cp_rounds.proofs.machine.Machine.is_still.Goals as goal
 

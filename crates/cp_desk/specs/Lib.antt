@@ -1,0 +1,5 @@
+pub mod Turned
+pub mod Inputs
+pub mod Quiet
+pub mod Tasks
+pub mod Numbers
