@@ -1,5 +1,6 @@
 #!/usr/bin/env python3
-"""schedule.py [JOBS]: reckons from the minutes in docs/GATE.md how long `rt ci` takes by the clock with so many jobs (4), and which chain of crates is the longest.
+"""schedule.py [JOBS]: reckons from the minutes in docs/GATE.md how long `rt ci` and `trials/prove.py` take by the clock with so many jobs (4), and which chain of
+crates is the longest.
 
 It begins tasks as `rt ci` does: proofs and tests whose chain of crates above has the most lines first, and edits where no proof is ready. A crate with several
 edits is proved once more for them, beside its own proof. What `rt ci` takes to begin, to hash and to run what it built isn't in it: some five minutes.
@@ -33,6 +34,17 @@ def libraries():
     while len(order) < len(uses):
         order += [name for name in uses if name not in order and all(it in order for it in uses[name])]
     return {name: uses[name] for name in order}
+
+
+def crates_of(program, uses):
+    """A program and all crates below it."""
+    found, left = set(), [program]
+    while left:
+        name = left.pop()
+        if name not in found:
+            found.add(name)
+            left += uses[name]
+    return found
 
 
 def tasks_of(known, uses):
@@ -87,10 +99,14 @@ def longest_chain(tasks):
 
 
 def main(jobs=4):
-    tasks = tasks_of(crates(), libraries())
+    uses = libraries()
+    tasks = tasks_of(crates(), uses)
     chain = longest_chain(tasks)
+    of_program = crates_of('cpm', uses)
+    alone = {key: task for key, task in tasks.items() if key[1] == 'proof' and key[0] in of_program}
     print(f'{sum(task.minutes for task in tasks.values()):.0f} minutes of processor time, {clock(tasks, int(jobs)):.0f} by the clock with {jobs} jobs')
     print(f'{sum(tasks[key].minutes for key in chain):.0f} of them one after another:', ' '.join(f'{key[0]} {tasks[key].minutes:.1f}' for key in chain))
+    print(f'cpm alone, without tests and edits: {sum(task.minutes for task in alone.values()):.0f}, {clock(alone, int(jobs)):.0f} by the clock')
 
 
 if __name__ == '__main__':

@@ -1,4 +1,4 @@
-pub mod Starts
+pub mod Reported
 pub mod Replays
 pub mod OrderRefusals
 pub mod OrdersDue

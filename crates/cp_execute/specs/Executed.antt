@@ -6,18 +6,15 @@ use Rattle.cp_model.specs.Syntax as s
 use Rattle.cp_model.specs.View as view
 use Rattle.cp_model.specs.declared.tree.Tree as tree
 use Rattle.cp_model.specs.Erase as erase
-use Rattle.cp_model.specs.Input.{cut}
 use Rattle.cp_model.specs.Report.{IsReportWithChains, report}
 use Rattle.cp_model.specs.Rounds as r
 use Rattle.cp_model.specs.Start.{start}
 use Rattle.cp_model.specs.States.{Setup, State}
-use Rattle.cp_machine_model.specs.InState.{IsIn}
 use Rattle.cp_program.specs.declared.program.Program.{Program}
-use Rattle.cp_rounds.specs.Views.{machine_of}
-use Rattle.cp_rounds.specs.declared.machine.Machine.{Machine}
 use Rattle.cp_check.specs.Checked.{IsProgramOf}
 use Rattle.cp_scope.specs.Texts.{TablesStand}
 use Rattle.cp_scope.specs.declared.tables.Tables.{Tables}
+use Rattle.cp_start.specs.Starts.{setup_of}
 use Rattle.cp_accept.specs.declared.refusal.Refusal.{Refusal}
 use Rattle.cp_plan.specs.declared.run.Run.{Run}
 use Rattle.cp_execute.specs.declared.execute.Job.{Job}
@@ -26,13 +23,6 @@ use Rattle.cp_accept.specs.Cutting.{judge_input}
 use Rattle.cp_accept.specs.Texts.{IsAccepted}
 use Rattle.cp_accept.specs.KnownRefusals.{IsFaultOfAccepted, IsFaultOrOfInput, RefusesRun, RefusesText}
 use Rattle.cp_accept.specs.Takings.{AppendsSome, TakesInput}
-
-abbrev pub setup_of : s.Tree → List ℕ → ℕ → Setup
-setup_of t input tick = record { tree = erase.abstract t; inputs = cut input; tick = tick }
-
--- The machine is in the state in which the system starts.
-abbrev pub IsAtStart : Setup → Machine → Type 0
-IsAtStart setup machine = IsIn (machine_of machine) setup (start setup)
 
 -- The bytes are the report of a state, with the chains of askers if they are asked for.
 abbrev pub IsReportOf : Bool → Setup → State → List ℕ → Type 0

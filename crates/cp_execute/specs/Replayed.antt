@@ -16,7 +16,8 @@ use Rattle.cp_accept.specs.declared.refusal.Refusal.TheVariants as refusal
 use Rattle.cp_plan.specs.declared.run.Replay.{Replay}
 use Rattle.cp_accept.specs.Cutting.{judge_input}
 use Rattle.cp_accept.specs.KnownRefusals.{RefusesInputOf, RefusesText}
-use Rattle.cp_execute.specs.Executed.{IsReportOf, setup_of}
+use Rattle.cp_execute.specs.Executed.{IsReportOf}
+use Rattle.cp_start.specs.Starts.{setup_of}
 use Rattle.cp_accept.specs.Takings.{AppendsSome, Concern, IsAboutOrder, Text, concern, front}
 use Rattle.cp_accept.specs.Texts.{IsAccepted}
 

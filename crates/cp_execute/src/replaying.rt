@@ -12,7 +12,7 @@ ghost use Rattle.cp_execute.specs.Executed.{AreTablesOf};
 ghost use Rattle.cp_execute.specs.MachineReports.{ReportsReplay};
 ghost use Rattle.cp_execute.specs.Replayed.{IsDueAfter, IsReplayed, MakesReplays, RefusesOrder, RefusesOrderFor, judge_order_of};
 
-use crate::running::{machine_at_start, report_of};
+use crate::running::report_of;
 use cp_accept::refusal::Refusal;
 use cp_check::checking::{CompiledText, compile_accepted};
 use cp_machine_model::law::{reports, waits};
@@ -24,6 +24,7 @@ use cp_plan::turn::Turn;
 use cp_program::program::Program;
 use cp_rounds::machine::Machine;
 use cp_scope::Tables;
+use cp_start::starting::machine_at_start;
 use std::alloc::{AllocError, Global};
 
 // Makes the rounds of an order on a machine that has made none.

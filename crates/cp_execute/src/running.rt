@@ -1,27 +1,24 @@
 //! Running a program: from its input to its report.
 
 ghost use Rattle.std.specs.Prelude.{◌≡◌, IfErr, IfOk};
-ghost use Rattle.cp_check.specs.Checked.{IsProgramOf};
 ghost use Rattle.cp_model.specs.Rules.{Accepted};
-ghost use Rattle.cp_model.specs.Syntax as s;
 ghost use Rattle.cp_model.specs.View as view;
 ghost use Rattle.cp_rounds.specs.Views.{KeepsText, machine_of};
-ghost use Rattle.cp_execute.specs.Executed.{IsAtStart, IsDue, IsDueOf, setup_of};
+ghost use Rattle.cp_execute.specs.Executed.{IsDue, IsDueOf};
 ghost use Rattle.cp_execute.specs.MachineReports.{IsReport, ReportsRun};
 ghost use Rattle.cp_accept.specs.declared.refusal.Refusal.TheVariants as refusal;
 
-use cp_accept::cutting::cut_input;
 use cp_accept::refusal::Refusal;
 use cp_check::checking::{CompiledText, compile_accepted};
 use cp_machine_model::law::{reports, waits};
 use cp_model::tree::Tree;
 use cp_plan::run::Run;
-use cp_plan::tick::Tick;
 use cp_program::program::Program;
 use cp_report::report::{report, report_with_chains};
 use cp_rounds::gate::TurnGate;
 use cp_rounds::machine::Machine;
 use cp_scope::Tables;
+use cp_start::starting::machine_at_start;
 use std::alloc::{AllocError, Global};
 use std::sync::Wait;
 use std::thread::Threads;
@@ -44,27 +41,6 @@ pub(crate) fn report_of(
     } else {
         report(alloc, machine)
     }
-}
-
-/// Returns the machine of a text's program and tables at its start.
-///
-/// # Errors
-///
-/// `AllocError` if memory runs out.
-pub fn machine_at_start<'r, 't>(
-    alloc: Global,
-    program: Program,
-    tables: &'r Tables<'t>,
-    input: &[u8],
-    tick: Tick,
-) -> Result<Machine<'r, 't>, AllocError>
-    ensures state { IfOk result (λ machine. (t : s.Tree) → IsProgramOf t program
-        → IsAtStart (setup_of t input.now tick.rounds) machine) }
-    ensures rounds { IfOk result (λ machine. machine.rounds ≡ 0) }
-    ensures tables { IfOk result (λ machine. machine.tables ≡ tables.entry) }
-{
-    let inputs = cut_input(alloc, input, program.processes())?;
-    Machine::new(alloc, program, tables, inputs, tick)
 }
 
 // Makes the rounds of a run on a machine at its start and returns the report.

@@ -5,7 +5,7 @@ use Rattle.cp_model.specs.States.{Setup, State}
 use Rattle.cp_outcome.specs.Transcripts.{IsTranscript}
 use Rattle.cp_outcome.specs.declared.verdict.Verdict.{Verdict}
 use Rattle.cp_formats.specs.Json.{IsJsonLine}
-use Rattle.cp_report.specs.Outcomes.{BeginsWithVerdict}
+use Rattle.cp_outcome.specs.Outcomes.{BeginsWithVerdict}
 use Rattle.cp_rounds.specs.Views.{machine_of}
 use Rattle.cp_rounds.specs.declared.machine.Machine.{Machine}
 use Rattle.cp_plan.specs.declared.outcome.OutcomeForm.{OutcomeForm}

@@ -11,7 +11,7 @@ use Rattle.cp_stillness.specs.Stillness.{is_still}
 use Rattle.cp_plan.specs.declared.outcome.OutcomeForm.{OutcomeForm}
 use Rattle.cp_plan.specs.declared.outcome.UntilStill.{UntilStill}
 use Rattle.cp_accept.specs.Cutting.{judge_input}
-use Rattle.cp_execute.specs.Executed.{setup_of}
+use Rattle.cp_start.specs.Starts.{setup_of}
 use Rattle.cp_observe.specs.Forms.{Tells}
 use Rattle.cp_accept.specs.Takings.{AppendsSome}
 use Rattle.cp_accept.specs.Texts.{IsAccepted}

@@ -9,7 +9,7 @@ use Rattle.cp_rounds.specs.declared.halted.Halted.{Halted}
 use Rattle.cp_rounds.specs.declared.machine.Machine.{Machine}
 use Rattle.cp_plan.specs.declared.trace.Tracing.{Tracing}
 use Rattle.cp_accept.specs.Cutting.{judge_input}
-use Rattle.cp_execute.specs.Executed.{IsAtStart, setup_of}
+use Rattle.cp_start.specs.Starts.{IsAtStart, setup_of}
 use Rattle.cp_accept.specs.Texts.{IsAccepted}
 
 -- The machine is in the state that one processor reaches by so many rounds from the start.

@@ -7,6 +7,7 @@ ghost use Rattle.cp_plan.specs.declared.outcome.OutcomeForm.TheVariants as forms
 
 use crate::standing::standing_of;
 use cp_accept::sources::Text;
+use cp_outcome::outcome::{outcome, word_of};
 use cp_outcome::transcript::transcript;
 use cp_outcome::verdict::Verdict;
 use cp_plan::outcome::OutcomeForm;
@@ -14,7 +15,6 @@ use cp_reasons::names::Source;
 use cp_reasons::object::object;
 use cp_reasons::reasons::reasons;
 use cp_reasons::waits::waits;
-use cp_report::outcome::{outcome, word_of};
 use cp_rounds::machine::Machine;
 use std::alloc::{AllocError, Global};
 

@@ -1,3 +1,4 @@
 pub mod Verdicts
 pub mod Statuses
 pub mod Transcripts
+pub mod Outcomes

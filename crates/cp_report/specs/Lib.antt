@@ -1,4 +1,3 @@
 pub mod Lines
 pub mod Subjects
 pub mod WholeReports
-pub mod Outcomes

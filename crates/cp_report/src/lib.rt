@@ -6,14 +6,12 @@
 //! - `subject`, `processes`, `monitors`: what a report describes, and the lines of its processes
 //!   and monitors.
 //! - `report`: the whole report.
-//! - `outcome`: the verdict on a machine, before the reasons for it.
 #![tactic(auto)]
 
 mod chains;
 mod gates;
 mod lines;
 mod monitors;
-pub mod outcome;
 mod processes;
 pub mod report;
 mod subject;

@@ -12,10 +12,10 @@ use Rattle.cp_program.specs.View as program_view
 use Rattle.cp_program_model.specs.StandsFor.{StandsFor}
 use Rattle.cp_rounds.specs.Views.{machine_of}
 use Rattle.cp_rounds.proofs.InStates.{process_count_is}
-use Rattle.cp_execute.specs.Executed.{setup_of}
+use Rattle.cp_start.specs.Starts.{setup_of}
 use Rattle.cp_execute.specs.Replayed.{timed}
 use Rattle.cp_execute.proofs.Replays.{replay_calm}
-use Rattle.cp_execute.proofs.Starts.{lent, reported}
+use Rattle.cp_execute.proofs.Reported.{lent, reported}
 use Rattle.cp_execute.proofs.replaying.replay_program.Goals as goal
 
 pub replay_machine-requires-clause-within : goal.replay_machine-requires-clause-within

@@ -7,8 +7,8 @@ use Rattle.cp_model.specs.Start.{start}
 use Rattle.cp_model.specs.View as view
 use Rattle.cp_model.proofs.Results.{if_ok}
 use Rattle.cp_rounds.specs.Views.{machine_of}
-use Rattle.cp_execute.specs.Executed.{setup_of}
-use Rattle.cp_execute.proofs.Starts.{lent, reported}
+use Rattle.cp_start.specs.Starts.{setup_of}
+use Rattle.cp_execute.proofs.Reported.{lent, reported}
 use Rattle.cp_execute.proofs.running.run_program.Goals as goal
 
 pub returns-clause-report : goal.returns-clause-report

@@ -3,7 +3,7 @@ use Rattle.std.proofs.lemmas.Result.{err_from_is_err_and}
 use Rattle.cp_machine_model.specs.InState.{IsIn}
 use Rattle.cp_model.specs.Rounds.{run}
 use Rattle.cp_model.specs.Start.{start}
-use Rattle.cp_execute.specs.Executed.{setup_of}
+use Rattle.cp_start.specs.Starts.{setup_of}
 use Rattle.cp_observe.proofs.tracing.trace_machine.Goals as goal
 
 pub returns-clause-state : goal.returns-clause-state

@@ -2,7 +2,7 @@ use Rattle.std.proofs.Common.{◌≡◌, ℕ, arith, subst}
 use Rattle.cp_machine_model.specs.InState.{IsIn}
 use Rattle.cp_model.specs.Start.{start}
 use Rattle.cp_rounds.specs.Views.{machine_of}
-use Rattle.cp_execute.specs.Executed.{setup_of}
+use Rattle.cp_start.specs.Starts.{setup_of}
 use Rattle.cp_observe.specs.Forms.{Tells}
 use Rattle.cp_observe.specs.Outcomes.{state_after}
 use Rattle.cp_observe.proofs.until_still.outcome_of.Goals as goal

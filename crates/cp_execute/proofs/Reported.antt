@@ -1,11 +1,8 @@
--- The inputs that were cut, and what is reported of a machine.
-use Rattle.std.proofs.Common.{◌≡◌, ◌-◌, ◌≤◌, ℕ, zero, suc, Bool, true, false, List, length, ap, sym, subst, ◌∙◌, arith}
+-- What is reported of a machine.
+use Rattle.std.proofs.Common.{◌≡◌, Bool, true, false, sym, subst, ◌∙◌}
 use Rattle.std.specs.Borrow.{Bor}
-use Rattle.std.specs.Prelude.{slice_get}
-use Rattle.cp_program_model.specs.Programs.{Program}
 use Rattle.cp_model.specs.Declarations.{globals}
 use Rattle.cp_model.specs.Erase as erase
-use Rattle.cp_model.specs.Input.{cut}
 use Rattle.cp_model.specs.Report.{IsReportWithChains, Text}
 use Rattle.cp_model.specs.States.{Setup, State}
 use Rattle.cp_model.specs.Types.{GlobalScope}
@@ -15,34 +12,12 @@ use Rattle.cp_machine_model.specs.Chains.{ReportHasChains}
 use Rattle.cp_machine_model.specs.InState.{IsIn, NoneFresh}
 use Rattle.cp_machine_model.specs.Machines.{Machine}
 use Rattle.cp_machine_model.specs.RoundLaws.{ReportIsReport}
-use Rattle.cp_rounds.specs.InStates.{HaveInputs}
-use Rattle.cp_desk.specs.Inputs.{bytes_or_none, input_of}
-use Rattle.cp_desk.proofs.Lists.{got_at}
 use Rattle.cp_rounds.specs.Views.{KeepsText}
 use Rattle.cp_rounds.specs.declared.machine.Machine as rounds
 use Rattle.cp_scope.specs.Texts.{TablesStand}
 use Rattle.cp_scope.specs.declared.tables.Tables.{Tables}
-use Rattle.cp_accept.specs.Cutting.{AreParts, Bytes}
 use Rattle.cp_execute.specs.Executed.{IsReportOf}
 use Rattle.cp_execute.specs.MachineReports.{IsReport}
-
--- ---- The inputs that were cut
-
-input_is : (input : List ℕ) (n : ℕ) (all : List Bytes) → AreParts input n all → (p : ℕ) → 1 ≤ p → p ≤ n → input_of all p ≡ cut input p
-input_is input n all parts zero first last = absurd (Prim.omega (arith, first))
-input_is input n all parts (suc i) first last =
-    let count = parts.count in
-    let found = got_at all i (Prim.omega (arith, last, count)) in
-    let place : suc i - 1 ≡ i = Prim.omega arith in
-    ap (λ k. bytes_or_none (slice_get all k)) place ∙ (ap bytes_or_none found.1 ∙ parts.each i found.0 found.1)
-
--- The machine starts with the inputs that are parts of the input.
-pub have_inputs : (program : Program) (setup : Setup) (input : List ℕ) (all : List Bytes) → AreParts input (length program.processes) all → cut input ≡ setup.inputs
-    → HaveInputs program all setup
-have_inputs program setup input all parts given p first last =
-    input_is input (length program.processes) all parts p first last ∙ ap (λ (f : ℕ → List ℕ). f p) given
-
--- ---- The report
 
 -- The tables of a text are those that a machine lends, before its rounds and after them.
 pub lent : (g : GlobalScope) (text : tree.Tree) (tables : Bor Tables) (old new : rounds.Machine) → TablesStand g tables.now text → old.tables ≡ tables → KeepsText old new

@@ -1,7 +1,7 @@
 use Rattle.std.proofs.Common.{◌≡◌, ◌++◌, ◌∙◌, ap}
 use Rattle.cp_model.specs.Report.{Text}
-use Rattle.cp_report.specs.Outcomes.{verdict_line}
-use Rattle.cp_report.proofs.outcome.outcome.Goals as goal
+use Rattle.cp_outcome.specs.Outcomes.{verdict_line}
+use Rattle.cp_outcome.proofs.outcome.outcome.Goals as goal
 
 pub returns : goal.returns
 returns c =

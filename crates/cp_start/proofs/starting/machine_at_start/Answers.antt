@@ -4,9 +4,9 @@ use Rattle.cp_machine_model.specs.Machines as plain
 use Rattle.cp_program.specs.View as program_view
 use Rattle.cp_program_model.specs.StandsFor.{StandsFor}
 use Rattle.cp_accept.specs.Cutting.{AreParts}
-use Rattle.cp_execute.specs.Executed.{setup_of}
-use Rattle.cp_execute.proofs.Starts.{have_inputs}
-use Rattle.cp_execute.proofs.running.machine_at_start.Goals as goal
+use Rattle.cp_start.specs.Starts.{setup_of}
+use Rattle.cp_start.proofs.Inputs.{have_inputs}
+use Rattle.cp_start.proofs.starting.machine_at_start.Goals as goal
 
 pub returns-clause-state : goal.returns-clause-state
 returns-clause-state c =

@@ -4,8 +4,8 @@ use Rattle.std.proofs.lemmas.List.{append_assoc}
 use Rattle.std.proofs.lemmas.Result.{on_ok_weaker}
 use Rattle.cp_model.specs.Decimal.{natural}
 use Rattle.cp_model.specs.Report.{Text}
-use Rattle.cp_report.specs.Outcomes.{verdict_word}
-use Rattle.cp_report.proofs.outcome.push_verdict.Goals as goal
+use Rattle.cp_outcome.specs.Outcomes.{verdict_word}
+use Rattle.cp_outcome.proofs.outcome.push_verdict.Goals as goal
 
 pub returns : goal.returns
 returns c =

@@ -1,10 +1,10 @@
 //! The outcome of a run: the verdict, and then the reasons for it.
 
 ghost use Rattle.std.specs.Prelude.{◌≡◌, ◌++◌, OnOk, IfOk};
-ghost use Rattle.cp_report.specs.Outcomes.{verdict_line, verdict_word};
+ghost use Rattle.cp_outcome.specs.Outcomes.{verdict_line, verdict_word};
 
+use crate::verdict::Verdict;
 use cp_digits::decimal::push_natural;
-use cp_outcome::verdict::Verdict;
 use cp_rounds::machine::Machine;
 use std::alloc::{AllocError, Global};
 
