@@ -1,4 +1,4 @@
-//! The inputs of a run, opened before anything is read.
+//! The text and the inputs of a run, opened before anything is read.
 
 use crate::opening::{Source, open, open_named, read_bytes};
 use crate::status::Failure;
@@ -73,4 +73,28 @@ impl<'a, F: Read + Drop, I: Read + Drop> Opened<'a, F, I> {
         *text = Source::of_bytes(bytes);
         Ok(Source::of_bytes(input))
     }
+}
+
+/// What a run reads: a text, and one input for all of its processes.
+#[derive(Drop)]
+pub(crate) struct Sources<F, I> {
+    pub(crate) text: Source<F, I>,
+    pub(crate) input: Source<F, I>,
+}
+
+/// Opens a text, where `-` is standard input, and then its inputs, and joins them.
+///
+/// # Errors
+///
+/// I1 if the text can't be opened, and those of opening and joining inputs.
+pub(crate) fn open_sources<'a, H: Files + Input>(
+    rt: &H,
+    alloc: Global,
+    file: &str,
+    inputs: &Inputs<'a>,
+) -> Result<Sources<H::File, H::Reader>, Failure<'a>> {
+    let mut text = open(rt, file)?;
+    let inputs = open_inputs(rt, alloc, inputs)?;
+    let input = inputs.joined(alloc, &mut text)?;
+    Ok(Sources { text, input })
 }

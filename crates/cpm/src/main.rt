@@ -3,7 +3,7 @@
 //!
 //! - `perform`: which command does what.
 //! - `opening`: what a command reads, by name: a file, standard input, or bytes in memory.
-//! - `inputs`: the inputs of a run.
+//! - `inputs`: the text and the inputs of a run.
 //! - `running`: checks, runs, outcomes, traces and replays. `explaining`: explanations.
 //! - `progress`: the round that is being made, on standard error.
 //! - `printing`: standard output. `status`: why a command has no result, and the exit statuses.

@@ -2,7 +2,7 @@
 //! it, and prints its result. Errors are those of opening, of joining inputs, and of the calls of
 //! cp_execute and cp_observe.
 
-use crate::inputs::open_inputs;
+use crate::inputs::{Sources, open_inputs, open_sources};
 use crate::opening::{Source, open, read_bytes};
 use crate::printing::flush;
 use crate::progress::Progress;
@@ -62,11 +62,10 @@ pub(crate) fn run<'a, H: Clock + Eprint + Files + Input + Print + Threads + Wait
     run: Run,
     progress: bool,
 ) -> Result<(), Failure<'a>> {
-    let mut text = open(rt, file.unwrap_or(STANDARD_INPUT))?;
-    let input = open_inputs(rt, alloc, input)?;
-    let mut input = input.joined(alloc, &mut text)?;
+    let mut read = open_sources(rt, alloc, file.unwrap_or(STANDARD_INPUT), input)?;
     let job = Job::Run(run);
-    print_job(rt, alloc, &mut text, &mut input, &job, progress)?;
+    let Sources { text, input } = &mut read;
+    print_job(rt, alloc, text, input, &job, progress)?;
     Ok(())
 }
 
@@ -126,11 +125,10 @@ pub(crate) fn outcome<'a, H: Clock + Eprint + Files + Input + Print + Threads + 
     form: OutcomeForm<&'a str>,
     progress: bool,
 ) -> Result<Verdict, Failure<'a>> {
-    let mut text = open(rt, file)?;
-    let input = open_inputs(rt, alloc, input)?;
-    let mut input = input.joined(alloc, &mut text)?;
-    let form = numbered(alloc, &mut text, form)?;
-    let verdict = print_outcome(rt, alloc, &mut text, &mut input, how, form, progress)?;
+    let mut read = open_sources(rt, alloc, file, input)?;
+    let form = numbered(alloc, &mut read.text, form)?;
+    let Sources { text, input } = &mut read;
+    let verdict = print_outcome(rt, alloc, text, input, how, form, progress)?;
     Ok(verdict)
 }
 
@@ -178,14 +176,27 @@ pub(crate) fn trace<'a, H: Clock + Eprint + Files + Input + Print + Threads + Wa
     how: &Tracing,
     progress: bool,
 ) -> Result<(), Failure<'a>> {
-    let mut text = open(rt, file)?;
-    let input = open_inputs(rt, alloc, input)?;
-    let mut input = input.joined(alloc, &mut text)?;
+    let mut read = open_sources(rt, alloc, file, input)?;
     if !only.is_empty() {
-        find_names(alloc, &mut text, only)?;
+        find_names(alloc, &mut read.text, only)?;
     }
-    print_trace(rt, alloc, &mut text, &mut input, only, how, progress)?;
+    let Sources { text, input } = &mut read;
+    print_trace(rt, alloc, text, input, only, how, progress)?;
     Ok(())
+}
+
+// Replays a text in an order, and prints the report.
+fn print_replay<H: Print, R: Read, S: Read, O: Read>(
+    rt: &H,
+    alloc: Global,
+    text: &mut R,
+    input: &mut S,
+    order: &mut O,
+    replay: &Replay,
+) -> Result<(), Refusal> {
+    let mut out = io::writer(rt);
+    execute_order(alloc, text, input, order, replay, &mut out)?;
+    flush(&mut out)
 }
 
 /// Replays a text in the order of a file, and prints the report.
@@ -201,8 +212,6 @@ pub(crate) fn replay<'a, H: Files + Input + Print>(
     let input = open_inputs(rt, alloc, input)?;
     let mut order = open(rt, order)?;
     let mut input = input.joined(alloc, &mut text)?;
-    let mut out = io::writer(rt);
-    execute_order(alloc, &mut text, &mut input, &mut order, replay, &mut out)?;
-    flush(&mut out)?;
+    print_replay(rt, alloc, &mut text, &mut input, &mut order, replay)?;
     Ok(())
 }
