@@ -212,7 +212,7 @@ function_steps G s w before o i l N sees I units v temp after base C j found lef
 
     by : (b : Bool) → is_monitor C.call.target ≡ b → Stepped G s w before o
     by true e =
-        kernel_step G s w before o i l N (actions.Calls v (i ∷ l)) (op.Function C.call temp after) acts (kinds ∙ e) C.op e
+        kernel_step G s w before o i l N (actions.Calls v (i ∷ l)) (op.Function C.call temp after) acts (kinds ∙ e) C.op e refl
         (λ K. (enters K).0) (λ K. (enters K).1)
       where
         enters : AroundAll G s w → Called
@@ -283,7 +283,7 @@ procedure_steps G s w before o d es env k I units Y call n there h declares = by
 
     by : (b : Bool) → is_monitor call.target ≡ b → Stepped G s w before o
     by true e =
-        kernel_step G s w before o (Do (a.Perform d es) env) k Y.now (actions.Calls v k) (op.Procedure call n) acts (kinds ∙ e) there e
+        kernel_step G s w before o (Do (a.Perform d es) env) k Y.now (actions.Calls v k) (op.Procedure call n) acts (kinds ∙ e) there e refl
         (λ K. (enters K).0) (λ K. (enters K).1)
       where
         enters : AroundAll G s w → Called

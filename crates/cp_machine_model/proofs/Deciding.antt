@@ -2,7 +2,7 @@
 --
 -- Either the code has a call next, and the step is that of the call, or all calls are made: then
 -- the next operation is the task's own, and the lemma on its kind of operation applies.
-use Rattle.std.proofs.Common.{Bool, List, None, Option, Some, [], ap, refl, subst, sym, true, ℕ, ℤ, ◌∙◌, ◌∷◌, ◌≡◌}
+use Rattle.std.proofs.Common.{Bool, List, None, Option, Some, [], ap, false, refl, subst, sym, true, ℕ, ℤ, ◌∙◌, ◌∷◌, ◌≡◌}
 use Rattle.std.specs.Prelude.{length, not, slice_get}
 use Rattle.std.proofs.lemmas.Bool.{eq-eqb}
 use Rattle.cp_model.specs.Abstract as a
@@ -28,7 +28,7 @@ use Rattle.cp_program_model.specs.TermsFor.{Knowns}
 use Rattle.cp_program_model.specs.StatementsFor.{AssignsBy, InitsBy, PerformsBy}
 use Rattle.cp_machine_model.specs.PrivateStates as machine
 use Rattle.cp_machine_model.specs.PrivateStates.{Outside, PrivateState}
-use Rattle.cp_machine_model.specs.Steps.{act, is_kernel_operation}
+use Rattle.cp_machine_model.specs.Steps.{act, is_kernel_operation, is_start_operation}
 use Rattle.cp_machine_model.specs.Addresses.{Ground, activations, in_sight, scope}
 use Rattle.cp_machine_model.specs.Left.{Left, Loop, Repeat, Running, Runs, While, held_below, innermost_gate, kept_below, site}
 use Rattle.cp_machine_model.specs.PartOf.{PartOf, RunsOn}
@@ -139,15 +139,17 @@ module _ (G : Ground) (s : State) (w : Outside) (before : List ℕ) (o : Private
 
   -- The `init` of a monitor or a process is a kernel step.
   inits_by_kernel : (x : Name) (es : a.Expressions) (env : Environment) (k : List Task) (Y : Ready G s w before o (a.Init x es) env k) (y : Operation) → operation_at G.program o.counter ≡ Some y
-      → is_kernel_operation y ≡ true → (Y.now.on.left.2.3.2.system.sort ≡ a.Class → ⊥)
+      → is_kernel_operation y ≡ true → (Y.now.on.left.2.3.2.system.sort ≡ a.Class → ⊥) → same_sort a.Process Y.now.on.left.2.3.2.system.sort ≡ is_start_operation y
       → (AroundAll G s w → PartOf G (after_step s G.p (executed G s w before o (a.Init x es) env k Y)) before (act G.program w o y).0)
       → (AroundAll G s w → EffectAgrees G w.own (executed G s w before o (a.Init x es) env k Y) (act G.program w o y).1)
       → Stepped G s w before o
-  inits_by_kernel x es env k Y y there own no_class shown effect =
+  inits_by_kernel x es env k Y y there own no_class starts shown effect =
       kernel_step G s w before o (Do (a.Init x es) env) k Y.now (Acts (Do (a.Init x es) here) k) y
       (ap (λ e. action (Do (a.Init x es) e ∷ k)) Y.now.on.left.0 ∙ acts_itself (Do (a.Init x es) here) k (ap (in_context (λ z. Do z here)) Y.none) refl)
       (ap (λ (z : Option Component). not (elim z as (λ y. Bool) [ None ↦ true | Some c ↦ same_sort a.Class c.system.sort ])) Y.now.on.left.2.3.4 ∙ by Y.now.on.left.2.3.2.system.sort no_class)
-      there own shown effect
+      there own
+      (ap (λ (z : Option Component). elim z as (λ y. Bool) [ None ↦ false | Some c ↦ same_sort a.Process c.system.sort ]) Y.now.on.left.2.3.4 ∙ starts)
+      shown effect
     where
       here : Environment
       here = Y.now.on.running.env
@@ -163,6 +165,7 @@ module _ (G : Ground) (s : State) (w : Outside) (before : List ℕ) (o : Private
   inits x es env k Y (op.InitClass call m) there h = init_steps G s w before o x es env k I.store units Y call m there h (no_class_rights G F.typed) (declares_here Y.now.on.running Y.now.on.runs)
   inits x es env k Y (op.InitMonitor call m) there h =
       inits_by_kernel x es env k Y (op.InitMonitor call m) there refl (λ e. other_sort a.Class a.Monitor (sym e ∙ h.0) tt)
+      (ap (same_sort a.Process) h.0)
       (λ K. (opened K).0) (λ K. (opened K).1)
     where
       opened : (K : AroundAll G s w) → PartOf G (after_step s G.p (executed G s w before o (a.Init x es) env k Y)) before (act G.program w o (op.InitMonitor call m)).0
@@ -170,6 +173,7 @@ module _ (G : Ground) (s : State) (w : Outside) (before : List ℕ) (o : Private
       opened K = monitor_inits G s w before o x es env k I.store units K Y call m h (no_class_rights G F.typed) (declares_here Y.now.on.running Y.now.on.runs)
   inits x es env k Y (op.InitProcess r xs count m) there h =
       inits_by_kernel x es env k Y (op.InitProcess r xs count m) there refl (λ e. other_sort a.Class a.Process (sym e ∙ h.0) tt)
+      (ap (same_sort a.Process) h.0)
       (λ K. process_inits (starting K)) (λ K. process_effect (starting K))
     where
       starting : AroundAll G s w → InitOfProcess G s w before o

@@ -117,7 +117,7 @@ module _ (program : Program) (setup : Setup) (F : StandsFor program setup) (own 
 
   -- ---- events
 
-  event_stands : (n : ℕ) (e : Event) → 1 ≤ process_of e → process_of e ≤ process_count setup → (s : State) (m : Machine) → IsIn program setup F own s m
+  pub event_stands : (n : ℕ) (e : Event) → 1 ≤ process_of e → process_of e ≤ process_count setup → (s : State) (m : Machine) → IsIn program setup F own s m
       → IsIn program setup F own (replay_event setup n s e) (event n m e)
   event_stands n (PrivateStep p) low high s m I =
       spelled program setup F own s (turns.private_step setup s p) (λ z. machine.private_turn 1 z p) (λ k os ts A. private_step_stands s k os ts A p low high) m I

@@ -3,10 +3,12 @@
 -- A step goes on, faults or ends on both sides alike, and each time changes few parts of the
 -- state. So a lemma on a step needs only show that the process runs on, and the rest follows
 -- here.
-use Rattle.std.proofs.Common.{List, Some, [], ap, arith, false, inl, inr, length, subst, sym, true, ℕ, ℤ, ◌++◌, ◌<◌, ◌∙◌, ◌∷◌, ◌≡◌, ◌≤◌, ◌⊎◌}
-use Rattle.cp_model.specs.Actions.{Action, action, is_kernel_action}
+use Rattle.std.proofs.Common.{refl, List, Some, [], ap, arith, false, inl, inr, length, subst, sym, true, ℕ, ℤ, ◌++◌, ◌<◌, ◌∙◌, ◌∷◌, ◌≡◌, ◌≤◌, ◌⊎◌}
+use Rattle.cp_model.specs.Actions.{Action, Acts, Calls, Rests, action, is_kernel_action}
 use Rattle.cp_model.specs.Configurations.{Asking, Configuration, Faulted, Ready, StepResult, own_step}
-use Rattle.cp_model.specs.Continuations.{EndBody, EndProcess, Task, marked_monitors}
+use Rattle.cp_model.specs.Continuations.{Do, EndBody, EndProcess, Task, marked_monitors}
+use Rattle.cp_model.specs.Components.{Component, component_named, same_sort}
+use Rattle.cp_model.specs.Environments.{Environment}
 use Rattle.cp_model.specs.Operators.{Clock, realtime}
 use Rattle.cp_model.specs.Outcomes.{Fault, Gives, Outcome, and_then}
 use Rattle.cp_model.specs.Parts.{HasBegun, private_status}
@@ -17,11 +19,12 @@ use Rattle.cp_model.specs.Stores.{Store}
 use Rattle.cp_model.specs.Turns.{after_step}
 use Rattle.cp_model.specs.declared.state.Fault as fault
 use Rattle.cp_model.proofs.StateMaps.{with_at_here}
+use Rattle.cp_program_model.specs.Programs as op
 use Rattle.cp_program_model.specs.Programs.{Operation}
 use Rattle.cp_program_model.specs.Sites.{operation_at}
 use Rattle.cp_program_model.specs.StandsFor.{system_of_monitor, system_of_process}
 use Rattle.cp_machine_model.specs.Passing.{monitor_start}
-use Rattle.cp_model.specs.Abstract.{System}
+use Rattle.cp_model.specs.Abstract.{Class, Init, Monitor, Name, Process, Sort, System}
 use Rattle.cp_machine_model.specs.PrivateStates as machine
 use Rattle.cp_machine_model.specs.PrivateStates.{Outside, PrivateState}
 use Rattle.cp_machine_model.specs.Steps as steps
@@ -33,7 +36,7 @@ use Rattle.cp_machine_model.proofs.Heres.{Sees}
 use Rattle.std.proofs.lemmas.Bool.{true≢false}
 use Rattle.cp_model.specs.Gates.{enter, made_ready, pass_to}
 use Rattle.cp_model.specs.CallSteps.{entering, leaving}
-use Rattle.std.specs.Prelude.{Option, None}
+use Rattle.std.specs.Prelude.{Bool, Option, None, not}
 
 -- A claim about tasks that have an environment.
 abbrev pub IfPlaced : Task → Type 0 → Type 0
@@ -85,15 +88,45 @@ does G s x = take_action (context G.setup s G.p) (configuration s G.p) x
 abbrev pub acted : Ground → State → State
 acted G s = after_step s G.p (does G s (action (s.continuation G.p)))
 
--- The machine's operation and the meaning's action are both kernel steps, or neither is. If neither
--- is, or if all words are in reach, the private state after the machine's step is that of the
+-- `init` of a process.
+abbrev pub is_start_of : Environment → Name → Bool
+is_start_of env x = elim (component_named env x) as (λ z. Bool) [ None ↦ false | Some c ↦ same_sort Process c.system.sort ]
+
+abbrev pub is_start : Action → Bool
+is_start (Acts (Do (Init x arguments) env) k) = is_start_of env x
+is_start _ = false
+
+-- The machine's operation and the meaning's action are both kernel steps, or neither is, and both start a
+-- process, or neither does. If neither is a kernel step, or if all words are in reach, the private state after the machine's step is that of the
 -- process after the meaning's. With all words in reach, both leave the same to the kernel.
 pub record Stepped (G : Ground) (s : State) (w : Outside) (before : List ℕ) (o : PrivateState) : Type 0 where
   pub operation : Operation
   pub there : operation_at G.program o.counter ≡ Some operation
   pub same_kind : is_kernel_action (action (s.continuation G.p)) ≡ steps.is_kernel_operation operation
+  pub same_start : is_start (action (s.continuation G.p)) ≡ steps.is_start_operation operation
   pub part : (steps.is_kernel_operation operation ≡ false) ⊎ AroundAll G s w → PartOf G (acted G s) before (act G.program w o operation).0
   pub effect : AroundAll G s w → EffectAgrees G w.own (does G s (action (s.continuation G.p))) (act G.program w o operation).1
+
+-- What isn't a kernel step starts no process.
+private_no_start : (x : Action) → is_kernel_action x ≡ false → is_start x ≡ false
+private_no_start Rests h = refl
+private_no_start (Calls u k) h = refl
+private_no_start (Acts (Do (Init x es) env) k) h = by (component_named env x) h
+  where
+    by_sort : (y : Sort) → not (same_sort Class y) ≡ false → same_sort Process y ≡ false
+    by_sort Class h = refl
+    by_sort Monitor h = refl
+    by_sort Process h = absurd (true≢false h)
+
+    by : (o : Option Component) → not (elim o as (λ z. Bool) [ None ↦ true | Some c ↦ same_sort Class c.system.sort ]) ≡ false
+        → (elim o as (λ z. Bool) [ None ↦ false | Some c ↦ same_sort Process c.system.sort ]) ≡ false
+    by None h = refl
+    by (Some c) h = by_sort c.system.sort h
+private_no_start (Acts _ k) h = refl
+
+own_no_start : (y : Operation) → steps.is_kernel_operation y ≡ false → steps.is_start_operation y ≡ false
+own_no_start (op.InitProcess r arguments words next) h = absurd (true≢false h)
+own_no_start _ h = refl
 
 -- ---- what comes of them
 
@@ -209,6 +242,7 @@ module _ (G : Ground) (s : State) (w : Outside) (before : List ℕ) (o : Private
     operation = y;
     there = there;
     same_kind = ap is_kernel_action acts_here ∙ (private ∙ sym own);
+    same_start = ap is_start acts_here ∙ (private_no_start x private ∙ sym (own_no_start y own));
     part = λ e. subst (λ z. PartOf G (after_step s G.p (does G s z)) before (act G.program w o y).0) (sym acts_here) P;
     effect = λ all. subst (λ z. EffectAgrees G w.own (does G s z) (act G.program w o y).1) (sym acts_here) (effect all);
   }
@@ -218,14 +252,15 @@ module _ (G : Ground) (s : State) (w : Outside) (before : List ℕ) (o : Private
 
   -- A step of the kernel, with all words in reach.
   pub kernel_step : (x : Action) (y : Operation) → action (i ∷ k) ≡ x → is_kernel_action x ≡ true
-      → operation_at G.program o.counter ≡ Some y → steps.is_kernel_operation y ≡ true
+      → operation_at G.program o.counter ≡ Some y → steps.is_kernel_operation y ≡ true → is_start x ≡ steps.is_start_operation y
       → (AroundAll G s w → PartOf G (after_step s G.p (does G s x)) before (act G.program w o y).0)
       → (AroundAll G s w → EffectAgrees G w.own (does G s x) (act G.program w o y).1)
       → Stepped G s w before o
-  kernel_step x y acts kernel there own P effect = record {
+  kernel_step x y acts kernel there own starts P effect = record {
     operation = y;
     there = there;
     same_kind = ap is_kernel_action acts_here ∙ (kernel ∙ sym own);
+    same_start = ap is_start acts_here ∙ starts;
     part = λ e. elim e [
       | inl other ↦ absurd (true≢false (sym own ∙ other))
       | inr all ↦ subst (λ z. PartOf G (after_step s G.p (does G s z)) before (act G.program w o y).0) (sym acts_here) (P all)

@@ -142,6 +142,11 @@ is_kernel_operation (op.InitMonitor call next) = true
 is_kernel_operation (op.InitProcess r arguments words next) = true
 is_kernel_operation _ = false
 
+-- `init` of a process belongs to the kernel, but needs no gate.
+abbrev pub is_start_operation : Operation → Bool
+is_start_operation (op.InitProcess r arguments words next) = true
+is_start_operation _ = false
+
 abbrev pub operation_of : Program → PrivateState → Option Operation
 operation_of program o = slice_get program.operations o.counter
 

@@ -1,0 +1,149 @@
+-- The laws of searches by calls.
+use Rattle.std.specs.Prelude.{Contains, List, false, true, ℕ, ◌≡◌}
+use Rattle.cp_model.specs.Configurations.{Faulted}
+use Rattle.cp_model.specs.Orders.{replay}
+use Rattle.cp_model.specs.Rounds.{Event}
+use Rattle.cp_model.specs.Start.{start}
+use Rattle.cp_model.specs.States.{Setup, State, is_in, numbers_from, process_count, processes}
+use Rattle.cp_stillness.specs.Stillness.{AreAllOfProcesses, is_still}
+use Rattle.cp_program_model.specs.Programs.{Program}
+use Rattle.cp_program_model.specs.StandsFor.{StandsFor}
+use Rattle.cp_law_calls.specs.Clocks.{text_is_timeless}
+use Rattle.cp_law_calls.specs.Orders.{closed}
+use Rattle.cp_law_calls.specs.Runs.{ByCalls, IsSettled, Runs, Settles}
+use Rattle.cp_law_calls.specs.Ways.{Eager, way}
+use Rattle.cp_law_cores.specs.Clocks.{is_timeless}
+use Rattle.cp_law_cores.specs.Cores.{Core, close, is_private_on, kernel_at, part, private_at}
+use Rattle.cp_law_cores.specs.Laws.{AreFine, first_core}
+use Rattle.cp_law_cores.specs.Schedules.{HasFault, IsCoreIn, all_pass, core_has_ended, core_is_sound, core_is_still, has_ended, has_no_fault, with_one}
+use Rattle.cp_law_cores.specs.Turns.{AreSilent, NoneFresh, private_turn}
+use Rattle.cp_law_search.specs.Calls.{IsClosedByCalls, IsFound, LeadsByCalls, SettlesByCalls, core_machine, move_at, way_at}
+
+-- The program stands for the text, and has nothing to do with the clock.
+pub record IsClockless (program : Program) (setup : Setup) : Type 0 where
+  pub stands : StandsFor program setup
+  pub free : is_timeless program ≡ true
+
+-- ---- Ways
+
+-- The way of a process is read off each core of the state.
+abbrev pub CoreTellsWay : Type 0
+CoreTellsWay =
+    (program : Program) (setup : Setup) (s : State) (c : Core) (p : ℕ)
+    → IsCoreIn program setup s c → is_in p (processes setup) ≡ true → way_at program c p ≡ way s p
+
+-- ---- What orders lead to
+
+-- `vs` is closed by calls, and the first core settles as a member.
+pub record IsSearched (program : Program) (setup : Setup) (vs : List Core) : Type 0 where
+  pub closed : IsClosedByCalls program setup (Contains vs)
+  pub first : LeadsByCalls program setup (Contains vs) (first_core program setup)
+
+-- Then each state that rounds in any orders lead to has a core that settles by eager steps, after the end of
+-- the round, as a core that has a state in common with a member.
+abbrev pub OrdersSettleByCalls : Type 0
+OrdersSettleByCalls =
+    (program : Program) (setup : Setup) (vs : List Core) (rounds : List (ℕ × List Event))
+    → IsClockless program setup → IsSearched program setup vs → AreAllOfProcesses setup rounds
+    → SettlesByCalls program setup (Contains vs) (replay setup (start setup) rounds)
+
+-- The verdict of each still state is that of a member.
+abbrev pub VerdictsAreOfMembers : Type 0
+VerdictsAreOfMembers =
+    (program : Program) (setup : Setup) (vs : List Core) (rounds : List (ℕ × List Event))
+    → IsClockless program setup → IsSearched program setup vs → AreAllOfProcesses setup rounds
+    → let s = replay setup (start setup) rounds in
+    let n = process_count setup in
+    is_still setup s ≡ true
+    → (w : Core) × Contains vs w × (core_is_still n w ≡ true)
+    × (core_has_ended n w ≡ all_pass has_ended s (processes setup)) × (core_is_sound n w ≡ all_pass has_no_fault s (processes setup))
+
+-- A process that has stopped by a fault in any state that an order leads to, has stopped by it in a member.
+abbrev pub FaultsAreInMembers : Type 0
+FaultsAreInMembers =
+    (program : Program) (setup : Setup) (vs : List Core) (rounds : List (ℕ × List Event)) (p number : ℕ)
+    → IsClockless program setup → IsSearched program setup vs → AreAllOfProcesses setup rounds
+    → is_in p (processes setup) ≡ true → (replay setup (start setup) rounds).status p ≡ Faulted number
+    → (w : Core) × Contains vs w × HasFault w p number
+
+-- If nobody has faulted in a member, and all have ended in each still member, no order leads to a fault or
+-- gets stuck.
+abbrev pub NoOrderIsStuckByCalls : Type 0
+NoOrderIsStuckByCalls =
+    (program : Program) (setup : Setup) (vs : List Core) (rounds : List (ℕ × List Event))
+    → IsClockless program setup → IsSearched program setup vs → AreFine (process_count setup) vs → AreAllOfProcesses setup rounds
+    → let s = replay setup (start setup) rounds in
+    (all_pass has_no_fault s (processes setup) ≡ true) × (is_still setup s ≡ true → all_pass has_ended s (processes setup) ≡ true)
+
+-- Where the text has nothing to do with the clock either, each still state has a member as its core, but for
+-- the count of rounds.
+abbrev pub StillStatesAreMembers : Type 0
+StillStatesAreMembers =
+    (program : Program) (setup : Setup) (vs : List Core) (rounds : List (ℕ × List Event))
+    → IsClockless program setup → text_is_timeless setup.tree ≡ true → IsSearched program setup vs → AreAllOfProcesses setup rounds
+    → let s = replay setup (start setup) rounds in
+    is_still setup s ≡ true → (w : Core) × Contains vs w × IsCoreIn program setup (closed s) w
+
+-- ---- What is found is real
+
+-- Rounds of turns of one step lead to a state of which the core tells.
+pub record IsReal (setup : Setup) (c : Core) : Type 0 where
+  pub rounds : List (List Event)
+  pub within : AreAllOfProcesses setup (with_one rounds)
+  pub still : core_is_still (process_count setup) c ≡ true → is_still setup (replay setup (start setup) (with_one rounds)) ≡ true
+  pub ended : all_pass has_ended (replay setup (start setup) (with_one rounds)) (processes setup) ≡ core_has_ended (process_count setup) c
+  pub sound : all_pass has_no_fault (replay setup (start setup) (with_one rounds)) (processes setup) ≡ core_is_sound (process_count setup) c
+  pub fault : (p number : ℕ) → is_in p (processes setup) ≡ true → HasFault c p number → (replay setup (start setup) (with_one rounds)).status p ≡ Faulted number
+
+-- So it is for each run of cores, as for one that breaks off before it settles,
+abbrev pub RunIsReal : Type 0
+RunIsReal =
+    (program : Program) (setup : Setup) (ps : List ℕ) (c : Core)
+    → IsClockless program setup → Runs (core_machine program (process_count setup)) (first_core program setup) ps c → IsReal setup c
+
+-- and for each run by calls.
+abbrev pub FoundByCallsIsReal : Type 0
+FoundByCallsIsReal =
+    (program : Program) (setup : Setup) (calls : List ℕ) (c : Core)
+    → IsClockless program setup → ByCalls (core_machine program (process_count setup)) (first_core program setup) calls c → IsReal setup c
+
+-- What is found up to cores that stand for the same states is real as well: the same calls lead, without
+-- putting one core for another, to a core of the same verdict.
+pub record IsExact (program : Program) (setup : Setup) (calls : List ℕ) (u : Core) : Type 0 where
+  pub at : Core
+  pub reached : ByCalls (core_machine program (process_count setup)) (first_core program setup) calls at
+  pub still : core_is_still (process_count setup) at ≡ core_is_still (process_count setup) u
+  pub ended : core_has_ended (process_count setup) at ≡ core_has_ended (process_count setup) u
+  pub sound : core_is_sound (process_count setup) at ≡ core_is_sound (process_count setup) u
+
+abbrev pub FoundIsExact : Type 0
+FoundIsExact =
+    (program : Program) (setup : Setup) (calls : List ℕ) (u : Core)
+    → IsClockless program setup → IsFound program setup (first_core program setup) calls u → IsExact program setup calls u × IsReal setup u
+
+-- ---- How a core is settled
+
+-- A step of a process is a private step, or one of the kernel, and then the end of a round; which changes
+-- nothing where nobody is fresh.
+abbrev pub StepsOfKinds : Type 0
+StepsOfKinds =
+    (program : Program) (c : Core) (p : ℕ)
+    → (is_private_on program (part c.parts p) ≡ true → move_at program c p ≡ close program (private_at program c p))
+    × (is_private_on program (part c.parts p) ≡ false → move_at program c p ≡ close program (kernel_at program c p))
+
+-- What a core settles as after an eager step, it settles as.
+abbrev pub EagerStepSettles : Type 0
+EagerStepSettles =
+    (program : Program) (n : ℕ) (c w : Core) (p : ℕ)
+    → is_in p (numbers_from 1 n) ≡ true → way_at program c p ≡ Eager
+    → Settles (core_machine program n) (move_at program c p) w → Settles (core_machine program n) c w
+
+-- So it is after a private turn of any length, where nothing is written in the core and nobody is fresh.
+abbrev pub PrivateTurnSettles : Type 0
+PrivateTurnSettles =
+    (program : Program) (n t : ℕ) (c w : Core) (p : ℕ)
+    → is_timeless program ≡ true → AreSilent c → NoneFresh c.kernel → is_in p (numbers_from 1 n) ≡ true → way_at program c p ≡ Eager
+    → Settles (core_machine program n) (private_turn program t c p) w → Settles (core_machine program n) c w
+
+abbrev pub SettledSettles : Type 0
+SettledSettles = (program : Program) (n : ℕ) (c : Core) → IsSettled (core_machine program n) c → Settles (core_machine program n) c c
