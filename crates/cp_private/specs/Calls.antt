@@ -1,5 +1,5 @@
 -- What a call finds, what it returns, and what is known once arguments have been passed.
-use Rattle.std.specs.Prelude.{◌≤◌, ◌<◌, ℕ, Bool, true, false, ◌+◌, ℤ, List, length, Option, None, Some, Result, Ok, Err, if◌then◌else◌}
+use Rattle.std.specs.Prelude.{◌≡◌, ◌≤◌, ◌<◌, ℕ, Bool, true, false, ◌+◌, ℤ, List, [], length, slice_get, Option, None, Some, Result, Ok, Err, if◌then◌else◌}
 use Rattle.cp_model.specs.Integers.{same_integer}
 use Rattle.cp_model.specs.declared.state.Fault.{Fault}
 use Rattle.cp_model.specs.declared.state.Fault.TheVariants as fault
@@ -8,6 +8,7 @@ use Rattle.cp_machine_model.specs.PrivateStates as states
 use Rattle.cp_machine_model.specs.PrivateStates.{PrivateState, set_temp}
 use Rattle.cp_machine_model.specs.Calling as calling
 use Rattle.cp_machine_model.specs.Passing as passing
+use Rattle.cp_private.specs.States.{frame_or_none, join}
 use Rattle.cp_private.specs.declared.called.Called.{Called}
 use Rattle.cp_private.specs.declared.called.Back.{Back}
 use Rattle.cp_private.specs.declared.private.Private.{Private}
@@ -35,6 +36,10 @@ value_to_return o true =
 abbrev pub returning : PrivateState → states.Frame → Option ℤ → PrivateState
 returning o f None = o
 returning o f (Some n) = set_temp o (f.temp + f.into) n
+
+-- Above the frames in use lies that of a call which is about to be entered.
+abbrev pub HasKept : Private → passing.Called → calling.Back → Type 0
+HasKept x callee back = frame_or_none (slice_get x.frames.items x.depth) ≡ calling.frame_of (join x [] []) callee back
 
 -- The room that is left for a unit that is called.
 pub record HasRoom (x : Private) (shared : List ℤ) (call : Call) (u : CodeUnit) (place : ℕ) : Type 0 where

@@ -18,6 +18,16 @@ pub record KeepsRest (old : Private) (before : List ℤ) (new : Private) (after 
   pub own : KeepsOwn old new
   pub shared : length after ≡ length before
 
+-- The registers of the running activation stay the same.
+pub record KeepsRegisters (old new : Private) : Type 0 where
+  pub activity : new.activity ≡ old.activity
+  pub base : new.memory.base ≡ old.memory.base
+  pub temp : new.memory.temp ≡ old.memory.temp
+  pub component : new.memory.component ≡ old.memory.component
+  pub gate : new.gate ≡ old.gate
+  pub depth : new.depth ≡ old.depth
+  pub frames : length new.frames.items ≡ length old.frames.items
+
 -- Only words are written: the registers, and how many frames there are, stay the same too.
 pub record ChangesOnlyWords (old : Private) (before : List ℤ) (new : Private) (after : List ℤ) : Type 0 where
   pub rest : KeepsRest old before new after
@@ -26,6 +36,9 @@ pub record ChangesOnlyWords (old : Private) (before : List ℤ) (new : Private) 
   pub temp : new.memory.temp ≡ old.memory.temp
   pub depth : new.depth ≡ old.depth
   pub frames : length new.frames.items ≡ length old.frames.items
+  pub component : new.memory.component ≡ old.memory.component
+  pub gate : new.gate ≡ old.gate
+  pub kept : new.frames ≡ old.frames
 
 -- ---- The same, where output may be written
 

@@ -38,7 +38,7 @@ impl Private {
             (view.code_unit plans unit.now) component }
         ensures room { result ≡ true → HasRoom self.now shared.now call.now unit.now component }
     {
-        if self.frames.len() <= self.depth {
+        if self.limit <= self.depth {
             return false;
         }
         if !fits(
@@ -103,11 +103,24 @@ impl Private {
             link)) }
         ensures kept { KeepsRest self.old shared.old self.new shared.new }
     {
-        self.call_here(program, shared, outside, call, link)
+        let callee = self.callee(program, shared, outside, call.target);
+        let Some(unit) = self.unit_with_room(program, shared, call, callee.component) else {
+            return Ok(Effect::None);
+        };
+        if !callee.is_set {
+            return Err(Fault::NotInitialised);
+        }
+        let to = self.memory.base + call.words as usize;
+        let destination = Destination { to, home: to };
+        self.pass_all(shared, outside, destination, &call.arguments)?;
+        self.start_words(shared, to, program, &unit.starts);
+        self.enter(callee, unit, call, link);
+        Ok(enters(callee.gate))
     }
 
     /// Does the same as `call`. It is inlined: where there are no shared words, nothing asks for
-    /// them.
+    /// them, and so many registers are left that the frame is written first. What it keeps then
+    /// needs no registers while arguments are passed.
     #[inline(always)]
     pub(crate) fn call_here(
         &mut self,
@@ -128,6 +141,7 @@ impl Private {
         let Some(unit) = self.unit_with_room(program, shared, call, callee.component) else {
             return Ok(Effect::None);
         };
+        self.keep_frame(callee, link);
         if !callee.is_set {
             return Err(Fault::NotInitialised);
         }
@@ -135,7 +149,7 @@ impl Private {
         let destination = Destination { to, home: to };
         self.pass_all(shared, outside, destination, &call.arguments)?;
         self.start_words(shared, to, program, &unit.starts);
-        self.enter(callee, unit, call, link);
+        self.enter_kept(callee, unit, call);
         Ok(enters(callee.gate))
     }
 }

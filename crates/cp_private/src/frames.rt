@@ -1,11 +1,11 @@
 //! Frames: what is kept for callers, and the registers of the running activation.
 
-ghost use Rattle.std.specs.Prelude.{◌≡◌, ◌+◌, ◌-◌, ◌<◌, ◌^◌, ℕ, ℤ, suc, ◌∷◌, List, MatchOption, length};
+ghost use Rattle.std.specs.Prelude.{◌≡◌, ◌+◌, ◌-◌, ◌<◌, ◌^◌, ℕ, ℤ, suc, ◌∷◌, List, MatchOption, length, slice_get};
 ghost use Rattle.cp_program_model.specs.Starts as starts;
 ghost use Rattle.cp_model.specs.declared.state.Fault.TheVariants as fault;
-ghost use Rattle.cp_private.specs.Keeping.{IsAddressable, KeepsOwn};
-ghost use Rattle.cp_private.specs.States.{effect, frame as view_frame, frames_in, join};
-ghost use Rattle.cp_private.specs.Calls.{back, called_of, returning, value_to_return};
+ghost use Rattle.cp_private.specs.Keeping.{IsAddressable, KeepsOwn, KeepsRegisters};
+ghost use Rattle.cp_private.specs.States.{effect, frame as view_frame, frame_or_none, frames_in, join};
+ghost use Rattle.cp_private.specs.Calls.{HasKept, back, called_of, returning, value_to_return};
 ghost use Rattle.cp_program_model.specs.Programs.{StartPlan};
 ghost use Rattle.cp_machine_model.specs.Calling as plain;
 ghost use Rattle.cp_machine_model.specs.PrivateStates.{Enters, Leaves};
@@ -42,12 +42,6 @@ pub(crate) fn leaves(gate: u32) -> Effect
     }
 }
 
-fn innermost_gate(entered: u32, held: u32) -> u32
-    ensures { result ≡ plain.innermost entered held }
-{
-    if entered == 0 { held } else { entered }
-}
-
 impl Private {
     /// Returns the frame of the innermost call, if there is one.
     pub(crate) fn innermost(&self) -> Option<Frame>
@@ -63,16 +57,68 @@ impl Private {
         Some(self.frames[depth - 1])
     }
 
-    fn push_frame(&mut self, frame: Frame)
+    // Writes the frame above those in use.
+    #[inline(always)]
+    fn write_frame(&mut self, frame: Frame)
         requires { self.old.depth < length self.old.frames.items }
-        ensures step { (input : List ℕ) (shared : List ℤ) → let o = join self.old input shared in
-            join self.new input shared ≡ record o { frames = view_frame frame ∷ o.frames } }
+        ensures frame { frame_or_none (slice_get self.new.frames.items self.new.depth)
+            ≡ view_frame frame }
+        ensures step { (input : List ℕ) (shared : List ℤ)
+            → join self.new input shared ≡ join self.old input shared }
         ensures kept { KeepsOwn self.old self.new }
-        ensures activity { self.new.activity ≡ self.old.activity }
+        ensures registers { KeepsRegisters self.old self.new }
     {
         let depth = self.depth;
         self.frames[depth] = frame;
-        self.depth = depth + 1;
+    }
+
+    /// Keeps what the caller needs above the frames in use.
+    #[inline(always)]
+    pub(crate) fn keep_frame(&mut self, callee: Called, link: Back)
+        requires { self.old.depth < length self.old.frames.items }
+        ensures frame { HasKept self.new (called_of callee) (back link) }
+        ensures step { (input : List ℕ) (shared : List ℤ)
+            → join self.new input shared ≡ join self.old input shared }
+        ensures kept { KeepsOwn self.old self.new }
+        ensures registers { KeepsRegisters self.old self.new }
+    {
+        let frame = Frame {
+            counter: link.counter,
+            base: self.memory.base,
+            temp: self.memory.temp as u32,
+            component: self.memory.component as u32,
+            into: link.into,
+            gate: callee.gate,
+            held: self.gate,
+        };
+        self.write_frame(frame);
+    }
+
+    /// Enters the unit in the component whose routine is called. The frame that was kept is then in
+    /// use.
+    #[inline(always)]
+    pub(crate) fn enter_kept(&mut self, callee: Called, unit: &CodeUnit, call: &Call)
+        requires frame { self.old.depth < length self.old.frames.items }
+        requires base { self.old.memory.base + call.now.words < 2 ^ 32 }
+        requires temp { self.old.memory.temp + call.now.temps < 2 ^ 32 }
+        requires component { callee.component < 2 ^ 32 }
+        ensures step { (link : plain.Back) (plans : List StartPlan) (input : List ℕ)
+            (shared : List ℤ) → HasKept self.old (called_of callee) link
+            → join self.new input shared ≡ plain.enter
+            (join self.old input shared) (called_of callee) (view.code_unit plans unit.now)
+            (view.call call.now) link }
+        ensures kept { KeepsOwn self.old self.new }
+        ensures activity { self.new.activity ≡ self.old.activity }
+    {
+        self.pause = self.counter;
+        self.counter = unit.start;
+        self.memory.base += call.words as usize;
+        self.memory.temp += call.temps as usize;
+        self.memory.component = callee.component;
+        if callee.gate != 0 {
+            self.gate = callee.gate;
+        }
+        self.depth += 1;
     }
 
     /// Enters the unit in the component whose routine is called. A frame keeps what the caller
@@ -90,22 +136,8 @@ impl Private {
         ensures kept { KeepsOwn self.old self.new }
         ensures activity { self.new.activity ≡ self.old.activity }
     {
-        let frame = Frame {
-            counter: link.counter,
-            base: self.memory.base,
-            temp: self.memory.temp as u32,
-            component: self.memory.component as u32,
-            into: link.into,
-            gate: callee.gate,
-            held: self.gate,
-        };
-        self.pause = self.counter;
-        self.counter = unit.start;
-        self.memory.base += call.words as usize;
-        self.memory.temp += call.temps as usize;
-        self.memory.component = callee.component;
-        self.gate = innermost_gate(callee.gate, self.gate);
-        self.push_frame(frame);
+        self.keep_frame(callee, link);
+        self.enter_kept(callee, unit, call);
     }
 
     /// Returns the value that the running routine returns, if it is a function.

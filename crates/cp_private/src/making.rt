@@ -16,6 +16,7 @@ use cp_machine_model::law;
 use cp_plan::turn::Turn;
 use cp_program::program::{Process, Program};
 use cp_program::reach::Memory;
+use smallvec::SmallVec;
 use std::alloc::{AllocError, Global};
 
 /// A process has fewer words, and fewer temps, than this.
@@ -110,8 +111,9 @@ impl Private {
                 temp: 0,
                 component: 0,
             },
-            frames: Vec::from_elem(alloc, Frame::default(), needs.frames as usize)?,
+            frames: SmallVec::from_elem(alloc, Frame::default(), needs.frames as usize)?,
             depth: 0,
+            limit: needs.frames as usize,
             output: Vec::new(alloc),
             consumed: 0,
         })
@@ -157,8 +159,9 @@ impl Private {
                 temp: self.memory.temp,
                 component: self.memory.component,
             },
-            frames: Vec::from_slice(alloc, &self.frames)?,
+            frames: SmallVec::from_slice(alloc, &self.frames)?,
             depth: self.depth,
+            limit: self.limit,
             output: Vec::from_slice(alloc, &self.output)?,
             consumed: self.consumed,
         })

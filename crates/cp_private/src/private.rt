@@ -1,9 +1,10 @@
 //! The private state of a process.
 
-ghost use Rattle.std.specs.Prelude.{◌≤◌, ◌<◌, ◌^◌, length};
+ghost use Rattle.std.specs.Prelude.{◌≡◌, ◌≤◌, ◌<◌, ◌^◌, length};
 
 use cp_model::state::Fault;
 use cp_program::reach::Memory;
+use smallvec::SmallVec;
 
 /// Whether a process runs.
 #[derive(Clone, Copy, Debug, PartialEq, Eq)]
@@ -16,6 +17,9 @@ pub enum Activity {
     Ended,
     Faulted(Fault),
 }
+
+/// So many frames lie within a private state, and take no memory of their own.
+pub(crate) const FRAMES_WITHIN: usize = 1;
 
 /// What a call keeps for its caller.
 #[derive(Clone, Copy)]
@@ -66,12 +70,15 @@ pub struct Private {
     /// which hold the values of calls and the counters of `for`.
     pub(crate) memory: Memory,
     /// Room for all frames. The first `depth` frames are in use.
-    pub(crate) frames: Vec<Frame>,
+    pub(crate) frames: SmallVec<Frame, FRAMES_WITHIN>,
     pub(crate) depth: usize,
+    /// The number of frames, so that a call needn't test where they lie to find it.
+    pub(crate) limit: usize,
     /// The output that isn't in the transcript yet.
     pub(crate) output: Vec<u8>,
     /// The number of input bytes that the process has taken.
     pub(crate) consumed: usize,
     ghost facts: { (number < 2 ^ 31) × (length memory.words.items < 2 ^ 30)
-        × (length memory.temps.items < 2 ^ 31) × (depth ≤ length frames.items) },
+        × (length memory.temps.items < 2 ^ 31) × (depth ≤ length frames.items)
+        × (limit ≡ length frames.items) },
 }

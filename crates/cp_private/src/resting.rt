@@ -10,6 +10,7 @@ ghost use Rattle.cp_machine_model.specs.Steps as plain;
 
 use crate::private::{Activity, Private};
 use cp_program::reach::Memory;
+use smallvec::SmallVec;
 use std::alloc::Global;
 
 #[inline(always)]
@@ -56,8 +57,9 @@ impl Private {
                 temp: 0,
                 component: 0,
             },
-            frames: Vec::new(alloc),
+            frames: SmallVec::new(alloc),
             depth: 0,
+            limit: 0,
             output: Vec::new(alloc),
             consumed: 0,
         }

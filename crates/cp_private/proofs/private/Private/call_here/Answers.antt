@@ -1,11 +1,15 @@
 -- The call is the attempt with the callee that the code finds, which is the definition's (`named`).
 -- The lemmas of `Calling` say how it ends: without a unit, by a fault, or by entering the unit. Passing
--- arguments and starting words write words alone, so the registers still have room for the unit.
-use Rattle.std.proofs.Common.{rules, arith, ◌≡◌, true, false, Err, length, refl, ap, sym, ◌∙◌}
-use Rattle.cp_machine_model.specs.PrivateStates.{Outside, PrivateState}
-use Rattle.cp_machine_model.specs.Calling.{call_step, enter}
+-- arguments and starting words write words alone, so the registers still have room for the unit, and the
+-- frame that was kept is still there.
+use Rattle.std.proofs.Common.{rules, arith, ◌≡◌, ◌+◌, true, false, Err, length, refl, ap, sym, ◌∙◌}
+use Rattle.cp_machine_model.specs.PrivateStates.{Outside, PrivateState, fault_in}
+use Rattle.cp_machine_model.specs.Passing.{pass_all}
+use Rattle.cp_machine_model.specs.Calling.{call_step, enter, start_words}
 use Rattle.cp_program.specs.View as view
+use Rattle.cp_model.specs.declared.state.Fault.TheVariants as fault
 use Rattle.cp_private.specs.Calls.{back, called_of, passing_of}
+use Rattle.cp_private.proofs.InUse.{still_kept}
 use Rattle.cp_private.specs.States.{join, outcome, outside_of}
 use Rattle.cp_private.proofs.Calling.{Attempt, call_of, end_of, passed, refused, unfound}
 use Rattle.cp_private.proofs.private.Private.call_here.Goals as goal
@@ -34,7 +38,9 @@ returns-then-not-callee-clause-step c =
     let k = (goal.at.returns-then-not-callee-clause-step c).After-callee-callee in
     let unset : c.callee-callee.result.is_set ≡ false = search rules in
     let there = c.in-Some.ensures.unit (w k) c.args.outside.now.input.now refl in
-    refused (attempt k) (view.code_unit (view.plans_of c.args.program.now) c.in-Some.unit.now) there unset ∙ named k
+    let kept = c.keep_frame.ensures.step c.args.outside.now.input.now c.args.shared.now in
+    ap (λ q. fault_in q fault.NotInitialised) kept
+    ∙ (refused (attempt k) (view.code_unit (view.plans_of c.args.program.now) c.in-Some.unit.now) there unset ∙ named k)
 
 pub returns-in_err-pass_all-clause-step : goal.returns-in_err-pass_all-clause-step
 returns-in_err-pass_all-clause-step c =
@@ -43,19 +49,23 @@ returns-in_err-pass_all-clause-step c =
     let set : c.callee-callee.result.is_set ≡ true = search rules in
     let there = c.in-Some.ensures.unit (w k) c.args.outside.now.input.now refl in
     let given : c.from_residual.result ≡ Err c.in_err-pass_all.field-0.0 = search rules in
-    let passing = rw c.deref.ensures.value at c.pass_all.ensures.step (length c.args.self.now.memory.words.items) in
+    let kept = c.keep_frame.ensures.step c.args.outside.now.input.now c.args.shared.now in
+    let words = (view.call c.args.call.now).words in
+    let passing = rw c.deref.ensures.value at c.pass_all.ensures.step (length c.args.self.now.memory.words.items)
+    ∙ ap (λ q. pass_all (w k) (q.base + words) (q.base + words) (view.call c.args.call.now).arguments q) kept in
     ap (outcome p) given
     ∙ (passed (attempt k) (view.code_unit (view.plans_of c.args.program.now) c.in-Some.unit.now) _ there set (ap (passing_of p) (sym c.in_err-pass_all.was) ∙ passing) ∙ named k)
 
-pub enter-requires : goal.enter-requires
-enter-requires c =
+pub enter_kept-requires : goal.enter_kept-requires
+enter_kept-requires c =
     let room = c.in-Some.ensures.room in
+    let kept = c.keep_frame.ensures.registers in
     let passing = c.pass_all.ensures.kept in
     let started = c.start_words.ensures.kept in
     record {
-      frame = omega (arith, room.frames, passing.depth, passing.frames, started.depth, started.frames);
-      base = omega (arith, room.words, passing.base, started.base, c.args.self.now.facts);
-      temp = omega (arith, room.temps, passing.temp, started.temp, c.args.self.now.facts);
+      frame = omega (arith, room.frames, kept.depth, kept.frames, passing.depth, passing.frames, started.depth, started.frames);
+      base = omega (arith, room.words, kept.base, passing.base, started.base, c.args.self.now.facts);
+      temp = omega (arith, room.temps, kept.temp, passing.temp, started.temp, c.args.self.now.facts);
       component = search rules;
     }
 
@@ -67,8 +77,14 @@ returns-clause-step c =
     let unit = view.code_unit (view.plans_of c.args.program.now) c.in-Some.unit.now in
     let set : c.callee-callee.result.is_set ≡ true = search rules in
     let there = c.in-Some.ensures.unit (w k) input refl in
-    let passing = ap (passing_of p) (sym c.in_ok-pass_all.was) ∙ rw c.deref.ensures.value at c.pass_all.ensures.step (length c.args.self.now.memory.words.items) in
-    let begun = rw c.deref-2.ensures.value at c.start_words.ensures.step input in
-    let entered = c.enter.ensures.step (view.plans_of c.args.program.now) input c.start_words.new.shared
+    let kept = c.keep_frame.ensures.step input c.args.shared.now in
+    let words = (view.call c.args.call.now).words in
+    let passing = ap (passing_of p) (sym c.in_ok-pass_all.was)
+    ∙ (rw c.deref.ensures.value at c.pass_all.ensures.step (length c.args.self.now.memory.words.items)
+    ∙ ap (λ q. pass_all (w k) (q.base + words) (q.base + words) (view.call c.args.call.now).arguments q) kept) in
+    let begun = rw c.deref-2.ensures.value at c.start_words.ensures.step input ∙ ap (λ q. start_words (q.base + words) unit p) kept in
+    let passed_on = still_kept c.keep_frame.new.self c.pass_all.new.self _ _ (called_of c.callee-callee.result) (back c.args.link) c.pass_all.ensures.kept c.keep_frame.ensures.frame in
+    let there_still = still_kept c.pass_all.new.self c.start_words.new.self _ _ (called_of c.callee-callee.result) (back c.args.link) c.start_words.ensures.kept passed_on in
+    let entered = c.enter_kept.ensures.step (back c.args.link) (view.plans_of c.args.program.now) input c.start_words.new.shared there_still
     ∙ ap (λ q. enter q (called_of c.callee-callee.result) unit (view.call c.args.call.now) (back c.args.link)) begun in
     (λ i. (entered i, c.enters.ensures i)) ∙ (passed (attempt k) unit _ there set passing ∙ named k)

@@ -8,7 +8,7 @@ pub returns : goal.returns
 returns c =
     let fs = c.args.self.now.frames.items in
     let depth = c.args.self.now.depth - 1 in
-    let last = c.index.result.now in
+    let last = c.index-deref-depth.result in
     let more : c.args.self.now.depth ≡ suc depth = omega arith in
     let there : depth < length fs = omega (arith, c.args.self.now.facts) in
     let is : last ≡ slice_index_or fs depth last = search rules in (
