@@ -6,7 +6,7 @@ use cp_model::tree::{
     Defined, Fields, Identifier, Parameters, Section, Sort, Statement, Tree, TypeDefinition,
     TypeExpression,
 };
-use cp_names::NameTable;
+use cp_names::{Key, NameTable};
 use std::alloc::{AllocError, Global};
 
 /// A component that a type declares.
@@ -105,14 +105,17 @@ impl<'t> Draft<'t> {
 #[derive(Drop)]
 pub(crate) struct Blueprints<'t> {
     kinds: NameTable<'t, Kind>,
+    key: Key,
     all: Vec<Blueprint<'t>>,
 }
 
 impl<'t> Blueprints<'t> {
     /// Makes the blueprints of a tree. Fails only if memory runs out.
     pub fn of(alloc: Global, tree: &'t Tree) -> Result<Blueprints<'t>, AllocError> {
+        let key = Key::of(tree);
         let mut blueprints = Blueprints {
-            kinds: NameTable::new(alloc),
+            kinds: NameTable::new(alloc, key),
+            key,
             all: Vec::new(alloc),
         };
         for section in &tree.sections {
@@ -182,7 +185,7 @@ impl<'t> Blueprints<'t> {
         variables: &'t [Fields],
     ) -> Result<Draft<'t>, AllocError> {
         let mut draft = Draft {
-            names: NameTable::new(alloc),
+            names: NameTable::new(alloc, self.key),
             parts: Vec::new(alloc),
             parameters: 0,
         };

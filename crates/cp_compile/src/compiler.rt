@@ -22,7 +22,7 @@ use crate::system::SystemCompiler;
 use cp_emit::Emitter;
 use cp_emit::plan::Planner;
 use cp_model::tree::{Sort, Tree};
-use cp_names::NameTable;
+use cp_names::{Key, NameTable};
 use cp_program::program::{Monitor, Process, Program};
 use cp_scope::{Tables, small_number, small_sum};
 use std::alloc::{AllocError, Global};
@@ -69,7 +69,7 @@ fn compile_code<'t>(
         → IsPlanner tables.now planner.now (globals (text_of tree.now))
         → EndsAt tree.now.body.at [] code.emitter.origins.items) }
 {
-    let mut firsts = NameTable::new(alloc);
+    let mut firsts = NameTable::new(alloc, Key::of(tree));
     let mut emitter = Emitter::new(alloc);
     TextCompiler { tables, planner }.sections(&tree.sections, &mut firsts, &mut emitter)?;
     let first = emitter.units()?;

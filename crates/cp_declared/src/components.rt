@@ -4,20 +4,23 @@ use cp_model::tree::{
     Defined, Fields, Identifier, Parameters, Section, Sort, System, Tree, TypeDefinition,
     TypeExpression,
 };
-use cp_names::NameTable;
+use cp_names::{Key, NameTable};
 use std::alloc::{AllocError, Global};
 
 /// The system types of a text by their names.
 #[derive(Drop)]
 pub struct Systems<'t> {
     names: NameTable<'t, &'t System>,
+    key: Key,
 }
 
 impl<'t> Systems<'t> {
     /// Collects the system types of a tree. Fails only if memory runs out.
     pub fn of(alloc: Global, tree: &'t Tree) -> Result<Systems<'t>, AllocError> {
+        let key = Key::of(tree);
         let mut systems = Systems {
-            names: NameTable::new(alloc),
+            names: NameTable::new(alloc, key),
+            key,
         };
         for section in &tree.sections {
             if let Section::Types(definitions) = section {
@@ -75,7 +78,7 @@ impl<'t> Components<'t> {
         variables: &'t [Fields],
     ) -> Result<Components<'t>, AllocError> {
         let mut components = Components {
-            names: NameTable::new(alloc),
+            names: NameTable::new(alloc, systems.key),
             processes: 1,
             monitors: 0,
         };

@@ -9,7 +9,7 @@ ghost use Rattle.cp_model.specs.Names.{lookup};
 ghost use Rattle.cp_names.specs.Tables.{AreDistinct, entry_view, with_new, with_values_from};
 
 use cp_model::rules::Entity;
-use cp_names::NameTable;
+use cp_names::{Key, NameTable};
 use std::alloc::{AllocError, Global};
 use std::marker::Model;
 
@@ -56,13 +56,13 @@ fn set_hint(hints: &mut Vec<usize>, name: &[u8], number: usize) {
 
 impl<'t> Scope<'t> {
     /// Returns a scope without names. Fails only if memory runs out.
-    pub fn new(alloc: Global) -> Result<Scope<'t>, AllocError>
+    pub fn new(alloc: Global, key: Key) -> Result<Scope<'t>, AllocError>
         ensures { IfOk result (λ scope. scope ≡ []) }
     {
         let mut hints = Vec::new(alloc);
         hints.resize(HINTS, usize::MAX)?;
         Ok(Scope {
-            table: NameTable::new(alloc),
+            table: NameTable::new(alloc, key),
             hints,
         })
     }

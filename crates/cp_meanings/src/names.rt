@@ -2,7 +2,7 @@
 
 use crate::meaning::{BOOLEANS, CHARACTERS, INTEGERS, Meaning, Ordinals, Shape};
 use cp_model::tree::{Constant, Expression, Fields, Identifier, Parameters, Sign, TypeExpression};
-use cp_names::NameTable;
+use cp_names::{Key, NameTable};
 use std::alloc::{AllocError, Global};
 use std::collections::BTreeMap;
 
@@ -23,9 +23,9 @@ pub struct Names<'t> {
 
 impl<'t> Names<'t> {
     /// The standard names that stand for types and constants. Fails only if memory runs out.
-    pub fn standard(alloc: Global) -> Result<Names<'t>, AllocError> {
+    pub fn standard(alloc: Global, key: Key) -> Result<Names<'t>, AllocError> {
         let mut names = Names {
-            visible: NameTable::new(alloc),
+            visible: NameTable::new(alloc, key),
             members: BTreeMap::new(alloc),
         };
         names.add(b"integer", Meaning::Type(Shape::Simple(INTEGERS)))?;

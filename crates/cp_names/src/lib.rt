@@ -1,10 +1,12 @@
 //! Tables of names: what the names of a text stand for, in the order of their declarations.
 //!
-//! A name is found by comparison, in time that grows with the logarithm of the number of names. A
-//! hash table would be faster, but a text could be written whose names all collide.
+//! A name is found by its hash, whose key is a digest of all names of the text (`key`), so that no
+//! one can write a text whose names collide. Among few names it is found by comparison.
 #![tactic(auto)]
 
-mod index;
+mod key;
+mod name;
 mod table;
 
+pub use key::Key;
 pub use table::NameTable;

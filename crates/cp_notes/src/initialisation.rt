@@ -4,7 +4,7 @@ use crate::note::Saying;
 use crate::walk::Walk;
 use cp_meanings::meaning::Shape;
 use cp_model::tree::{Fields, Identifier, InitItem, Sort};
-use cp_names::NameTable;
+use cp_names::{Key, NameTable};
 use std::alloc::{AllocError, Global};
 
 /// The components that a body initialises. Only the body of what declares a component does.
@@ -17,10 +17,10 @@ pub struct Inits<'t> {
 }
 
 impl<'t> Inits<'t> {
-    pub fn new(alloc: Global) -> Inits<'t> {
+    pub fn new(alloc: Global, key: Key) -> Inits<'t> {
         Inits {
-            done: NameTable::new(alloc),
-            named: NameTable::new(alloc),
+            done: NameTable::new(alloc, key),
+            named: NameTable::new(alloc, key),
         }
     }
 

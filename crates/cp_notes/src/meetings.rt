@@ -163,7 +163,7 @@ impl<'t> Walk<'t> {
         groups: &'t [Parameters],
         list: &'t [Expression],
     ) -> Result<NameTable<'t, &'t [u8]>, AllocError> {
-        let mut rights = NameTable::new(self.alloc);
+        let mut rights = NameTable::new(self.alloc, self.key);
         let mut first: usize = 0;
         for group in groups {
             hand_over(&mut rights, &group.names, list, first)?;

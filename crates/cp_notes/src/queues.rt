@@ -4,7 +4,7 @@ use crate::flow::Flow;
 use crate::note::Saying;
 use crate::walk::Walk;
 use cp_model::tree::{Designator, Expression, Identifier};
-use cp_names::NameTable;
+use cp_names::{Key, NameTable};
 use std::alloc::{AllocError, Global};
 
 /// A queue of a monitor, or an array of queues.
@@ -26,10 +26,10 @@ pub struct Queues<'t> {
 }
 
 impl<'t> Queues<'t> {
-    pub fn new(alloc: Global) -> Queues<'t> {
+    pub fn new(alloc: Global, key: Key) -> Queues<'t> {
         Queues {
             all: Vec::new(alloc),
-            here: NameTable::new(alloc),
+            here: NameTable::new(alloc, key),
         }
     }
 

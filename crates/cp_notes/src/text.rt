@@ -9,6 +9,7 @@ use cp_model::tree::{
     Body, ConstantDefinition, Defined, Fields, Identifier, Routine, Section, Sort, System, Tree,
     TypeDefinition,
 };
+use cp_names::Key;
 use cp_page::page::Page;
 use std::alloc::{AllocError, Global};
 
@@ -124,7 +125,7 @@ impl<'t> Walk<'t> {
 
 /// The notes on an accepted text, in the order of the text. Fails only if memory runs out.
 pub fn notes(alloc: Global, text: &[u8], tree: &Tree) -> Result<Vec<ToldNote>, AllocError> {
-    let mut walk = Walk::new(alloc)?;
+    let mut walk = Walk::new(alloc, Key::of(tree))?;
     walk.text(tree)?;
     walk.notes.told(alloc, text)
 }

@@ -7,6 +7,7 @@ use crate::note::Notes;
 use crate::queues::Queues;
 use cp_meanings::names::Names;
 use cp_model::tree::{Routine, Sort, System};
+use cp_names::Key;
 use std::alloc::{AllocError, Global};
 use std::collections::BTreeMap;
 
@@ -92,6 +93,7 @@ impl<'t> Inside<'t> {
 #[derive(Drop)]
 pub struct Walk<'t> {
     pub(crate) alloc: Global,
+    pub(crate) key: Key,
     pub(crate) names: Names<'t>,
     pub(crate) notes: Notes<'t>,
     /// The routines so far, by their numbers.
@@ -107,17 +109,18 @@ pub struct Walk<'t> {
 
 impl<'t> Walk<'t> {
     /// The start of a text. Fails only if memory runs out.
-    pub fn new(alloc: Global) -> Result<Walk<'t>, AllocError> {
+    pub fn new(alloc: Global, key: Key) -> Result<Walk<'t>, AllocError> {
         Ok(Walk {
             alloc,
-            names: Names::standard(alloc)?,
+            key,
+            names: Names::standard(alloc, key)?,
             notes: Notes::new(alloc),
             routines: Vec::new(alloc),
             systems: BTreeMap::new(alloc),
             inside: Inside::body(Sort::Process, true),
             flow: Flow::START,
-            inits: Inits::new(alloc),
-            queues: Queues::new(alloc),
+            inits: Inits::new(alloc, key),
+            queues: Queues::new(alloc, key),
             meetings: Meetings::new(alloc),
         })
     }

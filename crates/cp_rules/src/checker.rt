@@ -10,6 +10,7 @@ use cp_judge::Environment;
 use cp_judge::telling::{Told, fail_with_violation, unless_holds};
 use cp_model::rules::{Entity, Rule, Violation};
 use cp_model::tree::Identifier;
+use cp_names::Key;
 use std::alloc::{AllocError, Global};
 use std::marker::Model;
 
@@ -23,6 +24,7 @@ pub struct Checker<'t> {
     pub(crate) environment: Environment<'t>,
     pub(crate) told: Told,
     pub(crate) alloc: Global,
+    pub(crate) key: Key,
 }
 
 impl<'t> Model for Checker<'t> {
@@ -34,14 +36,15 @@ impl<'t> Model for Checker<'t> {
 impl<'t> Checker<'t> {
     /// Returns a checker at the beginning of a text, which goes on telling from `told`. Fails only
     /// if memory runs out.
-    pub fn new(alloc: Global, told: Told) -> Result<Checker<'t>, AllocError>
+    pub fn new(alloc: Global, key: Key, told: Told) -> Result<Checker<'t>, AllocError>
         ensures { IfOk result
             (λ c. c ≡ record { env = r.standard_environment; told = told }) }
     {
         Ok(Checker {
-            environment: standard_environment(alloc)?,
+            environment: standard_environment(alloc, key)?,
             told,
             alloc,
+            key,
         })
     }
 

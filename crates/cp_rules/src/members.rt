@@ -31,7 +31,7 @@ impl<'t> Checker<'t> {
         ensures { IfOk result
             (λ members. members ≡ routine_members (drop mark self.now.env.names)) }
     {
-        let mut members = Members::new(self.alloc);
+        let mut members = Members::new(self.alloc, self.key);
         let count = self.environment.name_count();
         for number in mark..count {
             match self.environment.name(number) {

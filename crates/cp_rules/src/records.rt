@@ -14,6 +14,7 @@ use cp_judge::Environment;
 use cp_judge::environment::Members;
 use cp_model::rules::{Member, Rule, Structure, TypeRow, Violation};
 use cp_model::tree::Identifier;
+use cp_names::Key;
 use std::alloc::{AllocError, Global};
 
 /// The fields of a record so far, and the first violation in them.
@@ -25,12 +26,12 @@ pub struct FieldList<'t> {
 
 impl<'t> FieldList<'t> {
     /// Returns an empty list of fields.
-    pub fn new(alloc: Global) -> FieldList<'t>
+    pub fn new(alloc: Global, key: Key) -> FieldList<'t>
         ensures members { result.members ≡ [] }
         ensures first { result.first ≡ None }
     {
         FieldList {
-            members: Members::new(alloc),
+            members: Members::new(alloc, key),
             first: None,
         }
     }

@@ -9,6 +9,7 @@ use cp_judge::bases::{BOOLEAN, CHAR, INTEGER, QUEUE};
 use cp_judge::scope::Scope;
 use cp_model::ordinals::{FIRST_INTEGER, LAST_CHARACTER, LAST_INTEGER};
 use cp_model::rules::{Entity, Standard, Structure, TypeRow};
+use cp_names::Key;
 use std::alloc::{AllocError, Global};
 
 // Declares a standard name. No two are the same.
@@ -81,10 +82,10 @@ fn add_procedures(names: &mut Scope) -> Result<(), AllocError>
     add(names, b"wait".as_slice(), Entity::Standard(Standard::Wait))
 }
 
-fn names<'t>(alloc: Global) -> Result<Scope<'t>, AllocError>
+fn names<'t>(alloc: Global, key: Key) -> Result<Scope<'t>, AllocError>
     ensures { IfOk result (λ names. names ≡ r.standard_names) }
 {
-    let mut names = Scope::new(alloc)?;
+    let mut names = Scope::new(alloc, key)?;
     add_types(&mut names)?;
     add_constants(&mut names)?;
     add_functions(&mut names)?;
@@ -118,8 +119,8 @@ fn types(alloc: Global) -> Result<Vec<TypeRow>, AllocError>
 }
 
 /// The environment of a text before its first definition. Fails only if memory runs out.
-pub fn standard_environment<'t>(alloc: Global) -> Result<Environment<'t>, AllocError>
+pub fn standard_environment<'t>(alloc: Global, key: Key) -> Result<Environment<'t>, AllocError>
     ensures { IfOk result (λ env. env ≡ r.standard_environment) }
 {
-    Ok(Environment::new(alloc, names(alloc)?, types(alloc)?))
+    Ok(Environment::new(alloc, names(alloc, key)?, types(alloc)?))
 }

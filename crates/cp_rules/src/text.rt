@@ -18,6 +18,7 @@ use cp_judge::statements::statements;
 use cp_judge::telling::Told;
 use cp_model::rules::{Position, Rule, Violation};
 use cp_model::tree::{Body, Sort, Statement, Tree};
+use cp_names::Key;
 use std::alloc::{AllocError, Global};
 
 /// Why a text isn't accepted.
@@ -79,7 +80,7 @@ impl<'t> Checker<'t> {
         requires nothing { told ≡ None }
         ensures { IfOk result (λ c. c.told ≡ first_violation (view.tree tree.now)) }
     {
-        let mut checker = Checker::new(alloc, told)?;
+        let mut checker = Checker::new(alloc, Key::of(tree), told)?;
         let left = checker.define_until_broken(tree)?;
         if checker.is_decided(&left) {
             return Ok(checker);

@@ -74,7 +74,7 @@ impl<'t> Checker<'t> {
             (ty.type_of self.old.env
             (s.Record at (view.fields_of (map view.variables groups.now))))) }
     {
-        let mut fields = FieldList::new(self.alloc);
+        let mut fields = FieldList::new(self.alloc, self.key);
         for group in groups {
             self.field_group(&mut fields, group)?;
         }

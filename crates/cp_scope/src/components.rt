@@ -50,7 +50,7 @@ impl<'t> Types<'t> {
         ensures { IfOk result (λ rights. RightsLie self.now
             (map declared_entry components.now) rights) }
     {
-        let mut rights = NameTable::new(self.alloc);
+        let mut rights = NameTable::new(self.alloc, self.key);
         for i in 0..components.len() {
             let d = components[i];
             add_first(

@@ -13,7 +13,7 @@ use crate::counts::count_between;
 use crate::names::{Names, add_first};
 use crate::types::{Field, TypeRow, Types};
 use cp_model::tree::{Parameters, Sort, System};
-use cp_names::NameTable;
+use cp_names::{Key, NameTable};
 use std::alloc::{AllocError, Global};
 
 /// A part of a variable: its offset in words from the first word of the variable, and its type. The
@@ -35,6 +35,7 @@ pub struct Layout<'t> {
 #[derive(Drop)]
 pub struct Layouts<'t> {
     pub(crate) alloc: Global,
+    pub(crate) key: Key,
     pub(crate) rows: Vec<Layout<'t>>,
 }
 
@@ -100,11 +101,12 @@ impl<'t> Types<'t> {
 
 impl<'t> Layouts<'t> {
     /// Creates an empty table of layouts.
-    pub fn new(alloc: Global) -> Layouts<'t>
+    pub fn new(alloc: Global, key: Key) -> Layouts<'t>
         ensures { result.rows.items ≡ [] }
     {
         Layouts {
             alloc,
+            key,
             rows: Vec::new(alloc),
         }
     }
@@ -141,7 +143,7 @@ impl<'t> Layouts<'t> {
     {
         Layout {
             words,
-            parts: NameTable::new(self.alloc),
+            parts: NameTable::new(self.alloc, self.key),
         }
     }
 

@@ -56,7 +56,7 @@ impl<'t> Layouts<'t> {
     {
         let mut locals = Locals {
             words: head,
-            names: NameTable::new(self.alloc),
+            names: NameTable::new(self.alloc, self.key),
         };
         for d in list {
             let local = Local {

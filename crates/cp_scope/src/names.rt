@@ -4,7 +4,7 @@ ghost use Rattle.std.specs.Prelude.{◌≡◌, [], OnOk};
 ghost use Rattle.cp_scope.specs.Tables.{Behind};
 
 use crate::types::Base;
-use cp_names::NameTable;
+use cp_names::{Key, NameTable};
 use std::alloc::{AllocError, Global};
 
 /// The value of a constant: its base type and its ordinal.
@@ -23,13 +23,13 @@ pub struct Names<'t> {
 
 impl<'t> Names<'t> {
     /// Creates empty tables of names.
-    pub fn new(alloc: Global) -> Names<'t>
+    pub fn new(alloc: Global, key: Key) -> Names<'t>
         ensures constants { result.constants ≡ [] }
         ensures types { result.types ≡ [] }
     {
         Names {
-            constants: NameTable::new(alloc),
-            types: NameTable::new(alloc),
+            constants: NameTable::new(alloc, key),
+            types: NameTable::new(alloc, key),
         }
     }
 }

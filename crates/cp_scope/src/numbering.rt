@@ -100,7 +100,7 @@ impl<'t> Types<'t> {
     ) -> Result<NameTable<'t, Numbered>, AllocError>
         ensures { IfOk result (λ names. AreNumbered self.now (map declared_entry list.now) names) }
     {
-        let mut names = NameTable::new(self.alloc);
+        let mut names = NameTable::new(self.alloc, self.key);
         let mut monitors = 0;
         let mut processes = 0;
         for d in list {

@@ -18,6 +18,7 @@ use cp_model::tree::{
     ConstantDefinition, Defined, Identifier, Parameters, Section, System, Tree, TypeDefinition,
     TypeExpression,
 };
+use cp_names::Key;
 use std::alloc::{AllocError, Global};
 
 /// The names and types of the outermost scope.
@@ -170,12 +171,12 @@ impl<'t> Outer<'t> {
     }
 
     /// The scope of the standard names.
-    pub fn standard(alloc: Global) -> Result<Outer<'t>, AllocError>
+    pub fn standard(alloc: Global, key: Key) -> Result<Outer<'t>, AllocError>
         ensures { IfOk result (λ outer. OuterStands outer standard_scope) }
     {
         let mut outer = Outer {
-            names: Names::new(alloc),
-            types: Types::new(alloc),
+            names: Names::new(alloc, key),
+            types: Types::new(alloc, key),
         };
         outer.add_standard()?;
         Ok(outer)
@@ -287,11 +288,11 @@ impl<'t> Outer<'t> {
     }
 
     /// The outermost scope of a text.
-    pub fn of_tree(alloc: Global, tree: &'t Tree) -> Result<Outer<'t>, AllocError>
+    pub fn of_tree(alloc: Global, key: Key, tree: &'t Tree) -> Result<Outer<'t>, AllocError>
         ensures { IfOk result (λ outer. OuterStands outer
             (globals (erase.abstract (view.tree tree.now)))) }
     {
-        let mut outer = Outer::standard(alloc)?;
+        let mut outer = Outer::standard(alloc, key)?;
         outer.define_sections(&tree.sections)?;
         Ok(outer)
     }

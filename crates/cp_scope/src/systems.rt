@@ -60,7 +60,7 @@ impl<'t> Layouts<'t> {
         ensures { IfOk result (λ names. (x : Name) → lookup x names ≡ routine_number x 0
             (routines_of texts.now)) }
     {
-        let mut names = NameTable::new(self.alloc);
+        let mut names = NameTable::new(self.alloc, self.key);
         for i in 0..texts.len() {
             add_first(&mut names, texts[i].name.name.as_bytes(), i)?;
         }
@@ -88,8 +88,8 @@ impl<'t> Layouts<'t> {
         let rights = types.rights_to(&components)?;
         let parameter_names = types.numbered_names(&own_parameters)?;
         let variable_names = types.numbered_names(&own_variables)?;
-        let parameter_types = parameter_types(self.alloc, parameters)?;
-        let variable_types = variable_types(self.alloc, variables)?;
+        let parameter_types = parameter_types(self.alloc, self.key, parameters)?;
+        let variable_types = variable_types(self.alloc, self.key, variables)?;
         let routine_names = self.routine_names(routines)?;
         let routines = self.routines(names, types, routines)?;
         Ok(SystemTable {

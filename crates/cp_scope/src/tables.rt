@@ -12,6 +12,7 @@ use crate::outer::Outer;
 use crate::systems::SystemTable;
 use crate::types::Types;
 use cp_model::tree::Tree;
+use cp_names::Key;
 use std::alloc::{AllocError, Global};
 
 /// What the compiler asks of a text: the names and types of its outermost scope, the layouts of its
@@ -70,10 +71,11 @@ impl<'t> Tables<'t> {
         ensures { IfOk result (λ tables. TablesStand
             (globals (erase.abstract (view.tree tree.now))) tables tree.now) }
     {
-        let outer = Outer::of_tree(alloc, tree)?;
+        let key = Key::of(tree);
+        let outer = Outer::of_tree(alloc, key, tree)?;
         let names = outer.names;
         let mut types = outer.types;
-        let mut layouts = Layouts::new(alloc);
+        let mut layouts = Layouts::new(alloc, key);
         let systems = layouts.systems(&names, &mut types)?;
         let initial = layouts.system(&names, &mut types, &[], &tree.variables, &tree.routines)?;
         // Whatever has no layout yet gets one.

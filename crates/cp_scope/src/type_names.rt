@@ -8,7 +8,7 @@ ghost use Rattle.cp_scope.specs.TypeNames.{AreTypeNames, NamesMore, typed_among}
 
 use crate::names::add_first;
 use cp_model::tree::{Fields, Identifier, Parameters, TypeExpression};
-use cp_names::NameTable;
+use cp_names::{Key, NameTable};
 use std::alloc::{AllocError, Global};
 
 // The name of a written type, empty if the type isn't a bare name. An array without index types is
@@ -49,12 +49,13 @@ fn add_names<'t>(
 /// The name of the type of each parameter that these groups declare.
 pub fn parameter_types<'t>(
     alloc: Global,
+    key: Key,
     groups: &'t [Parameters],
 ) -> Result<NameTable<'t, &'t [u8]>, AllocError>
     ensures { IfOk result (λ names.
         AreTypeNames names (map erase.parameter_group (map view.parameters groups.now))) }
 {
-    let mut table = NameTable::new(alloc);
+    let mut table = NameTable::new(alloc, key);
     for group in groups {
         add_names(&mut table, &group.names, group.of.name.as_bytes())?;
     }
@@ -65,12 +66,13 @@ pub fn parameter_types<'t>(
 /// name.
 pub fn variable_types<'t>(
     alloc: Global,
+    key: Key,
     groups: &'t [Fields],
 ) -> Result<NameTable<'t, &'t [u8]>, AllocError>
     ensures { IfOk result (λ names.
         AreTypeNames names (map erase.variable_group (map view.variables groups.now))) }
 {
-    let mut table = NameTable::new(alloc);
+    let mut table = NameTable::new(alloc, key);
     for group in groups {
         add_names(&mut table, &group.names, type_name(&group.of))?;
     }

@@ -4,6 +4,7 @@ ghost use Rattle.std.specs.Prelude.{◌≡◌, [], IfOk, option_map};
 ghost use Rattle.cp_scope.specs.Standing.{Adds, AddsSystem, row_at, system_at};
 
 use cp_model::tree::System;
+use cp_names::Key;
 use std::alloc::{AllocError, Global};
 
 /// A base type. An enumeration has a name and the number of its last value.
@@ -56,18 +57,20 @@ pub enum TypeRow<'t> {
 #[derive(Drop)]
 pub struct Types<'t> {
     pub(crate) alloc: Global,
+    pub(crate) key: Key,
     pub(crate) rows: Vec<TypeRow<'t>>,
     pub(crate) systems: Vec<&'t System>,
 }
 
 impl<'t> Types<'t> {
     /// Creates empty tables of types.
-    pub fn new(alloc: Global) -> Types<'t>
+    pub fn new(alloc: Global, key: Key) -> Types<'t>
         ensures rows { result.rows.items ≡ [] }
         ensures systems { result.systems.items ≡ [] }
     {
         Types {
             alloc,
+            key,
             rows: Vec::new(alloc),
             systems: Vec::new(alloc),
         }

@@ -6,7 +6,7 @@ use cp_members::place;
 use cp_members::readings::Readings;
 use cp_members::roster::{Member, Roster};
 use cp_model::tree::{Defined, Identifier, Section, Tree, TypeDefinition};
-use cp_names::NameTable;
+use cp_names::{Key, NameTable};
 use cp_private::outside::Holder;
 use cp_scope::Base;
 use std::alloc::{AllocError, Global};
@@ -38,7 +38,7 @@ fn add_enumerations<'t>(
 }
 
 fn enumerations<'t>(alloc: Global, tree: &'t Tree) -> Result<Enumerations<'t>, AllocError> {
-    let mut enumerations = NameTable::new(alloc);
+    let mut enumerations = NameTable::new(alloc, Key::of(tree));
     for section in &tree.sections {
         if let Section::Types(definitions) = section {
             add_enumerations(&mut enumerations, definitions)?;

@@ -1,97 +1,50 @@
-use Rattle.std.proofs.Common.{◌≡◌, ◌++◌, ◌+◌, ◌-◌, ◌∷◌, [], None, Some, ℕ, List, not, length, map, take, ap, arith, refl, rules, sym, subst, ◌∙◌}
+use Rattle.std.proofs.Common.{◌≡◌, ◌∷◌, ◌∙◌, [], None, Some, Option, List, ap, map, not, sym}
+use Rattle.std.proofs.lemmas.List.{map-append}
+use Rattle.std.specs.Map.{lookup as map_lookup}
 use Rattle.std.specs.Option.{is_some}
-use Rattle.std.specs.Vec.{vec_len}
-use Rattle.std.proofs.lemmas.List.{length-append, map-append}
+use Rattle.std.specs.Str.{bytes_eq}
+use Rattle.indexmap.proofs.CallerLemmas.{insert_entry-new}
+use Rattle.indexmap.specs.IndexMap.{insert_entry}
+use Rattle.indexmap.specs.Layout.{set_value_at}
 use Rattle.cp_model.specs.Names.{lookup}
 use Rattle.cp_model.specs.RulesEnvironment.{Text}
-use Rattle.cp_names.specs.Indices.{Changes}
-use Rattle.cp_names.specs.Tables.{AreDistinct, IsIndex, entry_view, number_of, with_new}
-use Rattle.cp_names.proofs.Numbers.{missing, present}
-use Rattle.cp_names.proofs.IndexKept.{index_again, index_more}
-use Rattle.cp_names.proofs.Distinct.{distinct_more}
-use Rattle.cp_names.proofs.table.NameTable.add_if_new.Given as given
+use Rattle.cp_names.specs.Tables.{named, with_new}
+use Rattle.cp_names.specs.declared.name.Name.{Name}
+use Rattle.cp_names.proofs.Named.{lookup-named, put_back, same_name}
 use Rattle.cp_names.proofs.table.NameTable.add_if_new.Goals as goal
 
-without_last : {X : Type 0} (es all : List X) (e : X) (n : ℕ) → all ≡ es ++ e ∷ [] → n ≡ length all → take (n - 1) all ≡ es
-without_last {X} es all e n more count = rw (count, more) (front es)
-  where
-    front : (fs : List X) → take (length (fs ++ e ∷ []) - 1) (fs ++ e ∷ []) ≡ fs
-    front fs = rw (length-append fs (e ∷ [])) (same_length (length fs + 1 - 1) (omega (arith)) ∙ take_front fs)
-      where
-        take_front : (gs : List X) → take (length gs) (gs ++ e ∷ []) ≡ gs
-        take_front [] = refl
-        take_front (g ∷ gs) = ap (λ hs. g ∷ hs) (take_front gs)
+-- what the name stood for
+before : {A : Type 0} (x : Text) (es : List (Name × A)) (o p : Option A) → o ≡ map_lookup (λ k. bytes_eq x k.letters.now) es → o ≡ p → lookup x (map named es) ≡ p
+before x es o p old is = sym (lookup-named x es) ∙ sym old ∙ is
 
-        same_length : (k : ℕ) → k ≡ length fs → take k (fs ++ e ∷ []) ≡ take (length fs) (fs ++ e ∷ [])
-        same_length k h = ap (λ j. take j (fs ++ e ∷ [])) h
+pub returns-in-None-clause-new : goal.returns-in-None-clause-new
+returns-in-None-clause-new g c =
+    let was = before c.args.name.now c.self.inside.entries.entries c.in_ok-number.first None c.in_ok-number.ensures.old c.in-None.is in
+    sym (ap (λ o. not (is_some o)) (ap (lookup c.args.name.now) (sym c.self.view_is) ∙ was))
 
--- ---- the name is new
+pub returns-in-None-clause-added : goal.returns-in-None-clause-added
+returns-in-None-clause-added g c =
+    let es = c.self.inside.entries.entries in
+    let key : Name = record { letters = c.args.name } in
+    let was = before c.args.name.now es c.in_ok-number.first None c.in_ok-number.ensures.old c.in-None.is in
+    let new = sym c.in_ok-number.ensures.old ∙ c.in-None.is in
+    ap (map named) (c.in_ok-number.ensures.entries ∙ insert_entry-new same_name c.self.inside.entries key c.args.value new)
+    ∙ map-append named es ((key, c.args.value) ∷ [])
+    ∙ sym (ap (with_new c.args.name.now c.args.value (map named es)) was)
+    ∙ ap (λ names. with_new c.args.name.now c.args.value names (lookup c.args.name.now names)) c.self.view_is
 
-not_there : (g : given.Over) (c : goal.In-Ok-None g) → number_of c.args.name.now (map entry_view c.self.inside.entries.items) ≡ None
-not_there g c = sym (c.self.invariant.0 c.args.name.now) ∙ sym c.in-Ok-None.ensures.old ∙ c.in-Ok-None.field-0-is
+pub returns-in-Some-clause-new : goal.returns-in-Some-clause-new
+returns-in-Some-clause-new g c =
+    let was = before c.args.name.now c.self.inside.entries.entries c.in_ok-number.first (Some c.in-Some.first) c.in_ok-number.ensures.old c.in-Some.is in
+    sym (ap (λ o. not (is_some o)) (ap (lookup c.args.name.now) (sym c.self.view_is) ∙ was))
 
-one_more : (g : given.Over) (c : goal.In-Ok-None g)
-    → map entry_view c.push.new.self.items ≡ map entry_view c.self.inside.entries.items ++ (c.args.name.now, c.args.value) ∷ []
-one_more g c = ap (map entry_view) c.in_ok-push.ensures.items ∙ map-append entry_view c.self.inside.entries.items ((c.args.name, c.args.value) ∷ [])
-
-pub invariant_of-self-in-Ok-None : goal.invariant_of-self-in-Ok-None
-invariant_of-self-in-Ok-None g c =
-    let x = c.args.name.now in
-    let m = c.self.inside.numbers in
-    let n = c.insert.new.self in
-    let es = map entry_view c.self.inside.entries.items in
-    let d : Text × g.row.A.Denot = (x, c.args.value) in
-    let count : c.len-number.result ≡ length es = c.len-number.ensures.count ∙ ap length (sym c.self.view_is) in
-    let changed : Changes m n x (Some c.len-number.result) = c.in-Ok-None.ensures.changes in
-    let index : IsIndex n (es ++ d ∷ []) = index_more m n es d c.self.invariant.0 (not_there g c) (subst (λ k. Changes m n x (Some k)) count changed) in
-    let distinct : AreDistinct (es ++ d ∷ []) = distinct_more es d c.self.invariant.1 (not_there g c) in
-    subst (λ names. IsIndex n names × AreDistinct names) (sym (one_more g c)) (index, distinct)
-
-pub returns-in-Ok-None-clause-new : goal.returns-in-Ok-None-clause-new
-returns-in-Ok-None-clause-new g c =
-    let x = c.args.name.now in
-    let es = map entry_view c.self.inside.entries.items in
-    sym (ap (λ o. not (is_some o)) (ap (lookup x) (sym c.self.view_is) ∙ missing x es (not_there g c)))
-
-pub returns-in-Ok-None-clause-added : goal.returns-in-Ok-None-clause-added
-returns-in-Ok-None-clause-added g c =
-    let x = c.args.name.now in
-    let es = map entry_view c.self.inside.entries.items in
-    one_more g c ∙ sym (ap (with_new x c.args.value es) (missing x es (not_there g c))) ∙ ap (λ names. with_new x c.args.value names (lookup x names)) c.self.view_is
-
--- ---- the name is in the table
-
-there : (g : given.Over) (c : goal.In_ok-insert-in-Ok-Some g)
-    → number_of c.args.name.now (map entry_view c.self.inside.entries.items) ≡ Some c.in-Ok-Some.first
-there g c = sym (c.self.invariant.0 c.args.name.now) ∙ sym c.in-Ok-Some.ensures.old ∙ c.in-Ok-Some.field-0-is
-
-same_entries : (g : given.Over) (c : goal.In_ok-insert-in-Ok-Some g) → c.pop.new.self.items ≡ c.self.inside.entries.items
-same_entries g c =
-    let count : vec_len c.push.new.self ≡ length c.push.new.self.items = search rules in
-    c.pop.ensures.rest ∙ without_last c.self.inside.entries.items c.push.new.self.items _ (vec_len c.push.new.self) c.in_ok-push.ensures.items count
-
-pub invariant_of-self-in-Ok-Some : goal.invariant_of-self-in-Ok-Some
-invariant_of-self-in-Ok-Some g c =
-    let x = c.args.name.now in
-    let m = c.self.inside.numbers in
-    let n = c.insert.new.self in
-    let k = c.insert-in-Ok-Some.new.self in
-    let first = c.in-Ok-Some.first in
-    let es = map entry_view c.self.inside.entries.items in
-    let away : Changes m n x (Some c.len-number.result) = c.in-Ok-Some.ensures.changes in
-    let back : Changes n k x (Some first) = c.in_ok-insert-in-Ok-Some.ensures.changes in
-    subst (λ items. IsIndex k (map entry_view items) × AreDistinct (map entry_view items)) (sym (same_entries g c))
-    (index_again m n k es x c.len-number.result first c.self.invariant.0 (there g c) away back, c.self.invariant.1)
-
-pub returns-in_ok-insert-in-Ok-Some-clause-new : goal.returns-in_ok-insert-in-Ok-Some-clause-new
-returns-in_ok-insert-in-Ok-Some-clause-new g c =
-    let x = c.args.name.now in
-    let es = map entry_view c.self.inside.entries.items in
-    sym (ap (λ o. not (is_some o)) (ap (lookup x) (sym c.self.view_is) ∙ (present x es c.in-Ok-Some.first (there g c)).1))
-
-pub returns-in_ok-insert-in-Ok-Some-clause-added : goal.returns-in_ok-insert-in-Ok-Some-clause-added
-returns-in_ok-insert-in-Ok-Some-clause-added g c =
-    let x = c.args.name.now in
-    let es = map entry_view c.self.inside.entries.items in
-    ap (map entry_view) (same_entries g c) ∙ sym (ap (with_new x c.args.value es) (present x es c.in-Ok-Some.first (there g c)).1)
-    ∙ ap (λ names. with_new x c.args.value names (lookup x names)) c.self.view_is
+pub returns-in-Some-clause-added : goal.returns-in-Some-clause-added
+returns-in-Some-clause-added g c =
+    let es = c.self.inside.entries.entries in
+    let key : Name = record { letters = c.args.name } in
+    let was = before c.args.name.now es c.in_ok-number.first (Some c.in-Some.first) c.in_ok-number.ensures.old c.in-Some.is in
+    ap (λ new. map named (set_value_at new c.in_ok-number.number c.in-Some.first)) c.in_ok-number.ensures.entries
+    ∙ ap (λ i. map named (set_value_at (insert_entry same_name es key c.args.value) i c.in-Some.first)) c.in_ok-number.ensures.index
+    ∙ ap (map named) (put_back es key c.args.value c.in-Some.first was)
+    ∙ sym (ap (with_new c.args.name.now c.args.value (map named es)) was)
+    ∙ ap (λ names. with_new c.args.name.now c.args.value names (lookup c.args.name.now names)) c.self.view_is

@@ -1,7 +1,9 @@
-use Rattle.std.proofs.Common.{ap, sym, ◌∙◌}
-use Rattle.cp_names.specs.Tables.{value_at}
-use Rattle.cp_names.proofs.Numbers.{lookup_by_number}
+use Rattle.std.proofs.Common.{ap, ◌∙◌}
+use Rattle.cp_model.specs.Names.{lookup}
+use Rattle.cp_names.proofs.Named.{lookup-named}
 use Rattle.cp_names.proofs.table.NameTable.find.Goals as goal
 
-pub returns : goal.returns
-returns g c = c.value_at.ensures ∙ ap (value_at c.args.self.now) c.number.ensures ∙ sym (lookup_by_number c.args.name.now c.args.self.now)
+pub returns-else-len-le-FEW : goal.returns-else-len-le-FEW
+returns-else-len-le-FEW g c =
+    c.copied.ensures ∙ c.get.ensures.value ∙ lookup-named c.args.name.now c.self.inside.entries.entries
+    ∙ ap (lookup c.args.name.now) c.self.view_is
