@@ -1,7 +1,7 @@
 """Refuses each allocation, thread start, read and write of the program in turn, on whichever thread it is made.
 
 Each call is refused alone, and then with all that come after it. A run that is refused says so, and has written nothing but perhaps
-a beginning of its report; a run that takes what it asked for elsewhere has its whole report. The tests of cp_rounds_tests that look at a
+a beginning of its report; a run that takes what it asked for elsewhere has its whole report. The tests of cp_test_rounds that look at a
 machine after a refusal see some in the same way. refusing.c does the refusing.
 """
 import concurrent.futures
@@ -24,7 +24,7 @@ LEAST_OF_EXPLANATION = {'ALLOCATION': 150, 'THREAD': 0, 'READ': 190, 'WRITE': 38
 LEAST_AT_ONCE = 470
 LEAST_OF_TRACE = {'READ': 300, 'WRITE': 255}
 
-# The tests of cp_rounds_tests that look at a machine after a refusal, and the fewest times that they have to see one.
+# The tests of cp_test_rounds that look at a machine after a refusal, and the fewest times that they have to see one.
 TESTS = {'a_refused_machine_is_made_again': 12, 'a_refused_round_leaves_the_machine_as_it_was': 550, 'a_refused_run_has_made_the_rounds_before': 200,
          'a_refused_replay_leaves_the_machine_as_it_was': 240}
 

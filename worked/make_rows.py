@@ -1,5 +1,5 @@
 #!/usr/bin/env python3
-"""Writes the worked texts of this folder as statements of the crate cp_rows, and runs of some of them as statements of cp_machine_rows.
+"""Writes the worked texts of this folder as statements of the crate cp_test_definitions, and runs of some of them as statements of cp_test_machine.
 
 Each folder is a module of statements, each file a text with its answers:
 
@@ -12,9 +12,9 @@ Each folder is a module of statements, each file a text with its answers:
     the answer, up to the next line that begins with ==
     == run --rounds N of FILE      the answer is what stands in the file; so for each command
 
-Lines before the first == say what the text shows. `make_rows.py` writes crates/cp_rows/specs, proofs and src/rows.rt; for the texts
+Lines before the first == say what the text shows. `make_rows.py` writes crates/cp_test_definitions/specs, proofs and src/rows.rt; for the texts
 that COMPILED names, the statement that their compiled programs behave as the meaning does, in specs/Runs.antt and proofs of
-crates/cp_machine_rows. `make_rows.py --list` prints the cases as JSON, and
+crates/cp_test_machine. `make_rows.py --list` prints the cases as JSON, and
 `make_rows.py --unchanged` fails if the files differ from what it would write.
 """
 import json, pathlib, re, sys
@@ -99,7 +99,7 @@ def statement(text, head, answer):
 def unfoldable():
     """The reading functions that a computation has to unfold, by module."""
     found = {}
-    for crate in ('cp_scan', 'cp_grammar'):
+    for crate in ('cp_scan', 'cp_model_grammar'):
         for path in sorted((HERE.parent / 'crates' / crate / 'specs').glob('*.antt')):
             names = re.findall(r'^\s*unfoldable pub (\S+) :', path.read_text(), re.M)
             if names:
@@ -140,10 +140,10 @@ def write_module(folder):
     lines += [f'abbrev pub {title} : Type 0', f'{title} = ' + ' × '.join(names), '']
     uses = [*import_used('Rattle.std.specs.Prelude', ['◌≡◌', 'true', 'false', '[]', '◌∷◌', '◌++◌', 'codes'], lines),
             *import_used('Rattle.cp_model.specs.Report', ['Text'], lines),
-            *import_used('Rattle.cp_rows.specs.Answers', ['check_answer', 'run_answer', 'replay_answer', 'consumed_answer'], lines)]
+            *import_used('Rattle.cp_test_definitions.specs.Answers', ['check_answer', 'run_answer', 'replay_answer', 'consumed_answer'], lines)]
     heading = f'-- Worked texts and their answers: {name}. Written by worked/make_rows.py.'
-    write(CRATES / 'cp_rows' / 'specs' / f'{title}.antt', '\n'.join([heading, *uses, '', *lines]))
-    write_proofs('cp_rows', name, title, {own: 'refl' for own in names})
+    write(CRATES / 'cp_test_definitions' / 'specs' / f'{title}.antt', '\n'.join([heading, *uses, '', *lines]))
+    write_proofs('cp_test_definitions', name, title, {own: 'refl' for own in names})
     return title, name, len(names)
 
 
@@ -165,15 +165,15 @@ def write_proofs(crate, name, title, holds):
 
 
 def write_rows():
-    """The crate cp_rows, except for its Answers.antt."""
+    """The crate cp_test_definitions, except for its Answers.antt."""
     modules = [write_module(folder) for folder in sorted(HERE.iterdir()) if list(folder.glob('*.txt'))]
-    path = CRATES / 'cp_rows'
+    path = CRATES / 'cp_test_definitions'
     write(path / 'proofs' / 'Lib.antt', ''.join(f'mod {title}Computed\n' for title, _, _ in modules))
     write(path / 'specs' / 'Lib.antt', ''.join(f'pub mod {title}\n' for title in ['Answers'] + [title for title, _, _ in modules]))
     code = ['//! The worked texts of the folder `worked`: each function says of one folder that the definitions',
             '//! give its answers.',
             '//!', '//! Written by worked/make_rows.py.', '']
-    code += [f'ghost use Rattle.cp_rows.specs.{title}.{{{title}}};' for title, _, _ in modules]
+    code += [f'ghost use Rattle.cp_test_definitions.specs.{title}.{{{title}}};' for title, _, _ in modules]
     for title, name, _ in modules:
         code += ['', f'/// Each of the answers of `worked/{name}`.', f'pub fn {name}_hold()', f'    ensures {{ {title} }}', '{}']
     write(path / 'src' / 'rows.rt', '\n'.join(code) + '\n')
@@ -181,22 +181,22 @@ def write_rows():
 
 
 def write_compiled():
-    """The runs of cp_machine_rows, and their proof."""
+    """The runs of cp_test_machine, and their proof."""
     uses, runs = [], []
     for named in COMPILED:
         path = HERE / f'{named}.txt'
         texts = named_texts(path)
-        uses.append(f'use Rattle.cp_rows.specs.{path.parent.name.capitalize()}.{{{", ".join(texts.values())}}}')
+        uses.append(f'use Rattle.cp_test_definitions.specs.{path.parent.name.capitalize()}.{{{", ".join(texts.values())}}}')
         for text, head, _ in cases_of(path):
             command, _ = options(head)
             if command in ('run', 'consumed'):
                 runs.append(applied(f'{command.capitalize()}IsMeant', head, texts[text]))
     lines = ['-- Worked texts whose compiled programs answer as the meaning does. Written by worked/make_rows.py.',
              'use Rattle.std.specs.Prelude.{true, false, [], codes}', *uses,
-             'use Rattle.cp_machine_rows.specs.Answers.{RunIsMeant, ConsumedIsMeant}', '',
+             'use Rattle.cp_test_machine.specs.Answers.{RunIsMeant, ConsumedIsMeant}', '',
              'abbrev pub Runs : Type 0', 'Runs =', '    ' + '\n    × '.join(runs), '']
-    write(CRATES / 'cp_machine_rows' / 'specs' / 'Runs.antt', '\n'.join(lines))
-    write_proofs('cp_machine_rows', 'runs', 'Runs', {'Runs': '(' + ', '.join(['refl'] * len(runs)) + ')'})
+    write(CRATES / 'cp_test_machine' / 'specs' / 'Runs.antt', '\n'.join(lines))
+    write_proofs('cp_test_machine', 'runs', 'Runs', {'Runs': '(' + ', '.join(['refl'] * len(runs)) + ')'})
 
 
 def listed():

@@ -7,12 +7,12 @@ use Rattle.cp_model.specs.States.{Setup}
 use Rattle.cp_model.specs.Rules.{Accepted, first_violation}
 use Rattle.cp_model.specs.View as syntax
 use Rattle.cp_model.specs.declared.tree.Tree as tree
-use Rattle.cp_program_model.specs.StandsFor.{StandsFor}
+use Rattle.cp_model_program.specs.StandsFor.{StandsFor}
 use Rattle.cp_program.specs.declared.program.Program.{Program}
 use Rattle.cp_program.specs.View as view
 use Rattle.cp_rules.specs.declared.text.RuleError.{RuleError}
 use Rattle.cp_rules.specs.declared.text.RuleError.TheVariants as refused
-use Rattle.cp_scope.specs.Texts.{TablesStand}
+use Rattle.cp_compile_symbols.specs.Texts.{TablesStand}
 use Rattle.cp_check.specs.declared.checking.CompiledText.{CompiledText}
 
 -- The program stands for the text.

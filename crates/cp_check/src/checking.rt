@@ -5,15 +5,15 @@ ghost use Rattle.cp_model.specs.Declarations.{globals};
 ghost use Rattle.cp_model.specs.Erase as erase;
 ghost use Rattle.cp_model.specs.Rules.{Accepted};
 ghost use Rattle.cp_model.specs.View as view;
-ghost use Rattle.cp_scope.specs.Texts.{TablesStand};
+ghost use Rattle.cp_compile_symbols.specs.Texts.{TablesStand};
 ghost use Rattle.cp_check.specs.Checked.{Checks, IsCompiled};
 
 use cp_compile::compile;
+use cp_compile_symbols::Tables;
 use cp_model::tree::Tree;
+use cp_model_program::law::accepted_tree_has_program;
 use cp_program::program::Program;
-use cp_program_model::law::accepted_tree_has_program;
 use cp_rules::text::{RuleError, judge};
-use cp_scope::Tables;
 use std::alloc::{AllocError, Global};
 
 /// An accepted text that was compiled: its program, and the tables of what its names stand for,

@@ -14,23 +14,23 @@ use Rattle.cp_model.specs.declared.tree.Fields.{Fields}
 use Rattle.cp_model.specs.declared.tree.Parameters.{Parameters}
 use Rattle.cp_model.specs.declared.tree.Routine as tree_routine
 use Rattle.cp_model.specs.declared.tree.System as tree_system
-use Rattle.cp_typing.specs.Words.{words_of_members}
-use Rattle.cp_program_model.specs.Compile as code
-use Rattle.cp_program_model.specs.Compile.{of_sort, owner_before, owners_of, waiting_words}
-use Rattle.cp_program_model.specs.Layout.{component_words}
-use Rattle.cp_program_model.specs.Plans.{plan_of_component}
-use Rattle.cp_program_model.specs.Scopes.{declared_type, or_zero}
-use Rattle.cp_scope.specs.declared.systems.SystemTable.{SystemTable}
-use Rattle.cp_scope.specs.declared.types.Types.{Types}
-use Rattle.cp_scope.specs.Numbering.{system_of}
-use Rattle.cp_scope.specs.Standing.{Stands, row_at, system_at}
-use Rattle.cp_scope.proofs.SystemsMade.{has_table, lacks_no_table}
-use Rattle.cp_scope.specs.declared.variables.Declared.{Declared}
-use Rattle.cp_scope.specs.Components.{own_members}
-use Rattle.cp_scope.specs.Layouts.{rights_of}
-use Rattle.cp_scope.specs.Scopes.{IsWritten}
-use Rattle.cp_scope.specs.Variables.{AreDeclared, Entry, declared_entry, parameters_of}
-use Rattle.cp_program_model.specs.Programs.{StartPlan}
+use Rattle.cp_law_typing.specs.Words.{words_of_members}
+use Rattle.cp_model_program.specs.Compile as code
+use Rattle.cp_model_program.specs.Compile.{of_sort, owner_before, owners_of, waiting_words}
+use Rattle.cp_model_program.specs.Layout.{component_words}
+use Rattle.cp_model_program.specs.Plans.{plan_of_component}
+use Rattle.cp_model_program.specs.Scopes.{declared_type, or_zero}
+use Rattle.cp_compile_symbols.specs.declared.systems.SystemTable.{SystemTable}
+use Rattle.cp_compile_symbols.specs.declared.types.Types.{Types}
+use Rattle.cp_compile_symbols.specs.Numbering.{system_of}
+use Rattle.cp_compile_symbols.specs.Standing.{Stands, row_at, system_at}
+use Rattle.cp_compile_symbols.proofs.SystemsMade.{has_table, lacks_no_table}
+use Rattle.cp_compile_symbols.specs.declared.variables.Declared.{Declared}
+use Rattle.cp_compile_symbols.specs.Components.{own_members}
+use Rattle.cp_compile_symbols.specs.Layouts.{rights_of}
+use Rattle.cp_compile_symbols.specs.Scopes.{IsWritten}
+use Rattle.cp_compile_symbols.specs.Variables.{AreDeclared, Entry, declared_entry, parameters_of}
+use Rattle.cp_model_program.specs.Programs.{StartPlan}
 use Rattle.cp_compile.specs.declared.components.Owner.{Owner}
 use Rattle.cp_compile.specs.declared.components.InitialCompiler.{InitialCompiler}
 use Rattle.cp_compile.specs.CompiledComponents.{AreOwners, IsInitial, IsOwner, OwnerIs, PutsOwner}

@@ -3,14 +3,14 @@ use Rattle.std.proofs.Common.{◌≡◌, ◌∷◌, ◌++◌, ◌+◌, ◌∙◌
 use Rattle.std.proofs.lemmas.List.{append-nil, map-append}
 use Rattle.cp_model.specs.Abstract.{System}
 use Rattle.cp_model.specs.Types.{GlobalScope}
-use Rattle.cp_program_model.specs.Compile as code
-use Rattle.cp_program_model.specs.Compile.{monitors_at, processes_at, sum_words, waiting_words}
-use Rattle.cp_program_model.specs.Layout.{component_words}
-use Rattle.cp_program_model.specs.Plans.{plan_of_component}
-use Rattle.cp_program_model.specs.Programs as program
+use Rattle.cp_model_program.specs.Compile as code
+use Rattle.cp_model_program.specs.Compile.{monitors_at, processes_at, sum_words, waiting_words}
+use Rattle.cp_model_program.specs.Layout.{component_words}
+use Rattle.cp_model_program.specs.Plans.{plan_of_component}
+use Rattle.cp_model_program.specs.Programs as program
 use Rattle.cp_program.specs.View as view
 use Rattle.cp_program.specs.declared.program.Monitor.{Monitor}
-use Rattle.cp_program_model.specs.Programs.{StartPlan}
+use Rattle.cp_model_program.specs.Programs.{StartPlan}
 use Rattle.cp_program.specs.declared.program.Process.{Process}
 use Rattle.cp_compile.specs.declared.components.Owner.{Owner}
 use Rattle.cp_compile.specs.CompiledComponents.{AreOwners, OwnerIs}

@@ -11,17 +11,17 @@ use Rattle.cp_model.specs.Rules.{Accepted}
 use Rattle.cp_model.specs.Types.{GlobalScope, standard_scope}
 use Rattle.cp_model.specs.View as tree
 use Rattle.cp_model.specs.declared.tree.Tree as text
-use Rattle.cp_typing.specs.WellTyped.{TypedInOrder}
-use Rattle.cp_typing.proofs.Texts.{accepted_texts_are_well_typed}
-use Rattle.cp_program_model.specs.Programs as program
-use Rattle.cp_emit.specs.declared.plan.Planner.{Planner}
-use Rattle.cp_emit.specs.ComponentPlans.{ArePlans}
-use Rattle.cp_emit.specs.Planning.{Extends, Knows, types_of}
-use Rattle.cp_scope.specs.declared.tables.Tables.{Tables}
-use Rattle.cp_scope.specs.Layouts.{AreLaid}
-use Rattle.cp_scope.specs.Standing.{ScopeStands}
-use Rattle.cp_scope.specs.Texts.{TablesStand}
-use Rattle.cp_scope.specs.Variables.{AreDeclared, Entry}
+use Rattle.cp_law_typing.specs.WellTyped.{TypedInOrder}
+use Rattle.cp_law_typing.proofs.Texts.{accepted_texts_are_well_typed}
+use Rattle.cp_model_program.specs.Programs as program
+use Rattle.cp_compile_emit.specs.declared.plan.Planner.{Planner}
+use Rattle.cp_compile_emit.specs.ComponentPlans.{ArePlans}
+use Rattle.cp_compile_emit.specs.Planning.{Extends, Knows, types_of}
+use Rattle.cp_compile_symbols.specs.declared.tables.Tables.{Tables}
+use Rattle.cp_compile_symbols.specs.Layouts.{AreLaid}
+use Rattle.cp_compile_symbols.specs.Standing.{ScopeStands}
+use Rattle.cp_compile_symbols.specs.Texts.{TablesStand}
+use Rattle.cp_compile_symbols.specs.Variables.{AreDeclared, Entry}
 use Rattle.cp_compile.specs.declared.compiler.Code.{Code}
 use Rattle.cp_compile.specs.declared.compiler.Plans.{Plans}
 use Rattle.cp_compile.specs.declared.components.InitialCompiler.{InitialCompiler}

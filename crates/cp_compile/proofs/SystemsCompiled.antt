@@ -9,22 +9,22 @@ use Rattle.cp_model.specs.Types.{GlobalScope}
 use Rattle.cp_model.specs.View as tree
 use Rattle.cp_model.specs.declared.tree.Identifier.{Identifier}
 use Rattle.cp_model.specs.declared.tree.Routine as tree_routine
-use Rattle.cp_program_model.specs.Compile.{Compiled, with_body, with_routine, with_routines, with_unit}
-use Rattle.cp_program_model.specs.Plans.{plan_of_routine}
-use Rattle.cp_program_model.specs.Programs.{Done, Operation, Return, StartPlan}
-use Rattle.cp_program_model.specs.Scopes as code
-use Rattle.cp_program_model.specs.StandsFor.{end_of}
-use Rattle.cp_program_model.specs.StatementsFor.{is_function}
-use Rattle.cp_scope.specs.declared.routines.RoutineTable.{RoutineTable}
-use Rattle.cp_scope.specs.declared.scope.Scope.{Scope}
-use Rattle.cp_scope.specs.Routines.{RoutineStands}
-use Rattle.cp_scope.specs.Systems.{AreRoutines, routines_of}
-use Rattle.cp_scope.proofs.Called.{routine_stands}
-use Rattle.cp_scope.specs.Scopes.{IsRoutine, IsScope, words_of}
-use Rattle.cp_scope.specs.declared.types.Types.{Types}
-use Rattle.cp_scope.specs.Variables.{AreDeclared, Entry}
-use Rattle.cp_emit.specs.declared.emitter.Emitter.{Emitter}
-use Rattle.cp_emit.specs.Planning.{known_of, types_of}
+use Rattle.cp_model_program.specs.Compile.{Compiled, with_body, with_routine, with_routines, with_unit}
+use Rattle.cp_model_program.specs.Plans.{plan_of_routine}
+use Rattle.cp_model_program.specs.Programs.{Done, Operation, Return, StartPlan}
+use Rattle.cp_model_program.specs.Scopes as code
+use Rattle.cp_model_program.specs.StandsFor.{end_of}
+use Rattle.cp_model_program.specs.StatementsFor.{is_function}
+use Rattle.cp_compile_symbols.specs.declared.routines.RoutineTable.{RoutineTable}
+use Rattle.cp_compile_symbols.specs.declared.scope.Scope.{Scope}
+use Rattle.cp_compile_symbols.specs.Routines.{RoutineStands}
+use Rattle.cp_compile_symbols.specs.Systems.{AreRoutines, routines_of}
+use Rattle.cp_compile_symbols.proofs.Called.{routine_stands}
+use Rattle.cp_compile_symbols.specs.Scopes.{IsRoutine, IsScope, words_of}
+use Rattle.cp_compile_symbols.specs.declared.types.Types.{Types}
+use Rattle.cp_compile_symbols.specs.Variables.{AreDeclared, Entry}
+use Rattle.cp_compile_emit.specs.declared.emitter.Emitter.{Emitter}
+use Rattle.cp_compile_emit.specs.Planning.{known_of, types_of}
 use Rattle.cp_compile.specs.declared.system.SystemCompiler.{SystemCompiler}
 use Rattle.cp_compile.specs.CompiledSystems.{IsSystem}
 use Rattle.cp_compile.specs.Compiles.{IsCompiled}

@@ -15,16 +15,16 @@ use Rattle.cp_model.specs.declared.tree.System.{System}
 use Rattle.cp_model.specs.declared.tree.TypeExpression.{TypeExpression}
 use Rattle.cp_model.specs.declared.tree.TypeExpression.TheVariants as written
 use Rattle.cp_model.proofs.TypeViews.{view_array, view_record}
-use Rattle.cp_program_model.specs.Compile.{CompiledTypes, first_of_type, with_definition, with_definitions, with_system}
-use Rattle.cp_program_model.specs.Programs.{StartPlan}
-use Rattle.cp_program_model.specs.Scopes.{or_zero}
-use Rattle.cp_emit.specs.declared.emitter.Emitter.{Emitter}
-use Rattle.cp_scope.specs.declared.types.Types.{Types}
-use Rattle.cp_scope.specs.Scopes.{IsWritten}
-use Rattle.cp_translate.specs.Initialisation.{IsTable}
-use Rattle.cp_scope.specs.Numbering.{system_of}
-use Rattle.cp_scope.specs.Standing.{TypeMeans, row_at, system_at}
-use Rattle.cp_scope.specs.Tables.{InFront}
+use Rattle.cp_model_program.specs.Compile.{CompiledTypes, first_of_type, with_definition, with_definitions, with_system}
+use Rattle.cp_model_program.specs.Programs.{StartPlan}
+use Rattle.cp_model_program.specs.Scopes.{or_zero}
+use Rattle.cp_compile_emit.specs.declared.emitter.Emitter.{Emitter}
+use Rattle.cp_compile_symbols.specs.declared.types.Types.{Types}
+use Rattle.cp_compile_symbols.specs.Scopes.{IsWritten}
+use Rattle.cp_compile_lower.specs.Initialisation.{IsTable}
+use Rattle.cp_compile_symbols.specs.Numbering.{system_of}
+use Rattle.cp_compile_symbols.specs.Standing.{TypeMeans, row_at, system_at}
+use Rattle.cp_compile_symbols.specs.Tables.{InFront}
 use Rattle.cp_compile.specs.Compiles.{IsCompiled}
 use Rattle.cp_compile.specs.CompiledSystems.{IsSystem}
 use Rattle.cp_compile.specs.CompiledTexts.{AreNamed, IsDefined, IsText, TypesAre, defined_name}

@@ -2,13 +2,13 @@
 use Rattle.std.proofs.Common.{◌≡◌, ◌∷◌, ◌++◌, ◌∙◌, ℕ, suc, List, [], ap, append_assoc, drop, length, length-append, arith}
 use Rattle.std.proofs.Math.Seq.{drop-append_seam}
 use Rattle.cp_model.specs.Abstract as a
-use Rattle.cp_program_model.specs.CodeNeeds.{need_of_all}
-use Rattle.cp_program_model.specs.CodedStatements.{emitted}
-use Rattle.cp_program_model.specs.Compile.{Compiled, code_unit, unit_code, with_unit}
-use Rattle.cp_program_model.specs.Programs.{CodeUnit, Operation, StartPlan}
-use Rattle.cp_program_model.specs.Scopes as code
-use Rattle.cp_emit.specs.declared.emitter.Emitter.{Emitter}
-use Rattle.cp_emit.specs.Emission.{operations_of, place_of, units_of}
+use Rattle.cp_model_program.specs.CodeNeeds.{need_of_all}
+use Rattle.cp_model_program.specs.CodedStatements.{emitted}
+use Rattle.cp_model_program.specs.Compile.{Compiled, code_unit, unit_code, with_unit}
+use Rattle.cp_model_program.specs.Programs.{CodeUnit, Operation, StartPlan}
+use Rattle.cp_model_program.specs.Scopes as code
+use Rattle.cp_compile_emit.specs.declared.emitter.Emitter.{Emitter}
+use Rattle.cp_compile_emit.specs.Emission.{operations_of, place_of, units_of}
 use Rattle.cp_compile.specs.Compiles.{IsCompiled}
 
 -- The operations and units after `os` and `us` are those of the unit.

@@ -7,20 +7,20 @@ use Rattle.cp_model.specs.Types.{GlobalScope}
 use Rattle.cp_model.specs.declared.tree.Fields.{Fields}
 use Rattle.cp_model.specs.declared.tree.Parameters.{Parameters}
 use Rattle.cp_model.specs.declared.tree.Routine as tree_routine
-use Rattle.cp_program_model.specs.Compile as code
-use Rattle.cp_program_model.specs.Compile.{owner_before, waiting_words}
-use Rattle.cp_program_model.specs.Layout.{component_words}
-use Rattle.cp_program_model.specs.Plans.{plan_of_component}
-use Rattle.cp_program_model.specs.Programs.{StartPlan}
-use Rattle.cp_scope.specs.declared.systems.SystemTable.{SystemTable}
-use Rattle.cp_scope.specs.declared.types.Types.{Types}
-use Rattle.cp_scope.specs.Scopes.{IsWritten}
-use Rattle.cp_scope.specs.Systems.{SystemStands}
-use Rattle.cp_scope.specs.Texts.{AreSystems}
-use Rattle.cp_scope.specs.TypeNames.{AreTypeNames}
-use Rattle.cp_scope.specs.Variables.{AreDeclared, declared_entry}
+use Rattle.cp_model_program.specs.Compile as code
+use Rattle.cp_model_program.specs.Compile.{owner_before, waiting_words}
+use Rattle.cp_model_program.specs.Layout.{component_words}
+use Rattle.cp_model_program.specs.Plans.{plan_of_component}
+use Rattle.cp_model_program.specs.Programs.{StartPlan}
+use Rattle.cp_compile_symbols.specs.declared.systems.SystemTable.{SystemTable}
+use Rattle.cp_compile_symbols.specs.declared.types.Types.{Types}
+use Rattle.cp_compile_symbols.specs.Scopes.{IsWritten}
+use Rattle.cp_compile_symbols.specs.Systems.{SystemStands}
+use Rattle.cp_compile_symbols.specs.Texts.{AreSystems}
+use Rattle.cp_compile_symbols.specs.TypeNames.{AreTypeNames}
+use Rattle.cp_compile_symbols.specs.Variables.{AreDeclared, declared_entry}
 use Rattle.cp_program.specs.View.{plan_at}
-use Rattle.cp_emit.specs.ComponentPlans.{ArePlans}
+use Rattle.cp_compile_emit.specs.ComponentPlans.{ArePlans}
 use Rattle.cp_compile.specs.declared.components.InitialCompiler.{InitialCompiler}
 use Rattle.cp_compile.specs.declared.components.Owner.{Owner}
 

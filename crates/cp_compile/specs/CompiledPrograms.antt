@@ -8,15 +8,15 @@ use Rattle.cp_model.specs.Names.{lookup}
 use Rattle.cp_model.specs.Types.{GlobalScope}
 use Rattle.cp_model.specs.View as tree
 use Rattle.cp_model.specs.declared.tree.Tree as text
-use Rattle.cp_program_model.specs.Compile as code
-use Rattle.cp_program_model.specs.Compile.{CompiledTypes, monitors_at, nothing_compiled, of_sort, owners_of, processes_at, sum_words, waiting_words, with_definitions, with_system}
-use Rattle.cp_program_model.specs.Layout.{component_words}
-use Rattle.cp_program_model.specs.Plans.{plan_of_component}
-use Rattle.cp_program_model.specs.Programs.{StartPlan}
-use Rattle.cp_emit.specs.declared.plan.Planner.{Planner}
-use Rattle.cp_emit.specs.ComponentPlans.{ArePlans}
-use Rattle.cp_emit.specs.Planning.{Knows}
-use Rattle.cp_scope.specs.declared.tables.Tables.{Tables}
+use Rattle.cp_model_program.specs.Compile as code
+use Rattle.cp_model_program.specs.Compile.{CompiledTypes, monitors_at, nothing_compiled, of_sort, owners_of, processes_at, sum_words, waiting_words, with_definitions, with_system}
+use Rattle.cp_model_program.specs.Layout.{component_words}
+use Rattle.cp_model_program.specs.Plans.{plan_of_component}
+use Rattle.cp_model_program.specs.Programs.{StartPlan}
+use Rattle.cp_compile_emit.specs.declared.plan.Planner.{Planner}
+use Rattle.cp_compile_emit.specs.ComponentPlans.{ArePlans}
+use Rattle.cp_compile_emit.specs.Planning.{Knows}
+use Rattle.cp_compile_symbols.specs.declared.tables.Tables.{Tables}
 use Rattle.cp_program.specs.View as view
 use Rattle.cp_program.specs.View.{plan_at}
 use Rattle.cp_compile.specs.declared.compiler.Code.{Code}

@@ -6,14 +6,14 @@ use Rattle.cp_model.specs.Types.{GlobalScope}
 use Rattle.cp_model.specs.declared.tree.Fields.{Fields}
 use Rattle.cp_model.specs.declared.tree.Parameters.{Parameters}
 use Rattle.cp_model.specs.declared.tree.Routine as tree
-use Rattle.cp_program_model.specs.Compile.{Compiled}
-use Rattle.cp_emit.specs.declared.emitter.Emitter.{Emitter}
-use Rattle.cp_emit.specs.Planning.{Knows, known_of}
-use Rattle.cp_scope.specs.Layouts.{EachIsLaid}
-use Rattle.cp_scope.specs.Scopes.{IsWritten}
-use Rattle.cp_scope.specs.Standing.{ScopeStands}
-use Rattle.cp_scope.specs.Systems.{SystemStands}
-use Rattle.cp_scope.specs.Texts.{AreSystems}
+use Rattle.cp_model_program.specs.Compile.{Compiled}
+use Rattle.cp_compile_emit.specs.declared.emitter.Emitter.{Emitter}
+use Rattle.cp_compile_emit.specs.Planning.{Knows, known_of}
+use Rattle.cp_compile_symbols.specs.Layouts.{EachIsLaid}
+use Rattle.cp_compile_symbols.specs.Scopes.{IsWritten}
+use Rattle.cp_compile_symbols.specs.Standing.{ScopeStands}
+use Rattle.cp_compile_symbols.specs.Systems.{SystemStands}
+use Rattle.cp_compile_symbols.specs.Texts.{AreSystems}
 use Rattle.cp_compile.specs.Compiles.{IsCompiled}
 use Rattle.cp_compile.specs.declared.system.SystemCompiler.{SystemCompiler}
 

@@ -5,15 +5,15 @@ use Rattle.cp_model.specs.Abstract as a
 use Rattle.cp_model.specs.Abstract.{Definition, Name, System}
 use Rattle.cp_model.specs.Names.{lookup}
 use Rattle.cp_model.specs.Types.{ComponentOf, GlobalScope, Members}
-use Rattle.cp_program_model.specs.Compile.{CompiledTypes, with_definition, with_definitions}
-use Rattle.cp_program_model.specs.Programs.{StartPlan}
-use Rattle.cp_emit.specs.declared.emitter.Emitter.{Emitter}
-use Rattle.cp_emit.specs.Planning.{Knows, known_of}
-use Rattle.cp_scope.specs.Layouts.{EachIsLaid}
-use Rattle.cp_scope.specs.Numbering.{system_of}
-use Rattle.cp_scope.specs.Standing.{ScopeStands, row_at}
-use Rattle.cp_scope.specs.Texts.{AreSystems}
-use Rattle.cp_scope.specs.declared.tables.Tables.{Tables}
+use Rattle.cp_model_program.specs.Compile.{CompiledTypes, with_definition, with_definitions}
+use Rattle.cp_model_program.specs.Programs.{StartPlan}
+use Rattle.cp_compile_emit.specs.declared.emitter.Emitter.{Emitter}
+use Rattle.cp_compile_emit.specs.Planning.{Knows, known_of}
+use Rattle.cp_compile_symbols.specs.Layouts.{EachIsLaid}
+use Rattle.cp_compile_symbols.specs.Numbering.{system_of}
+use Rattle.cp_compile_symbols.specs.Standing.{ScopeStands, row_at}
+use Rattle.cp_compile_symbols.specs.Texts.{AreSystems}
+use Rattle.cp_compile_symbols.specs.declared.tables.Tables.{Tables}
 use Rattle.cp_compile.specs.declared.definitions.TextCompiler.{TextCompiler}
 use Rattle.cp_compile.specs.Compiles.{IsCompiled}
 

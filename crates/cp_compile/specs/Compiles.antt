@@ -4,10 +4,10 @@ use Rattle.cp_model.specs.Abstract as a
 use Rattle.cp_model.specs.Erase as erase
 use Rattle.cp_model.specs.View as tree
 use Rattle.cp_model.specs.declared.tree.Statement.{Statement}
-use Rattle.cp_program_model.specs.Compile.{Compiled}
-use Rattle.cp_program_model.specs.Programs.{StartPlan}
-use Rattle.cp_emit.specs.declared.emitter.Emitter.{Emitter}
-use Rattle.cp_emit.specs.Emission.{Continues, operations_of, units_of}
+use Rattle.cp_model_program.specs.Compile.{Compiled}
+use Rattle.cp_model_program.specs.Programs.{StartPlan}
+use Rattle.cp_compile_emit.specs.declared.emitter.Emitter.{Emitter}
+use Rattle.cp_compile_emit.specs.Emission.{Continues, operations_of, units_of}
 
 -- The emitter has the operations and units of `c`. The plans `known` are those of the planner.
 pub record IsCompiled (known : List StartPlan) (emitter : Emitter) (c : Compiled) : Type 0 where

@@ -1,11 +1,11 @@
 -- When components lie where the definition has them.
 use Rattle.std.specs.Prelude.{◌≡◌, ◌+◌, ℕ, List, map}
 use Rattle.cp_model.specs.Types.{GlobalScope}
-use Rattle.cp_program_model.specs.Compile as code
-use Rattle.cp_program_model.specs.Compile.{monitors_at, processes_at, sum_words, waiting_words}
-use Rattle.cp_program_model.specs.Layout.{component_words}
+use Rattle.cp_model_program.specs.Compile as code
+use Rattle.cp_model_program.specs.Compile.{monitors_at, processes_at, sum_words, waiting_words}
+use Rattle.cp_model_program.specs.Layout.{component_words}
 use Rattle.cp_program.specs.View as view
-use Rattle.cp_program_model.specs.Programs.{StartPlan}
+use Rattle.cp_model_program.specs.Programs.{StartPlan}
 use Rattle.cp_compile.specs.declared.layout.MonitorLayout.{MonitorLayout}
 use Rattle.cp_compile.specs.declared.layout.ProcessLayout.{ProcessLayout}
 

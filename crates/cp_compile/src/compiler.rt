@@ -6,10 +6,10 @@ ghost use Rattle.cp_model.specs.Rules.{Accepted};
 ghost use Rattle.cp_model.specs.Types.{GlobalScope};
 ghost use Rattle.cp_model.specs.View as syntax;
 ghost use Rattle.cp_model.specs.declared.tree.Tree as text;
-ghost use Rattle.cp_program_model.specs.Compile as code;
-ghost use Rattle.cp_program_model.specs.Programs.{StartPlan};
-ghost use Rattle.cp_emit.specs.Planning.{known_of};
-ghost use Rattle.cp_scope.specs.Texts.{TablesStand};
+ghost use Rattle.cp_model_program.specs.Compile as code;
+ghost use Rattle.cp_model_program.specs.Programs.{StartPlan};
+ghost use Rattle.cp_compile_emit.specs.Planning.{known_of};
+ghost use Rattle.cp_compile_symbols.specs.Texts.{TablesStand};
 ghost use Rattle.cp_program.specs.View as view;
 ghost use Rattle.cp_program.specs.View.{origins_of};
 ghost use Rattle.cp_compile.specs.Compiles.{EndsAt};
@@ -19,12 +19,12 @@ use crate::components::{InitialCompiler, Owner};
 use crate::definitions::TextCompiler;
 use crate::layout::{lay_monitors, lay_processes};
 use crate::system::SystemCompiler;
-use cp_emit::Emitter;
-use cp_emit::plan::Planner;
+use cp_base_names::{Key, NameTable};
+use cp_compile_emit::Emitter;
+use cp_compile_emit::plan::Planner;
+use cp_compile_symbols::{Tables, small_number, small_sum};
 use cp_model::tree::{Sort, Tree};
-use cp_names::{Key, NameTable};
 use cp_program::program::{Monitor, Process, Program};
-use cp_scope::{Tables, small_number, small_sum};
 use std::alloc::{AllocError, Global};
 
 /// The code of a text: its operations and units, the first unit of each type by name, and the first
@@ -143,7 +143,7 @@ fn lay_components<'t>(
 }
 
 /// Compiles a text with these tables to a program. For an accepted text and the tables that stand
-/// for it, it is the program that the definition `compile` of `cp_program_model` makes, which
+/// for it, it is the program that the definition `compile` of `cp_model_program` makes, which
 /// stands for the text. Each operation has an origin.
 ///
 /// # Errors

@@ -5,16 +5,16 @@ ghost use Rattle.cp_model.specs.Abstract.{Group, Name};
 ghost use Rattle.cp_model.specs.Declarations.{Variable};
 ghost use Rattle.cp_model.specs.Erase as erase;
 ghost use Rattle.cp_model.specs.Types.{GlobalScope};
-ghost use Rattle.cp_program_model.specs.Compile as code;
-ghost use Rattle.cp_program_model.specs.Compile.{of_sort, owners_of};
-ghost use Rattle.cp_scope.specs.Numbering.{system_of};
-ghost use Rattle.cp_scope.specs.Standing.{Stands, row_at, system_at};
-ghost use Rattle.cp_program_model.specs.Programs.{StartPlan};
+ghost use Rattle.cp_model_program.specs.Compile as code;
+ghost use Rattle.cp_model_program.specs.Compile.{of_sort, owners_of};
+ghost use Rattle.cp_compile_symbols.specs.Numbering.{system_of};
+ghost use Rattle.cp_compile_symbols.specs.Standing.{Stands, row_at, system_at};
+ghost use Rattle.cp_model_program.specs.Programs.{StartPlan};
 ghost use Rattle.cp_compile.specs.CompiledComponents.{AreOwners, IsInitial, IsOwner, PutsOwner};
 
+use cp_base_names::NameTable;
+use cp_compile_symbols::{Declared, SystemTable, Tables, small_number, small_sum};
 use cp_model::tree::{Sort, System};
-use cp_names::NameTable;
-use cp_scope::{Declared, SystemTable, Tables, small_number, small_sum};
 use std::alloc::AllocError;
 
 /// A monitor or a process: the unit of its body, the number of its words, the number of shared

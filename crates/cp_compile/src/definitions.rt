@@ -7,18 +7,18 @@ ghost use Rattle.cp_model.specs.Erase as erase;
 ghost use Rattle.cp_model.specs.Types.{ComponentOf, GlobalScope, Members};
 ghost use Rattle.cp_model.specs.Names.{lookup};
 ghost use Rattle.cp_model.specs.View as tree;
-ghost use Rattle.cp_program_model.specs.Compile.{CompiledTypes, first_of_type, with_system};
-ghost use Rattle.cp_emit.specs.Planning.{known_of};
+ghost use Rattle.cp_model_program.specs.Compile.{CompiledTypes, first_of_type, with_system};
+ghost use Rattle.cp_compile_emit.specs.Planning.{known_of};
 ghost use Rattle.cp_compile.specs.CompiledTexts.{CompilesAll, CompilesOne, DefinesType, IsText, TypesAre, system_number};
-ghost use Rattle.cp_translate.specs.Initialisation.{IsTable};
+ghost use Rattle.cp_compile_lower.specs.Initialisation.{IsTable};
 ghost use Rattle.cp_compile.specs.Compiles.{EndsAt, IsCompiled};
 
 use crate::system::SystemCompiler;
-use cp_emit::Emitter;
-use cp_emit::plan::Planner;
+use cp_base_names::NameTable;
+use cp_compile_emit::Emitter;
+use cp_compile_emit::plan::Planner;
+use cp_compile_symbols::{SystemTable, Tables};
 use cp_model::tree::{Defined, Section, System, TypeDefinition, TypeExpression};
-use cp_names::NameTable;
-use cp_scope::{SystemTable, Tables};
 use std::alloc::AllocError;
 
 /// What the definitions of a text are compiled with.

@@ -2,14 +2,14 @@
 
 ghost use Rattle.std.specs.Prelude.{List, IfOk};
 ghost use Rattle.cp_model.specs.Types.{GlobalScope};
-ghost use Rattle.cp_program_model.specs.Compile as code;
-ghost use Rattle.cp_program_model.specs.Programs.{StartPlan};
+ghost use Rattle.cp_model_program.specs.Compile as code;
+ghost use Rattle.cp_model_program.specs.Programs.{StartPlan};
 ghost use Rattle.cp_compile.specs.CompiledComponents.{AreOwners};
 ghost use Rattle.cp_compile.specs.LaidComponents.{MonitorsLie, ProcessesLie};
 
 use crate::components::Owner;
+use cp_compile_symbols::small_sum;
 use cp_program::program::{Monitor, Process};
-use cp_scope::small_sum;
 use std::alloc::{AllocError, Global};
 
 /// Monitors that lie one after another, and the number of words that they take.

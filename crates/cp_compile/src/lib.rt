@@ -9,8 +9,8 @@
 //! - `compiler`: compiles a whole tree.
 //!
 //! The tables of the text are made before (cp_check). For an accepted text, the result is that of
-//! `cp_program_model`'s function `compile`, which stands for the text by a law
-//! (`cp_program_model::law::accepted_tree_has_program`).
+//! `cp_model_program`'s function `compile`, which stands for the text by a law
+//! (`cp_model_program::law::accepted_tree_has_program`).
 #![tactic(auto)]
 
 mod compiler;

@@ -5,22 +5,22 @@ ghost use Rattle.cp_model.specs.Abstract.{Name, Routine, System};
 ghost use Rattle.cp_model.specs.Erase as erase;
 ghost use Rattle.cp_model.specs.Types.{GlobalScope};
 ghost use Rattle.cp_model.specs.View as tree;
-ghost use Rattle.cp_program_model.specs.Compile.{Compiled, with_body, with_routine, with_routines, with_system};
-ghost use Rattle.cp_program_model.specs.StandsFor.{end_of};
-ghost use Rattle.cp_scope.specs.Routines.{RoutineStands};
-ghost use Rattle.cp_scope.specs.Systems.{routines_of};
+ghost use Rattle.cp_model_program.specs.Compile.{Compiled, with_body, with_routine, with_routines, with_system};
+ghost use Rattle.cp_model_program.specs.StandsFor.{end_of};
+ghost use Rattle.cp_compile_symbols.specs.Routines.{RoutineStands};
+ghost use Rattle.cp_compile_symbols.specs.Systems.{routines_of};
 ghost use Rattle.cp_program.specs.View as view;
 ghost use Rattle.cp_compile.specs.Compiles.{AddsUnit, EndsAt, body_of};
-ghost use Rattle.cp_emit.specs.Emission.{Continues};
+ghost use Rattle.cp_compile_emit.specs.Emission.{Continues};
 ghost use Rattle.cp_compile.specs.CompiledSystems.{IsSystem, Makes};
 
 use crate::unit::compile_unit;
-use cp_emit::Emitter;
-use cp_emit::plan::Planner;
+use cp_base_names::NameTable;
+use cp_compile_emit::Emitter;
+use cp_compile_emit::plan::Planner;
+use cp_compile_symbols::{RoutineTable, Scope, SystemTable, Tables};
 use cp_model::tree::{Routine, Sort, Statement};
-use cp_names::NameTable;
 use cp_program::operation::Operation;
-use cp_scope::{RoutineTable, Scope, SystemTable, Tables};
 use std::alloc::AllocError;
 
 /// What the units of a system type are compiled with: the tables of the text, the planner, the

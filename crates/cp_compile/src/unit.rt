@@ -1,19 +1,19 @@
 //! Compiles a unit: the code of a routine or of the body of a system type.
 
 ghost use Rattle.std.specs.Prelude.{List, OnOk};
-ghost use Rattle.cp_program_model.specs.Compile.{Compiled, with_unit};
-ghost use Rattle.cp_program_model.specs.Programs.{StartPlan};
-ghost use Rattle.cp_program_model.specs.Scopes as code;
-ghost use Rattle.cp_scope.specs.Scopes.{IsScope};
+ghost use Rattle.cp_model_program.specs.Compile.{Compiled, with_unit};
+ghost use Rattle.cp_model_program.specs.Programs.{StartPlan};
+ghost use Rattle.cp_model_program.specs.Scopes as code;
+ghost use Rattle.cp_compile_symbols.specs.Scopes.{IsScope};
 ghost use Rattle.cp_program.specs.View as view;
 ghost use Rattle.cp_compile.specs.Compiles.{AddsUnit, IsCompiled, body_of};
 
-use cp_emit::Emitter;
+use cp_compile_emit::Emitter;
+use cp_compile_lower::Translator;
+use cp_compile_symbols::Scope;
 use cp_model::tree::Statement;
 use cp_program::operation::Operation;
 use cp_program::program::StartPiece;
-use cp_scope::Scope;
-use cp_translate::Translator;
 use std::alloc::{AllocError, Global};
 
 /// Compiles the statements `body` to a unit, which stands at the place `origin` of the text. It

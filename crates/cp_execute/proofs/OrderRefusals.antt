@@ -1,19 +1,19 @@
 -- Why a replay is refused.
 use Rattle.std.proofs.Common.{◌≡◌, ap, List, Option, None, Some, IfSome, ℕ, inl, inr, subst, sym}
 use Rattle.cp_model.specs.Syntax as s
-use Rattle.cp_orders.specs.Reading.{Refuses}
-use Rattle.cp_orders.specs.declared.reading.OrderError.{OrderError}
-use Rattle.cp_orders.specs.declared.reading.OrderError.TheVariants as order
-use Rattle.cp_accept.specs.declared.reading.ReadError.{ReadError}
-use Rattle.cp_accept.specs.declared.reading.ReadError.TheVariants as read
-use Rattle.cp_accept.specs.declared.refusal.Refusal.{Refusal}
-use Rattle.cp_accept.specs.declared.refusal.Refusal.TheVariants as refusal
-use Rattle.cp_accept.specs.KnownRefusals.{IsFault, RefusesInputOf, RefusesText}
-use Rattle.cp_accept.specs.Refusals.{of_order, of_read}
+use Rattle.cp_base_schedule.specs.Reading.{Refuses}
+use Rattle.cp_base_schedule.specs.declared.reading.OrderError.{OrderError}
+use Rattle.cp_base_schedule.specs.declared.reading.OrderError.TheVariants as order
+use Rattle.cp_frontend.specs.declared.reading.ReadError.{ReadError}
+use Rattle.cp_frontend.specs.declared.reading.ReadError.TheVariants as read
+use Rattle.cp_frontend.specs.declared.refusal.Refusal.{Refusal}
+use Rattle.cp_frontend.specs.declared.refusal.Refusal.TheVariants as refusal
+use Rattle.cp_frontend.specs.KnownRefusals.{IsFault, RefusesInputOf, RefusesText}
+use Rattle.cp_frontend.specs.Refusals.{of_order, of_read}
 use Rattle.cp_execute.specs.Replayed.{IsFit, IsNotText, RefusesNoAccepted, RefusesOrder, RefusesOrderFor, RefusesOrderOf, RefusesReplay, rounds_told}
-use Rattle.cp_accept.specs.Takings.{Concern, Fault, Input, IsAboutInput, IsAboutOrder, Order, Text, Writer, concern, front}
-use Rattle.cp_accept.specs.Texts.{IsAccepted}
-use Rattle.cp_accept.proofs.Faults.{known_fault}
+use Rattle.cp_frontend.specs.Takings.{Concern, Fault, Input, IsAboutInput, IsAboutOrder, Order, Text, Writer, concern, front}
+use Rattle.cp_frontend.specs.Texts.{IsAccepted}
+use Rattle.cp_frontend.proofs.Faults.{known_fault}
 
 pub replay_refused_text : (text input order : Option (List ℕ)) (e : Refusal) → IfSome text (λ xs. RefusesText xs e)
     → IfSome text (λ xs. RefusesReplay xs input order e)

@@ -5,12 +5,12 @@ use Rattle.std.specs.Prelude.{if◌then◌else◌, nat_le}
 use Rattle.cp_model.specs.OrderText.{NotALine, order_text}
 use Rattle.cp_model.specs.Rounds.{Event}
 use Rattle.cp_model.specs.Syntax as s
-use Rattle.cp_plan.specs.declared.run.Replay.{Replay}
-use Rattle.cp_accept.specs.Cutting.{judge_input}
+use Rattle.cp_base_config.specs.declared.run.Replay.{Replay}
+use Rattle.cp_frontend.specs.Cutting.{judge_input}
 use Rattle.cp_execute.specs.Replayed.{Due, IsDueAfter, IsFit, IsReplayed, judge_order, judge_order_of, processes_in, rounds_told}
-use Rattle.cp_accept.specs.Takings.{front}
-use Rattle.cp_accept.specs.Texts.{IsAccepted}
-use Rattle.cp_accept.proofs.TextRefusals.{of_known, whole}
+use Rattle.cp_frontend.specs.Takings.{front}
+use Rattle.cp_frontend.specs.Texts.{IsAccepted}
+use Rattle.cp_frontend.proofs.TextRefusals.{of_known, whole}
 
 -- An order that isn't refused is within the limit.
 order_within : (n : ℕ) (bytes : List ℕ) (rounds : List (List Event)) → judge_order_of n bytes ≡ Ok rounds → length bytes ≤ 1048576

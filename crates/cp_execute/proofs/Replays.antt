@@ -5,8 +5,8 @@ use Rattle.cp_model.specs.Orders.{replay}
 use Rattle.cp_model.specs.Rounds.{Event, replay_event, replay_round, wake}
 use Rattle.cp_model.specs.States.{Setup, State}
 use Rattle.cp_model.proofs.Options.{same_some}
-use Rattle.cp_machine_model.specs.InState.{IsIn, NoneFresh}
-use Rattle.cp_machine_model.proofs.MachineStarts.{closed_calm}
+use Rattle.cp_model_machine.specs.InState.{IsIn, NoneFresh}
+use Rattle.cp_model_machine.proofs.MachineStarts.{closed_calm}
 use Rattle.cp_rounds.specs.InStates.{MakesReplay}
 use Rattle.cp_rounds.specs.Views.{machine_of}
 use Rattle.cp_rounds.specs.declared.machine.Machine.{Machine}

@@ -8,14 +8,14 @@ use Rattle.cp_model.specs.States.{Setup, State}
 use Rattle.cp_model.specs.Types.{GlobalScope}
 use Rattle.cp_model.specs.View as view
 use Rattle.cp_model.specs.declared.tree.Tree as tree
-use Rattle.cp_machine_model.specs.Chains.{ReportHasChains}
-use Rattle.cp_machine_model.specs.InState.{IsIn, NoneFresh}
-use Rattle.cp_machine_model.specs.Machines.{Machine}
-use Rattle.cp_machine_model.specs.RoundLaws.{ReportIsReport}
+use Rattle.cp_model_machine.specs.Chains.{ReportHasChains}
+use Rattle.cp_model_machine.specs.InState.{IsIn, NoneFresh}
+use Rattle.cp_model_machine.specs.Machines.{Machine}
+use Rattle.cp_model_machine.specs.RoundLaws.{ReportIsReport}
 use Rattle.cp_rounds.specs.Views.{KeepsText}
 use Rattle.cp_rounds.specs.declared.machine.Machine as rounds
-use Rattle.cp_scope.specs.Texts.{TablesStand}
-use Rattle.cp_scope.specs.declared.tables.Tables.{Tables}
+use Rattle.cp_compile_symbols.specs.Texts.{TablesStand}
+use Rattle.cp_compile_symbols.specs.declared.tables.Tables.{Tables}
 use Rattle.cp_execute.specs.Executed.{IsReportOf}
 use Rattle.cp_execute.specs.MachineReports.{IsReport}
 

@@ -12,17 +12,17 @@ use Rattle.cp_model.specs.Start.{start}
 use Rattle.cp_model.specs.States.{Setup, State}
 use Rattle.cp_program.specs.declared.program.Program.{Program}
 use Rattle.cp_check.specs.Checked.{IsProgramOf}
-use Rattle.cp_scope.specs.Texts.{TablesStand}
-use Rattle.cp_scope.specs.declared.tables.Tables.{Tables}
-use Rattle.cp_start.specs.Starts.{setup_of}
-use Rattle.cp_accept.specs.declared.refusal.Refusal.{Refusal}
-use Rattle.cp_plan.specs.declared.run.Run.{Run}
+use Rattle.cp_compile_symbols.specs.Texts.{TablesStand}
+use Rattle.cp_compile_symbols.specs.declared.tables.Tables.{Tables}
+use Rattle.cp_execute_start.specs.Starts.{setup_of}
+use Rattle.cp_frontend.specs.declared.refusal.Refusal.{Refusal}
+use Rattle.cp_base_config.specs.declared.run.Run.{Run}
 use Rattle.cp_execute.specs.declared.execute.Job.{Job}
 use Rattle.cp_execute.specs.declared.execute.Job.TheVariants as job
-use Rattle.cp_accept.specs.Cutting.{judge_input}
-use Rattle.cp_accept.specs.Texts.{IsAccepted}
-use Rattle.cp_accept.specs.KnownRefusals.{IsFaultOfAccepted, IsFaultOrOfInput, RefusesRun, RefusesText}
-use Rattle.cp_accept.specs.Takings.{AppendsSome, TakesInput}
+use Rattle.cp_frontend.specs.Cutting.{judge_input}
+use Rattle.cp_frontend.specs.Texts.{IsAccepted}
+use Rattle.cp_frontend.specs.KnownRefusals.{IsFaultOfAccepted, IsFaultOrOfInput, RefusesRun, RefusesText}
+use Rattle.cp_frontend.specs.Takings.{AppendsSome, TakesInput}
 
 -- The bytes are the report of a state, with the chains of askers if they are asked for.
 abbrev pub IsReportOf : Bool → Setup → State → List ℕ → Type 0

@@ -2,16 +2,16 @@
 -- has made the rounds of a run or of an order.
 use Rattle.std.specs.Prelude.{Bool, true, false, List}
 use Rattle.cp_model.specs.Report.{Text}
-use Rattle.cp_machine_model.specs.Machines.{Machine}
+use Rattle.cp_model_machine.specs.Machines.{Machine}
 use Rattle.cp_model.specs.Rounds.{Event}
-use Rattle.cp_plan.specs.declared.run.Replay.{Replay}
-use Rattle.cp_plan.specs.declared.run.Run.{Run}
+use Rattle.cp_base_config.specs.declared.run.Replay.{Replay}
+use Rattle.cp_base_config.specs.declared.run.Run.{Run}
 use Rattle.cp_report.specs.WholeReports as without
 use Rattle.cp_report.specs.WholeReports.{IsReportWithChains}
 use Rattle.cp_rounds.specs.InStates.{MakesRounds}
 use Rattle.cp_rounds.specs.Views.{KeepsText, machine_of}
 use Rattle.cp_rounds.specs.declared.machine.Machine as rounds
-use Rattle.cp_scope.specs.declared.tables.Tables.{Tables}
+use Rattle.cp_compile_symbols.specs.declared.tables.Tables.{Tables}
 use Rattle.cp_execute.specs.Replayed.{MakesReplays}
 
 abbrev pub IsReport : Bool → Tables → Machine → Text → Type 0

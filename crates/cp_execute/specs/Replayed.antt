@@ -7,19 +7,19 @@ use Rattle.cp_model.specs.Orders.{replay}
 use Rattle.cp_model.specs.Rounds.{Event}
 use Rattle.cp_model.specs.Start.{start}
 use Rattle.cp_model.specs.States.{Setup, State, process_count}
-use Rattle.cp_machine_model.specs.InState.{IsIn}
-use Rattle.cp_orders.specs.Reading.{judged}
+use Rattle.cp_model_machine.specs.InState.{IsIn}
+use Rattle.cp_base_schedule.specs.Reading.{judged}
 use Rattle.cp_rounds.specs.Views.{machine_of}
 use Rattle.cp_rounds.specs.declared.machine.Machine.{Machine}
-use Rattle.cp_accept.specs.declared.refusal.Refusal.{Refusal}
-use Rattle.cp_accept.specs.declared.refusal.Refusal.TheVariants as refusal
-use Rattle.cp_plan.specs.declared.run.Replay.{Replay}
-use Rattle.cp_accept.specs.Cutting.{judge_input}
-use Rattle.cp_accept.specs.KnownRefusals.{RefusesInputOf, RefusesText}
+use Rattle.cp_frontend.specs.declared.refusal.Refusal.{Refusal}
+use Rattle.cp_frontend.specs.declared.refusal.Refusal.TheVariants as refusal
+use Rattle.cp_base_config.specs.declared.run.Replay.{Replay}
+use Rattle.cp_frontend.specs.Cutting.{judge_input}
+use Rattle.cp_frontend.specs.KnownRefusals.{RefusesInputOf, RefusesText}
 use Rattle.cp_execute.specs.Executed.{IsReportOf}
-use Rattle.cp_start.specs.Starts.{setup_of}
-use Rattle.cp_accept.specs.Takings.{AppendsSome, Concern, IsAboutOrder, Text, concern, front}
-use Rattle.cp_accept.specs.Texts.{IsAccepted}
+use Rattle.cp_execute_start.specs.Starts.{setup_of}
+use Rattle.cp_frontend.specs.Takings.{AppendsSome, Concern, IsAboutOrder, Text, concern, front}
+use Rattle.cp_frontend.specs.Texts.{IsAccepted}
 
 -- ---- Orders
 

@@ -2,16 +2,16 @@
 
 ghost use Rattle.std.specs.Prelude.{◌≡◌, IfErr, IfSome, OnOk};
 ghost use Rattle.std.specs.Io.KnownBytes.{Keeps};
-ghost use Rattle.cp_accept.specs.KnownRefusals.{IsFaultOfAccepted, IsFaultOrOfInput, RefusesRun, RefusesText};
+ghost use Rattle.cp_frontend.specs.KnownRefusals.{IsFaultOfAccepted, IsFaultOrOfInput, RefusesRun, RefusesText};
 ghost use Rattle.cp_execute.specs.Executed.{Accepts, Begins, BeginsAcceptance, BeginsReport, Does, Refuses, RefusesAccepted, Reports, TakesInputFor};
-ghost use Rattle.cp_accept.specs.Takings.{TakesInput, TakesText};
-ghost use Rattle.cp_accept.specs.declared.refusal.Refusal.TheVariants as refusal;
+ghost use Rattle.cp_frontend.specs.Takings.{TakesInput, TakesText};
+ghost use Rattle.cp_frontend.specs.declared.refusal.Refusal.TheVariants as refusal;
 
 use crate::running::report_after_run;
-use cp_accept::refusal::Refusal;
-use cp_accept::sources::{read_accepted, read_input};
-use cp_accept::writing::write_result;
-use cp_plan::run::Run;
+use cp_base_config::run::Run;
+use cp_frontend::refusal::Refusal;
+use cp_frontend::sources::{read_accepted, read_input};
+use cp_frontend::writing::write_result;
 use cp_rounds::gate::TurnGate;
 use std::alloc::Global;
 use std::io::{Read, Write};

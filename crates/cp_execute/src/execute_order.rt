@@ -4,15 +4,15 @@
 ghost use Rattle.std.specs.Prelude.{◌≡◌, IfErr, IfSome, OnOk};
 ghost use Rattle.std.specs.Io.KnownBytes.{Keeps};
 ghost use Rattle.cp_execute.specs.Replayed.{BeginsReplay, RefusesNoAccepted, RefusesReplay, Replays};
-ghost use Rattle.cp_accept.specs.Takings.{TakesInput, TakesOrder, TakesText};
-ghost use Rattle.cp_accept.specs.declared.refusal.Refusal.TheVariants as refusal;
+ghost use Rattle.cp_frontend.specs.Takings.{TakesInput, TakesOrder, TakesText};
+ghost use Rattle.cp_frontend.specs.declared.refusal.Refusal.TheVariants as refusal;
 
 use crate::replaying::report_after_replay;
-use cp_accept::reading::read_text;
-use cp_accept::refusal::Refusal;
-use cp_accept::sources::{read_accepted, read_input};
-use cp_accept::writing::write_result;
-use cp_plan::run::Replay;
+use cp_base_config::run::Replay;
+use cp_frontend::reading::read_text;
+use cp_frontend::refusal::Refusal;
+use cp_frontend::sources::{read_accepted, read_input};
+use cp_frontend::writing::write_result;
 use std::alloc::Global;
 use std::io::{Read, Write};
 

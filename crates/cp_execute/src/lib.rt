@@ -4,7 +4,7 @@
 //! - `running`, `replaying`: builds the program of an accepted text, runs or replays it, and makes
 //!   the report.
 //!
-//! Reading, judging and refusals are cp_accept's. `specs/Executed.antt` and `specs/Replayed.antt`
+//! Reading, judging and refusals are cp_frontend's. `specs/Executed.antt` and `specs/Replayed.antt`
 //! define what a result means.
 #![tactic(auto)]
 

@@ -4,8 +4,8 @@ ghost use Rattle.std.specs.Prelude.{◌≡◌, IfErr, IfOk, Ok, length};
 ghost use Rattle.cp_check.specs.Checked.{IsProgramOf};
 ghost use Rattle.cp_model.specs.Rules.{Accepted};
 ghost use Rattle.cp_model.specs.View as view;
-ghost use Rattle.cp_orders.specs.Reading.{AllWithin};
-ghost use Rattle.cp_orders.specs.Rounds.{rounds_of};
+ghost use Rattle.cp_base_schedule.specs.Reading.{AllWithin};
+ghost use Rattle.cp_base_schedule.specs.Rounds.{rounds_of};
 ghost use Rattle.cp_program.specs.View as program_view;
 ghost use Rattle.cp_rounds.specs.Views.{KeepsText, processes_of};
 ghost use Rattle.cp_execute.specs.Executed.{AreTablesOf};
@@ -13,18 +13,18 @@ ghost use Rattle.cp_execute.specs.MachineReports.{ReportsReplay};
 ghost use Rattle.cp_execute.specs.Replayed.{IsDueAfter, IsReplayed, MakesReplays, RefusesOrder, RefusesOrderFor, judge_order_of};
 
 use crate::running::report_of;
-use cp_accept::refusal::Refusal;
+use cp_base_config::run::Replay;
+use cp_base_config::turn::Turn;
+use cp_base_schedule::orders::Orders;
+use cp_base_schedule::reading::read_orders;
 use cp_check::checking::{CompiledText, compile_accepted};
-use cp_machine_model::law::{reports, waits};
+use cp_compile_symbols::Tables;
+use cp_execute_start::starting::machine_at_start;
+use cp_frontend::refusal::Refusal;
 use cp_model::tree::Tree;
-use cp_orders::orders::Orders;
-use cp_orders::reading::read_orders;
-use cp_plan::run::Replay;
-use cp_plan::turn::Turn;
+use cp_model_machine::law::{reports, waits};
 use cp_program::program::Program;
 use cp_rounds::machine::Machine;
-use cp_scope::Tables;
-use cp_start::starting::machine_at_start;
 use std::alloc::{AllocError, Global};
 
 // Makes the rounds of an order on a machine that has made none.

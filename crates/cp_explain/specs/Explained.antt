@@ -5,12 +5,12 @@ use Rattle.std.specs.Io.KnownBytes.{Appends}
 use Rattle.cp_model.specs.Syntax as s
 use Rattle.cp_model.specs.Decimal.{natural}
 use Rattle.cp_model.specs.RulesJudged.{number_of}
-use Rattle.cp_accept.specs.Takings.{front}
-use Rattle.cp_accept.specs.Refusals.{scan_number}
-use Rattle.cp_accept.specs.Texts.{IsAccepted, Refuses}
-use Rattle.cp_accept.specs.declared.refusal.Refusal.{Refusal}
-use Rattle.cp_accept.specs.declared.refusal.Refusal.TheVariants as refusal
-use Rattle.cp_page.specs.Positions.{column_at, line_at}
+use Rattle.cp_frontend.specs.Takings.{front}
+use Rattle.cp_frontend.specs.Refusals.{scan_number}
+use Rattle.cp_frontend.specs.Texts.{IsAccepted, Refuses}
+use Rattle.cp_frontend.specs.declared.refusal.Refusal.{Refusal}
+use Rattle.cp_frontend.specs.declared.refusal.Refusal.TheVariants as refusal
+use Rattle.cp_output.specs.Positions.{column_at, line_at}
 
 -- The letter and the number of a refusal of a text, as `check` writes them.
 abbrev pub code_of : Refusal → List ℕ

@@ -2,10 +2,10 @@
 use Rattle.std.specs.Prelude.{◌≡◌, ℕ, List, Option, None, Some}
 use Rattle.std.specs.Io.KnownBytes.{Appends}
 use Rattle.cp_model.specs.Syntax as s
-use Rattle.cp_accept.specs.Takings.{front}
-use Rattle.cp_accept.specs.Texts.{IsAccepted, Refuses}
-use Rattle.cp_accept.specs.declared.refusal.Refusal.{Refusal}
-use Rattle.cp_formats.specs.Json.{IsJsonLine}
+use Rattle.cp_frontend.specs.Takings.{front}
+use Rattle.cp_frontend.specs.Texts.{IsAccepted, Refuses}
+use Rattle.cp_frontend.specs.declared.refusal.Refusal.{Refusal}
+use Rattle.cp_output_formats.specs.Json.{IsJsonLine}
 
 -- The text is accepted, or refused with `e`.
 abbrev pub Judges : List ℕ → Option Refusal → Type 0

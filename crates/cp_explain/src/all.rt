@@ -2,11 +2,11 @@
 //! that this one hasn't.
 
 use crate::explain::heading_of;
-use cp_accept::refusal::Refusal;
-use cp_diagnosis::of_violation_in_short;
+use cp_explain_rules::of_violation_in_short;
+use cp_frontend::refusal::Refusal;
 use cp_model::rules::Violation;
 use cp_model::tree::Tree;
-use cp_page::page::Page;
+use cp_output::page::Page;
 use cp_rules::text::violations;
 use std::alloc::{AllocError, Global};
 

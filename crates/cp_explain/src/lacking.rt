@@ -3,8 +3,8 @@
 
 ghost use Rattle.std.specs.Prelude.{◌≤◌, length};
 
-use cp_page::page::Page;
-use cp_page::position::Position;
+use cp_output::page::Page;
+use cp_output::position::Position;
 
 /// What this language leaves out of the book's.
 #[derive(Clone, Copy)]

@@ -1,8 +1,8 @@
 //! The explanation of a text that has no tree, after its heading.
 
-use cp_accept::refusal::{Refusal, scan_number};
-use cp_page::page::Page;
-use cp_slips::{of_depth, of_spelling, of_unexpected, of_unfinished};
+use cp_explain_syntax::{of_depth, of_spelling, of_unexpected, of_unfinished};
+use cp_frontend::refusal::{Refusal, scan_number};
+use cp_output::page::Page;
 use std::alloc::{AllocError, Global};
 
 /// Explains why a text has no tree, after the heading. Fails only if memory runs out.

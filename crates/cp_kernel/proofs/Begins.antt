@@ -1,14 +1,14 @@
 -- What begins keeps its number.
 use Rattle.std.proofs.Common.{◌≡◌, ◌≢◌, ◌-◌, ℕ, zero, suc, List, [], ◌∷◌, Option, None, Some, slice_get, map, refl, ap, sym, ◌∙◌, arith}
-use Rattle.cp_program_model.specs.Programs as code
-use Rattle.cp_program_model.specs.Programs.{Program}
-use Rattle.cp_program_model.specs.Starts.{block, paste}
-use Rattle.cp_machine_model.specs.KernelSteps.{Kernel, stage_of}
-use Rattle.cp_machine_model.specs.Machines.{begin_from, begin_if, begin_one, next_stage}
+use Rattle.cp_model_program.specs.Programs as code
+use Rattle.cp_model_program.specs.Programs.{Program}
+use Rattle.cp_model_program.specs.Starts.{block, paste}
+use Rattle.cp_model_machine.specs.KernelSteps.{Kernel, stage_of}
+use Rattle.cp_model_machine.specs.Machines.{begin_from, begin_if, begin_one, next_stage}
 use Rattle.cp_private.specs.States as states
 use Rattle.cp_private.specs.declared.outside.Stage.{Stage}
 use Rattle.cp_private.specs.declared.outside.Stage.TheVariants as stage
-use Rattle.cp_machine_model.specs.PrivateStates.{PrivateState, Running}
+use Rattle.cp_model_machine.specs.PrivateStates.{PrivateState, Running}
 use Rattle.cp_kernel.specs.Fresh.{HasNoFresh}
 use Rattle.cp_kernel.proofs.Places.{stage_found, stage_missing}
 

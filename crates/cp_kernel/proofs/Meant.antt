@@ -1,7 +1,7 @@
 -- Kernel turns, the start and the end of a round are those of the meaning.
 --
 -- The equalities with plain data say which plain data the kernel and the private states are then, and
--- the laws of cp_machine_model say of these that they are the parts of the state.
+-- the laws of cp_model_machine say of these that they are the parts of the state.
 use Rattle.std.proofs.Common.{◌≡◌, ◌≤◌, ◌-◌, ◌++◌, ◌∙◌, ℕ, suc, List, [], Result, Ok, Err, IfOk, length, ap, subst, sym, arith}
 use Rattle.std.specs.Prelude.{map, slice_set}
 use Rattle.cp_model.specs.Laws.{KernelTurnKeepsInvariant}
@@ -9,16 +9,16 @@ use Rattle.cp_model.specs.Rounds.{close_round}
 use Rattle.cp_model.specs.Start.{start}
 use Rattle.cp_model.specs.States.{Setup, State}
 use Rattle.cp_model.specs.Turns as meaning
-use Rattle.cp_program_model.specs.Programs as code
-use Rattle.cp_program_model.specs.StandsFor.{StandsFor}
-use Rattle.cp_machine_model.specs.InState.{IsIn}
-use Rattle.cp_machine_model.specs.KernelOf.{KernelOf}
-use Rattle.cp_machine_model.specs.KernelSteps as plain
-use Rattle.cp_machine_model.specs.Laws.{KernelTurnIsTurn, OutputMoves, StartIsKernel, TurningOf}
-use Rattle.cp_machine_model.specs.Machines as machines
-use Rattle.cp_machine_model.specs.Machines.{begin_one, first_machine, next_stage, transcript_of}
-use Rattle.cp_machine_model.specs.RoundLaws.{EndIsEnd}
-use Rattle.cp_machine_model.proofs.MachineTurns.{transcript_there}
+use Rattle.cp_model_program.specs.Programs as code
+use Rattle.cp_model_program.specs.StandsFor.{StandsFor}
+use Rattle.cp_model_machine.specs.InState.{IsIn}
+use Rattle.cp_model_machine.specs.KernelOf.{KernelOf}
+use Rattle.cp_model_machine.specs.KernelSteps as plain
+use Rattle.cp_model_machine.specs.Laws.{KernelTurnIsTurn, OutputMoves, StartIsKernel, TurningOf}
+use Rattle.cp_model_machine.specs.Machines as machines
+use Rattle.cp_model_machine.specs.Machines.{begin_one, first_machine, next_stage, transcript_of}
+use Rattle.cp_model_machine.specs.RoundLaws.{EndIsEnd}
+use Rattle.cp_model_machine.proofs.MachineTurns.{transcript_there}
 use Rattle.cp_private.specs.declared.private.Private.{Private}
 use Rattle.cp_program.specs.declared.program.Program.{Program}
 use Rattle.cp_program.specs.View as view

@@ -2,7 +2,7 @@
 use Rattle.std.proofs.Common.{◌≡◌, ◌++◌, ℕ, zero, suc, List, length, take, drop, refl, ap, sym, ◌∙◌}
 use Rattle.std.specs.Prelude.{map, option_map}
 use Rattle.std.proofs.Math.Seq.{take-append_seam}
-use Rattle.cp_machine_model.specs.KernelSteps as plain
+use Rattle.cp_model_machine.specs.KernelSteps as plain
 use Rattle.cp_private.specs.States as states
 use Rattle.cp_private.specs.declared.outside.Gate.{Gate}
 use Rattle.cp_private.specs.declared.outside.Stage.{Stage}

@@ -4,7 +4,7 @@ use Rattle.std.specs.Prelude.{option_map, remove, slice_index_or}
 use Rattle.std.proofs.lemmas.Option.{slice_get-get_or, slice_get-map, slice_get_past}
 use Rattle.std.proofs.lemmas.List.{map-set}
 use Rattle.cp_model.specs.States as model
-use Rattle.cp_machine_model.specs.KernelSteps as plain
+use Rattle.cp_model_machine.specs.KernelSteps as plain
 use Rattle.cp_private.specs.States as states
 use Rattle.cp_private.specs.declared.outside.Gate.{Gate}
 use Rattle.cp_private.specs.declared.outside.Stage.{Stage}

@@ -2,12 +2,12 @@
 use Rattle.std.proofs.Common.{◌≡◌, ℕ, zero, suc, Bool, true, false, refl, ap}
 use Rattle.std.proofs.lemmas.Bool.{false≢true}
 use Rattle.std.specs.Prelude.{Option, None, Some, if◌then◌else◌}
-use Rattle.cp_program_model.specs.Programs.{Operation, Program}
-use Rattle.cp_machine_model.specs.Calling.{gate_effect}
-use Rattle.cp_machine_model.specs.KernelSteps as plain
-use Rattle.cp_machine_model.specs.KernelSteps.{Turning, is_begun, is_due, needs_kernel, stage_of}
-use Rattle.cp_machine_model.specs.PrivateStates.{Leaves, PrivateState, is_running}
-use Rattle.cp_machine_model.specs.Steps.{is_held, is_kernel_operation, operation_of}
+use Rattle.cp_model_program.specs.Programs.{Operation, Program}
+use Rattle.cp_model_machine.specs.Calling.{gate_effect}
+use Rattle.cp_model_machine.specs.KernelSteps as plain
+use Rattle.cp_model_machine.specs.KernelSteps.{Turning, is_begun, is_due, needs_kernel, stage_of}
+use Rattle.cp_model_machine.specs.PrivateStates.{Leaves, PrivateState, is_running}
+use Rattle.cp_model_machine.specs.Steps.{is_held, is_kernel_operation, operation_of}
 use Rattle.cp_private.proofs.Results.{held_some}
 
 needs_inside : (o : PrivateState) (x : Option Operation) → is_held o.gate ≡ true → needs_kernel o x ≡ true

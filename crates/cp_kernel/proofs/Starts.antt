@@ -1,9 +1,9 @@
 -- What a kernel has at the start, element by element.
 use Rattle.std.proofs.Common.{◌≡◌, ◌<◌, ℕ, zero, suc, ℤ, List, [], ◌∷◌, ◌++◌, Some, slice_get, slice_set, map, length, drop, refl, ap, sym, ◌∙◌, arith}
 use Rattle.std.specs.Prelude.{replicate, slice_index_or}
-use Rattle.cp_program_model.specs.Programs as code
-use Rattle.cp_machine_model.specs.KernelSteps as plain
-use Rattle.cp_machine_model.specs.Machines as machines
+use Rattle.cp_model_program.specs.Programs as code
+use Rattle.cp_model_machine.specs.KernelSteps as plain
+use Rattle.cp_model_machine.specs.Machines as machines
 use Rattle.cp_private.specs.States as states
 use Rattle.cp_kernel.specs.KernelOf.{unset_gate}
 use Rattle.cp_private.specs.declared.outside.Stage.TheVariants as stage

@@ -2,10 +2,10 @@
 use Rattle.std.proofs.Common.{◌≡◌, ℕ, zero, suc, Bool, true, false, List, [], refl, ap, sym, ◌∙◌}
 use Rattle.std.proofs.lemmas.Bool.{false≢true}
 use Rattle.std.specs.Prelude.{Option, None, Some, if◌then◌else◌, not}
-use Rattle.cp_program_model.specs.Programs.{Operation, Program}
-use Rattle.cp_machine_model.specs.KernelSteps.{Turning, is_begun, is_due, kernel_step, kernel_steps, needs_kernel, stage_of}
-use Rattle.cp_machine_model.specs.PrivateStates.{PrivateState, is_running}
-use Rattle.cp_machine_model.specs.Steps.{is_held, is_kernel_operation, is_private, operation_of}
+use Rattle.cp_model_program.specs.Programs.{Operation, Program}
+use Rattle.cp_model_machine.specs.KernelSteps.{Turning, is_begun, is_due, kernel_step, kernel_steps, needs_kernel, stage_of}
+use Rattle.cp_model_machine.specs.PrivateStates.{PrivateState, is_running}
+use Rattle.cp_model_machine.specs.Steps.{is_held, is_kernel_operation, is_private, operation_of}
 use Rattle.cp_private.specs.Kinds.{kind_of}
 use Rattle.cp_private.specs.declared.kind.Kind.{Kind}
 use Rattle.cp_private.specs.declared.kind.Kind.TheVariants as kind

@@ -3,7 +3,7 @@ use Rattle.std.proofs.Common.{◌≡◌, ◌≢◌, ◌≤◌, ◌+◌, ◌-◌,
 use Rattle.std.specs.Prelude.{option_map}
 use Rattle.std.proofs.lemmas.Option.{slice_get-map}
 use Rattle.std.proofs.lemmas.List.{append-nil, map-set}
-use Rattle.cp_machine_model.specs.Machines.{transcript_of}
+use Rattle.cp_model_machine.specs.Machines.{transcript_of}
 use Rattle.cp_model.proofs.Options.{same_some}
 use Rattle.std.specs.Prelude.{Vec}
 use Rattle.std.specs.Global.{Global}

@@ -1,6 +1,6 @@
 -- The processes of a chain that are still to come.
 use Rattle.std.specs.Prelude.{List, ℕ}
-use Rattle.cp_machine_model.specs.Chains.{chain_within}
+use Rattle.cp_model_machine.specs.Chains.{chain_within}
 use Rattle.cp_kernel.specs.KernelOf.{kernel_of}
 use Rattle.cp_kernel.specs.declared.chain.Chain.{Chain}
 

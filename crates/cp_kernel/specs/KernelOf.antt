@@ -3,7 +3,7 @@
 use Rattle.std.specs.Prelude.{◌≡◌, ℕ, ◌+◌, ◌-◌, ◌≤◌, true, length, List, [], Some, Vec, map, slice_get, All, vec_len, vec_capacity}
 use Rattle.std.specs.Global.{Global}
 use Rattle.cp_model.specs.States as model
-use Rattle.cp_machine_model.specs.KernelSteps as plain
+use Rattle.cp_model_machine.specs.KernelSteps as plain
 use Rattle.cp_private.specs.States as states
 use Rattle.cp_private.specs.States.{private_of}
 use Rattle.cp_private.specs.declared.private.Private.{Private}

@@ -7,12 +7,12 @@ use Rattle.cp_model.specs.Rounds.{close_round}
 use Rattle.cp_model.specs.Start.{start}
 use Rattle.cp_model.specs.States.{Setup, State, process_count, running_clock}
 use Rattle.cp_model.specs.Turns as meaning
-use Rattle.cp_program_model.specs.StandsFor.{StandsFor}
-use Rattle.cp_machine_model.specs.InState.{IsIn}
-use Rattle.cp_machine_model.specs.KernelOf.{KernelOf}
-use Rattle.cp_machine_model.specs.Laws.{TurningOf}
-use Rattle.cp_machine_model.specs.Machines as plain
-use Rattle.cp_machine_model.specs.Machines.{transcript_of}
+use Rattle.cp_model_program.specs.StandsFor.{StandsFor}
+use Rattle.cp_model_machine.specs.InState.{IsIn}
+use Rattle.cp_model_machine.specs.KernelOf.{KernelOf}
+use Rattle.cp_model_machine.specs.Laws.{TurningOf}
+use Rattle.cp_model_machine.specs.Machines as plain
+use Rattle.cp_model_machine.specs.Machines.{transcript_of}
 use Rattle.cp_private.specs.declared.private.Private.{Private}
 use Rattle.cp_program.specs.declared.program.Program.{Program}
 use Rattle.cp_program.specs.View as view

@@ -1,9 +1,9 @@
 -- What a kernel turn and the end of a round make of the kernel and the private states.
 use Rattle.std.specs.Prelude.{◌≡◌, ◌≢◌, ◌-◌, ◌++◌, ℕ, suc, List, [], ◌∷◌, slice_set}
-use Rattle.cp_program_model.specs.Programs.{Program}
-use Rattle.cp_machine_model.specs.KernelSteps as plain
-use Rattle.cp_machine_model.specs.Machines.{transcript_of}
-use Rattle.cp_machine_model.specs.PrivateStates.{PrivateState}
+use Rattle.cp_model_program.specs.Programs.{Program}
+use Rattle.cp_model_machine.specs.KernelSteps as plain
+use Rattle.cp_model_machine.specs.Machines.{transcript_of}
+use Rattle.cp_model_machine.specs.PrivateStates.{PrivateState}
 use Rattle.cp_private.specs.States.{private_of}
 use Rattle.cp_private.specs.declared.private.Private.{Private}
 use Rattle.cp_kernel.specs.declared.kernel.Kernel.{Kernel}

@@ -3,7 +3,7 @@
 
 ghost use Rattle.std.specs.Prelude.{◌≡◌};
 ghost use Rattle.std.specs.Iterator.{YieldsFirst, item_count};
-ghost use Rattle.cp_machine_model.specs.Chains as plain;
+ghost use Rattle.cp_model_machine.specs.Chains as plain;
 ghost use Rattle.cp_kernel.specs.KernelOf.{kernel_of};
 ghost use Rattle.cp_kernel.specs.ChainOf.{processes_left};
 

@@ -3,7 +3,7 @@
 ghost use Rattle.std.specs.Prelude.{◌≡◌, ℕ, List, false, length, map};
 ghost use Rattle.cp_private.specs.declared.private.Private.{Private};
 ghost use Rattle.cp_private.specs.States.{private_of, stage as stage_view};
-ghost use Rattle.cp_machine_model.specs.Machines as plain;
+ghost use Rattle.cp_model_machine.specs.Machines as plain;
 ghost use Rattle.cp_program.specs.View as view;
 ghost use Rattle.cp_kernel.specs.KernelOf.{kernel_of};
 ghost use Rattle.cp_kernel.specs.Fresh.{HasNoFresh};
@@ -11,7 +11,7 @@ ghost use Rattle.cp_kernel.specs.Promises.{EndsRound};
 ghost use Rattle.cp_kernel.specs.Turns.{parts_of};
 
 use crate::kernel::Kernel;
-use cp_machine_model::law;
+use cp_model_machine::law;
 use cp_private::outside::Stage;
 use cp_private::private::Private;
 use cp_private::resident::Resident;

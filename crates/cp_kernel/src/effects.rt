@@ -4,12 +4,12 @@
 //! None of these changes takes memory.
 
 ghost use Rattle.std.specs.Prelude.{◌≡◌, ◌+◌, ◌-◌, ◌∷◌, ◌++◌, [], ℕ, List, MatchOption};
-ghost use Rattle.cp_program_model.specs.Layout as layout;
+ghost use Rattle.cp_model_program.specs.Layout as layout;
 ghost use Rattle.cp_model.specs.States as model;
 ghost use Rattle.cp_private.specs.States.{effect as effect_view, holder as holder_view, stage as stage_view};
-ghost use Rattle.cp_machine_model.specs.Calling.{gate_effect};
-ghost use Rattle.cp_machine_model.specs.KernelSteps as plain;
-ghost use Rattle.cp_machine_model.specs.PrivateStates.{Leaves};
+ghost use Rattle.cp_model_machine.specs.Calling.{gate_effect};
+ghost use Rattle.cp_model_machine.specs.KernelSteps as plain;
+ghost use Rattle.cp_model_machine.specs.PrivateStates.{Leaves};
 ghost use Rattle.cp_kernel.specs.KernelOf.{HasRoomForAskers, IsAmong, IsBegun, kernel_of};
 
 use crate::kernel::Kernel;

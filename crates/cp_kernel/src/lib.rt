@@ -1,7 +1,7 @@
 //! The kernel: gates, stages of processes, shared words and transcripts.
 //!
 //! For any program and any state, the kernel's calls are the functions on plain data that
-//! cp_machine_model defines (`specs/KernelOf.antt` defines the plain data). No effect of a step
+//! cp_model_machine defines (`specs/KernelOf.antt` defines the plain data). No effect of a step
 //! takes memory.
 //!
 //! - `kernel`, `starting`: the kernel, and how it starts.

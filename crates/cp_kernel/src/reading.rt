@@ -1,11 +1,11 @@
 //! What can be read of the kernel.
 
 ghost use Rattle.std.specs.Prelude.{◌≡◌};
-ghost use Rattle.cp_program_model.specs.Starts.{word};
+ghost use Rattle.cp_model_program.specs.Starts.{word};
 ghost use Rattle.cp_private.specs.States.{holder as holder_view, stage as stage_view};
-ghost use Rattle.cp_machine_model.specs.KernelSteps as plain;
+ghost use Rattle.cp_model_machine.specs.KernelSteps as plain;
 ghost use Rattle.cp_kernel.specs.KernelOf.{kernel_of, transcripts_of};
-ghost use Rattle.cp_machine_model.specs.Machines.{transcript_of};
+ghost use Rattle.cp_model_machine.specs.Machines.{transcript_of};
 
 use crate::kernel::Kernel;
 use cp_private::outside::{Holder, Stage};

@@ -1,15 +1,15 @@
 //! How the kernel starts.
 
 ghost use Rattle.std.specs.Prelude.{◌≡◌, ◌-◌, ◌<◌, ◌^◌, ◌∷◌, ℕ, List, [], IfOk, Some, map, pos, replicate, length, slice_get};
-ghost use Rattle.cp_program_model.specs.Programs as code;
+ghost use Rattle.cp_model_program.specs.Programs as code;
 ghost use Rattle.cp_private.specs.States as states;
-ghost use Rattle.cp_machine_model.specs.Machines as plain;
+ghost use Rattle.cp_model_machine.specs.Machines as plain;
 ghost use Rattle.cp_program.specs.View as view;
 ghost use Rattle.cp_kernel.specs.KernelOf.{Bytes, kernel_of, transcripts_of, unset_gate};
 ghost use Rattle.cp_kernel.specs.Promises.{IsAtStart};
 
 use crate::kernel::Kernel;
-use cp_machine_model::law;
+use cp_model_machine::law;
 use cp_private::outside::{Gate, Holder, Stage};
 use cp_private::starting::start_words;
 use cp_program::program::Program;

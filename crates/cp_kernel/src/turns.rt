@@ -3,18 +3,18 @@
 ghost use Rattle.std.specs.Prelude.{◌≡◌, ◌≤◌, ◌<◌, ◌+◌, ◌*◌, ℕ, List, [], false, true, length, vec_capacity, vec_len};
 ghost use Rattle.cp_private.specs.Rooms.{HasRoomFor, KeepsRoom};
 ghost use Rattle.cp_private.specs.States.{activity, private_of};
-ghost use Rattle.cp_machine_model.specs.KernelSteps as plain;
+ghost use Rattle.cp_model_machine.specs.KernelSteps as plain;
 ghost use Rattle.cp_program.specs.View as view;
-ghost use Rattle.cp_machine_model.specs.PrivateStates.{is_running};
+ghost use Rattle.cp_model_machine.specs.PrivateStates.{is_running};
 ghost use Rattle.cp_kernel.specs.KernelOf.{HasRoomForAskers, HasRoomForBytes, IsAmong, IsBegun, kernel_of, turning};
 ghost use Rattle.cp_kernel.specs.Promises.{MakesKernelTurn};
 ghost use Rattle.cp_kernel.specs.Turns.{IsTurned, Moves};
 
 use crate::kernel::Kernel;
 use crate::step::{is_due, kernel_step, try_in_registers};
-use cp_machine_model::law;
+use cp_base_config::turn::Turn;
 use cp_model::law::invariant;
-use cp_plan::turn::Turn;
+use cp_model_machine::law;
 use cp_private::private::Private;
 use cp_private::turns::Tried;
 use cp_program::program::Program;

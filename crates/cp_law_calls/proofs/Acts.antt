@@ -10,7 +10,7 @@ use Rattle.cp_model.specs.States.{Free, Gate, HeldBy, Holder, State, is_in, is_s
 use Rattle.cp_model.specs.Gates.{made_ready}
 use Rattle.cp_model.proofs.Lists.{in_head}
 use Rattle.cp_model.proofs.StateMaps.{state_is, with_at_here, with_at_same, with_at_there}
-use Rattle.cp_hierarchy.specs.Gates.{IsStoppedAt}
+use Rattle.cp_law_gates.specs.Gates.{IsStoppedAt}
 use Rattle.cp_law_calls.proofs.Changes.{AtAll, Change, act, act_is, acts_swap, at_more, change, changed, delays, enters, gate_is, hands, passes, puts, puts_past_one, puts_there}
 use Rattle.cp_law_calls.proofs.Footing.{AskersAsk, Footed, IsNewTo, IsLateResult, Mine, ResultFooted, ResultTouches, change_same, eager_holds, gates_touched, held_apart, mine_apart, starts_fresh, statuses_mine, stays_started}
 

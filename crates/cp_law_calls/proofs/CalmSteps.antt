@@ -29,9 +29,9 @@ use Rattle.cp_model.specs.Gates.{apply_effect, enter, made_ready, make_ready, pa
 use Rattle.cp_model.specs.Turns.{after_step, step}
 use Rattle.cp_model.proofs.Options.{same_some}
 use Rattle.cp_model.proofs.ExpressionReach.{IfGives}
-use Rattle.cp_hierarchy.specs.InOrder.{AllFit, Here, InOrder, IsOrdered, World}
-use Rattle.cp_hierarchy.proofs.Found.{IsCallable}
-use Rattle.cp_hierarchy.proofs.Steps.{ActionFits, action_fits}
+use Rattle.cp_law_gates.specs.InOrder.{AllFit, Here, InOrder, IsOrdered, World}
+use Rattle.cp_law_gates.proofs.Found.{IsCallable}
+use Rattle.cp_law_gates.proofs.Steps.{ActionFits, action_fits}
 use Rattle.cp_law_calls.proofs.Calm.{AllCalm, ArmsCalm, Calm, EndCalm, TaskCalm, answer_calm, end_calm, push_calm}
 use Rattle.cp_law_calls.proofs.Known.{before}
 use Rattle.cp_law_calls.proofs.Unclocked.{ActionCalm, action_calm}

@@ -9,11 +9,11 @@ use Rattle.cp_model.specs.Configurations.{Asking, Delayed, Ended, Faulted, Fresh
 use Rattle.cp_model.specs.Orders.{replay}
 use Rattle.cp_model.specs.Start.{start}
 use Rattle.cp_model.specs.States.{HeldBy, Setup, State, is_in}
-use Rattle.cp_hierarchy.specs.Gates.{IsInnermost, IsStoppedAt}
-use Rattle.cp_hierarchy.specs.Hierarchy.{Descends}
-use Rattle.cp_hierarchy.specs.InOrder.{world}
-use Rattle.cp_hierarchy.proofs.Lists.{first_once}
-use Rattle.cp_typing.proofs.Texts.{accepted_texts_are_well_typed}
+use Rattle.cp_law_gates.specs.Gates.{IsInnermost, IsStoppedAt}
+use Rattle.cp_law_gates.specs.Hierarchy.{Descends}
+use Rattle.cp_law_gates.specs.InOrder.{world}
+use Rattle.cp_law_gates.proofs.Lists.{first_once}
+use Rattle.cp_law_typing.proofs.Texts.{accepted_texts_are_well_typed}
 use Rattle.cp_law_calls.specs.Exclusion.{HolderIsInside, InsideHolds, IsInside, NoTwoInside}
 use Rattle.cp_law_calls.specs.Ways.{IsGood}
 use Rattle.cp_law_calls.proofs.Good.{rounds_good, start_good}

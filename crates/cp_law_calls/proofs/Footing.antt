@@ -10,7 +10,7 @@ use Rattle.cp_model.specs.Configurations.{Asking, Continues, Delayed, Delays, Ef
 use Rattle.cp_model.specs.States.{Free, Gate, HeldBy, Holder, Unset, is_in, is_set, is_started, with_at}
 use Rattle.cp_model.specs.Gates.{made_ready}
 use Rattle.cp_model.proofs.Lists.{in_head}
-use Rattle.cp_hierarchy.specs.Gates.{IsStoppedAt}
+use Rattle.cp_law_gates.specs.Gates.{IsStoppedAt}
 use Rattle.cp_law_calls.proofs.Changes.{AllSame, AtAll, begins, change, delays, enters, gate_is, hands, passes, puts, puts_same}
 
 -- ---- What is known of an effect

@@ -10,11 +10,11 @@ use Rattle.cp_model.specs.States.{Setup, State, is_in}
 use Rattle.cp_model.specs.Turns.{Kernel, Kind, NoStep, Private, if_kernel, if_private, kernel_step, kernel_turn, kind, private_step, step}
 use Rattle.cp_model.proofs.OwnSteps.{kind_private}
 use Rattle.cp_model.proofs.StateInvariant.{kind_kernel, wake_keeps}
-use Rattle.cp_hierarchy.specs.InOrder.{AllFit, InOrder, RightsDescend, world}
-use Rattle.cp_hierarchy.proofs.Keeping.{wake_keeps_gates}
-use Rattle.cp_hierarchy.proofs.Reached.{closes, start_in_order}
-use Rattle.cp_hierarchy.proofs.Texts.{text_is_ordered}
-use Rattle.cp_typing.specs.WellTyped.{WellTyped}
+use Rattle.cp_law_gates.specs.InOrder.{AllFit, InOrder, RightsDescend, world}
+use Rattle.cp_law_gates.proofs.Keeping.{wake_keeps_gates}
+use Rattle.cp_law_gates.proofs.Reached.{closes, start_in_order}
+use Rattle.cp_law_gates.proofs.Texts.{text_is_ordered}
+use Rattle.cp_law_typing.specs.WellTyped.{WellTyped}
 use Rattle.cp_law_calls.specs.Orders.{closed}
 use Rattle.cp_law_calls.specs.Ways.{HoldsMarked, IsGood}
 use Rattle.cp_law_calls.proofs.Holding.{close_holds, start_holds, step_holds}

@@ -17,11 +17,11 @@ use Rattle.cp_model.specs.Turns.{after_step, step}
 use Rattle.cp_model.proofs.Lists.{in_head, in_more}
 use Rattle.cp_model.proofs.ExpressionReach.{IfGives}
 use Rattle.cp_model.proofs.StateMaps.{state_is, with_at_same}
-use Rattle.cp_hierarchy.specs.Gates.{IsInnermost, IsStoppedAt}
-use Rattle.cp_hierarchy.specs.Hierarchy.{Descends}
-use Rattle.cp_hierarchy.specs.InOrder.{InOrder, IsOrdered, World}
-use Rattle.cp_hierarchy.proofs.Lists.{first_once, in_rest}
-use Rattle.cp_hierarchy.proofs.Stepping.{StepFits}
+use Rattle.cp_law_gates.specs.Gates.{IsInnermost, IsStoppedAt}
+use Rattle.cp_law_gates.specs.Hierarchy.{Descends}
+use Rattle.cp_law_gates.specs.InOrder.{InOrder, IsOrdered, World}
+use Rattle.cp_law_gates.proofs.Lists.{first_once, in_rest}
+use Rattle.cp_law_gates.proofs.Stepping.{StepFits}
 use Rattle.cp_law_calls.specs.Ways.{HoldsMarked}
 use Rattle.cp_law_calls.proofs.Footing.{Footed, ResultFooted, held_once}
 use Rattle.cp_law_calls.proofs.Grasp.{marked_held}

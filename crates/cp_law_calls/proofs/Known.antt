@@ -18,10 +18,10 @@ use Rattle.cp_model.specs.Reach.{in_reach}
 use Rattle.cp_model.proofs.Lists.{in_head}
 use Rattle.cp_model.proofs.ActionReach.{ActionIn, action_in}
 use Rattle.cp_model.proofs.ExpressionReach.{IfGives}
-use Rattle.cp_hierarchy.specs.Gates.{IsInnermost, IsStoppedAt}
-use Rattle.cp_hierarchy.specs.InOrder.{InOrder, InitFits, InitOf, IsOrdered, IsOutermost, World}
-use Rattle.cp_hierarchy.proofs.Stepping.{IsBefore, StepFits}
-use Rattle.cp_hierarchy.proofs.Steps.{ActionFits, action_fits, step_fits}
+use Rattle.cp_law_gates.specs.Gates.{IsInnermost, IsStoppedAt}
+use Rattle.cp_law_gates.specs.InOrder.{InOrder, InitFits, InitOf, IsOrdered, IsOutermost, World}
+use Rattle.cp_law_gates.proofs.Stepping.{IsBefore, StepFits}
+use Rattle.cp_law_gates.proofs.Steps.{ActionFits, action_fits, step_fits}
 use Rattle.cp_law_calls.specs.Ways.{HoldsMarked}
 use Rattle.cp_law_calls.proofs.Footing.{ResultFooted}
 use Rattle.cp_law_calls.proofs.Grasp.{in_own_reach, marked_held}

@@ -8,17 +8,17 @@ use Rattle.cp_model.specs.Components.{Component, component_named, same_sort}
 use Rattle.cp_model.specs.Actions.{Action, Acts, Calls, Rests, action, is_kernel_action}
 use Rattle.cp_model.specs.Turns.{Kernel, Private, kind_of}
 use Rattle.cp_model.proofs.OwnSteps.{kind_private}
-use Rattle.cp_typing.proofs.Texts.{accepted_texts_are_well_typed}
+use Rattle.cp_law_typing.proofs.Texts.{accepted_texts_are_well_typed}
 use Rattle.cp_law_calls.proofs.TimelessTexts.{text_timeless}
 use Rattle.cp_model.specs.Configurations.{Asking, Delayed, Ended, Faulted, Fresh, Ready, Status, Unstarted, Waiting, holds_gate}
 use Rattle.cp_model.specs.Orders.{replay}
 use Rattle.cp_model.specs.Rounds.{Event, after_closing}
 use Rattle.cp_model.specs.Start.{start}
 use Rattle.cp_model.specs.States.{Setup, State, is_in, processes}
-use Rattle.cp_hierarchy.specs.InOrder.{world}
-use Rattle.cp_hierarchy.proofs.Texts.{text_is_ordered}
-use Rattle.cp_stillness.specs.Stillness.{AreAllOfProcesses, can_move, is_still, none_can_move}
-use Rattle.cp_typing.specs.WellTyped.{WellTyped}
+use Rattle.cp_law_gates.specs.InOrder.{world}
+use Rattle.cp_law_gates.proofs.Texts.{text_is_ordered}
+use Rattle.cp_law_stillness.specs.Stillness.{AreAllOfProcesses, can_move, is_still, none_can_move}
+use Rattle.cp_law_typing.specs.WellTyped.{WellTyped}
 use Rattle.cp_law_calls.specs.Laws.{AcceptedByCallsIsOrder, AcceptedCallsDetermineEnd, AcceptedStillIsByCalls, ByCallsIsOrder, CallsDetermineEnd, DifferentCallsCommute, DifferentCallsSwap, EagerStepPastLateStep, EagerStepsCommute, LateIsOfKernel, OrderIsByCalls, OrderIsRun, PrivateIsEager, ReachedAreGood, RoundKeepsGood, RunIsOrder, SameCallersSameEnd, SettlesOnce, StartIsGood, StepKeepsGood, StepPastClosing, StepsOfKindsKeepGood, StillIsByCalls, TimelessTexts}
 use Rattle.cp_law_calls.specs.Orders.{IsTimeless, closed, machine}
 use Rattle.cp_law_calls.specs.Runs.{IsSettled, Runs}

@@ -17,7 +17,7 @@ use Rattle.cp_model.proofs.MixedStores.{mix, mix_same}
 use Rattle.cp_model.proofs.OwnSteps.{outcome, result}
 use Rattle.cp_model.proofs.ReturnReach.{result_mixed}
 use Rattle.cp_model.proofs.StateMaps.{state_is, with_at_same, with_at_swap, with_at_there}
-use Rattle.cp_hierarchy.specs.InOrder.{InOrder, IsOrdered, World}
+use Rattle.cp_law_gates.specs.InOrder.{InOrder, IsOrdered, World}
 use Rattle.cp_law_calls.specs.Ways.{Eager, HoldsMarked, Idle, Late, called, called_by, is_late, way, way_of}
 use Rattle.cp_law_calls.proofs.Reading.{ActionNeeds, SortNeeds, monitor_number_same, step_same}
 use Rattle.cp_law_calls.proofs.Changes.{AtAll, Change, act, act_is, at_more, change, changed, puts_past_one, puts_there}

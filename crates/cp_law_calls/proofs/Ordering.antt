@@ -13,10 +13,10 @@ use Rattle.cp_model.specs.Turns.{Kernel, Kind, NoStep, Private, if_kernel, if_pr
 use Rattle.cp_model.proofs.OwnSteps.{kind_private}
 use Rattle.cp_model.proofs.StateInvariant.{kind_kernel}
 use Rattle.cp_model.proofs.StateMaps.{state_is}
-use Rattle.cp_hierarchy.specs.InOrder.{world}
-use Rattle.cp_hierarchy.proofs.Texts.{text_is_ordered}
-use Rattle.cp_stillness.specs.Stillness.{AreAllOfProcesses, AreOfProcesses}
-use Rattle.cp_typing.specs.WellTyped.{WellTyped}
+use Rattle.cp_law_gates.specs.InOrder.{world}
+use Rattle.cp_law_gates.proofs.Texts.{text_is_ordered}
+use Rattle.cp_law_stillness.specs.Stillness.{AreAllOfProcesses, AreOfProcesses}
+use Rattle.cp_law_typing.specs.WellTyped.{WellTyped}
 use Rattle.cp_law_calls.specs.Orders.{IsTimeless, closed, machine}
 use Rattle.cp_law_calls.specs.Runs.{AreMovers, CallsChangePlaces, IsClosedByCalls, Runs, Settles}
 use Rattle.cp_law_calls.specs.Ways.{Eager, Idle, IsGood, Late, called, is_late, way, way_of}

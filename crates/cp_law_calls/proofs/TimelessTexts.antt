@@ -17,10 +17,10 @@ use Rattle.cp_model.specs.Start.{initial_environment, start}
 use Rattle.cp_model.specs.States.{Setup, State, configuration, context, running_clock}
 use Rattle.cp_model.specs.Turns.{Kernel, Kind, NoStep, Private, after_step, if_kernel, if_private, kernel_step, kernel_turn, kind, private_step, step}
 use Rattle.cp_model.proofs.OwnSteps.{outcome}
-use Rattle.cp_hierarchy.specs.InOrder.{world}
-use Rattle.cp_hierarchy.proofs.Texts.{text_is_ordered}
-use Rattle.cp_typing.specs.Judgement.{IsProcedureCall, Place, TypedArms, TypedStatement}
-use Rattle.cp_typing.specs.WellTyped.{TypedRoutine, WellTyped, body_place, routine_place, text_systems}
+use Rattle.cp_law_gates.specs.InOrder.{world}
+use Rattle.cp_law_gates.proofs.Texts.{text_is_ordered}
+use Rattle.cp_law_typing.specs.Judgement.{IsProcedureCall, Place, TypedArms, TypedStatement}
+use Rattle.cp_law_typing.specs.WellTyped.{TypedRoutine, WellTyped, body_place, routine_place, text_systems}
 use Rattle.cp_law_calls.specs.Clocks.{arms_are_timeless, designator_is_timeless, expression_is_timeless, expressions_are_timeless, is_wait, routines_are_timeless, statement_is_timeless, system_is_timeless, systems_are_timeless, text_is_timeless}
 use Rattle.cp_law_calls.specs.Orders.{IsTimeless, closed}
 use Rattle.cp_law_calls.specs.Ways.{IsGood}

@@ -9,8 +9,8 @@ use Rattle.cp_model.specs.Syntax as s
 use Rattle.cp_model.specs.Erase as erase
 use Rattle.cp_model.specs.Rules.{Accepted}
 use Rattle.cp_model.specs.Turns.{Kernel, Private, kernel_step, kind, private_step, step}
-use Rattle.cp_stillness.specs.Stillness.{AreAllOfProcesses, is_still}
-use Rattle.cp_typing.specs.WellTyped.{WellTyped}
+use Rattle.cp_law_stillness.specs.Stillness.{AreAllOfProcesses, is_still}
+use Rattle.cp_law_typing.specs.WellTyped.{WellTyped}
 use Rattle.cp_law_calls.specs.Clocks.{text_is_timeless}
 use Rattle.cp_law_calls.specs.Orders.{IsTimeless, closed, machine}
 use Rattle.cp_law_calls.specs.Runs.{ByCalls, CallsLead, IsSettled, Runs, Settles, callers}

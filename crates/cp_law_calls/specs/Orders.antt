@@ -10,7 +10,7 @@ use Rattle.cp_model.specs.Rounds.{Event, after_closing}
 use Rattle.cp_model.specs.Start.{start}
 use Rattle.cp_model.specs.States.{Setup, State, is_in, processes}
 use Rattle.cp_model.specs.Turns.{step}
-use Rattle.cp_stillness.specs.Stillness.{AreAllOfProcesses}
+use Rattle.cp_law_stillness.specs.Stillness.{AreAllOfProcesses}
 use Rattle.cp_law_calls.specs.Runs.{Machine}
 use Rattle.cp_law_calls.specs.Ways.{way}
 

@@ -4,15 +4,15 @@ use Rattle.std.proofs.Common.{ap, arith, subst, sym, ◌∙◌}
 use Rattle.std.proofs.lemmas.Bool.{eqb-false, eqb-true, true≢false}
 use Rattle.cp_model.proofs.Options.{same_some}
 use Rattle.cp_model.specs.States.{Free, HeldBy, Holder, Unset}
-use Rattle.cp_program_model.specs.Layout.{natural}
-use Rattle.cp_program_model.specs.Programs as code
-use Rattle.cp_program_model.specs.Programs.{Operation, Program}
-use Rattle.cp_program_model.specs.Starts.{block, paste}
-use Rattle.cp_machine_model.specs.KernelSteps.{Asking, Begun, Delayed, Fresh, Kernel, Stage, Turning, Unstarted, apply_effect, enter_gate, gate_of, is_begun, is_due, join_words, kernel_step, make_ready, needs_kernel, outside, part_words, pass_to, resume, resume_stage, set_gate, set_stage, stage_of, start_process}
-use Rattle.cp_machine_model.specs.Machines.{begin_if, begin_one, next_stage}
-use Rattle.cp_machine_model.specs.PrivateStates.{Continues, Delays, Effect, Enters, Leaves, NoEffect, Opens, PrivateState, Running, Starts, is_running}
-use Rattle.cp_machine_model.specs.Steps.{act_on, alone, is_private, operation_of, private_step, step_with}
-use Rattle.cp_ahead.proofs.Numbers.{step_keeps_number}
+use Rattle.cp_model_program.specs.Layout.{natural}
+use Rattle.cp_model_program.specs.Programs as code
+use Rattle.cp_model_program.specs.Programs.{Operation, Program}
+use Rattle.cp_model_program.specs.Starts.{block, paste}
+use Rattle.cp_model_machine.specs.KernelSteps.{Asking, Begun, Delayed, Fresh, Kernel, Stage, Turning, Unstarted, apply_effect, enter_gate, gate_of, is_begun, is_due, join_words, kernel_step, make_ready, needs_kernel, outside, part_words, pass_to, resume, resume_stage, set_gate, set_stage, stage_of, start_process}
+use Rattle.cp_model_machine.specs.Machines.{begin_if, begin_one, next_stage}
+use Rattle.cp_model_machine.specs.PrivateStates.{Continues, Delays, Effect, Enters, Leaves, NoEffect, Opens, PrivateState, Running, Starts, is_running}
+use Rattle.cp_model_machine.specs.Steps.{act_on, alone, is_private, operation_of, private_step, step_with}
+use Rattle.cp_model_ahead.proofs.Numbers.{step_keeps_number}
 use Rattle.cp_law_cores.specs.Moves.{AreIndependent, ClosesBeside}
 use Rattle.cp_law_cores.specs.Cores.{Core, close, core_moves, is_private_on, kernel_at, kernel_on, part, private_at, put, silent, turned, with_turning}
 use Rattle.cp_law_cores.proofs.Parts.{map_no_part, map_part, map_put, none_is, part_here, part_there}

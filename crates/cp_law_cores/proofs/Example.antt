@@ -5,12 +5,12 @@ use Rattle.std.specs.Prelude.{pos, Bool, List, [], false, refl, suc, true, zero,
 use Rattle.std.proofs.Common.{ap, arith, subst, sym, ◌∙◌}
 use Rattle.std.proofs.lemmas.Bool.{true≢false}
 use Rattle.cp_model.specs.States.{is_in}
-use Rattle.cp_program_model.specs.Programs as op
-use Rattle.cp_program_model.specs.Programs.{Call, CodeUnit, Program}
-use Rattle.cp_program_model.specs.Terms as term
-use Rattle.cp_machine_model.specs.KernelSteps.{Begun, Fresh, Stage, stage_of}
-use Rattle.cp_machine_model.specs.Machines.{first_machine}
-use Rattle.cp_machine_model.specs.PrivateStates.{PrivateState, Running}
+use Rattle.cp_model_program.specs.Programs as op
+use Rattle.cp_model_program.specs.Programs.{Call, CodeUnit, Program}
+use Rattle.cp_model_program.specs.Terms as term
+use Rattle.cp_model_machine.specs.KernelSteps.{Begun, Fresh, Stage, stage_of}
+use Rattle.cp_model_machine.specs.Machines.{first_machine}
+use Rattle.cp_model_machine.specs.PrivateStates.{PrivateState, Running}
 use Rattle.cp_law_cores.specs.Wiping.{wiped}
 use Rattle.cp_law_cores.specs.Clocks.{is_timeless}
 use Rattle.cp_law_cores.specs.Cores.{Core, close, core, core_moves, is_private_on, part}

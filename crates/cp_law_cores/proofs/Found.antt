@@ -8,17 +8,17 @@ use Rattle.cp_model.specs.Rounds as rounds
 use Rattle.cp_model.specs.Rounds.{Event, after_closing, close_round, replay_event, wake}
 use Rattle.cp_model.specs.Start.{start}
 use Rattle.cp_model.specs.States.{Setup, State, process_count, processes}
-use Rattle.cp_hierarchy.specs.InOrder.{world}
-use Rattle.cp_hierarchy.proofs.Reached.{wakes}
-use Rattle.cp_program_model.specs.Programs.{Program}
-use Rattle.cp_machine_model.specs.InState.{IsIn}
-use Rattle.cp_machine_model.specs.Machines as machine
-use Rattle.cp_machine_model.specs.Machines.{Machine}
-use Rattle.cp_machine_model.proofs.MachineRounds.{spelled, wake_stands}
-use Rattle.cp_machine_model.proofs.MachineStarts.{as_whole, ordered, own_words, part_by_part}
-use Rattle.cp_stillness.specs.Stillness.{OnlyCountGrows, is_still}
-use Rattle.cp_stillness.proofs.Resting.{never_begins, rests}
-use Rattle.cp_stillness.proofs.Rounds.{stays_still}
+use Rattle.cp_law_gates.specs.InOrder.{world}
+use Rattle.cp_law_gates.proofs.Reached.{wakes}
+use Rattle.cp_model_program.specs.Programs.{Program}
+use Rattle.cp_model_machine.specs.InState.{IsIn}
+use Rattle.cp_model_machine.specs.Machines as machine
+use Rattle.cp_model_machine.specs.Machines.{Machine}
+use Rattle.cp_model_machine.proofs.MachineRounds.{spelled, wake_stands}
+use Rattle.cp_model_machine.proofs.MachineStarts.{as_whole, ordered, own_words, part_by_part}
+use Rattle.cp_law_stillness.specs.Stillness.{OnlyCountGrows, is_still}
+use Rattle.cp_law_stillness.proofs.Resting.{never_begins, rests}
+use Rattle.cp_law_stillness.proofs.Rounds.{stays_still}
 use Rattle.cp_law_cores.specs.Clocks.{is_timeless}
 use Rattle.cp_law_cores.specs.Cores.{Core, core, core_moves}
 use Rattle.cp_law_cores.specs.Laws.{FoundIsReal, StatesAreReduced, first_core}

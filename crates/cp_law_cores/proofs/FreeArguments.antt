@@ -8,21 +8,21 @@ use Rattle.cp_model.specs.Abstract.{BaseType, Name}
 use Rattle.cp_model.specs.Continuations.{Do, EndBody, EndCall, EndProcess, ForNext, RepeatTest, Task, WhileTest}
 use Rattle.cp_model.specs.Declarations as declared
 use Rattle.cp_model.specs.Types.{ArrayOf, Queue, RecordOf, ResolvedType, Simple}
-use Rattle.cp_program_model.specs.Programs as op
-use Rattle.cp_program_model.specs.Programs.{Call, Operation}
-use Rattle.cp_program_model.specs.Terms.{Argument, Binary, Copy, Element, Empty, Item, Made, Negative, Not, Number, Realtime, Reference, Rooted, Spot, Standard, Term, Value}
-use Rattle.cp_program_model.specs.Layout.{local_words}
-use Rattle.cp_program_model.specs.TermsFor.{move_spot}
-use Rattle.cp_program_model.specs.Sites.{Site, first_parameter, operation_at, parameters}
-use Rattle.cp_program_model.specs.StatementsFor.{AssignsBy, CodeFor, InitsBy, PerformsBy}
-use Rattle.cp_program_model.specs.TermsFor.{ArgumentsFor, Knowns, SpotFor, TermFor, nothing_known}
-use Rattle.cp_machine_model.specs.Addresses.{Ground}
-use Rattle.cp_machine_model.specs.Left.{IsTask, Left, Loop, LoopLeft, Running, While, Repeat, site}
-use Rattle.cp_machine_model.specs.PrivateStates as machine
-use Rattle.cp_machine_model.proofs.FirstCalls.{term_next}
-use Rattle.cp_machine_model.proofs.LeftKept.{SameBelow, left_kept}
-use Rattle.cp_machine_model.proofs.NextCalls.{AllMade, Calling}
-use Rattle.cp_machine_model.proofs.StatementCalls.{own_place, statement_next}
+use Rattle.cp_model_program.specs.Programs as op
+use Rattle.cp_model_program.specs.Programs.{Call, Operation}
+use Rattle.cp_model_program.specs.Terms.{Argument, Binary, Copy, Element, Empty, Item, Made, Negative, Not, Number, Realtime, Reference, Rooted, Spot, Standard, Term, Value}
+use Rattle.cp_model_program.specs.Layout.{local_words}
+use Rattle.cp_model_program.specs.TermsFor.{move_spot}
+use Rattle.cp_model_program.specs.Sites.{Site, first_parameter, operation_at, parameters}
+use Rattle.cp_model_program.specs.StatementsFor.{AssignsBy, CodeFor, InitsBy, PerformsBy}
+use Rattle.cp_model_program.specs.TermsFor.{ArgumentsFor, Knowns, SpotFor, TermFor, nothing_known}
+use Rattle.cp_model_machine.specs.Addresses.{Ground}
+use Rattle.cp_model_machine.specs.Left.{IsTask, Left, Loop, LoopLeft, Running, While, Repeat, site}
+use Rattle.cp_model_machine.specs.PrivateStates as machine
+use Rattle.cp_model_machine.proofs.FirstCalls.{term_next}
+use Rattle.cp_model_machine.proofs.LeftKept.{SameBelow, left_kept}
+use Rattle.cp_model_machine.proofs.NextCalls.{AllMade, Calling}
+use Rattle.cp_model_machine.proofs.StatementCalls.{own_place, statement_next}
 use Rattle.cp_law_cores.specs.Wiping.{arguments_are_free, spot_is_free, term_is_free}
 use Rattle.cp_law_cores.proofs.Timeless.{both}
 

@@ -16,25 +16,25 @@ use Rattle.cp_model.specs.Rounds as rounds
 use Rattle.cp_model.specs.Rounds.{Event, close_round, replay_event}
 use Rattle.cp_model.specs.States.{Setup, State, is_in, process_count, processes}
 use Rattle.cp_model.specs.Turns.{Kernel, Private, kind, kind_of}
-use Rattle.cp_hierarchy.specs.InOrder.{world}
-use Rattle.cp_hierarchy.proofs.Reached.{event_keeps}
-use Rattle.cp_program_model.specs.Programs.{Operation, Program}
-use Rattle.cp_machine_model.specs.Addresses.{Ground}
-use Rattle.cp_machine_model.specs.InState.{IsIn, PartStands}
-use Rattle.cp_machine_model.specs.Laws.{ground_of}
-use Rattle.cp_machine_model.specs.Left.{innermost_gate}
-use Rattle.cp_machine_model.specs.Machines.{Machine, end_round, transcript_of}
-use Rattle.cp_machine_model.specs.PartOf.{GoesOn, RunsOn, status_of}
-use Rattle.cp_machine_model.specs.PrivateStates as machine
-use Rattle.cp_machine_model.specs.PrivateStates.{Activity, PrivateState, is_running}
-use Rattle.cp_machine_model.specs.Replays.{event, process_of}
-use Rattle.cp_machine_model.specs.Steps.{alone, is_held, is_kernel_operation, is_private, operation_of}
-use Rattle.cp_machine_model.proofs.Deciding.{ready_steps}
-use Rattle.cp_machine_model.proofs.GatesHeld.{gate_is_held}
-use Rattle.cp_machine_model.proofs.MachineReplays.{event_stands}
-use Rattle.cp_machine_model.proofs.MachineStarts.{as_whole, end_is_end, ordered, own_words, part_by_part}
-use Rattle.cp_machine_model.proofs.PrivateSteps.{IsRunning, running_is}
-use Rattle.cp_machine_model.proofs.Stepping.{clock_of}
+use Rattle.cp_law_gates.specs.InOrder.{world}
+use Rattle.cp_law_gates.proofs.Reached.{event_keeps}
+use Rattle.cp_model_program.specs.Programs.{Operation, Program}
+use Rattle.cp_model_machine.specs.Addresses.{Ground}
+use Rattle.cp_model_machine.specs.InState.{IsIn, PartStands}
+use Rattle.cp_model_machine.specs.Laws.{ground_of}
+use Rattle.cp_model_machine.specs.Left.{innermost_gate}
+use Rattle.cp_model_machine.specs.Machines.{Machine, end_round, transcript_of}
+use Rattle.cp_model_machine.specs.PartOf.{GoesOn, RunsOn, status_of}
+use Rattle.cp_model_machine.specs.PrivateStates as machine
+use Rattle.cp_model_machine.specs.PrivateStates.{Activity, PrivateState, is_running}
+use Rattle.cp_model_machine.specs.Replays.{event, process_of}
+use Rattle.cp_model_machine.specs.Steps.{alone, is_held, is_kernel_operation, is_private, operation_of}
+use Rattle.cp_model_machine.proofs.Deciding.{ready_steps}
+use Rattle.cp_model_machine.proofs.GatesHeld.{gate_is_held}
+use Rattle.cp_model_machine.proofs.MachineReplays.{event_stands}
+use Rattle.cp_model_machine.proofs.MachineStarts.{as_whole, end_is_end, ordered, own_words, part_by_part}
+use Rattle.cp_model_machine.proofs.PrivateSteps.{IsRunning, running_is}
+use Rattle.cp_model_machine.proofs.Stepping.{clock_of}
 use Rattle.cp_law_cores.specs.Clocks.{is_timeless}
 use Rattle.cp_law_cores.specs.Cores.{Core, close, core, core_moves, is_private_on, part, silent}
 use Rattle.cp_law_cores.specs.Moves.{AreIn, IsSettled, Moves, apply, steps}

@@ -14,8 +14,8 @@ use Rattle.cp_model.proofs.PartsKept.{kernel_turn_makes_none_private}
 use Rattle.cp_model.proofs.PrivatelyReady.{kernel_turn_keeps_privately_ready}
 use Rattle.cp_model.proofs.StateInvariant.{event_keeps, kernel_step_keeps, private_step_keeps, wake_keeps}
 use Rattle.cp_model.proofs.StepOrder.{private_past_kernel}
-use Rattle.cp_stillness.specs.Stillness.{AreOfProcesses}
-use Rattle.cp_stillness.proofs.Resting.{has_no_step}
+use Rattle.cp_law_stillness.specs.Stillness.{AreOfProcesses}
+use Rattle.cp_law_stillness.proofs.Resting.{has_no_step}
 use Rattle.cp_law_cores.specs.Moves.{Act, AreIndependent, AreOf, ClosesBeside, EndRound, KernelStep, PrivateStep, ReducedFrom, after, ends}
 use Rattle.cp_law_cores.specs.States.{is_kernel_kind, is_private_kind, moves, settles}
 use Rattle.cp_law_cores.specs.Laws.{ReducedRoundIsRound, RoundIsReduced, SettledRoundsAreReduced, SettlesOnce, StillIsSettled, StillSettles}

@@ -2,7 +2,7 @@
 use Rattle.std.specs.Prelude.{List, None, Option, Some, [], false, map, refl, slice_get, slice_set, suc, true, zero, ℕ, ◌∷◌, ◌≡◌, ◌≢◌}
 use Rattle.std.proofs.Common.{ap, sym}
 use Rattle.std.proofs.lemmas.Bool.{true≢false}
-use Rattle.cp_machine_model.specs.PrivateStates.{PrivateState}
+use Rattle.cp_model_machine.specs.PrivateStates.{PrivateState}
 use Rattle.cp_law_cores.specs.Cores.{part, put}
 
 module _ {X : Type 0} where

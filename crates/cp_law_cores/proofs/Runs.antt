@@ -7,13 +7,13 @@ use Rattle.cp_model.specs.Rounds as rounds
 use Rattle.cp_model.specs.Rounds.{Event, close_round, replay_event, replay_round, wake}
 use Rattle.cp_model.specs.States.{Setup, State, is_in, numbers_from, process_count, processes}
 use Rattle.cp_model.specs.Turns.{kernel_step, kernel_turn, private_step}
-use Rattle.cp_program_model.specs.Programs.{Program}
-use Rattle.cp_machine_model.specs.InState.{IsIn}
-use Rattle.cp_machine_model.specs.Machines as machine
-use Rattle.cp_machine_model.specs.Machines.{Machine, begin_one, end_round, next_stage}
-use Rattle.cp_machine_model.specs.Replays.{AreWithin, event, process_of, replay}
-use Rattle.cp_machine_model.proofs.MachineReplays.{replay_is_replay}
-use Rattle.cp_stillness.specs.Stillness.{AreAllOfProcesses, AreOfProcesses}
+use Rattle.cp_model_program.specs.Programs.{Program}
+use Rattle.cp_model_machine.specs.InState.{IsIn}
+use Rattle.cp_model_machine.specs.Machines as machine
+use Rattle.cp_model_machine.specs.Machines.{Machine, begin_one, end_round, next_stage}
+use Rattle.cp_model_machine.specs.Replays.{AreWithin, event, process_of, replay}
+use Rattle.cp_model_machine.proofs.MachineReplays.{replay_is_replay}
+use Rattle.cp_law_stillness.specs.Stillness.{AreAllOfProcesses, AreOfProcesses}
 use Rattle.cp_law_cores.specs.Moves.{Act, AreOf, EndRound, KernelStep, PrivateStep, after, apply}
 use Rattle.cp_law_cores.specs.Schedules.{with_one}
 use Rattle.cp_law_cores.specs.Cores.{Core, close, core, core_moves, kernel_at, private_at}

@@ -15,19 +15,19 @@ use Rattle.cp_model.specs.Start.{start}
 use Rattle.cp_model.specs.StateViews.{fault_number}
 use Rattle.cp_model.specs.States.{Setup, State, is_in, process_count, processes}
 use Rattle.cp_model.specs.declared.state.Fault.{Fault}
-use Rattle.cp_program_model.specs.Programs.{Operation, Program}
-use Rattle.cp_program_model.specs.StandsFor.{StandsFor}
-use Rattle.cp_machine_model.specs.InState.{IsIn, PartStands}
-use Rattle.cp_machine_model.specs.Laws.{ground_of}
-use Rattle.cp_machine_model.specs.Machines.{Machine, first_machine}
-use Rattle.cp_machine_model.specs.PartOf.{GoesOn, status_of}
-use Rattle.cp_machine_model.specs.PrivateStates as machine
-use Rattle.cp_machine_model.specs.PrivateStates.{Activity, PrivateState, is_running}
-use Rattle.cp_machine_model.specs.Steps.{is_held, is_kernel_operation, is_private, operation_of}
-use Rattle.cp_machine_model.proofs.GatesHeld.{gate_is_held}
-use Rattle.cp_machine_model.proofs.MachineStarts.{start_is_in}
-use Rattle.cp_stillness.specs.Stillness.{AreAllOfProcesses, can_move, is_still}
-use Rattle.cp_stillness.proofs.Resting.{rests}
+use Rattle.cp_model_program.specs.Programs.{Operation, Program}
+use Rattle.cp_model_program.specs.StandsFor.{StandsFor}
+use Rattle.cp_model_machine.specs.InState.{IsIn, PartStands}
+use Rattle.cp_model_machine.specs.Laws.{ground_of}
+use Rattle.cp_model_machine.specs.Machines.{Machine, first_machine}
+use Rattle.cp_model_machine.specs.PartOf.{GoesOn, status_of}
+use Rattle.cp_model_machine.specs.PrivateStates as machine
+use Rattle.cp_model_machine.specs.PrivateStates.{Activity, PrivateState, is_running}
+use Rattle.cp_model_machine.specs.Steps.{is_held, is_kernel_operation, is_private, operation_of}
+use Rattle.cp_model_machine.proofs.GatesHeld.{gate_is_held}
+use Rattle.cp_model_machine.proofs.MachineStarts.{start_is_in}
+use Rattle.cp_law_stillness.specs.Stillness.{AreAllOfProcesses, can_move, is_still}
+use Rattle.cp_law_stillness.proofs.Resting.{rests}
 use Rattle.cp_law_cores.specs.Clocks.{is_timeless}
 use Rattle.cp_law_cores.specs.Cores.{Core, close, core, core_moves, is_private_on, part, private_at, silent}
 use Rattle.cp_law_cores.specs.Laws.{FaultsAreWithin, OrdersStayWithin, ReducedIsOrder, StillStatesAreReduced, StillStatesAreWithin, first_core}

@@ -3,14 +3,14 @@
 use Rattle.std.specs.Prelude.{Bool, List, None, Option, Some, [], drop, false, if◌then◌else◌, length, map, nat_eq, refl, slice_get, slice_set, suc, take, true, zero, ℕ, ◌%◌, ◌-◌, ◌++◌, ◌∷◌, ◌≡◌}
 use Rattle.std.proofs.Common.{ap, arith, subst, sym, ◌∙◌}
 use Rattle.std.proofs.lemmas.Bool.{true≢false}
-use Rattle.cp_program_model.specs.Programs as code
-use Rattle.cp_program_model.specs.Programs.{Operation, Program}
-use Rattle.cp_program_model.specs.Starts.{block, paste}
-use Rattle.cp_machine_model.specs.KernelSteps.{Asking, Begun, Delayed, Fresh, Kernel, Stage, Turning, Unstarted, apply_effect, is_due, join_words, kernel_step, outside, part_words, stage_of}
-use Rattle.cp_machine_model.specs.Machines as machine
-use Rattle.cp_machine_model.specs.Machines.{Machine, after_kernel_turn, awake, begin_if, begin_one, clock, end_round, kernel_turn, private_turn, wake, wake_one}
-use Rattle.cp_machine_model.specs.PrivateStates.{Acting, Activity, Ended, Faulted, NotBegun, Outside, PrivateState, Running, Waiting, is_running}
-use Rattle.cp_machine_model.specs.Steps.{act_on, alone, is_private, operation_of, private_step, step_with}
+use Rattle.cp_model_program.specs.Programs as code
+use Rattle.cp_model_program.specs.Programs.{Operation, Program}
+use Rattle.cp_model_program.specs.Starts.{block, paste}
+use Rattle.cp_model_machine.specs.KernelSteps.{Asking, Begun, Delayed, Fresh, Kernel, Stage, Turning, Unstarted, apply_effect, is_due, join_words, kernel_step, outside, part_words, stage_of}
+use Rattle.cp_model_machine.specs.Machines as machine
+use Rattle.cp_model_machine.specs.Machines.{Machine, after_kernel_turn, awake, begin_if, begin_one, clock, end_round, kernel_turn, private_turn, wake, wake_one}
+use Rattle.cp_model_machine.specs.PrivateStates.{Acting, Activity, Ended, Faulted, NotBegun, Outside, PrivateState, Running, Waiting, is_running}
+use Rattle.cp_model_machine.specs.Steps.{act_on, alone, is_private, operation_of, private_step, step_with}
 use Rattle.cp_law_cores.specs.Clocks.{are_timeless, is_timeless, operation_is_timeless}
 use Rattle.cp_law_cores.specs.Cores.{Core, close, core, is_private_on, kernel_at, kernel_on, private_at, silent, turned, with_turning}
 use Rattle.cp_law_cores.proofs.Parts.{map_got, map_none, map_set, none_is, set_same}

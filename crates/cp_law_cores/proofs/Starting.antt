@@ -2,11 +2,11 @@
 use Rattle.std.specs.Prelude.{Bool, List, None, Option, Some, [], false, refl, slice_get, suc, true, zero, ℕ, ◌∷◌, ◌≡◌}
 use Rattle.std.proofs.Common.{ap, sym, ◌∙◌}
 use Rattle.std.proofs.lemmas.Bool.{true≢false}
-use Rattle.cp_program_model.specs.Programs as code
-use Rattle.cp_program_model.specs.Programs.{Program}
-use Rattle.cp_machine_model.specs.KernelSteps.{stage_of}
-use Rattle.cp_machine_model.specs.Machines.{first_activity, first_machine, first_parts, first_stages}
-use Rattle.cp_machine_model.specs.PrivateStates.{PrivateState, is_running}
+use Rattle.cp_model_program.specs.Programs as code
+use Rattle.cp_model_program.specs.Programs.{Program}
+use Rattle.cp_model_machine.specs.KernelSteps.{stage_of}
+use Rattle.cp_model_machine.specs.Machines.{first_activity, first_machine, first_parts, first_stages}
+use Rattle.cp_model_machine.specs.PrivateStates.{PrivateState, is_running}
 use Rattle.cp_law_cores.specs.Clocks.{is_timeless}
 use Rattle.cp_law_cores.specs.Cores.{core, part, silent}
 use Rattle.cp_law_cores.proofs.Begun.{IsCalm, has_begun, from_map}

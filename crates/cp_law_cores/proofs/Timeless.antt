@@ -9,19 +9,19 @@ use Rattle.cp_model.specs.StandardCalls.{next_input}
 use Rattle.cp_model.specs.StatementSteps.{is_past, next_counter}
 use Rattle.cp_model.specs.declared.state.Fault.{Fault}
 use Rattle.cp_model.specs.declared.state.Fault.TheVariants as fault
-use Rattle.cp_program_model.specs.Functions.{in_range, standard, unless}
-use Rattle.cp_program_model.specs.Layout.{distance}
-use Rattle.cp_program_model.specs.Programs as op
-use Rattle.cp_program_model.specs.Programs.{Call, CodeUnit, Counting, Operation, Program}
-use Rattle.cp_program_model.specs.Starts.{unset, word}
-use Rattle.cp_program_model.specs.Tables.{place_in}
-use Rattle.cp_program_model.specs.Terms as target
-use Rattle.cp_program_model.specs.Terms.{Argument, Binary, Copy, Element, Empty, Item, Made, Negative, Not, Number, Realtime, Reference, Right, Rooted, Spot, Standard, Target, Term, Value}
-use Rattle.cp_machine_model.specs.Calling.{Back, call_step, class_at, enter, gate_effect, has_room, init_class, init_monitor, init_process, parameters_start, return_with, settle, start_words, with_frame, with_unit}
-use Rattle.cp_machine_model.specs.Passing.{Called, Passing, component_called, monitor_called, pass_all, pass_copy, pass_one, pass_result, pass_value, pass_word, reference_word, right_word, unless_fault, when_passed}
-use Rattle.cp_machine_model.specs.PrivateStates.{Acting, Activity, Continues, Effect, Ended, Enters, Faulted, Frame, Leaves, Opens, Outside, PrivateState, Starts, fault_in, go_to, guard, private_outcome, set_temp, set_word, view_of, with_result}
-use Rattle.cp_machine_model.specs.Values.{View, apply, bind, place_of, root_place, truth, value_of}
-use Rattle.cp_machine_model.specs.Steps.{accept, act, continue, count_to, delay, first_count, go_to_arm, is_held, next_count, set_within, with_place, with_value}
+use Rattle.cp_model_program.specs.Functions.{in_range, standard, unless}
+use Rattle.cp_model_program.specs.Layout.{distance}
+use Rattle.cp_model_program.specs.Programs as op
+use Rattle.cp_model_program.specs.Programs.{Call, CodeUnit, Counting, Operation, Program}
+use Rattle.cp_model_program.specs.Starts.{unset, word}
+use Rattle.cp_model_program.specs.Tables.{place_in}
+use Rattle.cp_model_program.specs.Terms as target
+use Rattle.cp_model_program.specs.Terms.{Argument, Binary, Copy, Element, Empty, Item, Made, Negative, Not, Number, Realtime, Reference, Right, Rooted, Spot, Standard, Target, Term, Value}
+use Rattle.cp_model_machine.specs.Calling.{Back, call_step, class_at, enter, gate_effect, has_room, init_class, init_monitor, init_process, parameters_start, return_with, settle, start_words, with_frame, with_unit}
+use Rattle.cp_model_machine.specs.Passing.{Called, Passing, component_called, monitor_called, pass_all, pass_copy, pass_one, pass_result, pass_value, pass_word, reference_word, right_word, unless_fault, when_passed}
+use Rattle.cp_model_machine.specs.PrivateStates.{Acting, Activity, Continues, Effect, Ended, Enters, Faulted, Frame, Leaves, Opens, Outside, PrivateState, Starts, fault_in, go_to, guard, private_outcome, set_temp, set_word, view_of, with_result}
+use Rattle.cp_model_machine.specs.Values.{View, apply, bind, place_of, root_place, truth, value_of}
+use Rattle.cp_model_machine.specs.Steps.{accept, act, continue, count_to, delay, first_count, go_to_arm, is_held, next_count, set_within, with_place, with_value}
 use Rattle.cp_law_cores.specs.Clocks.{argument_is_timeless, arguments_are_timeless, operation_is_timeless, spot_is_timeless, term_is_timeless}
 use Rattle.cp_law_cores.specs.Cores.{silent}
 

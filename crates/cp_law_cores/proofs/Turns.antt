@@ -5,11 +5,11 @@ use Rattle.std.proofs.lemmas.Bool.{eqb-false, eqb-true, true≢false}
 use Rattle.cp_model.proofs.Options.{same_some}
 use Rattle.cp_model.specs.States.{is_in, numbers_from}
 use Rattle.cp_model.proofs.Lists.{in_head, in_more}
-use Rattle.cp_program_model.specs.Programs.{Operation, Program}
-use Rattle.cp_machine_model.specs.KernelSteps.{Asking, Begun, Delayed, Fresh, Kernel, Stage, Unstarted, stage_of}
-use Rattle.cp_machine_model.specs.Machines.{begin_if, begin_one, next_stage}
-use Rattle.cp_machine_model.specs.PrivateStates.{Outside, PrivateState, is_running}
-use Rattle.cp_machine_model.specs.Steps.{act_on, alone, is_private, operation_of, private_step, private_steps}
+use Rattle.cp_model_program.specs.Programs.{Operation, Program}
+use Rattle.cp_model_machine.specs.KernelSteps.{Asking, Begun, Delayed, Fresh, Kernel, Stage, Unstarted, stage_of}
+use Rattle.cp_model_machine.specs.Machines.{begin_if, begin_one, next_stage}
+use Rattle.cp_model_machine.specs.PrivateStates.{Outside, PrivateState, is_running}
+use Rattle.cp_model_machine.specs.Steps.{act_on, alone, is_private, operation_of, private_step, private_steps}
 use Rattle.cp_law_cores.specs.Clocks.{is_timeless}
 use Rattle.cp_law_cores.specs.Cores.{Core, close, core_moves, is_private_on, part, private_at, put, silent, turned}
 use Rattle.cp_law_cores.specs.Moves.{AreIn, IsSettled, Settles, steps}

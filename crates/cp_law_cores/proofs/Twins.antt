@@ -8,9 +8,9 @@ use Rattle.cp_model.specs.Orders as orders
 use Rattle.cp_model.specs.Rounds.{close_round}
 use Rattle.cp_model.specs.Start.{start}
 use Rattle.cp_model.specs.States.{Setup, State, is_in, process_count, processes}
-use Rattle.cp_program_model.specs.Programs.{Program}
-use Rattle.cp_program_model.specs.StandsFor.{StandsFor}
-use Rattle.cp_stillness.specs.Stillness.{is_still}
+use Rattle.cp_model_program.specs.Programs.{Program}
+use Rattle.cp_model_program.specs.StandsFor.{StandsFor}
+use Rattle.cp_law_stillness.specs.Stillness.{is_still}
 use Rattle.cp_law_cores.specs.Clocks.{is_timeless}
 use Rattle.cp_law_cores.specs.Cores.{Core, core, core_moves, is_kernel_on, part}
 use Rattle.cp_law_cores.specs.Laws.{NoOrderIsStuckUpTo, first_core}

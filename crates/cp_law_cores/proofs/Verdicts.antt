@@ -10,17 +10,17 @@ use Rattle.cp_model.specs.Parts as parts
 use Rattle.cp_model.specs.Parts.{PrivateStatus, private_status}
 use Rattle.cp_model.specs.Start.{start}
 use Rattle.cp_model.specs.States.{Setup, State, is_in, process_count, processes}
-use Rattle.cp_program_model.specs.Programs.{Program}
-use Rattle.cp_machine_model.specs.Addresses.{Ground}
-use Rattle.cp_machine_model.specs.InState.{IsIn}
-use Rattle.cp_machine_model.specs.KernelOf.{StageMeans, kernel_ground}
-use Rattle.cp_machine_model.specs.KernelSteps as kernel
-use Rattle.cp_machine_model.specs.KernelSteps.{Stage, stage_of}
-use Rattle.cp_machine_model.specs.Machines.{Machine}
-use Rattle.cp_machine_model.specs.PartOf.{status_of}
-use Rattle.cp_machine_model.specs.PrivateStates as machine
-use Rattle.cp_machine_model.specs.PrivateStates.{Activity, PrivateState, is_running}
-use Rattle.cp_stillness.specs.Stillness.{can_move, is_still, none_can_move}
+use Rattle.cp_model_program.specs.Programs.{Program}
+use Rattle.cp_model_machine.specs.Addresses.{Ground}
+use Rattle.cp_model_machine.specs.InState.{IsIn}
+use Rattle.cp_model_machine.specs.KernelOf.{StageMeans, kernel_ground}
+use Rattle.cp_model_machine.specs.KernelSteps as kernel
+use Rattle.cp_model_machine.specs.KernelSteps.{Stage, stage_of}
+use Rattle.cp_model_machine.specs.Machines.{Machine}
+use Rattle.cp_model_machine.specs.PartOf.{status_of}
+use Rattle.cp_model_machine.specs.PrivateStates as machine
+use Rattle.cp_model_machine.specs.PrivateStates.{Activity, PrivateState, is_running}
+use Rattle.cp_law_stillness.specs.Stillness.{can_move, is_still, none_can_move}
 use Rattle.cp_law_cores.specs.Cores.{Core, core, core_moves, part, silent}
 use Rattle.cp_law_cores.specs.Laws.{CoreTellsEnd, CoreTellsSound, CoreTellsStill, NoOrderIsStuck}
 use Rattle.cp_law_cores.specs.Schedules as seen

@@ -10,31 +10,31 @@ use Rattle.cp_model.specs.Locations.{ByName, Location, under}
 use Rattle.cp_model.specs.States.{Setup, State}
 use Rattle.cp_model.specs.Stores.{Store}
 use Rattle.cp_model.specs.Types.{ResolvedType}
-use Rattle.cp_program_model.specs.Layout.{member, right}
-use Rattle.cp_program_model.specs.Programs as op
-use Rattle.cp_program_model.specs.Programs.{Call, Operation, Program}
-use Rattle.cp_program_model.specs.Starts.{word}
-use Rattle.cp_program_model.specs.TermsFor.{Knowns, nothing_known}
-use Rattle.cp_machine_model.specs.Addresses.{Activation, ComponentLies, Ground, OwnWords, RightMeans, activation_at, activations, component_type, in_sight, lies, scope, whole, words_seen}
-use Rattle.cp_machine_model.specs.InState.{IsIn, PartStands}
-use Rattle.cp_machine_model.specs.Laws.{ground_of}
-use Rattle.cp_machine_model.specs.Left.{Left, Running, Runs, held_below}
-use Rattle.cp_machine_model.specs.Machines.{Machine, transcript_of}
-use Rattle.cp_machine_model.specs.Means.{CellMeans}
-use Rattle.cp_machine_model.specs.PartOf.{DataMeans, GoesOn, PartOf, RunsOn}
-use Rattle.cp_machine_model.specs.PrivateStates as machine
-use Rattle.cp_machine_model.specs.PrivateStates.{Activity, PrivateState}
-use Rattle.cp_machine_model.specs.Steps.{operation_of}
-use Rattle.cp_machine_model.proofs.Apart.{InHead, cell_head}
-use Rattle.cp_machine_model.proofs.Owned.{OwnRight}
-use Rattle.cp_machine_model.proofs.Finding.{some_is_not_none}
-use Rattle.cp_machine_model.proofs.Keeping.{each_kept, right_place}
-use Rattle.cp_machine_model.proofs.LeftKept.{SameBelow}
-use Rattle.cp_machine_model.proofs.RunningOn.{runs_kept}
-use Rattle.cp_machine_model.proofs.Separate.{cell_below, cell_inside, own_right_below, own_right_inside}
-use Rattle.cp_machine_model.proofs.Stacks.{Stack, Stacked}
-use Rattle.cp_machine_model.proofs.Writing.{is_cell}
-use Rattle.cp_machine_model.specs.Beginning.{Begins}
+use Rattle.cp_model_program.specs.Layout.{member, right}
+use Rattle.cp_model_program.specs.Programs as op
+use Rattle.cp_model_program.specs.Programs.{Call, Operation, Program}
+use Rattle.cp_model_program.specs.Starts.{word}
+use Rattle.cp_model_program.specs.TermsFor.{Knowns, nothing_known}
+use Rattle.cp_model_machine.specs.Addresses.{Activation, ComponentLies, Ground, OwnWords, RightMeans, activation_at, activations, component_type, in_sight, lies, scope, whole, words_seen}
+use Rattle.cp_model_machine.specs.InState.{IsIn, PartStands}
+use Rattle.cp_model_machine.specs.Laws.{ground_of}
+use Rattle.cp_model_machine.specs.Left.{Left, Running, Runs, held_below}
+use Rattle.cp_model_machine.specs.Machines.{Machine, transcript_of}
+use Rattle.cp_model_machine.specs.Means.{CellMeans}
+use Rattle.cp_model_machine.specs.PartOf.{DataMeans, GoesOn, PartOf, RunsOn}
+use Rattle.cp_model_machine.specs.PrivateStates as machine
+use Rattle.cp_model_machine.specs.PrivateStates.{Activity, PrivateState}
+use Rattle.cp_model_machine.specs.Steps.{operation_of}
+use Rattle.cp_model_machine.proofs.Apart.{InHead, cell_head}
+use Rattle.cp_model_machine.proofs.Owned.{OwnRight}
+use Rattle.cp_model_machine.proofs.Finding.{some_is_not_none}
+use Rattle.cp_model_machine.proofs.Keeping.{each_kept, right_place}
+use Rattle.cp_model_machine.proofs.LeftKept.{SameBelow}
+use Rattle.cp_model_machine.proofs.RunningOn.{runs_kept}
+use Rattle.cp_model_machine.proofs.Separate.{cell_below, cell_inside, own_right_below, own_right_inside}
+use Rattle.cp_model_machine.proofs.Stacks.{Stack, Stacked}
+use Rattle.cp_model_machine.proofs.Writing.{is_cell}
+use Rattle.cp_model_machine.specs.Beginning.{Begins}
 use Rattle.cp_law_cores.specs.Cores.{silent}
 use Rattle.cp_law_cores.specs.Laws.{WipedStands}
 use Rattle.cp_law_cores.specs.Schedules.{AreAwake, waits}

@@ -5,12 +5,12 @@
 -- rounds pass, comes back to cores that it had before.
 use Rattle.std.specs.Prelude.{Bool, List, None, Option, Some, [], false, if◌then◌else◌, map, slice_get, slice_set, suc, zero, ℕ}
 use Rattle.cp_model.specs.States.{numbers_from}
-use Rattle.cp_program_model.specs.Programs.{Program}
-use Rattle.cp_machine_model.specs.KernelSteps.{Kernel, Turning, is_due, kernel_step}
-use Rattle.cp_machine_model.specs.Machines.{Machine, begin_one, next_stage}
-use Rattle.cp_machine_model.specs.PrivateStates.{PrivateState, is_running}
-use Rattle.cp_machine_model.specs.Steps as steps
-use Rattle.cp_machine_model.specs.Steps.{operation_of, private_step}
+use Rattle.cp_model_program.specs.Programs.{Program}
+use Rattle.cp_model_machine.specs.KernelSteps.{Kernel, Turning, is_due, kernel_step}
+use Rattle.cp_model_machine.specs.Machines.{Machine, begin_one, next_stage}
+use Rattle.cp_model_machine.specs.PrivateStates.{PrivateState, is_running}
+use Rattle.cp_model_machine.specs.Steps as steps
+use Rattle.cp_model_machine.specs.Steps.{operation_of, private_step}
 use Rattle.cp_law_cores.specs.Moves.{Moves}
 
 pub record Core : Type 0 where

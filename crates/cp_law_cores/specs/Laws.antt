@@ -7,10 +7,10 @@ use Rattle.cp_model.specs.Rounds.{Event, replay_event}
 use Rattle.cp_model.specs.Start.{start}
 use Rattle.cp_model.specs.States.{Setup, State, is_in, process_count, processes}
 use Rattle.cp_model.specs.Turns.{private_step}
-use Rattle.cp_stillness.specs.Stillness.{AreAllOfProcesses, AreOfProcesses, is_still}
-use Rattle.cp_program_model.specs.Programs.{Program}
-use Rattle.cp_program_model.specs.StandsFor.{StandsFor}
-use Rattle.cp_machine_model.specs.Machines.{first_machine}
+use Rattle.cp_law_stillness.specs.Stillness.{AreAllOfProcesses, AreOfProcesses, is_still}
+use Rattle.cp_model_program.specs.Programs.{Program}
+use Rattle.cp_model_program.specs.StandsFor.{StandsFor}
+use Rattle.cp_model_machine.specs.Machines.{first_machine}
 use Rattle.cp_law_cores.specs.Clocks.{is_timeless}
 use Rattle.cp_law_cores.specs.Cores.{Core, close, core, core_moves}
 use Rattle.cp_law_cores.specs.Moves.{IsClosed, IsSettled, ReducedFrom, Settles}

@@ -6,11 +6,11 @@ use Rattle.cp_model.specs.Rounds.{Event}
 use Rattle.cp_model.specs.States.{Setup, State, is_in, processes, numbers_from, process_count}
 use Rattle.cp_model.specs.declared.state.Fault.{Fault}
 use Rattle.cp_model.specs.StateViews.{fault_number}
-use Rattle.cp_program_model.specs.Programs.{Program}
-use Rattle.cp_machine_model.specs.InState.{IsIn}
-use Rattle.cp_machine_model.specs.KernelSteps.{Begun, Fresh, Kernel, Stage, stage_of}
-use Rattle.cp_machine_model.specs.Machines.{Machine, first_machine}
-use Rattle.cp_machine_model.specs.PrivateStates.{Activity, Ended, Faulted, PrivateState, Running, Waiting}
+use Rattle.cp_model_program.specs.Programs.{Program}
+use Rattle.cp_model_machine.specs.InState.{IsIn}
+use Rattle.cp_model_machine.specs.KernelSteps.{Begun, Fresh, Kernel, Stage, stage_of}
+use Rattle.cp_model_machine.specs.Machines.{Machine, first_machine}
+use Rattle.cp_model_machine.specs.PrivateStates.{Activity, Ended, Faulted, PrivateState, Running, Waiting}
 use Rattle.cp_law_cores.specs.Cores.{Core, close, core, core_moves, is_kernel_on, kernel_at, part}
 use Rattle.cp_law_cores.specs.Moves.{IsSettled, ReducedFrom, Settles}
 

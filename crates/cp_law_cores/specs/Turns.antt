@@ -1,10 +1,10 @@
 -- Private turns of cores.
 use Rattle.std.specs.Prelude.{None, Option, Some, ℕ, fold, ◌≡◌}
 use Rattle.cp_model.specs.States.{numbers_from}
-use Rattle.cp_program_model.specs.Programs.{Program}
-use Rattle.cp_machine_model.specs.KernelSteps.{Fresh, Kernel, stage_of}
-use Rattle.cp_machine_model.specs.PrivateStates.{PrivateState}
-use Rattle.cp_machine_model.specs.Steps.{private_steps}
+use Rattle.cp_model_program.specs.Programs.{Program}
+use Rattle.cp_model_machine.specs.KernelSteps.{Fresh, Kernel, stage_of}
+use Rattle.cp_model_machine.specs.PrivateStates.{PrivateState}
+use Rattle.cp_model_machine.specs.Steps.{private_steps}
 use Rattle.cp_law_cores.specs.Cores.{Core, part, put, silent}
 
 -- At most `t` private steps of a process.

@@ -3,11 +3,11 @@
 -- Where a process runs in its body, its words after its component are dead. Where it calls a procedure there,
 -- and no argument holds the value of a call, so are its temps after those that the call keeps.
 use Rattle.std.specs.Prelude.{Bool, List, Option, Some, [], false, if◌then◌else◌, map, pos, suc, true, zero, ℕ, ℤ, ◌+◌, ◌∷◌}
-use Rattle.cp_program_model.specs.Programs as op
-use Rattle.cp_program_model.specs.Programs.{Operation, Program}
-use Rattle.cp_program_model.specs.Terms.{Argument, Binary, Copy, Element, Empty, Item, Made, Negative, Not, Number, Realtime, Reference, Right, Rooted, Spot, Standard, Term, Value}
-use Rattle.cp_machine_model.specs.PrivateStates.{Activity, PrivateState, Running}
-use Rattle.cp_machine_model.specs.Steps.{operation_of}
+use Rattle.cp_model_program.specs.Programs as op
+use Rattle.cp_model_program.specs.Programs.{Operation, Program}
+use Rattle.cp_model_program.specs.Terms.{Argument, Binary, Copy, Element, Empty, Item, Made, Negative, Not, Number, Realtime, Reference, Right, Rooted, Spot, Standard, Term, Value}
+use Rattle.cp_model_machine.specs.PrivateStates.{Activity, PrivateState, Running}
+use Rattle.cp_model_machine.specs.Steps.{operation_of}
 use Rattle.cp_law_cores.specs.Cores.{Core}
 
 -- ---- Terms without values of calls

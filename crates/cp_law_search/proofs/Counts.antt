@@ -1,10 +1,10 @@
 -- A core of a state is one of the state with any other count of rounds.
 use Rattle.std.specs.Prelude.{refl, ℕ}
 use Rattle.cp_model.specs.States.{Setup, State}
-use Rattle.cp_program_model.specs.Programs.{Program}
-use Rattle.cp_machine_model.specs.InState.{IsIn, PartStands}
-use Rattle.cp_machine_model.specs.Machines.{Machine}
-use Rattle.cp_machine_model.specs.PrivateStates.{PrivateState}
+use Rattle.cp_model_program.specs.Programs.{Program}
+use Rattle.cp_model_machine.specs.InState.{IsIn, PartStands}
+use Rattle.cp_model_machine.specs.Machines.{Machine}
+use Rattle.cp_model_machine.specs.PrivateStates.{PrivateState}
 use Rattle.cp_law_calls.specs.Ways.{IsGood}
 use Rattle.cp_law_calls.proofs.Good.{count_good}
 use Rattle.cp_law_cores.specs.Cores.{Core}

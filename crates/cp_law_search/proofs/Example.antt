@@ -4,10 +4,10 @@
 use Rattle.std.specs.Prelude.{[], false, refl, suc, true, zero, ℕ, ◌∷◌, ◌≡◌}
 use Rattle.std.proofs.Common.{arith, sym, ◌∙◌}
 use Rattle.cp_model.specs.States.{is_in}
-use Rattle.cp_program_model.specs.Programs as op
-use Rattle.cp_program_model.specs.Programs.{Call, CodeUnit, Program}
-use Rattle.cp_program_model.specs.Terms as term
-use Rattle.cp_machine_model.specs.Machines.{first_machine}
+use Rattle.cp_model_program.specs.Programs as op
+use Rattle.cp_model_program.specs.Programs.{Call, CodeUnit, Program}
+use Rattle.cp_model_program.specs.Terms as term
+use Rattle.cp_model_machine.specs.Machines.{first_machine}
 use Rattle.cp_law_calls.specs.Runs.{ByCalls, IsSettled, Machine, Settles}
 use Rattle.cp_law_calls.specs.Ways.{Eager, Idle, Late, Way}
 use Rattle.cp_law_cores.specs.Cores.{Core, core}

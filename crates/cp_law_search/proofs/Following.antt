@@ -14,7 +14,7 @@ use Rattle.cp_model.proofs.PartsKept.{kernel_turn_other_parts, private_step_othe
 use Rattle.cp_model.proofs.OwnSteps.{kind_private}
 use Rattle.cp_model.proofs.RoundCount.{step_count}
 use Rattle.cp_model.proofs.StateInvariant.{kind_kernel}
-use Rattle.cp_program_model.specs.Programs.{Program}
+use Rattle.cp_model_program.specs.Programs.{Program}
 use Rattle.cp_law_calls.specs.Orders as orders
 use Rattle.cp_law_calls.specs.Orders.{closed}
 use Rattle.cp_law_calls.specs.Runs.{AreMovers, IsSettled, Machine, Runs, RunsEagerly, Settles}

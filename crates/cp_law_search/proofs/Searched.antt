@@ -13,11 +13,11 @@ use Rattle.cp_model.specs.Parts.{private_status}
 use Rattle.cp_model.specs.Rounds.{Event, KernelTurn, PrivateStep, after_closing}
 use Rattle.cp_model.specs.Start.{start}
 use Rattle.cp_model.specs.States.{Setup, State, is_in, process_count, processes}
-use Rattle.cp_program_model.specs.Programs.{Program}
-use Rattle.cp_stillness.specs.Stillness.{AreAllOfProcesses, can_move, is_still, none_can_move}
-use Rattle.cp_stillness.proofs.Resting.{rests}
-use Rattle.cp_machine_model.specs.PartOf.{status_of}
-use Rattle.cp_machine_model.specs.PrivateStates.{PrivateState}
+use Rattle.cp_model_program.specs.Programs.{Program}
+use Rattle.cp_law_stillness.specs.Stillness.{AreAllOfProcesses, can_move, is_still, none_can_move}
+use Rattle.cp_law_stillness.proofs.Resting.{rests}
+use Rattle.cp_model_machine.specs.PartOf.{status_of}
+use Rattle.cp_model_machine.specs.PrivateStates.{PrivateState}
 use Rattle.cp_law_calls.specs.Clocks.{text_is_timeless}
 use Rattle.cp_law_calls.specs.Orders.{closed}
 use Rattle.cp_law_calls.specs.Runs.{ByCalls, CallsLead, IsSettled, Machine, Runs, RunsEagerly}

@@ -4,10 +4,10 @@ use Rattle.std.proofs.Common.{ap, arith, subst, sym, ◌∙◌}
 use Rattle.std.proofs.lemmas.Bool.{true≢false}
 use Rattle.cp_model.proofs.Options.{same_some}
 use Rattle.cp_model.specs.States.{is_in, numbers_from}
-use Rattle.cp_program_model.specs.Programs.{Operation, Program}
-use Rattle.cp_machine_model.specs.KernelSteps.{is_begun, stage_of}
-use Rattle.cp_machine_model.specs.PrivateStates.{PrivateState, is_running}
-use Rattle.cp_machine_model.specs.Steps.{is_held, is_kernel_operation, is_private, is_start_operation, operation_of, private_step}
+use Rattle.cp_model_program.specs.Programs.{Operation, Program}
+use Rattle.cp_model_machine.specs.KernelSteps.{is_begun, stage_of}
+use Rattle.cp_model_machine.specs.PrivateStates.{PrivateState, is_running}
+use Rattle.cp_model_machine.specs.Steps.{is_held, is_kernel_operation, is_private, is_start_operation, operation_of, private_step}
 use Rattle.cp_law_calls.specs.Runs.{Machine, Settles}
 use Rattle.cp_law_calls.specs.Ways.{Eager, Idle}
 use Rattle.cp_law_cores.specs.Clocks.{is_timeless}

@@ -7,9 +7,9 @@ use Rattle.cp_model.specs.States.{Setup, State}
 use Rattle.cp_model.specs.Turns.{step}
 use Rattle.cp_model.proofs.RoundCount.{step_count}
 use Rattle.cp_model.proofs.StateMaps.{state_is}
-use Rattle.cp_hierarchy.specs.InOrder.{world}
-use Rattle.cp_hierarchy.proofs.Texts.{text_is_ordered}
-use Rattle.cp_typing.specs.WellTyped.{WellTyped}
+use Rattle.cp_law_gates.specs.InOrder.{world}
+use Rattle.cp_law_gates.proofs.Texts.{text_is_ordered}
+use Rattle.cp_law_typing.specs.WellTyped.{WellTyped}
 use Rattle.cp_law_calls.specs.Orders.{closed, machine}
 use Rattle.cp_law_calls.specs.Runs.{AreMovers}
 use Rattle.cp_law_calls.specs.Ways.{Idle, IsGood, way, way_of}

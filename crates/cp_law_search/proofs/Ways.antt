@@ -10,22 +10,22 @@ use Rattle.cp_model.specs.Continuations.{Do}
 use Rattle.cp_model.specs.Locations.{Location}
 use Rattle.cp_model.specs.Parts.{private_status}
 use Rattle.cp_model.specs.States.{Setup, State, monitor_count, process_count}
-use Rattle.cp_program_model.specs.Programs as op
-use Rattle.cp_program_model.specs.Programs.{Operation, Program}
-use Rattle.cp_machine_model.specs.EffectOf.{IsNumber}
-use Rattle.cp_machine_model.specs.InState.{IsIn, PartStands}
-use Rattle.cp_machine_model.specs.KernelOf.{StageMeans, kernel_ground}
-use Rattle.cp_machine_model.specs.KernelSteps as stage
-use Rattle.cp_machine_model.specs.KernelSteps.{Begun, Stage, is_begun, stage_of}
-use Rattle.cp_machine_model.specs.Machines.{Machine, transcript_of}
-use Rattle.cp_machine_model.specs.PartOf.{status_of}
-use Rattle.cp_machine_model.specs.PrivateStates as machine
-use Rattle.cp_machine_model.specs.PrivateStates.{PrivateState, is_running}
-use Rattle.cp_machine_model.specs.Steps.{is_kernel_operation, is_start_operation, operation_of}
-use Rattle.cp_machine_model.proofs.KernelKept.{begun}
-use Rattle.cp_machine_model.proofs.KernelTurning.{S}
-use Rattle.cp_machine_model.proofs.PrivateSteps.{IsRunning, running_is, still_is}
-use Rattle.cp_machine_model.proofs.Stepping.{is_start}
+use Rattle.cp_model_program.specs.Programs as op
+use Rattle.cp_model_program.specs.Programs.{Operation, Program}
+use Rattle.cp_model_machine.specs.EffectOf.{IsNumber}
+use Rattle.cp_model_machine.specs.InState.{IsIn, PartStands}
+use Rattle.cp_model_machine.specs.KernelOf.{StageMeans, kernel_ground}
+use Rattle.cp_model_machine.specs.KernelSteps as stage
+use Rattle.cp_model_machine.specs.KernelSteps.{Begun, Stage, is_begun, stage_of}
+use Rattle.cp_model_machine.specs.Machines.{Machine, transcript_of}
+use Rattle.cp_model_machine.specs.PartOf.{status_of}
+use Rattle.cp_model_machine.specs.PrivateStates as machine
+use Rattle.cp_model_machine.specs.PrivateStates.{PrivateState, is_running}
+use Rattle.cp_model_machine.specs.Steps.{is_kernel_operation, is_start_operation, operation_of}
+use Rattle.cp_model_machine.proofs.KernelKept.{begun}
+use Rattle.cp_model_machine.proofs.KernelTurning.{S}
+use Rattle.cp_model_machine.proofs.PrivateSteps.{IsRunning, running_is, still_is}
+use Rattle.cp_model_machine.proofs.Stepping.{is_start}
 use Rattle.cp_law_calls.specs.Ways.{Idle, Way, is_late, way, way_of}
 use Rattle.cp_law_cores.specs.Cores.{Core, core, silent}
 use Rattle.cp_law_cores.proofs.Parts.{map_got}

@@ -5,11 +5,11 @@
 -- first core, and from each settled core tries the late step of each process, and settles again.
 use Rattle.std.specs.Prelude.{Bool, List, None, Option, Some, [], false, if◌then◌else◌, true, ℕ, ◌∷◌, ◌≡◌}
 use Rattle.cp_model.specs.States.{Setup, State, is_in, numbers_from, process_count, processes}
-use Rattle.cp_program_model.specs.Programs as op
-use Rattle.cp_program_model.specs.Programs.{Operation, Program}
-use Rattle.cp_machine_model.specs.KernelSteps.{Kernel, is_begun, stage_of}
-use Rattle.cp_machine_model.specs.PrivateStates.{PrivateState, is_running}
-use Rattle.cp_machine_model.specs.Steps.{is_monitor, operation_of}
+use Rattle.cp_model_program.specs.Programs as op
+use Rattle.cp_model_program.specs.Programs.{Operation, Program}
+use Rattle.cp_model_machine.specs.KernelSteps.{Kernel, is_begun, stage_of}
+use Rattle.cp_model_machine.specs.PrivateStates.{PrivateState, is_running}
+use Rattle.cp_model_machine.specs.Steps.{is_monitor, operation_of}
 use Rattle.cp_law_calls.specs.Runs.{Machine, Settles}
 use Rattle.cp_law_calls.specs.Ways.{Eager, Idle, Late, Way}
 use Rattle.cp_law_cores.specs.Cores.{Core, close, is_private_on, kernel_at, part, private_at}

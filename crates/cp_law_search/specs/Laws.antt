@@ -5,9 +5,9 @@ use Rattle.cp_model.specs.Orders.{replay}
 use Rattle.cp_model.specs.Rounds.{Event}
 use Rattle.cp_model.specs.Start.{start}
 use Rattle.cp_model.specs.States.{Setup, State, is_in, numbers_from, process_count, processes}
-use Rattle.cp_stillness.specs.Stillness.{AreAllOfProcesses, is_still}
-use Rattle.cp_program_model.specs.Programs.{Program}
-use Rattle.cp_program_model.specs.StandsFor.{StandsFor}
+use Rattle.cp_law_stillness.specs.Stillness.{AreAllOfProcesses, is_still}
+use Rattle.cp_model_program.specs.Programs.{Program}
+use Rattle.cp_model_program.specs.StandsFor.{StandsFor}
 use Rattle.cp_law_calls.specs.Clocks.{text_is_timeless}
 use Rattle.cp_law_calls.specs.Orders.{closed}
 use Rattle.cp_law_calls.specs.Runs.{ByCalls, IsSettled, Runs, Settles}

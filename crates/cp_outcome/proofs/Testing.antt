@@ -2,17 +2,17 @@
 use Rattle.std.proofs.Common.{◌≡◌, ◌≤◌, ◌<◌, ◌+◌, ℕ, zero, suc, Bool, true, false, refl, ap, sym, ◌∙◌, arith}
 use Rattle.std.proofs.lemmas.Bool.Decides.{nat_tests}
 use Rattle.std.specs.Prelude.{if◌then◌else◌, nat_lt}
-use Rattle.cp_machine_model.specs.Addresses.{Ground}
-use Rattle.cp_machine_model.specs.InState.{IsIn}
-use Rattle.cp_machine_model.specs.KernelOf.{kernel_ground}
+use Rattle.cp_model_machine.specs.Addresses.{Ground}
+use Rattle.cp_model_machine.specs.InState.{IsIn}
+use Rattle.cp_model_machine.specs.KernelOf.{kernel_ground}
 use Rattle.cp_model.specs.Configurations as status
 use Rattle.cp_model.specs.Configurations.{Status}
 use Rattle.cp_model.specs.States.{Setup, State, numbers_from, process_count}
 use Rattle.cp_rounds.specs.ProcessStates.{StatusMeans, state_at}
 use Rattle.cp_rounds.specs.Views.{machine_of, processes_of}
 use Rattle.cp_rounds.specs.declared.machine.Machine.{Machine}
-use Rattle.cp_members.specs.declared.state.ProcState.{ProcState}
-use Rattle.cp_members.specs.declared.state.ProcState.TheVariants as state
+use Rattle.cp_inspect.specs.declared.state.ProcState.{ProcState}
+use Rattle.cp_inspect.specs.declared.state.ProcState.TheVariants as state
 use Rattle.cp_rounds.proofs.InStates.{process_count_is}
 use Rattle.cp_rounds.proofs.Shown.{state_shown}
 use Rattle.cp_outcome.specs.Verdicts.{TellsAll, all_pass, ended, has_ended, has_no_fault, sound}

@@ -1,10 +1,10 @@
 -- The two parts of a transcript that a machine holds are the transcript in its state.
 use Rattle.std.proofs.Common.{◌≡◌, ◌-◌, ◌++◌, ℕ, List, [], Option, None, Some, ap, sym, ◌∙◌, arith}
-use Rattle.cp_machine_model.specs.Machines.{transcript_of}
-use Rattle.cp_machine_model.specs.PrivateStates.{PrivateState}
+use Rattle.cp_model_machine.specs.Machines.{transcript_of}
+use Rattle.cp_model_machine.specs.PrivateStates.{PrivateState}
 use Rattle.cp_rounds.specs.Views.{machine_of, output_of}
 use Rattle.cp_rounds.specs.declared.machine.Machine.{Machine}
-use Rattle.cp_desk.proofs.Lists.{got_at}
+use Rattle.cp_rounds_handoff.proofs.Lists.{got_at}
 use Rattle.cp_outcome.specs.Transcripts.{IsTranscriptOf}
 
 pub whole_transcript : (p : ℕ) (m : Machine) (bytes : List ℕ) → bytes ≡ transcript_of (machine_of m).transcripts p ++ output_of (machine_of m) p → IsTranscriptOf p m bytes

@@ -1,6 +1,6 @@
 -- When bytes are the transcript of a process.
 use Rattle.std.specs.Prelude.{◌≡◌, ◌≤◌, ℕ, List}
-use Rattle.cp_machine_model.specs.InState.{IsIn}
+use Rattle.cp_model_machine.specs.InState.{IsIn}
 use Rattle.cp_model.specs.States.{Setup, State, process_count}
 use Rattle.cp_rounds.specs.Views.{machine_of}
 use Rattle.cp_rounds.specs.declared.machine.Machine.{Machine}

@@ -3,12 +3,12 @@ use Rattle.std.specs.Prelude.{◌≡◌, ℕ, Bool, false, true, List, [], ◌�
 use Rattle.cp_model.specs.Configurations as status
 use Rattle.cp_model.specs.Configurations.{Status}
 use Rattle.cp_model.specs.States.{Setup, State, processes}
-use Rattle.cp_machine_model.specs.InState.{IsIn}
+use Rattle.cp_model_machine.specs.InState.{IsIn}
 use Rattle.cp_rounds.specs.Views.{machine_of}
 use Rattle.cp_rounds.specs.declared.machine.Machine.{Machine}
-use Rattle.cp_members.specs.declared.state.ProcState.{ProcState}
-use Rattle.cp_members.specs.declared.state.ProcState.TheVariants as state
-use Rattle.cp_stillness.specs.Stillness.{is_still}
+use Rattle.cp_inspect.specs.declared.state.ProcState.{ProcState}
+use Rattle.cp_inspect.specs.declared.state.ProcState.TheVariants as state
+use Rattle.cp_law_stillness.specs.Stillness.{is_still}
 use Rattle.cp_outcome.specs.declared.verdict.Verdict.{Verdict}
 use Rattle.cp_outcome.specs.declared.verdict.Verdict.TheVariants.{Ended, Fault, Running, Stuck}
 

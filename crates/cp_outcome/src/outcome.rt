@@ -4,7 +4,7 @@ ghost use Rattle.std.specs.Prelude.{◌≡◌, ◌++◌, OnOk, IfOk};
 ghost use Rattle.cp_outcome.specs.Outcomes.{verdict_line, verdict_word};
 
 use crate::verdict::Verdict;
-use cp_digits::decimal::push_natural;
+use cp_base_digits::decimal::push_natural;
 use cp_rounds::machine::Machine;
 use std::alloc::{AllocError, Global};
 

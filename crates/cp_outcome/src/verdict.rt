@@ -3,7 +3,7 @@
 ghost use Rattle.std.specs.Prelude.{◌≡◌};
 ghost use Rattle.cp_outcome.specs.Verdicts.{IsVerdictOn, TellsAll, ended, has_ended, has_no_fault, sound};
 
-use cp_members::state::ProcState;
+use cp_inspect::state::ProcState;
 use cp_rounds::machine::Machine;
 
 /// What became of the processes of a machine.

@@ -1,10 +1,10 @@
 -- A process that has no private step to make stays as it is.
 use Rattle.std.proofs.Common.{◌≡◌, ℕ, zero, suc, Bool, true, false, List, refl, ap}
 use Rattle.std.specs.Prelude.{Option, None, Some, if◌then◌else◌}
-use Rattle.cp_program_model.specs.Programs.{Operation, Program}
-use Rattle.cp_machine_model.specs.Machines.{awake, wake_one}
-use Rattle.cp_machine_model.specs.PrivateStates.{PrivateState, is_running}
-use Rattle.cp_machine_model.specs.Steps.{act_on, alone, is_private, operation_of, private_step, private_steps}
+use Rattle.cp_model_program.specs.Programs.{Operation, Program}
+use Rattle.cp_model_machine.specs.Machines.{awake, wake_one}
+use Rattle.cp_model_machine.specs.PrivateStates.{PrivateState, is_running}
+use Rattle.cp_model_machine.specs.Steps.{act_on, alone, is_private, operation_of, private_step, private_steps}
 use Rattle.cp_private.specs.Resting.{rests, rests_while}
 use Rattle.cp_private.specs.States.{activity, private_of}
 use Rattle.cp_private.specs.declared.private.Activity.{Activity}

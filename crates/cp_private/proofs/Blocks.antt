@@ -5,7 +5,7 @@ use Rattle.std.proofs.lemmas.Bool.Decides.{leb_tells}
 use Rattle.std.specs.Int.{w32}
 use Rattle.std.proofs.lemmas.Int.{to_z-of_z}
 use Rattle.std.proofs.lemmas.List.{get_or-set_other, get_or_past, length-append, length-set, set-append_left, set-append_right, set_comm, set_past}
-use Rattle.cp_program_model.specs.Starts.{block, fill, paste, repeat_block, word}
+use Rattle.cp_model_program.specs.Starts.{block, fill, paste, repeat_block, word}
 use Rattle.cp_program.specs.Reaches.{cap_place}
 
 -- ---- One word

@@ -6,11 +6,11 @@ use Rattle.std.specs.Prelude.{Bool, if◌then◌else◌, not, pos, slice_get}
 use Rattle.cp_model.specs.Integers.{same_integer}
 use Rattle.cp_model.specs.declared.state.Fault.{Fault}
 use Rattle.cp_model.specs.declared.state.Fault.TheVariants as fault
-use Rattle.cp_program_model.specs.Programs.{Call, CodeUnit, Program}
-use Rattle.cp_program_model.specs.Starts.{word}
-use Rattle.cp_machine_model.specs.PrivateStates.{Acting, Enters, Opens, Outside, PrivateState, fault_in, private_outcome, guard, set_word}
-use Rattle.cp_machine_model.specs.Calling.{Back, class_at, enter, gate_effect, has_room, settle, start_words, with_unit}
-use Rattle.cp_machine_model.specs.Passing.{Called, Passing, pass_all, when_passed}
+use Rattle.cp_model_program.specs.Programs.{Call, CodeUnit, Program}
+use Rattle.cp_model_program.specs.Starts.{word}
+use Rattle.cp_model_machine.specs.PrivateStates.{Acting, Enters, Opens, Outside, PrivateState, fault_in, private_outcome, guard, set_word}
+use Rattle.cp_model_machine.specs.Calling.{Back, class_at, enter, gate_effect, has_room, settle, start_words, with_unit}
+use Rattle.cp_model_machine.specs.Passing.{Called, Passing, pass_all, when_passed}
 
 -- The component is at the address `at`, and the arguments belong to the words at `home`. If the test
 -- fails, the process faults, and otherwise `done` follows the passing of arguments.

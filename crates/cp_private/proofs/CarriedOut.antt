@@ -1,8 +1,8 @@
 -- Plans are carried out piece by piece.
 use Rattle.std.proofs.Common.{◌≡◌, ◌≤◌, ◌<◌, ◌∙◌, ◌+◌, ◌-◌, ◌++◌, ◌∷◌, ℕ, suc, ℤ, List, [], Option, None, Some, IfSome, refl, ap, sym, subst, drop, length, arith}
 use Rattle.std.proofs.lemmas.List.{drop_all}
-use Rattle.cp_program_model.specs.Programs as code
-use Rattle.cp_program_model.specs.Starts.{carry_out}
+use Rattle.cp_model_program.specs.Programs as code
+use Rattle.cp_model_program.specs.Starts.{carry_out}
 use Rattle.cp_program.specs.declared.program.StartPiece.{StartPiece}
 use Rattle.cp_program.specs.declared.program.StartPiece.TheVariants as start
 use Rattle.cp_program.specs.View.{piece_before, plan_at, plan_of}

@@ -4,8 +4,8 @@ use Rattle.std.specs.Prelude.{slice_get, slice_index_or}
 use Rattle.std.proofs.lemmas.List.{length-set}
 use Rattle.smallvec.specs.SmallVec.{SmallVec, with_items}
 use Rattle.smallvec.proofs.SmallVecLemmas.{items-with_items}
-use Rattle.cp_machine_model.specs.Calling.{Back}
-use Rattle.cp_machine_model.specs.Passing.{Called}
+use Rattle.cp_model_machine.specs.Calling.{Back}
+use Rattle.cp_model_machine.specs.Passing.{Called}
 use Rattle.cp_private.specs.Calls.{HasKept}
 use Rattle.cp_private.specs.Keeping.{ChangesOnlyWords}
 use Rattle.cp_private.specs.States.{frame, frame_or_none, frames_in}

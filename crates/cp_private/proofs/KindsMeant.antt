@@ -13,21 +13,21 @@ use Rattle.cp_model.specs.Parts.{is_own, private_status}
 use Rattle.cp_model.specs.Reach.{in_reach}
 use Rattle.cp_model.specs.States.{Setup, State}
 use Rattle.cp_model.specs.Turns as meaning
-use Rattle.cp_program_model.specs.Programs.{Program}
-use Rattle.cp_program_model.specs.StandsFor.{StandsFor}
-use Rattle.cp_machine_model.specs.Addresses.{Ground}
-use Rattle.cp_machine_model.specs.KernelSteps.{needs_kernel}
-use Rattle.cp_machine_model.specs.Laws.{ground_of}
-use Rattle.cp_machine_model.specs.Left.{innermost_gate}
-use Rattle.cp_machine_model.specs.PartOf.{GoesOn, PartOf, RunsOn, status_of}
-use Rattle.cp_machine_model.specs.PrivateStates as machine
-use Rattle.cp_machine_model.specs.PrivateStates.{Outside, PrivateState}
-use Rattle.cp_machine_model.specs.Steps as steps
-use Rattle.cp_machine_model.specs.Steps.{alone, operation_of}
-use Rattle.cp_machine_model.proofs.Deciding.{ready_steps}
-use Rattle.cp_machine_model.proofs.GatesHeld.{gate_is_held}
-use Rattle.cp_machine_model.proofs.PrivateSteps.{IsRunning, running_is, still_is}
-use Rattle.cp_machine_model.proofs.Stepping.{Stepped, clock_of}
+use Rattle.cp_model_program.specs.Programs.{Program}
+use Rattle.cp_model_program.specs.StandsFor.{StandsFor}
+use Rattle.cp_model_machine.specs.Addresses.{Ground}
+use Rattle.cp_model_machine.specs.KernelSteps.{needs_kernel}
+use Rattle.cp_model_machine.specs.Laws.{ground_of}
+use Rattle.cp_model_machine.specs.Left.{innermost_gate}
+use Rattle.cp_model_machine.specs.PartOf.{GoesOn, PartOf, RunsOn, status_of}
+use Rattle.cp_model_machine.specs.PrivateStates as machine
+use Rattle.cp_model_machine.specs.PrivateStates.{Outside, PrivateState}
+use Rattle.cp_model_machine.specs.Steps as steps
+use Rattle.cp_model_machine.specs.Steps.{alone, operation_of}
+use Rattle.cp_model_machine.proofs.Deciding.{ready_steps}
+use Rattle.cp_model_machine.proofs.GatesHeld.{gate_is_held}
+use Rattle.cp_model_machine.proofs.PrivateSteps.{IsRunning, running_is, still_is}
+use Rattle.cp_model_machine.proofs.Stepping.{Stepped, clock_of}
 use Rattle.cp_private.specs.Kinds.{kind_of}
 use Rattle.cp_private.specs.Promises.{meaning_kind}
 use Rattle.cp_private.specs.declared.kind.Kind.{Kind}

@@ -1,8 +1,8 @@
 -- Turns, step by step.
 use Rattle.std.proofs.Common.{◌≡◌, ℕ, zero, suc, ap, refl, ◌∙◌}
-use Rattle.cp_program_model.specs.Programs.{Program}
-use Rattle.cp_machine_model.specs.PrivateStates.{PrivateState}
-use Rattle.cp_machine_model.specs.Steps.{private_step, private_steps}
+use Rattle.cp_model_program.specs.Programs.{Program}
+use Rattle.cp_model_machine.specs.PrivateStates.{PrivateState}
+use Rattle.cp_model_machine.specs.Steps.{private_step, private_steps}
 
 -- If the next step isn't private, a turn does nothing.
 pub steps_rest : (program : Program) (clock n : ℕ) (o : PrivateState) → private_step program clock o ≡ o → private_steps program clock n o ≡ o

@@ -1,10 +1,10 @@
 -- Private and shared words are separated again after a step.
 use Rattle.std.proofs.Common.{◌≡◌, ◌++◌, ℕ, ℤ, List, true, length, take, drop, refl, ap, sym, ◌∙◌}
-use Rattle.cp_program_model.specs.Programs.{Program}
-use Rattle.cp_machine_model.specs.Steps.{step_with}
+use Rattle.cp_model_program.specs.Programs.{Program}
+use Rattle.cp_model_machine.specs.Steps.{step_with}
 use Rattle.std.proofs.Math.Seq.{drop-append_seam, take-append_seam}
-use Rattle.cp_machine_model.specs.KernelSteps as plain
-use Rattle.cp_machine_model.specs.PrivateStates.{Effect}
+use Rattle.cp_model_machine.specs.KernelSteps as plain
+use Rattle.cp_model_machine.specs.PrivateStates.{Effect}
 use Rattle.cp_private.specs.Promises.{beside}
 use Rattle.cp_private.specs.States as states
 use Rattle.cp_private.specs.declared.outside.Outside.{Outside}

@@ -1,7 +1,7 @@
 -- What is known of an address that was found, of a fault, and of gates.
 use Rattle.std.proofs.Common.{◌≡◌, ℕ, zero, suc, true, false, Result, Ok, Err, refl, ap, sym}
 use Rattle.cp_model.specs.declared.state.Fault.{Fault}
-use Rattle.cp_machine_model.specs.Steps.{is_held}
+use Rattle.cp_model_machine.specs.Steps.{is_held}
 use Rattle.cp_program.specs.Reaches.{cap_place, capped_result}
 
 -- An address may be capped to the largest number.

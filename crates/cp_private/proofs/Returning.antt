@@ -4,9 +4,9 @@ use Rattle.std.specs.Prelude.{if◌then◌else◌}
 use Rattle.cp_model.specs.Integers.{same_integer}
 use Rattle.cp_model.specs.declared.state.Fault.{Fault}
 use Rattle.cp_model.specs.declared.state.Fault.TheVariants as fault
-use Rattle.cp_program_model.specs.Starts.{unset, word}
-use Rattle.cp_machine_model.specs.PrivateStates.{Acting, Effect, Frame, PrivateState, fault_in, set_word}
-use Rattle.cp_machine_model.specs.Calling.{leave, return_with}
+use Rattle.cp_model_program.specs.Starts.{unset, word}
+use Rattle.cp_model_machine.specs.PrivateStates.{Acting, Effect, Frame, PrivateState, fault_in, set_word}
+use Rattle.cp_model_machine.specs.Calling.{leave, return_with}
 use Rattle.cp_private.specs.Calls.{returning, value_to_return}
 
 module _ (o changed : PrivateState) (f : Frame) (fs : List Frame) (e : Effect) where

@@ -3,13 +3,13 @@ use Rattle.std.proofs.Common.{◌≡◌, ◌≤◌, ◌-◌, ℕ, List, [], Resu
 use Rattle.std.specs.Prelude.{slice_get, Some}
 use Rattle.cp_model.specs.States.{process_count}
 use Rattle.cp_model.specs.Start.{start}
-use Rattle.cp_program_model.specs.Programs as code
-use Rattle.cp_machine_model.specs.Beginning.{Begins}
-use Rattle.cp_machine_model.specs.KernelSteps.{Kernel}
-use Rattle.cp_machine_model.specs.Laws.{StartIsPart, ground_of}
-use Rattle.cp_machine_model.specs.Machines.{first_part}
-use Rattle.cp_machine_model.specs.PartOf.{PartOf}
-use Rattle.cp_machine_model.specs.PrivateStates.{PrivateState}
+use Rattle.cp_model_program.specs.Programs as code
+use Rattle.cp_model_machine.specs.Beginning.{Begins}
+use Rattle.cp_model_machine.specs.KernelSteps.{Kernel}
+use Rattle.cp_model_machine.specs.Laws.{StartIsPart, ground_of}
+use Rattle.cp_model_machine.specs.Machines.{first_part}
+use Rattle.cp_model_machine.specs.PartOf.{PartOf}
+use Rattle.cp_model_machine.specs.PrivateStates.{PrivateState}
 use Rattle.cp_program.specs.declared.program.Program.{Program}
 use Rattle.cp_program.specs.View as view
 use Rattle.cp_private.specs.Promises.{IsAtStart}

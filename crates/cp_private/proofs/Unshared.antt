@@ -2,10 +2,10 @@
 use Rattle.std.proofs.Common.{◌≡◌, ℕ, zero, suc, List, [], true, false, Some, length, refl, ap, sym, ◌∙◌}
 use Rattle.std.specs.Prelude.{Option, if◌then◌else◌}
 use Rattle.std.proofs.lemmas.List.{append-nil}
-use Rattle.cp_program_model.specs.Programs.{Operation, Program}
-use Rattle.cp_machine_model.specs.PrivateStates.{PrivateState, is_running}
-use Rattle.cp_machine_model.specs.KernelSteps as kernel
-use Rattle.cp_machine_model.specs.Steps.{act, act_on, alone, is_private, operation_of, private_step}
+use Rattle.cp_model_program.specs.Programs.{Operation, Program}
+use Rattle.cp_model_machine.specs.PrivateStates.{PrivateState, is_running}
+use Rattle.cp_model_machine.specs.KernelSteps as kernel
+use Rattle.cp_model_machine.specs.Steps.{act, act_on, alone, is_private, operation_of, private_step}
 use Rattle.cp_private.specs.States.{IsAlone, holder_of, join, outside_of, private_of, stage_of}
 use Rattle.cp_private.specs.declared.outside.Outside.{Outside}
 use Rattle.cp_private.specs.declared.private.Private.{Private}

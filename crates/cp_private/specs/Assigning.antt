@@ -1,7 +1,7 @@
 -- What an assignment does once its place and its value are known.
 use Rattle.std.specs.Prelude.{ℕ, ℤ}
-use Rattle.cp_machine_model.specs.PrivateStates.{Acting, PrivateState}
-use Rattle.cp_machine_model.specs.Steps as plain
+use Rattle.cp_model_machine.specs.PrivateStates.{Acting, PrivateState}
+use Rattle.cp_model_machine.specs.Steps as plain
 use Rattle.cp_program.specs.declared.operation.Assignment.{Assignment}
 
 -- The value is written to the place if it lies within the bounds.

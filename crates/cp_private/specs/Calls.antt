@@ -3,11 +3,11 @@ use Rattle.std.specs.Prelude.{◌≡◌, ◌≤◌, ◌<◌, ℕ, Bool, true, fa
 use Rattle.cp_model.specs.Integers.{same_integer}
 use Rattle.cp_model.specs.declared.state.Fault.{Fault}
 use Rattle.cp_model.specs.declared.state.Fault.TheVariants as fault
-use Rattle.cp_program_model.specs.Starts.{unset, word}
-use Rattle.cp_machine_model.specs.PrivateStates as states
-use Rattle.cp_machine_model.specs.PrivateStates.{PrivateState, set_temp}
-use Rattle.cp_machine_model.specs.Calling as calling
-use Rattle.cp_machine_model.specs.Passing as passing
+use Rattle.cp_model_program.specs.Starts.{unset, word}
+use Rattle.cp_model_machine.specs.PrivateStates as states
+use Rattle.cp_model_machine.specs.PrivateStates.{PrivateState, set_temp}
+use Rattle.cp_model_machine.specs.Calling as calling
+use Rattle.cp_model_machine.specs.Passing as passing
 use Rattle.cp_private.specs.States.{frame_or_none, join}
 use Rattle.cp_private.specs.declared.called.Called.{Called}
 use Rattle.cp_private.specs.declared.called.Back.{Back}

@@ -1,9 +1,9 @@
 -- The kind of a process's next step.
 use Rattle.std.specs.Prelude.{if◌then◌else◌}
-use Rattle.cp_program_model.specs.Programs.{Program}
-use Rattle.cp_machine_model.specs.KernelSteps.{needs_kernel}
-use Rattle.cp_machine_model.specs.PrivateStates.{PrivateState, is_running}
-use Rattle.cp_machine_model.specs.Steps.{is_private, operation_of}
+use Rattle.cp_model_program.specs.Programs.{Program}
+use Rattle.cp_model_machine.specs.KernelSteps.{needs_kernel}
+use Rattle.cp_model_machine.specs.PrivateStates.{PrivateState, is_running}
+use Rattle.cp_model_machine.specs.Steps.{is_private, operation_of}
 use Rattle.cp_private.specs.declared.kind.Kind.{Kind}
 use Rattle.cp_private.specs.declared.kind.Kind.TheVariants as kind
 

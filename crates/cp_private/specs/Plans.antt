@@ -1,6 +1,6 @@
 -- What is left of a plan to carry out.
 use Rattle.std.specs.Prelude.{ℤ, List, Option, None, Some, take}
-use Rattle.cp_program_model.specs.Starts.{carry_out}
+use Rattle.cp_model_program.specs.Starts.{carry_out}
 use Rattle.cp_program.specs.declared.program.Program.{Program}
 use Rattle.cp_program.specs.View.{plan_of, plans_of}
 use Rattle.cp_private.specs.declared.plans.Rest.{Rest}

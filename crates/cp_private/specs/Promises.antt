@@ -7,12 +7,12 @@ use Rattle.cp_model.specs.Rounds.{wake}
 use Rattle.cp_model.specs.Start.{start}
 use Rattle.cp_model.specs.States.{Setup, State, process_count, running_clock}
 use Rattle.cp_model.specs.Turns as meaning
-use Rattle.cp_program_model.specs.Programs as code
-use Rattle.cp_program_model.specs.StandsFor.{StandsFor}
-use Rattle.cp_machine_model.specs.Beginning.{Begins}
-use Rattle.cp_machine_model.specs.KernelSteps.{Kernel, Turning, apply_effect, is_due, outside}
-use Rattle.cp_machine_model.specs.Laws.{TurningOf, ground_of}
-use Rattle.cp_machine_model.specs.PartOf.{PartOf}
+use Rattle.cp_model_program.specs.Programs as code
+use Rattle.cp_model_program.specs.StandsFor.{StandsFor}
+use Rattle.cp_model_machine.specs.Beginning.{Begins}
+use Rattle.cp_model_machine.specs.KernelSteps.{Kernel, Turning, apply_effect, is_due, outside}
+use Rattle.cp_model_machine.specs.Laws.{TurningOf, ground_of}
+use Rattle.cp_model_machine.specs.PartOf.{PartOf}
 use Rattle.cp_program.specs.declared.program.Program.{Program}
 use Rattle.cp_program.specs.View as view
 use Rattle.cp_private.specs.States.{effect, outside_of, private_of}

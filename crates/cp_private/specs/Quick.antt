@@ -1,7 +1,7 @@
 -- Steps that are made in registers.
 use Rattle.std.specs.Prelude.{◌≡◌, ℕ, ℤ, List, Option, None, Some}
-use Rattle.cp_machine_model.specs.Calling.{gate_effect}
-use Rattle.cp_machine_model.specs.PrivateStates.{Acting, Effect, Leaves, NoEffect, Outside, PrivateState}
+use Rattle.cp_model_machine.specs.Calling.{gate_effect}
+use Rattle.cp_model_machine.specs.PrivateStates.{Acting, Effect, Leaves, NoEffect, Outside, PrivateState}
 use Rattle.cp_private.specs.States.{join}
 use Rattle.cp_private.specs.declared.private.Private.{Private}
 use Rattle.cp_private.specs.declared.turns.Tried.{Tried}

@@ -3,9 +3,9 @@
 use Rattle.std.specs.Prelude.{◌≡◌, ℕ, zero, suc, ℤ, List, [], ◌∷◌, ◌++◌, true, Option, None, Some, Result, Ok, Err, length, slice_get}
 use Rattle.cp_model.specs.States as model
 use Rattle.cp_model.specs.declared.state.Fault.{Fault}
-use Rattle.cp_machine_model.specs.PrivateStates as plain
-use Rattle.cp_machine_model.specs.PrivateStates.{Acting, PrivateState, fault_in, is_running}
-use Rattle.cp_machine_model.specs.KernelSteps as kernel
+use Rattle.cp_model_machine.specs.PrivateStates as plain
+use Rattle.cp_model_machine.specs.PrivateStates.{Acting, PrivateState, fault_in, is_running}
+use Rattle.cp_model_machine.specs.KernelSteps as kernel
 use Rattle.cp_private.specs.declared.effect.Effect.{Effect}
 use Rattle.cp_private.specs.declared.effect.Effect.TheVariants as effect_case
 use Rattle.cp_private.specs.declared.outside.Holder.{Holder}

@@ -1,11 +1,11 @@
 //! Assignments, and the operations that choose which operation comes next.
 
 ghost use Rattle.std.specs.Prelude.{◌≡◌, ℕ, pos, List, if◌then◌else◌};
-ghost use Rattle.cp_program_model.specs.Tables.{place_in};
-ghost use Rattle.cp_program_model.specs.Terms.{Rooted};
+ghost use Rattle.cp_model_program.specs.Tables.{place_in};
+ghost use Rattle.cp_model_program.specs.Terms.{Rooted};
 ghost use Rattle.cp_model.specs.Integers.{same_integer};
-ghost use Rattle.cp_machine_model.specs.Steps as plain;
-ghost use Rattle.cp_machine_model.specs.PrivateStates.{go_to, private_outcome};
+ghost use Rattle.cp_model_machine.specs.Steps as plain;
+ghost use Rattle.cp_model_machine.specs.PrivateStates.{go_to, private_outcome};
 ghost use Rattle.cp_private.specs.Assigning.{assign};
 ghost use Rattle.cp_private.specs.Keeping.{IsAddressable, KeepsOwn, KeepsRest};
 ghost use Rattle.cp_private.specs.States.{IsStep, Stands, join, outcome};

@@ -1,12 +1,12 @@
 //! Calls of routines.
 
 ghost use Rattle.std.specs.Prelude.{◌≡◌, ◌+◌, ◌<◌, ◌^◌, true, ℕ, List, IfSome, MatchOption, length, nat_le};
-ghost use Rattle.cp_program_model.specs.Programs.{CodeUnit as PlainUnit, StartPlan};
+ghost use Rattle.cp_model_program.specs.Programs.{CodeUnit as PlainUnit, StartPlan};
 ghost use Rattle.cp_private.specs.Keeping.{IsAddressable, KeepsRest};
 ghost use Rattle.cp_private.specs.Calls.{HasRoom, back};
 ghost use Rattle.cp_private.specs.States.{IsStep, join};
-ghost use Rattle.cp_machine_model.specs.Calling as plain;
-ghost use Rattle.cp_machine_model.specs.PrivateStates as states;
+ghost use Rattle.cp_model_machine.specs.Calling as plain;
+ghost use Rattle.cp_model_machine.specs.PrivateStates as states;
 ghost use Rattle.cp_program.specs.View as view;
 ghost use Rattle.cp_program.specs.View.{plans_of};
 

@@ -1,10 +1,10 @@
 //! Changes of the words and temps of a private state.
 
 ghost use Rattle.std.specs.Prelude.{◌≡◌, ◌<◌, ◌^◌, ℕ, ℤ, List};
-ghost use Rattle.cp_program_model.specs.Starts.{block, paste, carry_out};
+ghost use Rattle.cp_model_program.specs.Starts.{block, paste, carry_out};
 ghost use Rattle.cp_private.specs.Keeping.{ChangesOnlyWords, IsAddressable, KeepsOwn};
 ghost use Rattle.cp_private.specs.States.{Stands, join};
-ghost use Rattle.cp_machine_model.specs.PrivateStates as plain;
+ghost use Rattle.cp_model_machine.specs.PrivateStates as plain;
 ghost use Rattle.cp_program.specs.Reaches.{cap_place};
 ghost use Rattle.cp_program.specs.View as view;
 ghost use Rattle.cp_program.specs.View.{plans_of};

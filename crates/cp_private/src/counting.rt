@@ -3,10 +3,10 @@
 ghost use Rattle.std.specs.Prelude.{◌≡◌, ◌+◌, MatchOption, FitsSigned};
 ghost use Rattle.std.specs.Int.{w32};
 ghost use Rattle.cp_model.specs.StatementSteps as statements;
-ghost use Rattle.cp_program_model.specs.Starts.{word};
+ghost use Rattle.cp_model_program.specs.Starts.{word};
 ghost use Rattle.cp_private.specs.Keeping.{IsAddressable, KeepsRest};
 ghost use Rattle.cp_private.specs.States.{IsStep};
-ghost use Rattle.cp_machine_model.specs.Steps as plain;
+ghost use Rattle.cp_model_machine.specs.Steps as plain;
 ghost use Rattle.cp_program.specs.View as view;
 
 use crate::effect::Effect;

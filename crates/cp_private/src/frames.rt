@@ -1,14 +1,14 @@
 //! Frames: what is kept for callers, and the registers of the running activation.
 
 ghost use Rattle.std.specs.Prelude.{◌≡◌, ◌+◌, ◌-◌, ◌<◌, ◌^◌, ℕ, ℤ, suc, ◌∷◌, List, MatchOption, length, slice_get};
-ghost use Rattle.cp_program_model.specs.Starts as starts;
+ghost use Rattle.cp_model_program.specs.Starts as starts;
 ghost use Rattle.cp_model.specs.declared.state.Fault.TheVariants as fault;
 ghost use Rattle.cp_private.specs.Keeping.{IsAddressable, KeepsOwn, KeepsRegisters};
 ghost use Rattle.cp_private.specs.States.{effect, frame as view_frame, frame_or_none, frames_in, join};
 ghost use Rattle.cp_private.specs.Calls.{HasKept, back, called_of, returning, value_to_return};
-ghost use Rattle.cp_program_model.specs.Programs.{StartPlan};
-ghost use Rattle.cp_machine_model.specs.Calling as plain;
-ghost use Rattle.cp_machine_model.specs.PrivateStates.{Enters, Leaves};
+ghost use Rattle.cp_model_program.specs.Programs.{StartPlan};
+ghost use Rattle.cp_model_machine.specs.Calling as plain;
+ghost use Rattle.cp_model_machine.specs.PrivateStates.{Enters, Leaves};
 ghost use Rattle.cp_program.specs.View as view;
 
 use crate::called::{Back, Called};

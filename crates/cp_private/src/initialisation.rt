@@ -3,8 +3,8 @@
 ghost use Rattle.std.specs.Prelude.{◌≡◌, ◌<◌, ◌^◌, ℕ, List, map};
 ghost use Rattle.cp_private.specs.Keeping.{ChangesOnlyWords, IsAddressable, KeepsRest};
 ghost use Rattle.cp_private.specs.States.{IsStep, join};
-ghost use Rattle.cp_machine_model.specs.Calling as plain;
-ghost use Rattle.cp_machine_model.specs.Passing.{component_called};
+ghost use Rattle.cp_model_machine.specs.Calling as plain;
+ghost use Rattle.cp_model_machine.specs.Passing.{component_called};
 ghost use Rattle.cp_program.specs.View as view;
 
 use crate::called::{Back, Called};

@@ -2,10 +2,10 @@
 //! and what the process itself does in a step of the kernel.
 //!
 //! For any program and any private state, a step is the function on plain data that
-//! cp_machine_model defines; `specs/States.antt` says for which plain data a private state stands.
+//! cp_model_machine defines; `specs/States.antt` says for which plain data a private state stands.
 //! It works on the process's own words and the shared words after them, so that private and kernel
 //! steps are one function. What a step leaves as it was, besides what its clause says, stands in
-//! `specs/Keeping.antt`. By the law of cp_machine_model, private steps and turns are those of the
+//! `specs/Keeping.antt`. By the law of cp_model_machine, private steps and turns are those of the
 //! meaning (`specs/Promises.antt`).
 //!
 //! - `private`, `making`, `resident`: the private state, how it is made, copied and read, and its

@@ -1,19 +1,19 @@
 //! How private states are made, copied and read, and how the kernel and rounds change them.
 
 ghost use Rattle.std.specs.Prelude.{false, true, ◌≢◌, ◌≡◌, ◌<◌, ◌≤◌, ◌-◌, ◌*◌, ◌^◌, ℕ, List, [], IfOk, OnOk, Some, pos, replicate, length, slice_get, vec_capacity, vec_len};
-ghost use Rattle.cp_program_model.specs.Programs as code;
-ghost use Rattle.cp_program_model.specs.Starts.{carry_out, word};
+ghost use Rattle.cp_model_program.specs.Programs as code;
+ghost use Rattle.cp_model_program.specs.Starts.{carry_out, word};
 ghost use Rattle.cp_private.specs.Promises.{IsAtStart, Wakes};
 ghost use Rattle.cp_private.specs.Rooms.{HasRoomFor};
 ghost use Rattle.cp_private.specs.States.{activity, private_of};
-ghost use Rattle.cp_machine_model.specs.KernelSteps.{Kernel};
-ghost use Rattle.cp_machine_model.specs.Machines as plain;
+ghost use Rattle.cp_model_machine.specs.KernelSteps.{Kernel};
+ghost use Rattle.cp_model_machine.specs.Machines as plain;
 ghost use Rattle.cp_program.specs.View as view;
 
 use crate::private::{Activity, Frame, Private};
 use crate::{plans, words};
-use cp_machine_model::law;
-use cp_plan::turn::Turn;
+use cp_base_config::turn::Turn;
+use cp_model_machine::law;
 use cp_program::program::{Process, Program};
 use cp_program::reach::Memory;
 use smallvec::SmallVec;

@@ -4,9 +4,9 @@ ghost use Rattle.std.specs.Prelude.{◌≡◌, ◌+◌, ◌<◌, ◌^◌, ℕ, L
 ghost use Rattle.cp_private.specs.Keeping.{ChangesOnlyWords, IsAddressable};
 ghost use Rattle.cp_private.specs.Calls.{passing_of};
 ghost use Rattle.cp_private.specs.States.{join, outside_of};
-ghost use Rattle.cp_machine_model.specs.Passing as plain;
-ghost use Rattle.cp_machine_model.specs.PrivateStates.{view_of};
-ghost use Rattle.cp_machine_model.specs.Values.{place_of, value_of};
+ghost use Rattle.cp_model_machine.specs.Passing as plain;
+ghost use Rattle.cp_model_machine.specs.PrivateStates.{view_of};
+ghost use Rattle.cp_model_machine.specs.Values.{place_of, value_of};
 ghost use Rattle.cp_program.specs.Reaches.{cap_place};
 ghost use Rattle.cp_program.specs.View as view;
 

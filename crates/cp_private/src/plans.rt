@@ -5,8 +5,8 @@
 //! has at most half of the words, and the walk is never deeper than the number of words has bits.
 
 ghost use Rattle.std.specs.Prelude.{◌≡◌, ◌+◌, ◌<◌, ◌^◌, ◌++◌, ℕ, ℤ, List, IfSome, length, take};
-ghost use Rattle.cp_program_model.specs.Programs as code;
-ghost use Rattle.cp_program_model.specs.Starts.{carry_out};
+ghost use Rattle.cp_model_program.specs.Programs as code;
+ghost use Rattle.cp_model_program.specs.Starts.{carry_out};
 ghost use Rattle.cp_private.specs.Plans.{carried, carried_or_same};
 ghost use Rattle.cp_program.specs.View as view;
 ghost use Rattle.cp_program.specs.View.{plan_at, plans_of};

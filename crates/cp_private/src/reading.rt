@@ -1,11 +1,11 @@
 //! What evaluation reads of a private state, and the values and addresses that it finds.
 
 ghost use Rattle.std.specs.Prelude.{◌≡◌, ℕ, List};
-ghost use Rattle.cp_program_model.specs.Starts.{word};
+ghost use Rattle.cp_model_program.specs.Starts.{word};
 ghost use Rattle.cp_private.specs.Keeping.{IsAddressable};
 ghost use Rattle.cp_private.specs.States.{join, outside_of};
-ghost use Rattle.cp_machine_model.specs.PrivateStates as plain;
-ghost use Rattle.cp_machine_model.specs.Values.{place_of, value_of};
+ghost use Rattle.cp_model_machine.specs.PrivateStates as plain;
+ghost use Rattle.cp_model_machine.specs.Values.{place_of, value_of};
 ghost use Rattle.cp_program.specs.Reaches.{cap_place, capped_result, view_of};
 ghost use Rattle.cp_program.specs.View as view;
 

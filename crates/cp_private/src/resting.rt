@@ -2,11 +2,11 @@
 //! that is elsewhere.
 
 ghost use Rattle.std.specs.Prelude.{◌≡◌, ℕ, Bool, List, false, true};
-ghost use Rattle.cp_program_model.specs.Programs as code;
+ghost use Rattle.cp_model_program.specs.Programs as code;
 ghost use Rattle.cp_private.specs.Resting.{rests, rests_while};
 ghost use Rattle.cp_private.specs.States.{private_of};
-ghost use Rattle.cp_machine_model.specs.Machines as machines;
-ghost use Rattle.cp_machine_model.specs.Steps as plain;
+ghost use Rattle.cp_model_machine.specs.Machines as machines;
+ghost use Rattle.cp_model_machine.specs.Steps as plain;
 
 use crate::private::{Activity, Private};
 use cp_program::reach::Memory;

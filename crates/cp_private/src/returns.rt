@@ -2,9 +2,9 @@
 
 ghost use Rattle.cp_private.specs.Keeping.{IsAddressable, KeepsOwn, KeepsRest};
 ghost use Rattle.cp_private.specs.States.{IsStep};
-ghost use Rattle.cp_machine_model.specs.Calling as calling;
-ghost use Rattle.cp_machine_model.specs.PrivateStates.{Leaves};
-ghost use Rattle.cp_machine_model.specs.Steps as plain;
+ghost use Rattle.cp_model_machine.specs.Calling as calling;
+ghost use Rattle.cp_model_machine.specs.PrivateStates.{Leaves};
+ghost use Rattle.cp_model_machine.specs.Steps as plain;
 ghost use Rattle.cp_program.specs.View as view;
 
 use crate::effect::Effect;

@@ -5,9 +5,9 @@ ghost use Rattle.cp_private.specs.Keeping.{IsAddressable, KeepsOwn, KeepsOwnButO
 ghost use Rattle.cp_private.specs.Rooms.{HasRoomFor};
 ghost use Rattle.cp_private.specs.States.{IsStep, join};
 ghost use Rattle.cp_model.specs.StandardCalls as standard;
-ghost use Rattle.cp_machine_model.specs.PrivateStates as states;
-ghost use Rattle.cp_machine_model.specs.PrivateStates.{go_to, private_outcome};
-ghost use Rattle.cp_machine_model.specs.Steps as plain;
+ghost use Rattle.cp_model_machine.specs.PrivateStates as states;
+ghost use Rattle.cp_model_machine.specs.PrivateStates.{go_to, private_outcome};
+ghost use Rattle.cp_model_machine.specs.Steps as plain;
 ghost use Rattle.cp_program.specs.View as view;
 
 use crate::effect::Effect;

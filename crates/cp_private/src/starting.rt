@@ -1,7 +1,7 @@
 //! How the words of components start.
 
 ghost use Rattle.std.specs.Prelude.{◌≡◌, ◌<◌, ◌^◌, length};
-ghost use Rattle.cp_program_model.specs.Starts.{carry_out};
+ghost use Rattle.cp_model_program.specs.Starts.{carry_out};
 ghost use Rattle.cp_program.specs.View.{plan_at, plans_of};
 
 use crate::plans;

@@ -3,12 +3,12 @@
 ghost use Rattle.std.specs.Prelude.{◌≡◌, false, true, ℕ, List, [], Some, length};
 ghost use Rattle.cp_private.specs.Keeping.{IsAddressable, KeepsOwn, KeepsOwnButOutput, KeepsRestButOutput};
 ghost use Rattle.cp_private.specs.Calls.{back};
-ghost use Rattle.cp_machine_model.specs.Calling.{call_step};
+ghost use Rattle.cp_model_machine.specs.Calling.{call_step};
 ghost use Rattle.cp_private.specs.Rooms.{HasRoomFor};
 ghost use Rattle.cp_private.specs.States.{IsAlone, IsReady, IsStep, activity, effect, join, outside_of, private_of};
-ghost use Rattle.cp_machine_model.specs.PrivateStates.{is_running};
-ghost use Rattle.cp_program_model.specs.Programs as code;
-ghost use Rattle.cp_machine_model.specs.Steps as plain;
+ghost use Rattle.cp_model_machine.specs.PrivateStates.{is_running};
+ghost use Rattle.cp_model_program.specs.Programs as code;
+ghost use Rattle.cp_model_machine.specs.Steps as plain;
 ghost use Rattle.cp_program.specs.View as view;
 
 use crate::called::Back;

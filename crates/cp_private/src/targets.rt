@@ -1,12 +1,12 @@
 //! The components that calls and rights refer to.
 
 ghost use Rattle.std.specs.Prelude.{◌≡◌, ◌+◌, ◌<◌, ◌^◌, ◌+ℤ◌, ℕ, pos, List, length};
-ghost use Rattle.cp_program_model.specs.Layout as layout;
+ghost use Rattle.cp_model_program.specs.Layout as layout;
 ghost use Rattle.cp_private.specs.Keeping.{IsAddressable};
 ghost use Rattle.cp_private.specs.Calls.{called_of};
 ghost use Rattle.cp_private.specs.States.{holder_of, join, outside_of, stage_of};
-ghost use Rattle.cp_machine_model.specs.KernelSteps as kernel;
-ghost use Rattle.cp_machine_model.specs.Passing as plain;
+ghost use Rattle.cp_model_machine.specs.KernelSteps as kernel;
+ghost use Rattle.cp_model_machine.specs.Passing as plain;
 ghost use Rattle.cp_program.specs.View as view;
 
 use crate::called::Called;

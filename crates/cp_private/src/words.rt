@@ -4,7 +4,7 @@
 //! A missing word reads as 0, and writing it does nothing.
 
 ghost use Rattle.std.specs.Prelude.{◌≡◌, ◌+◌, ◌-◌, ◌≤◌, ◌<◌, ◌^◌, ◌++◌, ℕ, length, slice_set};
-ghost use Rattle.cp_program_model.specs.Starts as plain;
+ghost use Rattle.cp_model_program.specs.Starts as plain;
 ghost use Rattle.cp_program.specs.Reaches.{cap_place};
 
 #[inline(always)]

@@ -4,12 +4,12 @@ use Rattle.std.proofs.Common.{arith, Bool, true, false, zero, suc, length, â—Œâ‰
 use Rattle.cp_model.specs.declared.state.Fault.{Fault}
 use Rattle.cp_model.specs.declared.state.Fault.TheVariants as fault
 use Rattle.cp_model.specs.Places.{within}
-use Rattle.cp_program_model.specs.Functions.{unless}
-use Rattle.cp_program_model.specs.Layout.{distance}
-use Rattle.cp_program_model.specs.Terms as plain
-use Rattle.cp_program_model.specs.TermsFor.{move_spot}
-use Rattle.cp_program_model.specs.Starts.{word}
-use Rattle.cp_machine_model.specs.Values.{View, apply, bind, place_of, root_place, value_of}
+use Rattle.cp_model_program.specs.Functions.{unless}
+use Rattle.cp_model_program.specs.Layout.{distance}
+use Rattle.cp_model_program.specs.Terms as plain
+use Rattle.cp_model_program.specs.TermsFor.{move_spot}
+use Rattle.cp_model_program.specs.Starts.{word}
+use Rattle.cp_model_machine.specs.Values.{View, apply, bind, place_of, root_place, value_of}
 use Rattle.cp_program.specs.declared.term.Operand.{Operand}
 use Rattle.cp_program.specs.declared.term.Root.{Root}
 use Rattle.cp_program.specs.declared.term.Term.{Term, out-Term, roll-Term}

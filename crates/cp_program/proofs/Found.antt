@@ -2,11 +2,11 @@
 use Rattle.std.proofs.Math.ListN.{get_or}
 use Rattle.std.proofs.Common.{arith, Box, Global, ℕ, length, ◌≤◌, ◌<◌, ◌≡◌, ℤ, List, [], ◌∷◌, map, Option, None, Some, Result, Ok, Err, IfSome, refl, ap, sym, subst, ◌∙◌, to_z, of_z, w32}
 use Rattle.cp_model.specs.declared.state.Fault.{Fault}
-use Rattle.cp_machine_model.specs.Values.{View, apply, bind, value_of}
+use Rattle.cp_model_machine.specs.Values.{View, apply, bind, value_of}
 use Rattle.cp_model.specs.Abstract as operator
 use Rattle.cp_model.specs.Erase.{operator_of}
 use Rattle.cp_model.specs.declared.tree.Operator.{Operator}
-use Rattle.cp_program_model.specs.Terms as plain
+use Rattle.cp_model_program.specs.Terms as plain
 use Rattle.cp_program.specs.declared.term.Application.{Application}
 use Rattle.cp_program.specs.declared.term.Application.TheFolds.{fold-roll-Application, fold-roll-Operand}
 use Rattle.cp_program.specs.declared.term.Application.TheVariants as application_case

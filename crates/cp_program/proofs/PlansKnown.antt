@@ -1,8 +1,8 @@
 -- The plans of a table: each is made of those before it.
 use Rattle.std.proofs.Common.{◌≡◌, ◌≤◌, ◌<◌, ℕ, zero, suc, List, [], ◌∷◌, ◌++◌, Option, Some, None, refl, ap, sym, ◌∙◌, append-nil, append_assoc, length, arith}
 use Rattle.std.specs.Prelude.{option_map, slice_get, take}
-use Rattle.cp_program_model.specs.Plans.{count_pieces}
-use Rattle.cp_program_model.specs.Programs as code
+use Rattle.cp_model_program.specs.Plans.{count_pieces}
+use Rattle.cp_model_program.specs.Programs as code
 use Rattle.cp_program.specs.declared.program.StartPiece.{StartPiece}
 use Rattle.cp_program.specs.declared.program.StartPiece.TheVariants as start_case
 use Rattle.cp_program.specs.declared.program.StartPlan.{StartPlan}

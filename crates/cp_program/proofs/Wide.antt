@@ -9,8 +9,8 @@ use Rattle.std.proofs.lemmas.Bool.{ne_eqb}
 use Rattle.cp_model.specs.declared.state.Fault.{Fault}
 use Rattle.cp_model.specs.declared.state.Fault.TheVariants as fault
 use Rattle.cp_model.specs.Integers.{same_integer}
-use Rattle.cp_program_model.specs.Functions.{in_range}
-use Rattle.cp_machine_model.specs.Values.{unless_zero}
+use Rattle.cp_model_program.specs.Functions.{in_range}
+use Rattle.cp_model_machine.specs.Values.{unless_zero}
 
 abbrev pub wide : ℤ → ℤ
 wide z = cast_signed w64 (cast_unsigned w64 z)

@@ -1,7 +1,7 @@
 -- The labels of a `case`, as plain data of the definitions.
 use Rattle.std.specs.Prelude.{ℕ, ℤ, List, Option, map}
-use Rattle.cp_program_model.specs.Programs as code
-use Rattle.cp_program_model.specs.Tables.{arm_at}
+use Rattle.cp_model_program.specs.Programs as code
+use Rattle.cp_model_program.specs.Tables.{arm_at}
 use Rattle.cp_program.specs.declared.arm.Arm.{Arm}
 
 abbrev pub arm : Arm → code.Arm

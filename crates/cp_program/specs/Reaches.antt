@@ -4,10 +4,10 @@ use Rattle.std.specs.Prelude.{ℕ, ◌++◌, ◌-◌, ◌^◌, min, List, [], �
 use Rattle.cp_model.specs.declared.state.Fault.{Fault}
 use Rattle.cp_model.specs.declared.state.Fault.TheVariants as fault
 use Rattle.cp_model.specs.Places.{within}
-use Rattle.cp_program_model.specs.Functions.{unless}
-use Rattle.cp_program_model.specs.Layout.{distance}
-use Rattle.cp_program_model.specs.Starts.{word}
-use Rattle.cp_machine_model.specs.Values.{View, apply, bind, root_place, value_of}
+use Rattle.cp_model_program.specs.Functions.{unless}
+use Rattle.cp_model_program.specs.Layout.{distance}
+use Rattle.cp_model_program.specs.Starts.{word}
+use Rattle.cp_model_machine.specs.Values.{View, apply, bind, root_place, value_of}
 use Rattle.cp_program.specs.declared.reach.Memory.{Memory}
 use Rattle.cp_program.specs.declared.reach.Reach.{Reach}
 use Rattle.cp_program.specs.View.{After, Before, PlainApplication, PlainIndex}

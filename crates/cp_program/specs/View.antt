@@ -4,8 +4,8 @@
 use Rattle.std.specs.Prelude.{ℕ, ℤ, List, [], ◌∷◌, ◌++◌, Option, Some, None, map, slice_get}
 use Rattle.cp_model.specs.Abstract as a
 use Rattle.cp_model.specs.Erase.{operator_of}
-use Rattle.cp_program_model.specs.Terms as plain
-use Rattle.cp_program_model.specs.Programs as code
+use Rattle.cp_model_program.specs.Terms as plain
+use Rattle.cp_model_program.specs.Programs as code
 use Rattle.cp_program.specs.declared.term.Root.{Root}
 use Rattle.cp_program.specs.declared.term.Root.TheVariants as root_case
 use Rattle.cp_program.specs.declared.term.Function.{Function}

@@ -1,13 +1,13 @@
 //! The values of operators and standard functions, and their faults.
 
 ghost use Rattle.std.specs.Prelude.{◌≡◌};
-ghost use Rattle.cp_program_model.specs.Functions as functions;
-ghost use Rattle.cp_program_model.specs.Terms as terms;
+ghost use Rattle.cp_model_program.specs.Functions as functions;
+ghost use Rattle.cp_model_program.specs.Terms as terms;
 ghost use Rattle.cp_model.specs.Abstract as abstract;
 ghost use Rattle.cp_model.specs.Erase.{operator_of};
 ghost use Rattle.cp_model.specs.Places.{within};
 ghost use Rattle.cp_model.specs.declared.state.Fault.TheVariants as fault;
-ghost use Rattle.cp_machine_model.specs.Values as values;
+ghost use Rattle.cp_model_machine.specs.Values as values;
 ghost use Rattle.cp_program.specs.View as view;
 
 use crate::term::Function;

@@ -4,10 +4,10 @@
 //! arithmetic lie within -32768..32767.
 
 ghost use Rattle.std.specs.Prelude.{◌≡◌, ℕ, ◌+◌, ◌*◌, ◌<◌, ◌^◌, ◌++◌, Ok, length, map};
-ghost use Rattle.cp_program_model.specs.Layout as layout;
-ghost use Rattle.cp_program_model.specs.Starts as starts;
-ghost use Rattle.cp_program_model.specs.Terms as terms;
-ghost use Rattle.cp_machine_model.specs.Values as values;
+ghost use Rattle.cp_model_program.specs.Layout as layout;
+ghost use Rattle.cp_model_program.specs.Starts as starts;
+ghost use Rattle.cp_model_program.specs.Terms as terms;
+ghost use Rattle.cp_model_machine.specs.Values as values;
 ghost use Rattle.cp_program.specs.Reaches.{apply_operation, cap_place, capped_result, chain_value, elements_place, offset_of, view_of};
 ghost use Rattle.cp_program.specs.View as view;
 

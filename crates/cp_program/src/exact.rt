@@ -2,10 +2,10 @@
 //! in registers.
 
 ghost use Rattle.std.specs.Prelude.{◌≡◌, IfSome, Ok};
-ghost use Rattle.cp_program_model.specs.Functions as functions;
+ghost use Rattle.cp_model_program.specs.Functions as functions;
 ghost use Rattle.cp_model.specs.Abstract as abstract;
 ghost use Rattle.cp_model.specs.Erase.{operator_of};
-ghost use Rattle.cp_machine_model.specs.Values as values;
+ghost use Rattle.cp_model_machine.specs.Values as values;
 
 use crate::arithmetic::{FIRST, LAST, truth};
 use crate::divisor::Divisor;

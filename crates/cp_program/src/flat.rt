@@ -9,8 +9,8 @@
 //! then `evaluation` is asked.
 
 ghost use Rattle.std.specs.Prelude.{◌≡◌, ℕ, ◌+◌, ◌<◌, ◌^◌, ◌++◌, ◌∷◌, [], IfSome, Ok, map};
-ghost use Rattle.cp_program_model.specs.Terms as terms;
-ghost use Rattle.cp_machine_model.specs.Values as values;
+ghost use Rattle.cp_model_program.specs.Terms as terms;
+ghost use Rattle.cp_model_machine.specs.Values as values;
 ghost use Rattle.cp_program.specs.Reaches.{apply_operation, chain_value, elements_place, offset_of, view_with};
 ghost use Rattle.cp_program.specs.View as view;
 

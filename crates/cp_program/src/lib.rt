@@ -12,7 +12,7 @@
 //! - `flat`, `operators`: the same for the commonest terms and spots, in registers. `memory`: the
 //!   words that both read. `arithmetic`, `exact`: the operators, with their faults and without.
 //!
-//! `specs/View.antt` defines these forms as plain data of `cp_program_model`, which the definitions
+//! `specs/View.antt` defines these forms as plain data of `cp_model_program`, which the definitions
 //! of steps are about.
 #![tactic(auto)]
 

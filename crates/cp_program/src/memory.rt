@@ -1,9 +1,9 @@
 //! The words of a memory, and the places of variables in it.
 
 ghost use Rattle.std.specs.Prelude.{◌≡◌, ℕ, IfSome, ◌+◌, ◌<◌, ◌^◌, ◌++◌};
-ghost use Rattle.cp_program_model.specs.Layout as layout;
-ghost use Rattle.cp_program_model.specs.Starts as starts;
-ghost use Rattle.cp_machine_model.specs.Values as values;
+ghost use Rattle.cp_model_program.specs.Layout as layout;
+ghost use Rattle.cp_model_program.specs.Starts as starts;
+ghost use Rattle.cp_model_machine.specs.Values as values;
 ghost use Rattle.cp_program.specs.Reaches.{view_with};
 ghost use Rattle.cp_program.specs.View as view;
 

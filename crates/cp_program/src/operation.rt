@@ -2,7 +2,7 @@
 //! program's operations.
 
 ghost use Rattle.std.specs.Prelude.{◌≡◌};
-ghost use Rattle.cp_program_model.specs.Programs as code;
+ghost use Rattle.cp_model_program.specs.Programs as code;
 ghost use Rattle.cp_program.specs.View as view;
 
 use crate::arms::Arms;

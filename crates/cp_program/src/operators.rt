@@ -6,7 +6,7 @@
 
 ghost use Rattle.std.specs.Prelude.{◌≡◌, ℕ, IfSome, Ok};
 ghost use Rattle.cp_model.specs.Erase.{operator_of};
-ghost use Rattle.cp_machine_model.specs.Values as values;
+ghost use Rattle.cp_model_machine.specs.Values as values;
 ghost use Rattle.cp_program.specs.Reaches.{apply_operation, view_with};
 ghost use Rattle.cp_program.specs.View as view;
 

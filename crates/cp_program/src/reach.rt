@@ -1,7 +1,7 @@
 //! What the evaluation of terms reads.
 
 ghost use Rattle.std.specs.Prelude.{◌≡◌, ◌+◌, ◌<◌, ◌^◌, ◌++◌, IfSome, length};
-ghost use Rattle.cp_program_model.specs.Starts as starts;
+ghost use Rattle.cp_model_program.specs.Starts as starts;
 
 /// The memory of a process: its words and temps, and where those of the running activation and
 /// component begin.

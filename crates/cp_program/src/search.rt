@@ -1,8 +1,8 @@
 //! The look-up of where a `case` leads, in constant or logarithmic time.
 
 ghost use Rattle.std.specs.Prelude.{◌≡◌, IfOk, map};
-ghost use Rattle.cp_program_model.specs.Programs as code;
-ghost use Rattle.cp_program_model.specs.Tables.{place_in};
+ghost use Rattle.cp_model_program.specs.Programs as code;
+ghost use Rattle.cp_model_program.specs.Tables.{place_in};
 ghost use Rattle.cp_program.specs.Labels.{arm, place_of_label};
 ghost use Rattle.cp_program.specs.View as view;
 

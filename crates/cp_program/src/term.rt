@@ -5,8 +5,8 @@
 //! stored inline.
 
 ghost use Rattle.std.specs.Prelude.{◌≡◌, ◌++◌, ◌∷◌, [], IfOk, IfSome, OnOk};
-ghost use Rattle.cp_program_model.specs.Terms as plain;
-ghost use Rattle.cp_program_model.specs.TermsFor.{move_spot, move_root};
+ghost use Rattle.cp_model_program.specs.Terms as plain;
+ghost use Rattle.cp_model_program.specs.TermsFor.{move_spot, move_root};
 ghost use Rattle.cp_model.specs.Erase.{operator_of};
 ghost use Rattle.cp_program.specs.View as view;
 

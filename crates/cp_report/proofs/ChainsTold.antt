@@ -2,8 +2,8 @@
 use Rattle.std.proofs.Common.{◌≡◌, ◌<◌, ◌+◌, ◌-◌, ◌++◌, ◌∙◌, ℕ, suc, List, ap, arith}
 use Rattle.std.proofs.lemmas.List.{append_assoc}
 use Rattle.cp_model.specs.States.{numbers_from}
-use Rattle.cp_machine_model.specs.Chains.{chain_line_of, chain_lines}
-use Rattle.cp_machine_model.specs.KernelSteps.{Kernel}
+use Rattle.cp_model_machine.specs.Chains.{chain_line_of, chain_lines}
+use Rattle.cp_model_machine.specs.KernelSteps.{Kernel}
 
 -- The line of process i + 1 is the first of those from it on.
 pub next_line : (k : Kernel) (i n : ℕ) (out : List ℕ) → i < n

@@ -9,16 +9,16 @@ use Rattle.cp_model.specs.States.{Setup, initial_variables}
 use Rattle.cp_model.specs.Types.{GlobalScope, NoMembers}
 use Rattle.cp_model.specs.View as view
 use Rattle.cp_model.specs.declared.tree.Tree as tree
-use Rattle.cp_program_model.specs.Layout.{head_words}
-use Rattle.cp_machine_model.specs.Machines.{Machine}
-use Rattle.cp_machine_model.specs.Reports.{monitors_lines, processes_lines}
-use Rattle.cp_scope.specs.Standing.{AreMembers}
-use Rattle.cp_scope.specs.Texts.{TablesStand}
-use Rattle.cp_scope.specs.Variables.{AreDeclared, declared_entry, variables_of}
-use Rattle.cp_scope.specs.declared.tables.Tables.{Tables}
-use Rattle.cp_scope.specs.declared.types.Types.{Types}
-use Rattle.cp_scope.specs.declared.variables.Declared.{Declared}
-use Rattle.cp_members.specs.Lists.{AreListed, Lists, declared_member}
+use Rattle.cp_model_program.specs.Layout.{head_words}
+use Rattle.cp_model_machine.specs.Machines.{Machine}
+use Rattle.cp_model_machine.specs.Reports.{monitors_lines, processes_lines}
+use Rattle.cp_compile_symbols.specs.Standing.{AreMembers}
+use Rattle.cp_compile_symbols.specs.Texts.{TablesStand}
+use Rattle.cp_compile_symbols.specs.Variables.{AreDeclared, declared_entry, variables_of}
+use Rattle.cp_compile_symbols.specs.declared.tables.Tables.{Tables}
+use Rattle.cp_compile_symbols.specs.declared.types.Types.{Types}
+use Rattle.cp_compile_symbols.specs.declared.variables.Declared.{Declared}
+use Rattle.cp_inspect.specs.Lists.{AreListed, Lists, declared_member}
 use Rattle.cp_report.specs.Lines.{rounds_line}
 
 pub declared_members : (types : Types) (ds : List Declared) (vs : List (Name × Variable)) → AreDeclared types (map declared_entry ds) vs

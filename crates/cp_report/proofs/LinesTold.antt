@@ -4,9 +4,9 @@ use Rattle.std.proofs.lemmas.List.{append_assoc}
 use Rattle.cp_model.specs.Abstract.{Name}
 use Rattle.cp_model.specs.Declarations.{Variable}
 use Rattle.cp_model.specs.Report.{Text}
-use Rattle.cp_scope.specs.Standing.{Stands}
-use Rattle.cp_scope.specs.declared.types.Types.{Types}
-use Rattle.cp_members.specs.Lists.{AreListed}
+use Rattle.cp_compile_symbols.specs.Standing.{Stands}
+use Rattle.cp_compile_symbols.specs.declared.types.Types.{Types}
+use Rattle.cp_inspect.specs.Lists.{AreListed}
 
 abbrev pub Lines : Type 0
 Lines = ℕ → List (Name × Variable) → Text

@@ -6,11 +6,11 @@ use Rattle.cp_model.specs.Declarations.{globals}
 use Rattle.cp_model.specs.Report.{Text}
 use Rattle.cp_model.specs.States.{Holder, Setup}
 use Rattle.cp_model.specs.Types.{ResolvedType}
-use Rattle.cp_program_model.specs.Programs.{Program}
-use Rattle.cp_machine_model.specs.KernelSteps.{Kernel, gate_of}
-use Rattle.cp_machine_model.specs.Machines.{Machine}
-use Rattle.cp_machine_model.specs.Passing.{monitor_start}
-use Rattle.cp_machine_model.specs.Reports.{lines_visit, monitor_lines, visit_component}
+use Rattle.cp_model_program.specs.Programs.{Program}
+use Rattle.cp_model_machine.specs.KernelSteps.{Kernel, gate_of}
+use Rattle.cp_model_machine.specs.Machines.{Machine}
+use Rattle.cp_model_machine.specs.Passing.{monitor_start}
+use Rattle.cp_model_machine.specs.Reports.{lines_visit, monitor_lines, visit_component}
 use Rattle.cp_report.specs.Lines.{gate_line_of}
 
 -- The kernel and the program are those of the machine.

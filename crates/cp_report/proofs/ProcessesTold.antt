@@ -8,10 +8,10 @@ use Rattle.cp_model.specs.Declarations.{globals}
 use Rattle.cp_model.specs.Report.{Text}
 use Rattle.cp_model.specs.States.{Setup}
 use Rattle.cp_model.specs.Types.{Members}
-use Rattle.cp_machine_model.specs.KernelSteps.{stage_of}
-use Rattle.cp_machine_model.specs.Machines.{Machine, transcript_of}
-use Rattle.cp_machine_model.specs.PrivateStates.{Activity, Ended, PrivateState}
-use Rattle.cp_machine_model.specs.Reports.{head_line, lines_visit, part_lines, process_lines, stage_text, transcript_line, visit_members}
+use Rattle.cp_model_machine.specs.KernelSteps.{stage_of}
+use Rattle.cp_model_machine.specs.Machines.{Machine, transcript_of}
+use Rattle.cp_model_machine.specs.PrivateStates.{Activity, Ended, PrivateState}
+use Rattle.cp_model_machine.specs.Reports.{head_line, lines_visit, part_lines, process_lines, stage_text, transcript_line, visit_members}
 use Rattle.cp_rounds.specs.ProcessStates.{activity_at}
 use Rattle.cp_rounds.specs.Views.{output_of}
 use Rattle.cp_report.specs.Lines.{front_lines, title}

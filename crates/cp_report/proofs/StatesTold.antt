@@ -1,13 +1,13 @@
 -- What the report tells of a process is told by its state.
 use Rattle.std.proofs.Common.{◌≡◌, refl}
 use Rattle.cp_model.specs.States.{Setup}
-use Rattle.cp_program_model.specs.Programs.{Program}
-use Rattle.cp_machine_model.specs.Chains.{is_asker}
-use Rattle.cp_machine_model.specs.KernelSteps.{Asking, Begun, Delayed, Fresh, Stage, Unstarted}
-use Rattle.cp_machine_model.specs.PrivateStates.{Activity, Ended, Faulted, NotBegun, Running, Waiting}
-use Rattle.cp_machine_model.specs.Reports.{stage_text}
+use Rattle.cp_model_program.specs.Programs.{Program}
+use Rattle.cp_model_machine.specs.Chains.{is_asker}
+use Rattle.cp_model_machine.specs.KernelSteps.{Asking, Begun, Delayed, Fresh, Stage, Unstarted}
+use Rattle.cp_model_machine.specs.PrivateStates.{Activity, Ended, Faulted, NotBegun, Running, Waiting}
+use Rattle.cp_model_machine.specs.Reports.{stage_text}
 use Rattle.cp_rounds.specs.ProcessStates.{state_of}
-use Rattle.cp_members.specs.Statuses.{asks_for_gate, state_text}
+use Rattle.cp_inspect.specs.Statuses.{asks_for_gate, state_text}
 
 pub stage_told : (setup : Setup) (program : Program) (y : Stage) (a : Activity) → stage_text setup program y a ≡ state_text setup program (state_of y a)
 stage_told setup program Unstarted a = refl

@@ -4,11 +4,11 @@ use Rattle.cp_model.specs.Abstract.{Name}
 use Rattle.cp_model.specs.Decimal.{natural}
 use Rattle.cp_model.specs.Report.{Text, askers_text, gate_text, line}
 use Rattle.cp_model.specs.States.{Holder, Setup}
-use Rattle.cp_machine_model.specs.KernelSteps.{stage_of}
-use Rattle.cp_machine_model.specs.Machines as plain
-use Rattle.cp_machine_model.specs.Machines.{transcript_of}
-use Rattle.cp_machine_model.specs.PrivateStates.{Activity}
-use Rattle.cp_machine_model.specs.Reports.{head_line, stage_text, transcript_line}
+use Rattle.cp_model_machine.specs.KernelSteps.{stage_of}
+use Rattle.cp_model_machine.specs.Machines as plain
+use Rattle.cp_model_machine.specs.Machines.{transcript_of}
+use Rattle.cp_model_machine.specs.PrivateStates.{Activity}
+use Rattle.cp_model_machine.specs.Reports.{head_line, stage_text, transcript_line}
 
 abbrev pub rounds_line : ℕ → Text
 rounds_line n = line (codes "rounds " ++ natural n)

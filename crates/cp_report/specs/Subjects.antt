@@ -8,16 +8,16 @@ use Rattle.cp_model.specs.States.{Setup}
 use Rattle.cp_model.specs.Types.{ResolvedType}
 use Rattle.cp_model.specs.View as view
 use Rattle.cp_model.specs.declared.tree.Tree as tree
-use Rattle.cp_program_model.specs.Layout.{head_words}
-use Rattle.cp_machine_model.specs.KernelSteps.{stage_of}
-use Rattle.cp_machine_model.specs.Machines as plain
-use Rattle.cp_machine_model.specs.Reports.{head_of, machine_report, monitor_lines, monitors_lines, process_lines, processes_lines, stage_text}
+use Rattle.cp_model_program.specs.Layout.{head_words}
+use Rattle.cp_model_machine.specs.KernelSteps.{stage_of}
+use Rattle.cp_model_machine.specs.Machines as plain
+use Rattle.cp_model_machine.specs.Reports.{head_of, machine_report, monitor_lines, monitors_lines, process_lines, processes_lines, stage_text}
 use Rattle.cp_rounds.specs.ProcessStates.{activity_at}
 use Rattle.cp_rounds.specs.Views.{machine_of, output_of}
-use Rattle.cp_scope.specs.Standing.{ScopeStands, Stands, entry}
-use Rattle.cp_scope.specs.Texts.{TablesStand}
+use Rattle.cp_compile_symbols.specs.Standing.{ScopeStands, Stands, entry}
+use Rattle.cp_compile_symbols.specs.Texts.{TablesStand}
 use Rattle.cp_report.specs.Lines.{front_lines}
-use Rattle.cp_members.specs.Lists.{AreListed}
+use Rattle.cp_inspect.specs.Lists.{AreListed}
 use Rattle.cp_report.specs.declared.subject.Subject.{Subject}
 
 abbrev pub machine_in : Subject → plain.Machine

@@ -6,11 +6,11 @@ use Rattle.cp_model.specs.Report.{Text}
 use Rattle.cp_model.specs.States.{Setup}
 use Rattle.cp_model.specs.View as view
 use Rattle.cp_model.specs.declared.tree.Tree as tree
-use Rattle.cp_machine_model.specs.Chains.{report_with_chains}
-use Rattle.cp_machine_model.specs.Machines as plain
-use Rattle.cp_machine_model.specs.Reports.{machine_report}
-use Rattle.cp_scope.specs.Texts.{TablesStand}
-use Rattle.cp_scope.specs.declared.tables.Tables.{Tables}
+use Rattle.cp_model_machine.specs.Chains.{report_with_chains}
+use Rattle.cp_model_machine.specs.Machines as plain
+use Rattle.cp_model_machine.specs.Reports.{machine_report}
+use Rattle.cp_compile_symbols.specs.Texts.{TablesStand}
+use Rattle.cp_compile_symbols.specs.declared.tables.Tables.{Tables}
 
 -- The bytes are the report that is read off the machine, for a text that has these tables.
 abbrev pub IsReport : Tables → plain.Machine → Text → Type 0

@@ -1,18 +1,18 @@
 //! The lines of chains of askers, which stand after the report where they are wanted.
 
 ghost use Rattle.std.specs.Prelude.{◌≡◌, ◌++◌, OnOk, flat_map};
-ghost use Rattle.cp_machine_model.specs.Chains.{chain_line_of, is_asker, machine_chains};
-ghost use Rattle.cp_machine_model.specs.KernelSteps.{stage_of};
+ghost use Rattle.cp_model_machine.specs.Chains.{chain_line_of, is_asker, machine_chains};
+ghost use Rattle.cp_model_machine.specs.KernelSteps.{stage_of};
 ghost use Rattle.cp_kernel.specs.ChainOf.{processes_left};
 ghost use Rattle.cp_rounds.specs.Views.{machine_of};
 ghost use Rattle.cp_report.specs.Lines.{number_text};
-ghost use Rattle.cp_members.specs.Statuses.{asks_for_gate};
+ghost use Rattle.cp_inspect.specs.Statuses.{asks_for_gate};
 
 use crate::gates::push_number;
+use cp_compile_symbols::small_number;
+use cp_inspect::state::ProcState;
 use cp_kernel::chain::Chain;
-use cp_members::state::ProcState;
 use cp_rounds::machine::Machine;
-use cp_scope::small_number;
 use std::alloc::AllocError;
 
 fn push_chain(out: &mut Vec<u8>, chain: Chain<'_>) -> Result<(), AllocError>

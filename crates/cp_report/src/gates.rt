@@ -5,7 +5,7 @@ ghost use Rattle.cp_model.specs.Report.{askers_text, gate_text};
 ghost use Rattle.cp_private.specs.States as states;
 ghost use Rattle.cp_report.specs.Lines.{gate_line_of, number_text};
 
-use cp_digits::decimal::push_natural;
+use cp_base_digits::decimal::push_natural;
 use cp_private::outside::Holder;
 use std::alloc::AllocError;
 

@@ -1,4 +1,4 @@
-//! The report of a machine. Its bytes are those that cp_machine_model's `specs/Reports.antt` reads
+//! The report of a machine. Its bytes are those that cp_model_machine's `specs/Reports.antt` reads
 //! off the machine's words as plain data.
 //!
 //! - `lines`, `gates`, `chains`: single lines, the lines of the gates of monitors, and those of

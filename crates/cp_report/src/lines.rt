@@ -1,11 +1,11 @@
 //! Single lines, and the text at the start of other lines.
 
 ghost use Rattle.std.specs.Prelude.{◌≡◌, ◌++◌, OnOk};
-ghost use Rattle.cp_machine_model.specs.Reports.{transcript_line};
+ghost use Rattle.cp_model_machine.specs.Reports.{transcript_line};
 ghost use Rattle.cp_report.specs.Lines.{rounds_line, title};
 
-use cp_digits::decimal::push_natural;
-use cp_members::text::push_all_escaped;
+use cp_base_digits::decimal::push_natural;
+use cp_inspect::text::push_all_escaped;
 use std::alloc::AllocError;
 
 /// Adds the first line, with the number of rounds made.

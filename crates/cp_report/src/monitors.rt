@@ -5,10 +5,10 @@ ghost use Rattle.cp_report.specs.Subjects.{TellsMonitor, TellsMonitors};
 
 use crate::gates::push_gate_line;
 use crate::subject::Subject;
-use cp_members::place::monitor_start;
-use cp_members::telling::Telling;
-use cp_members::walk::Walk;
-use cp_scope::small_number;
+use cp_compile_symbols::small_number;
+use cp_inspect::place::monitor_start;
+use cp_inspect::telling::Telling;
+use cp_inspect::walk::Walk;
 use std::alloc::AllocError;
 
 impl<'r, 'm, 't> Subject<'r, 'm, 't> {

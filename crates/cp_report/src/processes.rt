@@ -1,16 +1,16 @@
 //! The lines of processes.
 
 ghost use Rattle.std.specs.Prelude.{◌≡◌, OnOk, map};
-ghost use Rattle.cp_scope.specs.Standing.{entry};
+ghost use Rattle.cp_compile_symbols.specs.Standing.{entry};
 ghost use Rattle.cp_report.specs.Subjects.{TellsFront, TellsInitial, TellsStatus};
 ghost use Rattle.cp_report.specs.Subjects.{TellsProcess, TellsProcesses};
 
 use crate::lines::{push_title, push_transcript_line};
 use crate::subject::Subject;
-use cp_members::status::push_state;
-use cp_members::telling::Telling;
-use cp_members::walk::Walk;
-use cp_scope::{Field, small_number};
+use cp_compile_symbols::{Field, small_number};
+use cp_inspect::status::push_state;
+use cp_inspect::telling::Telling;
+use cp_inspect::walk::Walk;
 use std::alloc::AllocError;
 
 impl<'r, 'm, 't> Subject<'r, 'm, 't> {

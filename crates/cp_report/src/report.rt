@@ -2,17 +2,17 @@
 
 ghost use Rattle.std.specs.Prelude.{OnOk, IfOk, map};
 ghost use Rattle.cp_rounds.specs.Views.{machine_of};
-ghost use Rattle.cp_scope.specs.Standing.{entry};
+ghost use Rattle.cp_compile_symbols.specs.Standing.{entry};
 ghost use Rattle.cp_report.specs.Subjects.{TellsAll};
 ghost use Rattle.cp_report.specs.WholeReports.{IsReport, IsReportWithChains};
 
 use crate::chains::push_chains;
 use crate::lines::push_rounds;
 use crate::subject::Subject;
-use cp_members::roster::Roster;
-use cp_members::walk::Walk;
+use cp_compile_symbols::Field;
+use cp_inspect::roster::Roster;
+use cp_inspect::walk::Walk;
 use cp_rounds::machine::Machine;
-use cp_scope::Field;
 use std::alloc::{AllocError, Global};
 
 impl<'r, 'm, 't> Subject<'r, 'm, 't> {

@@ -1,7 +1,7 @@
 //! What a report describes.
 
+use cp_compile_symbols::{Field, Tables};
 use cp_rounds::machine::Machine;
-use cp_scope::{Field, Tables};
 
 /// A machine, the tables of its text, and the monitors of the text.
 #[derive(Clone, Copy)]

@@ -2,7 +2,7 @@
 use Rattle.std.specs.Prelude.{refl, ℕ, ◌+◌}
 use Rattle.std.proofs.Common.{sym, ◌∙◌, arith}
 use Rattle.cp_model.specs.States.{numbers_from}
-use Rattle.cp_machine_model.specs.Machines.{phased_rounds}
+use Rattle.cp_model_machine.specs.Machines.{phased_rounds}
 use Rattle.cp_rounds.specs.Views.{IsAfter, KeepsText, machine_of, processes_of}
 use Rattle.cp_rounds.specs.declared.machine.Machine.{Machine}
 use Rattle.cp_rounds.proofs.Rounds.{rounds_after}

@@ -3,20 +3,20 @@ use Rattle.std.specs.Prelude.{◌≡◌, ◌≤◌, ◌<◌, ◌+◌, ◌-◌, �
 use Rattle.std.proofs.Common.{sym, ◌∙◌, ap, subst, arith}
 use Rattle.std.proofs.lemmas.List.{length-map}
 use native.Mathlib.Nat.{mul-le-mul_right}
-use Rattle.cp_ahead.specs.Ahead.{StandAhead, with_turns}
-use Rattle.cp_ahead.proofs.Passing.{round_passed}
+use Rattle.cp_model_ahead.specs.Ahead.{StandAhead, with_turns}
+use Rattle.cp_model_ahead.proofs.Passing.{round_passed}
 use Rattle.cp_kernel.specs.KernelOf.{kernel_of, transcripts_of}
 use Rattle.cp_kernel.specs.Turns.{parts_of}
 use Rattle.cp_kernel.specs.declared.kernel.Kernel.{Kernel}
-use Rattle.cp_machine_model.specs.KernelSteps as plain
-use Rattle.cp_machine_model.specs.Machines.{Machine, end_round, kernel_turns, phased_round, phased_rounds}
-use Rattle.cp_machine_model.specs.PrivateStates.{PrivateState}
+use Rattle.cp_model_machine.specs.KernelSteps as plain
+use Rattle.cp_model_machine.specs.Machines.{Machine, end_round, kernel_turns, phased_round, phased_rounds}
+use Rattle.cp_model_machine.specs.PrivateStates.{PrivateState}
 use Rattle.cp_model.specs.States.{numbers_from}
 use Rattle.cp_private.specs.States as states
 use Rattle.cp_private.specs.declared.private.Private.{Private}
-use Rattle.cp_desk.specs.Inputs.{input_of}
-use Rattle.cp_desk.specs.Turned.{with_turn_taken}
-use Rattle.cp_desk.specs.declared.setting.Setting.{Setting}
+use Rattle.cp_rounds_handoff.specs.Inputs.{input_of}
+use Rattle.cp_rounds_handoff.specs.Turned.{with_turn_taken}
+use Rattle.cp_rounds_handoff.specs.declared.setting.Setting.{Setting}
 use Rattle.cp_rounds.specs.Ahead.{IsReadyAhead, PartsAhead, turns_ahead}
 use Rattle.cp_rounds.proofs.AheadPasses.{has_made_one, round_is}
 use Rattle.cp_rounds.proofs.AheadTurns.{fewer_bytes}

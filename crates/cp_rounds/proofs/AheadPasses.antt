@@ -3,30 +3,30 @@ use Rattle.std.specs.Prelude.{◌≡◌, ◌≢◌, ◌≤◌, ◌<◌, ◌+◌,
 use Rattle.std.proofs.Common.{sym, ◌∙◌, ap, subst, arith, ⊎_elim}
 use Rattle.std.proofs.lemmas.List.{length-map}
 use native.Mathlib.Nat.{suc-mul}
-use Rattle.cp_ahead.specs.Ahead.{HaveTurned, StandAhead}
-use Rattle.cp_ahead.proofs.Rounds as ahead
+use Rattle.cp_model_ahead.specs.Ahead.{HaveTurned, StandAhead}
+use Rattle.cp_model_ahead.proofs.Rounds as ahead
 use Rattle.cp_kernel.specs.KernelOf.{HasRoomForAskers, kernel_of, transcripts_of}
 use Rattle.cp_kernel.specs.Turns.{parts_of}
 use Rattle.cp_kernel.specs.declared.kernel.Kernel.{Kernel}
 use Rattle.cp_model.specs.States.{numbers_from}
 use Rattle.cp_model.proofs.Options.{same_some}
-use Rattle.cp_machine_model.specs.Machines.{Machine, begin_one, end_round, kernel_turns, phased_round, phased_rounds}
-use Rattle.cp_machine_model.specs.PrivateStates.{PrivateState}
+use Rattle.cp_model_machine.specs.Machines.{Machine, begin_one, end_round, kernel_turns, phased_round, phased_rounds}
+use Rattle.cp_model_machine.specs.PrivateStates.{PrivateState}
 use Rattle.cp_private.specs.States.{private_of}
 use Rattle.cp_private.specs.declared.private.Private.{Private}
 use Rattle.cp_program.specs.View as view
-use Rattle.cp_desk.specs.Inputs.{input_at, input_of}
-use Rattle.cp_desk.specs.Tasks.{HasRoomLeft}
-use Rattle.cp_desk.specs.Turned.{moment_of, take_turn, with_turn_taken}
-use Rattle.cp_desk.specs.declared.moment.Moment.{Moment}
-use Rattle.cp_desk.specs.declared.setting.Setting.{Setting}
-use Rattle.cp_desk.proofs.Lists.{below_or, below_or_from, got_at, got_below, got_set, zero_or}
+use Rattle.cp_rounds_handoff.specs.Inputs.{input_at, input_of}
+use Rattle.cp_rounds_handoff.specs.Tasks.{HasRoomLeft}
+use Rattle.cp_rounds_handoff.specs.Turned.{moment_of, take_turn, with_turn_taken}
+use Rattle.cp_rounds_handoff.specs.declared.moment.Moment.{Moment}
+use Rattle.cp_rounds_handoff.specs.declared.setting.Setting.{Setting}
+use Rattle.cp_rounds_handoff.proofs.Lists.{below_or, below_or_from, got_at, got_below, got_set, zero_or}
 use Rattle.cp_rounds.specs.Ahead.{IsReadyAhead, IsTime, PartsAhead, turns_ahead}
 use Rattle.cp_rounds.specs.MachineOf.{machine_with}
 use Rattle.cp_rounds.specs.Runs.{AreSame, RoundsMade}
 use Rattle.cp_rounds.proofs.AheadTurns.{fewer_bytes, part_of}
 use Rattle.cp_rounds.proofs.Made.{part_at, parts_count, same_machine, same_machine_with}
-use Rattle.cp_ahead.proofs.Turns.{set_apart, set_length}
+use Rattle.cp_model_ahead.proofs.Turns.{set_apart, set_length}
 use Rattle.cp_rounds.proofs.Rounds.{Remains, private_turns_made, rounds_after, turned_count, turns_remain}
 
 -- ---- Private turns

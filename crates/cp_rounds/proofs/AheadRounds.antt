@@ -4,32 +4,32 @@ use Rattle.std.specs.Prelude.{◌≡◌, ◌≢◌, ◌≤◌, ◌<◌, ◌+◌,
 use Rattle.std.specs.Global.{Global}
 use Rattle.std.proofs.Common.{sym, ◌∙◌, ap, subst, arith, ⊎_elim}
 use Rattle.std.proofs.lemmas.List.{length-map}
-use Rattle.cp_ahead.specs.Ahead.{StandAhead}
-use Rattle.cp_ahead.proofs.Rounds as ahead
+use Rattle.cp_model_ahead.specs.Ahead.{StandAhead}
+use Rattle.cp_model_ahead.proofs.Rounds as ahead
 use Rattle.cp_kernel.specs.KernelOf.{Bytes, HasRoomForAskers, HasRoomForBytes, kernel_of, transcripts_of, turning}
 use Rattle.cp_kernel.proofs.Asking.{room_kept}
 use Rattle.cp_kernel.specs.Turns.{IsTurned, Moves, parts_of}
 use Rattle.cp_kernel.specs.declared.kernel.Kernel.{Kernel}
 use Rattle.cp_model.specs.States.{numbers_from}
 use Rattle.cp_model.proofs.Options.{same_some}
-use Rattle.cp_machine_model.specs.KernelSteps.{Turning, kernel_steps}
-use Rattle.cp_machine_model.specs.Machines.{Machine, begin_one, clock, end_round, kernel_turn, kernel_turns, transcript_of}
-use Rattle.cp_machine_model.specs.PrivateStates.{PrivateState}
+use Rattle.cp_model_machine.specs.KernelSteps.{Turning, kernel_steps}
+use Rattle.cp_model_machine.specs.Machines.{Machine, begin_one, clock, end_round, kernel_turn, kernel_turns, transcript_of}
+use Rattle.cp_model_machine.specs.PrivateStates.{PrivateState}
 use Rattle.cp_private.specs.States.{private_of}
 use Rattle.cp_private.specs.declared.private.Private.{Private}
 use Rattle.cp_program.specs.View as view
-use Rattle.cp_desk.specs.Inputs.{input_at, input_of}
-use Rattle.cp_desk.specs.Tasks.{HasRoomLeft, IsWide}
-use Rattle.cp_desk.specs.Turned.{moment_of}
-use Rattle.cp_desk.specs.declared.moment.Moment.{Moment}
-use Rattle.cp_desk.specs.declared.setting.Setting.{Setting}
-use Rattle.cp_desk.proofs.Lists.{below_or, got_at, got_below, got_set, mapped_get}
+use Rattle.cp_rounds_handoff.specs.Inputs.{input_at, input_of}
+use Rattle.cp_rounds_handoff.specs.Tasks.{HasRoomLeft, IsWide}
+use Rattle.cp_rounds_handoff.specs.Turned.{moment_of}
+use Rattle.cp_rounds_handoff.specs.declared.moment.Moment.{Moment}
+use Rattle.cp_rounds_handoff.specs.declared.setting.Setting.{Setting}
+use Rattle.cp_rounds_handoff.proofs.Lists.{below_or, got_at, got_below, got_set, mapped_get}
 use Rattle.cp_rounds.specs.Ahead.{IsReadyAhead, IsTime, PartsAhead, turns_ahead}
 use Rattle.cp_rounds.specs.Ends.{RoundEnds}
 use Rattle.cp_rounds.proofs.AheadTurns.{fewer_bytes}
 use Rattle.cp_rounds.proofs.Made.{input_there, part_at, parts_count}
 use Rattle.cp_rounds.proofs.Rooms.{fewer_askers, moved_stages, numbered_set}
-use Rattle.cp_ahead.proofs.Turns.{set_length}
+use Rattle.cp_model_ahead.proofs.Turns.{set_length}
 use Rattle.cp_rounds.proofs.Rounds.{Remains, turns_next, turns_remain}
 
 -- The private states of a list with another item are those with another item.

@@ -5,26 +5,26 @@ use Rattle.std.proofs.lemmas.Bool.{true≢false}
 use Rattle.std.proofs.lemmas.List.{length-map}
 use Rattle.cp_model.proofs.Options.{same_some}
 use native.Mathlib.Nat.{mul-le-mul_right, suc-mul}
-use Rattle.cp_ahead.specs.Ahead.{HasBegun, IsAhead, turn_at}
-use Rattle.cp_ahead.proofs.Turns.{map_got, turn_number}
+use Rattle.cp_model_ahead.specs.Ahead.{HasBegun, IsAhead, turn_at}
+use Rattle.cp_model_ahead.proofs.Turns.{map_got, turn_number}
 use Rattle.cp_kernel.specs.KernelOf.{Bytes, HasRoomForAskers, HasRoomForBytes, kernel_of}
 use Rattle.cp_kernel.specs.Turns.{parts_of}
 use Rattle.cp_kernel.specs.declared.kernel.Kernel.{Kernel}
-use Rattle.cp_program_model.specs.Programs.{Program}
-use Rattle.cp_machine_model.specs.PrivateStates.{PrivateState}
-use Rattle.cp_machine_model.specs.KernelSteps.{Asking, Begun, Delayed, Fresh, Stage, Unstarted, is_begun, stage_of}
-use Rattle.cp_machine_model.proofs.StagesKept.{stage_is}
+use Rattle.cp_model_program.specs.Programs.{Program}
+use Rattle.cp_model_machine.specs.PrivateStates.{PrivateState}
+use Rattle.cp_model_machine.specs.KernelSteps.{Asking, Begun, Delayed, Fresh, Stage, Unstarted, is_begun, stage_of}
+use Rattle.cp_model_machine.proofs.StagesKept.{stage_is}
 use Rattle.cp_private.specs.States.{private_of}
 use Rattle.cp_private.specs.declared.private.Private.{Private}
 use Rattle.cp_program.specs.View as view
-use Rattle.cp_desk.specs.Inputs.{input_at, input_of}
-use Rattle.cp_desk.specs.Numbers.{AreNumbered}
-use Rattle.cp_desk.specs.Tasks.{AllFree, AreMade, AreTaken, IsCourseOf, StaysQuiet}
-use Rattle.cp_desk.specs.Turned.{AreTimes, moment_of, take_turn, with_turn_taken}
-use Rattle.cp_desk.specs.declared.moment.Moment.{Moment}
-use Rattle.cp_desk.specs.declared.setting.Setting.{Setting}
-use Rattle.cp_desk.proofs.Lists.{got_at, got_below}
-use Rattle.cp_desk.proofs.MadeTurns.{quiet_is}
+use Rattle.cp_rounds_handoff.specs.Inputs.{input_at, input_of}
+use Rattle.cp_rounds_handoff.specs.Numbers.{AreNumbered}
+use Rattle.cp_rounds_handoff.specs.Tasks.{AllFree, AreMade, AreTaken, IsCourseOf, StaysQuiet}
+use Rattle.cp_rounds_handoff.specs.Turned.{AreTimes, moment_of, take_turn, with_turn_taken}
+use Rattle.cp_rounds_handoff.specs.declared.moment.Moment.{Moment}
+use Rattle.cp_rounds_handoff.specs.declared.setting.Setting.{Setting}
+use Rattle.cp_rounds_handoff.proofs.Lists.{got_at, got_below}
+use Rattle.cp_rounds_handoff.proofs.MadeTurns.{quiet_is}
 use Rattle.cp_rounds.specs.Ahead.{AreBack, IsReadyAhead, PartsAhead, turns_ahead}
 use Rattle.cp_rounds.specs.MachineOf.{machine_with}
 use Rattle.cp_rounds.specs.Made.{IsReadyFor}

@@ -1,19 +1,19 @@
 -- A machine is in the states that the laws of rounds lead to.
 use Rattle.std.proofs.Common.{◌≡◌, ◌+◌, ◌<◌, ◌≤◌, ℕ, suc, List, [], ◌∷◌, length, refl, ap, sym, ◌∙◌, subst, arith}
-use Rattle.cp_program_model.specs.Programs as code
-use Rattle.cp_program_model.specs.Programs.{Program}
+use Rattle.cp_model_program.specs.Programs as code
+use Rattle.cp_model_program.specs.Programs.{Program}
 use Rattle.cp_kernel.specs.KernelOf.{Bytes}
 use Rattle.cp_model.specs.Rounds as meaning
 use Rattle.cp_model.specs.Rounds.{Event}
 use Rattle.cp_model.specs.Start.{start}
 use Rattle.cp_model.specs.States.{Setup, State, numbers_from, process_count}
-use Rattle.cp_machine_model.specs.InState.{IsIn}
-use Rattle.cp_machine_model.specs.Machines as plain
-use Rattle.cp_machine_model.specs.Machines.{first_machine, first_part, first_parts}
-use Rattle.cp_machine_model.specs.PrivateStates.{PrivateState}
-use Rattle.cp_machine_model.specs.RoundLaws.{LawfulReplayIsRound, ReplayIsReplay, RoundIsRound, RoundsAreRun, StartIsIn}
-use Rattle.cp_machine_model.specs.Replays.{AreWithin, replay}
-use Rattle.cp_desk.specs.Inputs.{input_of}
+use Rattle.cp_model_machine.specs.InState.{IsIn}
+use Rattle.cp_model_machine.specs.Machines as plain
+use Rattle.cp_model_machine.specs.Machines.{first_machine, first_part, first_parts}
+use Rattle.cp_model_machine.specs.PrivateStates.{PrivateState}
+use Rattle.cp_model_machine.specs.RoundLaws.{LawfulReplayIsRound, ReplayIsReplay, RoundIsRound, RoundsAreRun, StartIsIn}
+use Rattle.cp_model_machine.specs.Replays.{AreWithin, replay}
+use Rattle.cp_rounds_handoff.specs.Inputs.{input_of}
 use Rattle.cp_rounds.specs.InStates.{IsStarted, MakesReplay, MakesRounds}
 use Rattle.cp_rounds.specs.Views.{machine_of, processes_of}
 use Rattle.cp_rounds.specs.declared.machine.Machine.{Machine}

@@ -1,28 +1,28 @@
 -- The turns of a round, as the code makes them, are those of the machine as plain data.
 use Rattle.std.specs.Prelude.{◌≡◌, ◌≢◌, ◌≤◌, refl, ℕ, zero, suc, ◌+◌, ◌-◌, ◌/◌, ◌++◌, List, [], ◌∷◌, length, Some, None, slice_get, slice_set}
 use Rattle.std.proofs.Common.{sym, ◌∙◌, ap, subst, arith, ◌⊎◌, inl, inr, ⊎_elim}
-use Rattle.cp_program_model.specs.Programs.{Program}
+use Rattle.cp_model_program.specs.Programs.{Program}
 use Rattle.cp_model.specs.States.{numbers_from}
 use Rattle.cp_model.proofs.Options.{same_some}
 use Rattle.cp_kernel.specs.KernelOf.{Bytes, kernel_of, transcripts_of, turning}
 use Rattle.cp_kernel.specs.declared.kernel.Kernel.{Kernel}
 use Rattle.cp_private.specs.States.{private_of}
 use Rattle.cp_private.specs.declared.private.Private.{Private}
-use Rattle.cp_machine_model.specs.KernelSteps as steps
-use Rattle.cp_machine_model.specs.KernelSteps.{Turning, kernel_steps}
-use Rattle.cp_machine_model.specs.Machines.{Machine, after_kernel_turn, clock, end_round, kernel_turn, kernel_turns, phased_round, phased_rounds, transcript_of}
-use Rattle.cp_machine_model.specs.PrivateStates.{PrivateState}
+use Rattle.cp_model_machine.specs.KernelSteps as steps
+use Rattle.cp_model_machine.specs.KernelSteps.{Turning, kernel_steps}
+use Rattle.cp_model_machine.specs.Machines.{Machine, after_kernel_turn, clock, end_round, kernel_turn, kernel_turns, phased_round, phased_rounds, transcript_of}
+use Rattle.cp_model_machine.specs.PrivateStates.{PrivateState}
 use Rattle.cp_program.specs.View as view
 use Rattle.cp_kernel.specs.Turns.{IsTurned, parts_of}
-use Rattle.cp_desk.specs.Inputs.{input_at, input_of}
-use Rattle.cp_desk.specs.Turned.{moment_of, take_turn, with_turn_taken}
-use Rattle.cp_desk.specs.declared.setting.Setting.{Setting}
-use Rattle.cp_desk.proofs.Lists.{got_below, got_left, got_snoc, mapped_get, none_some}
+use Rattle.cp_rounds_handoff.specs.Inputs.{input_at, input_of}
+use Rattle.cp_rounds_handoff.specs.Turned.{moment_of, take_turn, with_turn_taken}
+use Rattle.cp_rounds_handoff.specs.declared.setting.Setting.{Setting}
+use Rattle.cp_rounds_handoff.proofs.Lists.{got_below, got_left, got_snoc, mapped_get, none_some}
 use Rattle.cp_rounds.specs.Ends.{RoundEnds}
 use Rattle.cp_rounds.specs.Made.{Stands, TurnsMade}
 use Rattle.cp_rounds.specs.MachineOf.{machine_with}
 use Rattle.cp_rounds.specs.Runs.{AreSame, RoundsMade, TurnsTaken}
-use Rattle.cp_ahead.proofs.Turns.{set_apart}
+use Rattle.cp_model_ahead.proofs.Turns.{set_apart}
 use Rattle.cp_rounds.proofs.Rounds.{Remains, kernel_turn_is, longer, rounds_after, private_turns_made, set_here, turned_count, turns_apart, turns_next, turns_remain}
 
 -- ---- Private states with their inputs

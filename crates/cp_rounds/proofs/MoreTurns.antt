@@ -5,17 +5,17 @@ use Rattle.std.proofs.lemmas.List.{length-take-le}
 use Rattle.cp_kernel.specs.KernelOf.{HasRoomForAskers}
 use Rattle.cp_kernel.specs.Turns.{IsTurned, Moves}
 use Rattle.cp_kernel.specs.declared.kernel.Kernel.{Kernel}
-use Rattle.cp_machine_model.specs.PrivateStates.{PrivateState}
+use Rattle.cp_model_machine.specs.PrivateStates.{PrivateState}
 use Rattle.cp_private.specs.States.{private_of}
 use Rattle.cp_private.specs.declared.private.Private.{Private}
 use Rattle.cp_program.specs.View as view
-use Rattle.cp_desk.specs.Inputs.{input_at}
-use Rattle.cp_desk.specs.Numbers.{AreNumbered}
-use Rattle.cp_desk.specs.Tasks.{IsCourseOf, IsTaken}
-use Rattle.cp_desk.specs.Turned.{moment_of, take_turn}
-use Rattle.cp_desk.specs.declared.moment.Moment.{Moment}
-use Rattle.cp_desk.specs.declared.setting.Setting.{Setting}
-use Rattle.cp_desk.proofs.Lists.{got_at}
+use Rattle.cp_rounds_handoff.specs.Inputs.{input_at}
+use Rattle.cp_rounds_handoff.specs.Numbers.{AreNumbered}
+use Rattle.cp_rounds_handoff.specs.Tasks.{IsCourseOf, IsTaken}
+use Rattle.cp_rounds_handoff.specs.Turned.{moment_of, take_turn}
+use Rattle.cp_rounds_handoff.specs.declared.moment.Moment.{Moment}
+use Rattle.cp_rounds_handoff.specs.declared.setting.Setting.{Setting}
+use Rattle.cp_rounds_handoff.proofs.Lists.{got_at}
 use Rattle.cp_rounds.specs.Made.{IsReady}
 use Rattle.cp_rounds.specs.Runs.{TurnsTaken}
 use Rattle.cp_rounds.proofs.Made.{process_made_at}

@@ -6,31 +6,31 @@ use Rattle.std.proofs.lemmas.List.{map-id, take_all}
 use Rattle.std.proofs.lemmas.List.Sums.{fold_more}
 use Rattle.cp_model.specs.Rounds.{Event}
 use Rattle.cp_model.proofs.Options.{same_some}
-use Rattle.cp_program_model.specs.Programs.{Program}
+use Rattle.cp_model_program.specs.Programs.{Program}
 use Rattle.cp_kernel.specs.KernelOf.{kernel_of, transcripts_of, turning}
 use Rattle.cp_kernel.specs.Turns.{IsTurned, parts_of}
 use Rattle.cp_kernel.specs.declared.kernel.Kernel.{Kernel}
 use Rattle.cp_private.specs.States.{private_of}
 use Rattle.cp_private.specs.declared.private.Private.{Private}
-use Rattle.cp_machine_model.specs.KernelSteps.{Turning, kernel_steps}
-use Rattle.cp_machine_model.specs.Machines.{Machine, clock, end_round, kernel_turn, private_turn, transcript_of, wake, wake_one}
-use Rattle.cp_machine_model.specs.PrivateStates.{PrivateState}
-use Rattle.cp_machine_model.specs.Replays.{AreWithin, event, process_of}
-use Rattle.cp_machine_model.specs.Steps.{private_steps}
+use Rattle.cp_model_machine.specs.KernelSteps.{Turning, kernel_steps}
+use Rattle.cp_model_machine.specs.Machines.{Machine, clock, end_round, kernel_turn, private_turn, transcript_of, wake, wake_one}
+use Rattle.cp_model_machine.specs.PrivateStates.{PrivateState}
+use Rattle.cp_model_machine.specs.Replays.{AreWithin, event, process_of}
+use Rattle.cp_model_machine.specs.Steps.{private_steps}
 use Rattle.cp_program.specs.View as view
-use Rattle.cp_desk.specs.Inputs.{input_at, input_of}
-use Rattle.cp_desk.specs.Numbers.{AreNumbered}
-use Rattle.cp_desk.specs.Turned.{moment_of, woken}
-use Rattle.cp_desk.specs.declared.moment.Moment.{Moment}
-use Rattle.cp_desk.specs.declared.setting.Setting.{Setting}
-use Rattle.cp_desk.proofs.Lists.{each_more, got_at, got_below}
+use Rattle.cp_rounds_handoff.specs.Inputs.{input_at, input_of}
+use Rattle.cp_rounds_handoff.specs.Numbers.{AreNumbered}
+use Rattle.cp_rounds_handoff.specs.Turned.{moment_of, woken}
+use Rattle.cp_rounds_handoff.specs.declared.moment.Moment.{Moment}
+use Rattle.cp_rounds_handoff.specs.declared.setting.Setting.{Setting}
+use Rattle.cp_rounds_handoff.proofs.Lists.{each_more, got_at, got_below}
 use Rattle.cp_rounds.specs.Ends.{RoundEnds}
 use Rattle.cp_rounds.specs.MachineOf.{machine_with}
 use Rattle.cp_rounds.specs.Replayed.{AreWoken, EachWoken, Leads, StepsInto, TurnsInto}
 use Rattle.cp_rounds.specs.Runs.{AreSame}
 use Rattle.cp_rounds.proofs.Made.{part_at, same_machine}
 use Rattle.cp_rounds.proofs.Rooms.{moved_stages, numbered_set, same_stages}
-use Rattle.cp_ahead.proofs.Turns.{set_length}
+use Rattle.cp_model_ahead.proofs.Turns.{set_length}
 use Rattle.cp_rounds.proofs.Rounds.{kernel_turn_is, private_turn_is}
 
 -- ---- Waking

@@ -3,13 +3,13 @@
 use Rattle.std.specs.Prelude.{◌≡◌, ◌≢◌, ◌≤◌, ◌<◌, refl, ℕ, zero, suc, ◌+◌, ◌-◌, ◌%◌, Bool, true, false, if◌then◌else◌, List, [], ◌∷◌, ◌++◌, length, map, nat_eq, Option, Some, None, slice_get, slice_set}
 use Rattle.std.proofs.Common.{sym, ◌∙◌, ap, subst, arith}
 use Rattle.std.proofs.lemmas.List.{length-map}
-use Rattle.cp_ahead.proofs.Turns.{set_apart, set_length}
+use Rattle.cp_model_ahead.proofs.Turns.{set_apart, set_length}
 use Rattle.cp_model.specs.States.{numbers_from}
-use Rattle.cp_machine_model.specs.KernelSteps.{kernel_steps}
-use Rattle.cp_machine_model.specs.Machines.{Machine, after_kernel_turn, clock, kernel_turn, kernel_turns, phased_round, phased_rounds, private_turn, private_turns, wake, wake_one}
-use Rattle.cp_machine_model.specs.PrivateStates.{PrivateState}
-use Rattle.cp_machine_model.specs.Steps.{private_steps}
-use Rattle.cp_desk.specs.Turned.{moment_of, take_turn, with_turn_taken, woken}
+use Rattle.cp_model_machine.specs.KernelSteps.{kernel_steps}
+use Rattle.cp_model_machine.specs.Machines.{Machine, after_kernel_turn, clock, kernel_turn, kernel_turns, phased_round, phased_rounds, private_turn, private_turns, wake, wake_one}
+use Rattle.cp_model_machine.specs.PrivateStates.{PrivateState}
+use Rattle.cp_model_machine.specs.Steps.{private_steps}
+use Rattle.cp_rounds_handoff.specs.Turned.{moment_of, take_turn, with_turn_taken, woken}
 
 -- ---- Lists
 

@@ -11,33 +11,33 @@ use Rattle.cp_model.specs.States.{Gate, Setup, State, process_count}
 use Rattle.cp_model.specs.Stores as store
 use Rattle.cp_model.specs.StateViews.{fault_number}
 use Rattle.cp_model.specs.Types.{ArrayOf, ComponentOf, NoType, Queue, RecordOf, ResolvedType, Simple}
-use Rattle.cp_program_model.specs.Programs.{Program}
-use Rattle.cp_program_model.specs.StandsFor.{StandsFor}
-use Rattle.cp_program_model.specs.Starts.{word}
-use Rattle.cp_machine_model.specs.Addresses.{Activation, Ground, in_sight, lies, sees, OwnWords}
-use Rattle.cp_machine_model.specs.InState.{IsIn}
-use Rattle.cp_machine_model.specs.KernelOf.{StageMeans, kernel_ground}
-use Rattle.cp_machine_model.specs.KernelSteps.{Asking, Begun, Delayed, Fresh, Stage, Unstarted, gate_of, stage_of}
-use Rattle.cp_machine_model.specs.Laws.{ground_of}
-use Rattle.cp_machine_model.specs.Means.{CellMeans}
-use Rattle.cp_machine_model.specs.PartOf.{DataMeans, status_of}
-use Rattle.cp_machine_model.specs.Passing.{monitor_start}
-use Rattle.cp_machine_model.specs.PrivateStates as machine
-use Rattle.cp_machine_model.specs.PrivateStates.{Activity, PrivateState}
-use Rattle.cp_members.specs.Values.{value_in}
+use Rattle.cp_model_program.specs.Programs.{Program}
+use Rattle.cp_model_program.specs.StandsFor.{StandsFor}
+use Rattle.cp_model_program.specs.Starts.{word}
+use Rattle.cp_model_machine.specs.Addresses.{Activation, Ground, in_sight, lies, sees, OwnWords}
+use Rattle.cp_model_machine.specs.InState.{IsIn}
+use Rattle.cp_model_machine.specs.KernelOf.{StageMeans, kernel_ground}
+use Rattle.cp_model_machine.specs.KernelSteps.{Asking, Begun, Delayed, Fresh, Stage, Unstarted, gate_of, stage_of}
+use Rattle.cp_model_machine.specs.Laws.{ground_of}
+use Rattle.cp_model_machine.specs.Means.{CellMeans}
+use Rattle.cp_model_machine.specs.PartOf.{DataMeans, status_of}
+use Rattle.cp_model_machine.specs.Passing.{monitor_start}
+use Rattle.cp_model_machine.specs.PrivateStates as machine
+use Rattle.cp_model_machine.specs.PrivateStates.{Activity, PrivateState}
+use Rattle.cp_inspect.specs.Values.{value_in}
 use Rattle.cp_private.specs.declared.private.Private.{Private}
-use Rattle.cp_desk.specs.Numbers.{AreNumbered}
-use Rattle.cp_desk.proofs.Lists.{got_at, none_some}
+use Rattle.cp_rounds_handoff.specs.Numbers.{AreNumbered}
+use Rattle.cp_rounds_handoff.proofs.Lists.{got_at, none_some}
 use Rattle.cp_rounds.specs.Gates.{ShowsAskers, ShowsHolder}
 use Rattle.cp_rounds.specs.ProcessStates.{ShowsState, StatusMeans, activity_at, state_at, state_of}
 use Rattle.cp_rounds.specs.Values.{IsKindOf, IsOwner, IsValue, LiesAt, ShowsValue, location_of, value_at, word_of}
 use Rattle.cp_rounds.specs.Views.{machine_of, words_of}
 use Rattle.cp_rounds.specs.declared.machine.Machine.{Machine}
-use Rattle.cp_members.specs.declared.place.Kind.{Kind}
-use Rattle.cp_members.specs.declared.place.Kind.TheVariants as kind
-use Rattle.cp_members.specs.declared.place.Owner.{Owner}
-use Rattle.cp_members.specs.declared.place.Owner.TheVariants as owner
-use Rattle.cp_members.specs.declared.place.Place.{Place}
+use Rattle.cp_inspect.specs.declared.place.Kind.{Kind}
+use Rattle.cp_inspect.specs.declared.place.Kind.TheVariants as kind
+use Rattle.cp_inspect.specs.declared.place.Owner.{Owner}
+use Rattle.cp_inspect.specs.declared.place.Owner.TheVariants as owner
+use Rattle.cp_inspect.specs.declared.place.Place.{Place}
 
 -- ---- Processes
 

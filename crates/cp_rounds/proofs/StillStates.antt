@@ -5,15 +5,15 @@ use Rattle.std.proofs.lemmas.Bool.{true≢false}
 use Rattle.std.proofs.lemmas.Bool.Decides.{nat_tests}
 use Rattle.std.specs.Prelude.{if◌then◌else◌, nat_lt, slice_get}
 use Rattle.cp_kernel.specs.KernelOf.{kernel_of}
-use Rattle.cp_machine_model.specs.Addresses.{Ground}
-use Rattle.cp_machine_model.specs.InState.{IsIn}
-use Rattle.cp_machine_model.specs.KernelOf.{StageMeans, kernel_ground}
-use Rattle.cp_machine_model.specs.KernelSteps as kernel
-use Rattle.cp_machine_model.specs.KernelSteps.{Stage, stage_of}
-use Rattle.cp_machine_model.specs.PartOf.{status_of}
-use Rattle.cp_machine_model.specs.PrivateStates as machine
-use Rattle.cp_machine_model.specs.PrivateStates.{Activity}
-use Rattle.cp_machine_model.specs.RoundLaws.{RoundsAreRun}
+use Rattle.cp_model_machine.specs.Addresses.{Ground}
+use Rattle.cp_model_machine.specs.InState.{IsIn}
+use Rattle.cp_model_machine.specs.KernelOf.{StageMeans, kernel_ground}
+use Rattle.cp_model_machine.specs.KernelSteps as kernel
+use Rattle.cp_model_machine.specs.KernelSteps.{Stage, stage_of}
+use Rattle.cp_model_machine.specs.PartOf.{status_of}
+use Rattle.cp_model_machine.specs.PrivateStates as machine
+use Rattle.cp_model_machine.specs.PrivateStates.{Activity}
+use Rattle.cp_model_machine.specs.RoundLaws.{RoundsAreRun}
 use Rattle.cp_model.specs.Configurations as status
 use Rattle.cp_model.specs.Configurations.{Status}
 use Rattle.cp_model.specs.Parts as parts
@@ -23,10 +23,10 @@ use Rattle.cp_model.specs.States.{Setup, State, numbers_from, process_count}
 use Rattle.cp_model.proofs.Options.{same_some}
 use Rattle.cp_private.specs.States.{activity, private_of}
 use Rattle.cp_private.specs.declared.private.Private.{Private}
-use Rattle.cp_stillness.specs.Laws.{StillAfterMoreRounds}
-use Rattle.cp_stillness.specs.Stillness.{can_move, is_still, none_can_move}
-use Rattle.cp_desk.specs.Inputs.{input_at, input_of}
-use Rattle.cp_desk.proofs.Lists.{got_at, got_below}
+use Rattle.cp_law_stillness.specs.Laws.{StillAfterMoreRounds}
+use Rattle.cp_law_stillness.specs.Stillness.{can_move, is_still, none_can_move}
+use Rattle.cp_rounds_handoff.specs.Inputs.{input_at, input_of}
+use Rattle.cp_rounds_handoff.proofs.Lists.{got_at, got_below}
 use Rattle.cp_rounds.specs.MachineOf.{machine_with}
 use Rattle.cp_rounds.specs.Runs.{AreSame}
 use Rattle.cp_rounds.specs.Stillness.{Advances, NoneStillBefore, RestBelow, RestsAt, TellsStill, goes_on, moves}

@@ -1,19 +1,19 @@
 -- A machine some of whose processes are ahead: private turns of later rounds are made already.
 use Rattle.std.specs.Prelude.{◌≡◌, ◌≢◌, ◌≤◌, ◌<◌, ◌+◌, ◌-◌, ◌*◌, ℕ, suc, Bool, true, List, Some, get_or, length, slice_get, vec_len}
-use Rattle.cp_ahead.specs.Ahead.{HasBegun, StandAhead}
+use Rattle.cp_model_ahead.specs.Ahead.{HasBegun, StandAhead}
 use Rattle.cp_kernel.specs.KernelOf.{HasRoomForAskers, HasRoomForBytes, kernel_of, transcripts_of}
 use Rattle.cp_kernel.specs.Turns.{parts_of}
 use Rattle.cp_kernel.specs.declared.kernel.Kernel.{Kernel}
-use Rattle.cp_machine_model.specs.Machines.{Machine}
-use Rattle.cp_machine_model.specs.PrivateStates.{PrivateState}
+use Rattle.cp_model_machine.specs.Machines.{Machine}
+use Rattle.cp_model_machine.specs.PrivateStates.{PrivateState}
 use Rattle.cp_private.specs.declared.private.Private.{Private}
 use Rattle.cp_program.specs.View as view
-use Rattle.cp_desk.specs.Inputs.{input_of}
-use Rattle.cp_desk.specs.Numbers.{AreNumbered}
-use Rattle.cp_desk.specs.Tasks.{AreMade, AreTaken, HasRoomLeft, IsWide}
-use Rattle.cp_desk.specs.Turned.{moment_of}
-use Rattle.cp_desk.specs.declared.moment.Moment.{Moment}
-use Rattle.cp_desk.specs.declared.setting.Setting.{Setting}
+use Rattle.cp_rounds_handoff.specs.Inputs.{input_of}
+use Rattle.cp_rounds_handoff.specs.Numbers.{AreNumbered}
+use Rattle.cp_rounds_handoff.specs.Tasks.{AreMade, AreTaken, HasRoomLeft, IsWide}
+use Rattle.cp_rounds_handoff.specs.Turned.{moment_of}
+use Rattle.cp_rounds_handoff.specs.declared.moment.Moment.{Moment}
+use Rattle.cp_rounds_handoff.specs.declared.setting.Setting.{Setting}
 
 -- How many turns the process at an index is ahead.
 abbrev pub turns_ahead : List ℕ → ℕ → ℕ

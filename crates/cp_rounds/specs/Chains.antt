@@ -1,8 +1,8 @@
 -- What the chain of askers of a machine is in the states that the machine is in.
 use Rattle.std.specs.Prelude.{List, ℕ}
 use Rattle.cp_model.specs.States.{Setup, State, monitor_count}
-use Rattle.cp_machine_model.specs.Chains.{IsChainOf}
-use Rattle.cp_machine_model.specs.InState.{IsIn}
+use Rattle.cp_model_machine.specs.Chains.{IsChainOf}
+use Rattle.cp_model_machine.specs.InState.{IsIn}
 use Rattle.cp_rounds.specs.Views.{machine_of}
 use Rattle.cp_rounds.specs.declared.machine.Machine.{Machine}
 

@@ -4,10 +4,10 @@ use Rattle.cp_kernel.specs.KernelOf.{kernel_of, transcripts_of}
 use Rattle.cp_kernel.specs.Turns.{parts_of}
 use Rattle.cp_kernel.specs.declared.kernel.Kernel.{Kernel}
 use Rattle.cp_private.specs.declared.private.Private.{Private}
-use Rattle.cp_machine_model.specs.Machines.{begin_one, next_stage}
+use Rattle.cp_model_machine.specs.Machines.{begin_one, next_stage}
 use Rattle.cp_program.specs.View as view
-use Rattle.cp_desk.specs.Numbers.{AreNumbered}
-use Rattle.cp_desk.specs.declared.setting.Setting.{Setting}
+use Rattle.cp_rounds_handoff.specs.Numbers.{AreNumbered}
+use Rattle.cp_rounds_handoff.specs.declared.setting.Setting.{Setting}
 
 -- What is reserved stays.
 pub record KeepsRoom (xs : List Private) (k : Kernel) (ys : List Private) (k' : Kernel) : Type 0 where

@@ -1,7 +1,7 @@
 -- The gates of monitors, as the states of a machine have them.
 use Rattle.std.specs.Prelude.{◌≡◌, ℕ, List}
 use Rattle.cp_model.specs.States.{Holder, Setup, State}
-use Rattle.cp_machine_model.specs.InState.{IsIn}
+use Rattle.cp_model_machine.specs.InState.{IsIn}
 use Rattle.cp_rounds.specs.Views.{machine_of}
 use Rattle.cp_rounds.specs.declared.machine.Machine.{Machine}
 

@@ -1,14 +1,14 @@
 -- What the calls of a machine make of the states of the meaning that the machine is in.
 use Rattle.std.specs.Prelude.{◌≡◌, ◌≤◌, ℕ, List, length}
-use Rattle.cp_program_model.specs.Programs.{Program}
-use Rattle.cp_program_model.specs.StandsFor.{StandsFor}
+use Rattle.cp_model_program.specs.Programs.{Program}
+use Rattle.cp_model_program.specs.StandsFor.{StandsFor}
 use Rattle.cp_kernel.specs.KernelOf.{Bytes}
 use Rattle.cp_model.specs.Orders.{IsLawful}
 use Rattle.cp_model.specs.Rounds.{Event, phased_round, replay_round, run, sequential_round}
 use Rattle.cp_model.specs.Start.{start}
 use Rattle.cp_model.specs.States.{Setup, State, processes}
-use Rattle.cp_machine_model.specs.InState.{IsIn}
-use Rattle.cp_desk.specs.Inputs.{input_of}
+use Rattle.cp_model_machine.specs.InState.{IsIn}
+use Rattle.cp_rounds_handoff.specs.Inputs.{input_of}
 use Rattle.cp_rounds.specs.Views.{machine_of}
 use Rattle.cp_rounds.specs.declared.machine.Machine.{Machine}
 

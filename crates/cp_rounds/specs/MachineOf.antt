@@ -4,10 +4,10 @@ use Rattle.cp_kernel.specs.KernelOf.{kernel_of, transcripts_of}
 use Rattle.cp_kernel.specs.Turns.{parts_of}
 use Rattle.cp_kernel.specs.declared.kernel.Kernel.{Kernel}
 use Rattle.cp_private.specs.declared.private.Private.{Private}
-use Rattle.cp_machine_model.specs.Machines as plain
+use Rattle.cp_model_machine.specs.Machines as plain
 use Rattle.cp_program.specs.View as view
-use Rattle.cp_desk.specs.Inputs.{input_of}
-use Rattle.cp_desk.specs.declared.setting.Setting.{Setting}
+use Rattle.cp_rounds_handoff.specs.Inputs.{input_of}
+use Rattle.cp_rounds_handoff.specs.declared.setting.Setting.{Setting}
 
 -- The machine with this setting after `rounds` rounds, with these private states by number, from 1.
 abbrev pub machine_with : Setting → ℕ → List Private → Kernel → plain.Machine

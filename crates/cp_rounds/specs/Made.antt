@@ -5,8 +5,8 @@ use Rattle.cp_kernel.specs.declared.kernel.Kernel.{Kernel}
 use Rattle.cp_model.specs.States.{numbers_from}
 use Rattle.cp_private.specs.States.{private_of}
 use Rattle.cp_private.specs.declared.private.Private.{Private}
-use Rattle.cp_machine_model.specs.Machines.{Machine, kernel_turns}
-use Rattle.cp_desk.specs.Inputs.{input_at}
+use Rattle.cp_model_machine.specs.Machines.{Machine, kernel_turns}
+use Rattle.cp_rounds_handoff.specs.Inputs.{input_at}
 
 -- The kernel and the first private states of the machine m are these.
 pub record Stands (m : Machine) (inputs : List Bytes) (ys : List Private) (k : Kernel) : Type 0 where

@@ -5,17 +5,17 @@ use Rattle.cp_model.specs.Configurations.{Status}
 use Rattle.cp_model.specs.States.{Setup, State, process_count}
 use Rattle.cp_model.specs.StateViews.{fault_number}
 use Rattle.cp_model.specs.Types.{Queue}
-use Rattle.cp_machine_model.specs.Addresses.{Ground, lies}
-use Rattle.cp_machine_model.specs.InState.{IsIn}
-use Rattle.cp_machine_model.specs.KernelOf.{kernel_ground}
-use Rattle.cp_machine_model.specs.KernelSteps.{Asking, Begun, Delayed, Fresh, Stage, Unstarted, stage_of}
-use Rattle.cp_machine_model.specs.Machines as plain
-use Rattle.cp_machine_model.specs.PrivateStates as activity
-use Rattle.cp_machine_model.specs.PrivateStates.{Activity}
+use Rattle.cp_model_machine.specs.Addresses.{Ground, lies}
+use Rattle.cp_model_machine.specs.InState.{IsIn}
+use Rattle.cp_model_machine.specs.KernelOf.{kernel_ground}
+use Rattle.cp_model_machine.specs.KernelSteps.{Asking, Begun, Delayed, Fresh, Stage, Unstarted, stage_of}
+use Rattle.cp_model_machine.specs.Machines as plain
+use Rattle.cp_model_machine.specs.PrivateStates as activity
+use Rattle.cp_model_machine.specs.PrivateStates.{Activity}
 use Rattle.cp_rounds.specs.Views.{machine_of}
 use Rattle.cp_rounds.specs.declared.machine.Machine.{Machine}
-use Rattle.cp_members.specs.declared.state.ProcState.{ProcState}
-use Rattle.cp_members.specs.declared.state.ProcState.TheVariants as state
+use Rattle.cp_inspect.specs.declared.state.ProcState.{ProcState}
+use Rattle.cp_inspect.specs.declared.state.ProcState.TheVariants as state
 
 -- The state of a process with this stage and this activity.
 abbrev pub state_of : Stage → Activity → ProcState

@@ -1,18 +1,18 @@
 -- What events make of the private states and the kernel, in a round in any order.
 use Rattle.std.specs.Prelude.{◌≡◌, ◌-◌, ◌++◌, ℕ, Bool, List, [], Some, length, slice_get, slice_set}
-use Rattle.cp_program_model.specs.Programs.{Program}
+use Rattle.cp_model_program.specs.Programs.{Program}
 use Rattle.cp_kernel.specs.KernelOf.{kernel_of, transcripts_of, turning}
 use Rattle.cp_kernel.specs.declared.kernel.Kernel.{Kernel}
 use Rattle.cp_private.specs.States.{private_of}
 use Rattle.cp_private.specs.declared.private.Private.{Private}
-use Rattle.cp_machine_model.specs.KernelSteps.{kernel_steps}
-use Rattle.cp_machine_model.specs.Machines as plain
-use Rattle.cp_machine_model.specs.Machines.{transcript_of}
-use Rattle.cp_machine_model.specs.Steps.{private_steps}
-use Rattle.cp_desk.specs.Numbers.{AreNumbered}
-use Rattle.cp_desk.specs.Turned.{moment_of, woken}
-use Rattle.cp_desk.specs.declared.moment.Moment.{Moment}
-use Rattle.cp_desk.specs.declared.setting.Setting.{Setting}
+use Rattle.cp_model_machine.specs.KernelSteps.{kernel_steps}
+use Rattle.cp_model_machine.specs.Machines as plain
+use Rattle.cp_model_machine.specs.Machines.{transcript_of}
+use Rattle.cp_model_machine.specs.Steps.{private_steps}
+use Rattle.cp_rounds_handoff.specs.Numbers.{AreNumbered}
+use Rattle.cp_rounds_handoff.specs.Turned.{moment_of, woken}
+use Rattle.cp_rounds_handoff.specs.declared.moment.Moment.{Moment}
+use Rattle.cp_rounds_handoff.specs.declared.setting.Setting.{Setting}
 use Rattle.cp_rounds.specs.MachineOf.{machine_with}
 
 -- Each private state of ys is the one of xs at its index, woken in a round in which the processes

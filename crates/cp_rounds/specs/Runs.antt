@@ -7,11 +7,11 @@ use Rattle.cp_kernel.specs.declared.kernel.Kernel.{Kernel}
 use Rattle.cp_model.specs.States.{numbers_from}
 use Rattle.cp_private.specs.States.{private_of}
 use Rattle.cp_private.specs.declared.private.Private.{Private}
-use Rattle.cp_machine_model.specs.Machines.{phased_rounds}
-use Rattle.cp_desk.specs.Numbers.{AreNumbered}
-use Rattle.cp_desk.specs.Tasks.{AreHere, AreLeft}
-use Rattle.cp_desk.specs.Turned.{with_turn_taken}
-use Rattle.cp_desk.specs.declared.setting.Setting.{Setting}
+use Rattle.cp_model_machine.specs.Machines.{phased_rounds}
+use Rattle.cp_rounds_handoff.specs.Numbers.{AreNumbered}
+use Rattle.cp_rounds_handoff.specs.Tasks.{AreHere, AreLeft}
+use Rattle.cp_rounds_handoff.specs.Turned.{with_turn_taken}
+use Rattle.cp_rounds_handoff.specs.declared.setting.Setting.{Setting}
 use Rattle.cp_rounds.specs.Made.{IsReadyFor, TurnsMade}
 use Rattle.cp_rounds.specs.MachineOf.{machine_with}
 use Rattle.cp_rounds.specs.declared.parts.Parts.{Parts}

@@ -1,12 +1,12 @@
 -- The private states and the kernel at the start.
 use Rattle.std.specs.Prelude.{◌≡◌, ℕ, suc, List, Some, length, slice_get}
-use Rattle.cp_program_model.specs.Programs as code
-use Rattle.cp_program_model.specs.Programs.{Program}
+use Rattle.cp_model_program.specs.Programs as code
+use Rattle.cp_model_program.specs.Programs.{Program}
 use Rattle.cp_kernel.specs.KernelOf.{kernel_of, transcripts_of}
 use Rattle.cp_kernel.specs.declared.kernel.Kernel.{Kernel}
 use Rattle.cp_private.specs.States.{private_of}
 use Rattle.cp_private.specs.declared.private.Private.{Private}
-use Rattle.cp_machine_model.specs.Machines.{first_machine, first_part}
+use Rattle.cp_model_machine.specs.Machines.{first_machine, first_part}
 
 -- Each private state is the first one of its process.
 abbrev pub AreFirst : Program → List Private → Type 0

@@ -1,16 +1,16 @@
 -- Whether a machine is still, and the first still state of its rounds.
 use Rattle.std.specs.Prelude.{◌≡◌, ◌<◌, ℕ, suc, Bool, false, true, Some, slice_get}
 use Rattle.cp_kernel.specs.KernelOf.{kernel_of}
-use Rattle.cp_machine_model.specs.InState.{IsIn}
-use Rattle.cp_machine_model.specs.KernelSteps.{Begun, Fresh, Stage, stage_of}
-use Rattle.cp_machine_model.specs.PrivateStates.{Activity, Running, Waiting}
+use Rattle.cp_model_machine.specs.InState.{IsIn}
+use Rattle.cp_model_machine.specs.KernelSteps.{Begun, Fresh, Stage, stage_of}
+use Rattle.cp_model_machine.specs.PrivateStates.{Activity, Running, Waiting}
 use Rattle.cp_model.specs.Rounds.{run}
 use Rattle.cp_model.specs.States.{Setup, State}
 use Rattle.cp_private.specs.States.{activity}
 use Rattle.cp_private.specs.declared.private.Private.{Private}
 use Rattle.cp_rounds.specs.Views.{IsAfter, machine_of}
 use Rattle.cp_rounds.specs.declared.machine.Machine.{Machine}
-use Rattle.cp_stillness.specs.Stillness.{is_still}
+use Rattle.cp_law_stillness.specs.Stillness.{is_still}
 
 -- A process that has begun can move if it runs or waits for the clock.
 abbrev pub goes_on : Activity → Bool

@@ -5,25 +5,25 @@ use Rattle.cp_model.specs.Locations.{Location, OfMonitor, OfProcess, Path}
 use Rattle.cp_model.specs.States.{Setup, State, process_count}
 use Rattle.cp_model.specs.Stores as store
 use Rattle.cp_model.specs.Types.{Queue, ResolvedType, Simple}
-use Rattle.cp_program_model.specs.Programs.{Program}
-use Rattle.cp_program_model.specs.StandsFor.{StandsFor}
-use Rattle.cp_program_model.specs.Starts.{word}
-use Rattle.cp_machine_model.specs.Addresses.{lies}
-use Rattle.cp_machine_model.specs.InState.{IsIn}
-use Rattle.cp_machine_model.specs.KernelOf.{kernel_ground}
-use Rattle.cp_machine_model.specs.Laws.{ground_of}
-use Rattle.cp_machine_model.specs.Machines as plain
-use Rattle.cp_machine_model.specs.Passing.{monitor_start}
-use Rattle.cp_members.specs.Values.{value_in}
+use Rattle.cp_model_program.specs.Programs.{Program}
+use Rattle.cp_model_program.specs.StandsFor.{StandsFor}
+use Rattle.cp_model_program.specs.Starts.{word}
+use Rattle.cp_model_machine.specs.Addresses.{lies}
+use Rattle.cp_model_machine.specs.InState.{IsIn}
+use Rattle.cp_model_machine.specs.KernelOf.{kernel_ground}
+use Rattle.cp_model_machine.specs.Laws.{ground_of}
+use Rattle.cp_model_machine.specs.Machines as plain
+use Rattle.cp_model_machine.specs.Passing.{monitor_start}
+use Rattle.cp_inspect.specs.Values.{value_in}
 use Rattle.cp_rounds.specs.Views.{machine_of, words_of}
 use Rattle.cp_rounds.specs.declared.machine.Machine.{Machine}
-use Rattle.cp_members.specs.declared.place.Kind.{Kind}
-use Rattle.cp_members.specs.declared.place.Kind.TheVariants as kind
-use Rattle.cp_members.specs.declared.place.Owner.{Owner}
-use Rattle.cp_members.specs.declared.place.Owner.TheVariants as owner
-use Rattle.cp_members.specs.declared.place.Place.{Place}
-use Rattle.cp_members.specs.declared.place.Value.{Value}
-use Rattle.cp_members.specs.declared.place.Value.TheVariants as value
+use Rattle.cp_inspect.specs.declared.place.Kind.{Kind}
+use Rattle.cp_inspect.specs.declared.place.Kind.TheVariants as kind
+use Rattle.cp_inspect.specs.declared.place.Owner.{Owner}
+use Rattle.cp_inspect.specs.declared.place.Owner.TheVariants as owner
+use Rattle.cp_inspect.specs.declared.place.Place.{Place}
+use Rattle.cp_inspect.specs.declared.place.Value.{Value}
+use Rattle.cp_inspect.specs.declared.place.Value.TheVariants as value
 
 -- The word at an address among those of its owner. A missing word reads as 0.
 abbrev pub word_of : plain.Machine → Owner → ℕ → ℤ

@@ -1,7 +1,7 @@
 -- A whole machine as plain data.
 use Rattle.std.specs.Prelude.{◌≡◌, ◌+◌, ◌-◌, ℕ, ℤ, List, [], None, Some, length, slice_get}
 use Rattle.cp_model.specs.States.{numbers_from}
-use Rattle.cp_machine_model.specs.Machines as plain
+use Rattle.cp_model_machine.specs.Machines as plain
 use Rattle.cp_rounds.specs.MachineOf.{machine_with}
 use Rattle.cp_rounds.specs.declared.halted.Halted.{Halted}
 use Rattle.cp_rounds.specs.declared.machine.Machine.{Machine}

@@ -1,20 +1,20 @@
 //! Several rounds at once.
 //!
 //! A process that has written nothing and whose next step isn't the kernel's, if it has one, has no
-//! kernel turn to make, whatever the others do (the laws are those of cp_ahead). So the threads
+//! kernel turn to make, whatever the others do (the laws are those of cp_model_ahead). So the threads
 //! make its private turns of several rounds one after another, and draw once for all of them. The
 //! calling thread takes all private states back, passes over the rounds in which all processes are
 //! ahead, and makes the others one by one, with the private turns that weren't made ahead.
 
 ghost use Rattle.std.specs.Prelude.{◌≡◌, ◌≤◌, ◌<◌, ◌+◌, ◌-◌, ℕ, false, true, length, slice_get, Some};
 ghost use Rattle.cp_kernel.specs.KernelOf.{kernel_of};
-ghost use Rattle.cp_machine_model.specs.KernelSteps as plain;
-ghost use Rattle.cp_machine_model.specs.Machines.{Machine, phased_rounds};
+ghost use Rattle.cp_model_machine.specs.KernelSteps as plain;
+ghost use Rattle.cp_model_machine.specs.Machines.{Machine, phased_rounds};
 ghost use Rattle.cp_model.specs.States.{numbers_from};
 ghost use Rattle.cp_private.specs.Resting.{rests};
 ghost use Rattle.cp_program.specs.View as view;
-ghost use Rattle.cp_desk.specs.Tasks.{AreLeft, AreMade, AreTaken};
-ghost use Rattle.cp_desk.specs.Turned.{with_turn_taken};
+ghost use Rattle.cp_rounds_handoff.specs.Tasks.{AreLeft, AreMade, AreTaken};
+ghost use Rattle.cp_rounds_handoff.specs.Turned.{with_turn_taken};
 ghost use Rattle.cp_rounds.specs.Ahead.{AreBack, IsReadyAhead, IsTime, PartsAhead, turns_ahead};
 ghost use Rattle.cp_rounds.specs.Runs.{PartsAfter};
 
@@ -23,13 +23,13 @@ use crate::hand::Hand;
 use crate::parts::Parts;
 use crate::round::{open_round, shares_of};
 use crate::run::Run;
-use cp_desk::gate::TurnGate;
-use cp_desk::moment::Moment;
-use cp_desk::open_round::OpenRound;
-use cp_desk::quiet::rests_for_good;
-use cp_desk::task::Course;
 use cp_kernel::kernel::Kernel;
 use cp_private::resident::Resident;
+use cp_rounds_handoff::gate::TurnGate;
+use cp_rounds_handoff::moment::Moment;
+use cp_rounds_handoff::open_round::OpenRound;
+use cp_rounds_handoff::quiet::rests_for_good;
+use cp_rounds_handoff::task::Course;
 use std::sync::Wait;
 
 // Returns how many turns of a process are taken back at most: only one that has begun may be ahead.

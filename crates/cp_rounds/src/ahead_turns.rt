@@ -2,23 +2,23 @@
 
 ghost use Rattle.std.specs.Prelude.{◌≡◌, ◌≢◌, ◌≤◌, ◌<◌, ◌+◌, ◌-◌, ◌*◌, ℕ, IfOk, length, vec_capacity, vec_len};
 ghost use Rattle.cp_model.specs.States.{numbers_from};
-ghost use Rattle.cp_machine_model.specs.Machines as plain;
+ghost use Rattle.cp_model_machine.specs.Machines as plain;
 ghost use Rattle.cp_private.specs.Rooms.{HasRoomFor};
 ghost use Rattle.cp_private.specs.States.{private_of};
 ghost use Rattle.cp_program.specs.View as view;
-ghost use Rattle.cp_desk.specs.Inputs.{input_at};
-ghost use Rattle.cp_desk.specs.Turned.{take_turn, with_turn_taken};
+ghost use Rattle.cp_rounds_handoff.specs.Inputs.{input_at};
+ghost use Rattle.cp_rounds_handoff.specs.Turned.{take_turn, with_turn_taken};
 ghost use Rattle.cp_rounds.specs.Ahead.{IsReadyAhead, IsTime, PartsAhead, turns_ahead};
 
 use crate::closing::close_round;
 use crate::finishing::kernel_turn_of;
 use crate::run::Run;
-use cp_desk::gate::TurnGate;
-use cp_desk::moment::Moment;
-use cp_desk::task::Course;
-use cp_desk::turns::turn_in_place;
 use cp_kernel::kernel::Kernel;
 use cp_private::resident::Resident;
+use cp_rounds_handoff::gate::TurnGate;
+use cp_rounds_handoff::moment::Moment;
+use cp_rounds_handoff::task::Course;
+use cp_rounds_handoff::turns::turn_in_place;
 use std::alloc::{AllocError, Global};
 
 /// How many turns processes are ahead of the round that is being made.

@@ -1,14 +1,14 @@
 //! Chains of askers of a machine.
 
 ghost use Rattle.std.specs.Prelude.{◌≡◌};
-ghost use Rattle.cp_machine_model.specs.Chains as plain;
+ghost use Rattle.cp_model_machine.specs.Chains as plain;
 ghost use Rattle.cp_kernel.specs.ChainOf.{processes_left};
 ghost use Rattle.cp_rounds.specs.Chains.{ShowsChain};
 ghost use Rattle.cp_rounds.specs.Views.{machine_of};
 
 use crate::machine::Machine;
 use cp_kernel::chain::Chain;
-use cp_machine_model::law;
+use cp_model_machine::law;
 
 impl<'r, 't> Machine<'r, 't> {
     /// Returns the asking chain of process p: p, and then, as long as the last process asks for a

@@ -2,10 +2,10 @@
 
 ghost use Rattle.cp_rounds.specs.Ends.{RoundEnds};
 
-use cp_desk::setting::Setting;
 use cp_kernel::closing::end_round;
 use cp_kernel::kernel::Kernel;
 use cp_private::resident::Resident;
+use cp_rounds_handoff::setting::Setting;
 
 /// Ends a round: the processes that were started in it begin.
 pub(crate) fn close_round(setting: &Setting, privates: &mut Vec<Resident>, kernel: &mut Kernel)

@@ -2,7 +2,7 @@
 
 ghost use Rattle.std.specs.Prelude.{◌≡◌, ℕ, List, IfOk};
 ghost use Rattle.cp_private.specs.States.{private_of};
-ghost use Rattle.cp_desk.specs.Turned.{woken};
+ghost use Rattle.cp_rounds_handoff.specs.Turned.{woken};
 ghost use Rattle.cp_rounds.specs.Replayed.{AreWoken};
 ghost use Rattle.cp_rounds.specs.Runs.{AreSame};
 

@@ -5,23 +5,23 @@
 
 ghost use Rattle.std.specs.Prelude.{◌≡◌, ◌≤◌, ◌-◌, IfOk, fold, length};
 ghost use Rattle.cp_kernel.specs.KernelOf.{IsAmong};
-ghost use Rattle.cp_machine_model.specs.Replays as plain;
-ghost use Rattle.cp_machine_model.specs.Replays.{AreWithin, process_of};
-ghost use Rattle.cp_orders.specs.Events.{event_of, events_of};
+ghost use Rattle.cp_model_machine.specs.Replays as plain;
+ghost use Rattle.cp_model_machine.specs.Replays.{AreWithin, process_of};
+ghost use Rattle.cp_base_schedule.specs.Events.{event_of, events_of};
 ghost use Rattle.cp_program.specs.View as view;
-ghost use Rattle.cp_desk.specs.Inputs.{input_at};
-ghost use Rattle.cp_desk.specs.Numbers.{AreNumbered};
+ghost use Rattle.cp_rounds_handoff.specs.Inputs.{input_at};
+ghost use Rattle.cp_rounds_handoff.specs.Numbers.{AreNumbered};
 ghost use Rattle.cp_rounds.specs.Replayed.{Leads, StepsInto, TurnsInto};
 
-use cp_desk::moment::Moment;
-use cp_desk::setting::Setting;
+use cp_base_config::turn::Turn;
+use cp_base_schedule::event::Event;
 use cp_kernel::kernel::Kernel;
 use cp_kernel::turns::kernel_turn;
-use cp_orders::event::Event;
-use cp_plan::turn::Turn;
 use cp_private::private::Private;
 use cp_private::resident::Resident;
 use cp_private::turns::private_turn;
+use cp_rounds_handoff::moment::Moment;
+use cp_rounds_handoff::setting::Setting;
 use std::alloc::AllocError;
 
 const ONE_STEP: Turn = Turn { steps: 1 };

@@ -9,23 +9,23 @@ ghost use Rattle.cp_kernel.specs.declared.kernel.Kernel.{Kernel};
 ghost use Rattle.cp_private.specs.Resting.{rests};
 ghost use Rattle.cp_private.specs.Rooms.{HasRoomFor};
 ghost use Rattle.cp_program.specs.View as view;
-ghost use Rattle.cp_desk.specs.Inputs.{input_at};
-ghost use Rattle.cp_desk.specs.Numbers.{AreNumbered};
-ghost use Rattle.cp_desk.specs.Tasks.{AreHere, AreLeft, IsTaken, is_none};
-ghost use Rattle.cp_desk.specs.Turned.{moment_of};
+ghost use Rattle.cp_rounds_handoff.specs.Inputs.{input_at};
+ghost use Rattle.cp_rounds_handoff.specs.Numbers.{AreNumbered};
+ghost use Rattle.cp_rounds_handoff.specs.Tasks.{AreHere, AreLeft, IsTaken, is_none};
+ghost use Rattle.cp_rounds_handoff.specs.Turned.{moment_of};
 ghost use Rattle.cp_rounds.specs.Made.{IsReady};
 ghost use Rattle.cp_rounds.specs.Runs.{TurnsTaken};
 
 use crate::hand::Hand;
 use crate::run::Run;
-use cp_desk::gate::TurnGate;
-use cp_desk::moment::Moment;
-use cp_desk::open_round::OpenRound;
-use cp_desk::task::Course;
-use cp_desk::turns::turn_in_place;
 use cp_kernel::kernel::Kernel;
 use cp_kernel::turns::{has_no_kernel_turn, kernel_turn};
 use cp_private::resident::Resident;
+use cp_rounds_handoff::gate::TurnGate;
+use cp_rounds_handoff::moment::Moment;
+use cp_rounds_handoff::open_round::OpenRound;
+use cp_rounds_handoff::task::Course;
+use cp_rounds_handoff::turns::turn_in_place;
 use std::sync::Wait;
 
 // Takes the private state of a process from the desk, after its private turn. It is kept out of the

@@ -4,7 +4,7 @@ ghost use Rattle.std.specs.Prelude.{◌≡◌};
 ghost use Rattle.cp_rounds.specs.Views.{halted_of};
 
 use crate::parts::Parts;
-use cp_desk::setting::Setting;
+use cp_rounds_handoff::setting::Setting;
 
 /// What a machine was after its last round, without the tables of its text.
 pub struct Halted {

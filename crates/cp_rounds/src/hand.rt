@@ -1,18 +1,18 @@
 //! What the calling thread holds in a round.
 
 ghost use Rattle.std.specs.Prelude.{◌≡◌, ◌<◌, ◌≤◌, ◌-◌};
-ghost use Rattle.cp_desk.specs.Tasks.{AreMade, AreTaken};
+ghost use Rattle.cp_rounds_handoff.specs.Tasks.{AreMade, AreTaken};
 
 use crate::run::Run;
-use cp_crew::{Rack, Wave};
-use cp_desk::cursor::Cursor;
-use cp_desk::desk::{Tasks, room_for_tasks};
-use cp_desk::desk_turns::DeskTurns;
-use cp_desk::gate::TurnGate;
-use cp_desk::open_round::OpenRound;
-use cp_desk::pace::Pace;
-use cp_desk::task::Course;
 use cp_private::resident::Resident;
+use cp_rounds_handoff::cursor::Cursor;
+use cp_rounds_handoff::desk::{Tasks, room_for_tasks};
+use cp_rounds_handoff::desk_turns::DeskTurns;
+use cp_rounds_handoff::gate::TurnGate;
+use cp_rounds_handoff::open_round::OpenRound;
+use cp_rounds_handoff::pace::Pace;
+use cp_rounds_handoff::task::Course;
+use cp_rounds_workers::{Rack, Wave};
 use std::alloc::{AllocError, Global};
 use std::sync::Wait;
 

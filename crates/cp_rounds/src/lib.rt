@@ -1,18 +1,18 @@
 //! The machine: rounds and runs by threads, and what can be read of the machine between them.
 //!
-//! A round or a run makes of the machine what the definitions of cp_machine_model make of it as
+//! A round or a run makes of the machine what the definitions of cp_model_machine make of it as
 //! plain data, for every plan and any schedule of the threads (`specs/Views.antt` defines the plain
-//! data). By the laws of cp_machine_model, the machine is then in the next state of the meaning
+//! data). By the laws of cp_model_machine, the machine is then in the next state of the meaning
 //! (`specs/InStates.antt`).
 //!
 //! - `machine`, `reading`, `chain`, `stillness`, `until_still`, `halted`: the public calls.
 //!   `starting`: how a machine starts.
 //! - `state`: the state of a process, by what the kernel and it know of it. `readings`: what a
 //!   trace reads of a machine.
-//! - `gate`, of cp_desk: what is called before each turn.
+//! - `gate`, of cp_rounds_handoff: what is called before each turn.
 //! - `parts`: what rounds change. `closing`: the end of a round.
 //! - `run`, `round`: rounds by threads that are kept, which draw the chunks of each wave from its
-//!   board and make their private turns at a desk (cp_desk).
+//!   board and make their private turns at a desk (cp_rounds_handoff).
 //! - `ahead`, `ahead_turns`: several rounds at once, while processes only compute.
 //! - `hand`, `finishing`: what the calling thread holds in a round, how it takes private states
 //!   back, and how it finishes their turns.
@@ -40,4 +40,4 @@ mod state;
 mod stillness;
 mod until_still;
 
-pub use cp_desk::gate;
+pub use cp_rounds_handoff::gate;

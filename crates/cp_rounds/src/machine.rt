@@ -3,9 +3,9 @@
 
 ghost use Rattle.std.specs.Prelude.{◌≡◌, ◌<◌, ◌≤◌, ◌+◌, ◌-◌, ◌^◌, length, IfErr, IfOk};
 ghost use Rattle.cp_model.specs.States.{numbers_from};
-ghost use Rattle.cp_machine_model.specs.Machines as plain;
+ghost use Rattle.cp_model_machine.specs.Machines as plain;
 ghost use Rattle.cp_program.specs.View as view;
-ghost use Rattle.cp_desk.specs.Inputs.{input_of};
+ghost use Rattle.cp_rounds_handoff.specs.Inputs.{input_of};
 ghost use Rattle.cp_rounds.specs.InStates.{IsStarted, MakesRound, MakesRounds};
 ghost use Rattle.cp_rounds.specs.Views.{IsAfter, KeepsText, halted_of, machine_of, processes_of};
 
@@ -13,13 +13,13 @@ use crate::halted::Halted;
 use crate::parts::Parts;
 use crate::run::{Rounds, make_rounds_of};
 use crate::starting::first_parts;
-use cp_desk::gate::TurnGate;
-use cp_desk::setting::Setting;
-use cp_machine_model::law;
-use cp_plan::plan::Plan;
-use cp_plan::tick::Tick;
+use cp_base_config::plan::Plan;
+use cp_base_config::tick::Tick;
+use cp_compile_symbols::Tables;
+use cp_model_machine::law;
 use cp_program::program::Program;
-use cp_scope::Tables;
+use cp_rounds_handoff::gate::TurnGate;
+use cp_rounds_handoff::setting::Setting;
 use std::alloc::{AllocError, Global};
 use std::mem;
 use std::sync::Wait;

@@ -1,7 +1,7 @@
 //! What rounds change.
 
 ghost use Rattle.std.specs.Prelude.{◌≡◌, length};
-ghost use Rattle.cp_desk.specs.Numbers.{AreNumbered};
+ghost use Rattle.cp_rounds_handoff.specs.Numbers.{AreNumbered};
 
 use cp_kernel::kernel::Kernel;
 use cp_private::resident::Resident;

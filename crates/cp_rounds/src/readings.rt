@@ -1,14 +1,14 @@
 //! What a trace reads of a machine.
 
 use crate::machine::Machine;
-use cp_members::place;
-use cp_members::places::{Place, initial_places, places};
-use cp_members::readings::Readings;
-use cp_members::state::ProcState;
-use cp_members::status::push_state;
-use cp_members::walk::Walk;
+use cp_compile_symbols::{Base, Field, TypeRow};
+use cp_inspect::place;
+use cp_inspect::places::{Place, initial_places, places};
+use cp_inspect::readings::Readings;
+use cp_inspect::state::ProcState;
+use cp_inspect::status::push_state;
+use cp_inspect::walk::Walk;
 use cp_private::outside::Holder;
-use cp_scope::{Base, Field, TypeRow};
 use std::alloc::{AllocError, Global};
 
 impl Readings for Machine<'_, '_> {

@@ -1,9 +1,9 @@
 //! A round in any order of events, lawful or not, on the calling thread.
 
 ghost use Rattle.std.specs.Prelude.{◌≡◌, ◌<◌, ◌+◌, ◌-◌, ◌^◌, IfErr, IfOk, length};
-ghost use Rattle.cp_machine_model.specs.Replays as plain;
-ghost use Rattle.cp_machine_model.specs.Replays.{AreWithin};
-ghost use Rattle.cp_orders.specs.Events.{events_of};
+ghost use Rattle.cp_model_machine.specs.Replays as plain;
+ghost use Rattle.cp_model_machine.specs.Replays.{AreWithin};
+ghost use Rattle.cp_base_schedule.specs.Events.{events_of};
 ghost use Rattle.cp_rounds.specs.InStates.{MakesReplay};
 ghost use Rattle.cp_rounds.specs.MachineOf.{machine_with};
 ghost use Rattle.cp_rounds.specs.Views.{KeepsText, machine_of, processes_of};
@@ -13,10 +13,10 @@ use crate::copies::woken_copies;
 use crate::events::make_events;
 use crate::machine::Machine;
 use crate::parts::Parts;
-use cp_desk::setting::Setting;
-use cp_machine_model::law;
-use cp_orders::event::Event;
-use cp_plan::turn::Turn;
+use cp_base_config::turn::Turn;
+use cp_base_schedule::event::Event;
+use cp_model_machine::law;
+use cp_rounds_handoff::setting::Setting;
 use std::alloc::{AllocError, Global};
 
 // Returns what the round after the first `rounds` rounds makes of the parts of a machine, if it

@@ -1,8 +1,8 @@
 //! Rounds by threads that are kept from one round to the next. The module `round` makes each round.
 
 ghost use Rattle.std.specs.Prelude.{◌≡◌, ◌<◌, ◌≤◌, ◌+◌, ◌-◌, ◌*◌, ◌^◌, IfErr, IfOk, length, slice_get};
-ghost use Rattle.cp_desk.specs.Turned.{AreTimes};
-ghost use Rattle.cp_desk.specs.Tasks.{IsCourseOf};
+ghost use Rattle.cp_rounds_handoff.specs.Turned.{AreTimes};
+ghost use Rattle.cp_rounds_handoff.specs.Tasks.{IsCourseOf};
 ghost use Rattle.cp_rounds.specs.Runs.{AreNamed, PartsAfter, name_of};
 ghost use Rattle.cp_rounds.specs.declared.parts.Parts.{Parts};
 
@@ -10,16 +10,16 @@ use crate::ahead::make_ahead;
 use crate::hand::Hand;
 use crate::parts::Parts;
 use crate::round::make_round;
-use cp_crew::{Rack, Sheet, Wave, start};
-use cp_desk::desk::Desk;
-use cp_desk::desk_turns::DeskTurns;
-use cp_desk::gate::TurnGate;
-use cp_desk::law::settings_are_shared;
-use cp_desk::pace::Pace;
-use cp_desk::setting::Setting;
-use cp_desk::sharing::drawn_plan;
-use cp_desk::task::{Course, Start};
-use cp_plan::plan::Plan;
+use cp_base_config::plan::Plan;
+use cp_rounds_handoff::desk::Desk;
+use cp_rounds_handoff::desk_turns::DeskTurns;
+use cp_rounds_handoff::gate::TurnGate;
+use cp_rounds_handoff::law::settings_are_shared;
+use cp_rounds_handoff::pace::Pace;
+use cp_rounds_handoff::setting::Setting;
+use cp_rounds_handoff::sharing::drawn_plan;
+use cp_rounds_handoff::task::{Course, Start};
+use cp_rounds_workers::{Rack, Sheet, Wave, start};
 use std::alloc::{AllocError, Global};
 use std::marker::Brand;
 use std::sync::{OnceLock, Wait};

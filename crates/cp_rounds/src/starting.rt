@@ -2,7 +2,7 @@
 
 ghost use Rattle.std.specs.Prelude.{◌≡◌, IfOk, length};
 ghost use Rattle.cp_program.specs.View as view;
-ghost use Rattle.cp_desk.specs.Numbers.{AreNumbered};
+ghost use Rattle.cp_rounds_handoff.specs.Numbers.{AreNumbered};
 ghost use Rattle.cp_rounds.specs.Starts.{AreFirst, IsStart};
 
 use crate::parts::Parts;

@@ -4,7 +4,7 @@ ghost use Rattle.std.specs.Prelude.{◌≡◌};
 ghost use Rattle.cp_private.specs.States.{activity as activity_view, stage as stage_view};
 ghost use Rattle.cp_rounds.specs.ProcessStates.{state_of as state_view};
 
-use cp_members::state::ProcState;
+use cp_inspect::state::ProcState;
 use cp_private::outside::Stage;
 use cp_private::private::Activity;
 

@@ -10,10 +10,10 @@ ghost use Rattle.cp_rounds.specs.Stillness.{Advances, NoneStillBefore, TellsStil
 ghost use Rattle.cp_rounds.specs.Views.{IsAfter, KeepsText, processes_of};
 
 use crate::machine::{Machine, MemoryAt};
-use cp_desk::gate::TurnGate;
-use cp_machine_model::law::rounds as rounds_are_run;
-use cp_plan::plan::Plan;
-use cp_stillness::law::lasting;
+use cp_base_config::plan::Plan;
+use cp_law_stillness::law::lasting;
+use cp_model_machine::law::rounds as rounds_are_run;
+use cp_rounds_handoff::gate::TurnGate;
 use std::sync::Wait;
 use std::thread::Threads;
 

@@ -7,7 +7,7 @@ use Rattle.cp_model.specs.declared.rules.Violation.{Violation}
 use Rattle.cp_model.specs.RulesJudged.{Broken, Judged, Sound, Violations, both, least, violations_of}
 use Rattle.cp_model.specs.RulesEnvironment.{Environment}
 use Rattle.cp_model.specs.RulesTypes as ty
-use Rattle.cp_judge.proofs.Tells.{least_append}
+use Rattle.cp_rules_body.proofs.Tells.{least_append}
 use Rattle.cp_rules.specs.Checking.{Judges, Makes, State, first_of, telling}
 use Rattle.cp_rules.specs.Outer as o
 use Rattle.cp_rules.specs.Outer.{Known, Knows, Outer, TellsOuter, around_both}

@@ -8,12 +8,12 @@ use Rattle.cp_model.specs.declared.rules.Entity.TheVariants as entity
 use Rattle.cp_model.specs.declared.rules.Violation.{Violation}
 use Rattle.cp_model.specs.RulesEnvironment.{Names, Text}
 use Rattle.cp_model.specs.RulesJudged.{least}
-use Rattle.cp_later.specs.Later.{entity_later, environment_later, names_later}
-use Rattle.cp_later.specs.Rest.{Rest, rest_after, rest_violations}
-use Rattle.cp_names.specs.Tables.{entry_view}
+use Rattle.cp_rules_cutoff.specs.Later.{entity_later, environment_later, names_later}
+use Rattle.cp_rules_cutoff.specs.Rest.{Rest, rest_after, rest_violations}
+use Rattle.cp_base_names.specs.Tables.{entry_view}
 use Rattle.cp_rules.specs.Checking.{State}
 use Rattle.cp_rules.specs.Endings.{told_with}
-use Rattle.cp_later.proofs.NothingEarlier.{rest_told}
+use Rattle.cp_rules_cutoff.proofs.NothingEarlier.{rest_told}
 
 -- ---- the visible names
 

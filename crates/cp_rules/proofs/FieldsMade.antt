@@ -12,9 +12,9 @@ use Rattle.cp_model.specs.RulesJudged.{Broken, Judged, Sound, Violations, also, 
 use Rattle.cp_model.specs.RulesEnvironment.{Environment, Members, Text, row_of}
 use Rattle.cp_model.specs.RulesTypes as ty
 use Rattle.cp_model.proofs.Judging.{first_empty, rest_empty, sound_has}
-use Rattle.cp_names.specs.Tables.{with_new}
+use Rattle.cp_base_names.specs.Tables.{with_new}
 use Rattle.cp_rules.specs.Records as records
-use Rattle.cp_names.specs.Tables.{with_new}
+use Rattle.cp_base_names.specs.Tables.{with_new}
 use Rattle.cp_rules.specs.Records.{first_in, is_new, with_field, with_fields}
 use Rattle.cp_rules.proofs.ArraysMade.{Told}
 

@@ -8,8 +8,8 @@ use Rattle.cp_model.specs.declared.tree.Identifier.{Identifier}
 use Rattle.cp_model.specs.declared.rules.Entity.{Entity}
 use Rattle.cp_model.specs.RulesEnvironment.{Environment, Names, Text, declare, declare_if_new, with_names}
 use Rattle.cp_model.specs.RulesDeclarations as d
-use Rattle.cp_names.specs.Tables.{with_values_from}
-use Rattle.cp_names.proofs.Named.{no_values_left}
+use Rattle.cp_base_names.specs.Tables.{with_values_from}
+use Rattle.cp_base_names.proofs.Named.{no_values_left}
 use Rattle.cp_rules.specs.Headings.{Bound, bound_as}
 use Rattle.cp_rules.proofs.Kept.{declare_all_is}
 use Rattle.cp_rules.proofs.Visible.{keys, seen, seen_is}

@@ -11,7 +11,7 @@ use Rattle.cp_model.specs.RulesEnvironment.{Environment, entity_of, with_names}
 use Rattle.cp_model.specs.RulesDeclarations as d
 use Rattle.cp_model.specs.RulesJudged.{Broken, Judged, Sound, Violations, least, violations_of}
 use Rattle.cp_model.specs.RulesTypes.{Made, cap_words, type_placed}
-use Rattle.cp_judge.proofs.Tells.{least_append}
+use Rattle.cp_rules_body.proofs.Tells.{least_append}
 use Rattle.cp_rules.specs.Checking.{Makes, State, after, first_of, with_set}
 use Rattle.cp_rules.specs.Declaring.{Declares, entity_of_type, owners_of_type, with_variables, words_of_type}
 use Rattle.cp_rules.proofs.CappedWords.{capped_more}

@@ -12,7 +12,7 @@ use Rattle.cp_model.specs.RulesEnvironment as r
 use Rattle.cp_model.specs.RulesDeclarations as d
 use Rattle.cp_model.specs.RulesJudged.{Broken, Judged, Sound, Violations, least, meaning_of, then_judge, violations_of}
 use Rattle.cp_model.specs.RulesTypes.{cap_words, named_type}
-use Rattle.cp_judge.proofs.Tells.{least_append}
+use Rattle.cp_rules_body.proofs.Tells.{least_append}
 use Rattle.cp_rules.specs.Checking.{Judges, State, after, first_of, telling, with_set}
 use Rattle.cp_rules.specs.Declaring.{entity_of_type}
 use Rattle.cp_rules.specs.Headings.{Bound, Collected, bound_as, hidden_group, is_by_reference, parameter_judged, row_of_type, with_heading, with_names, with_part, words_of_parameter}

@@ -13,7 +13,7 @@ use Rattle.cp_model.specs.RulesNeeds.{need_statements}
 use Rattle.cp_model.specs.RulesStatements.{statements}
 use Rattle.cp_model.specs.RulesTypes.{cap_words}
 use Rattle.cp_model.specs.RulesDeclarations as d
-use Rattle.cp_names.specs.Tables.{with_values_from}
+use Rattle.cp_base_names.specs.Tables.{with_values_from}
 use Rattle.cp_rules.specs.Checking.{State, after, declared_name, telling, with_set}
 use Rattle.cp_rules.specs.Declaring.{Declares}
 use Rattle.cp_rules.specs.Headings.{Collected, Heads, collection, nothing, with_part}

@@ -8,7 +8,7 @@ use Rattle.cp_model.specs.declared.rules.Entity.TheVariants as entity
 use Rattle.cp_model.specs.declared.rules.Member.{Member}
 use Rattle.cp_model.specs.declared.rules.Member.TheVariants as member
 use Rattle.cp_model.proofs.Options.{same_some}
-use Rattle.cp_names.specs.Tables.{AreDistinct}
+use Rattle.cp_base_names.specs.Tables.{AreDistinct}
 
 drop_step : (names : Names) (i : ℕ) (e : Text × Entity) → slice_get names i ≡ Some e → drop i names ≡ e ∷ drop (suc i) names
 drop_step [] zero e at = absurd (cc)

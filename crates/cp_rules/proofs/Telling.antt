@@ -3,7 +3,7 @@ use Rattle.std.proofs.Common.{◌≡◌, ◌++◌, Option, ap, sym}
 use Rattle.cp_model.specs.declared.rules.Violation.{Violation}
 use Rattle.cp_model.specs.RulesEnvironment.{Environment}
 use Rattle.cp_model.specs.RulesJudged.{Violations, least}
-use Rattle.cp_judge.proofs.Tells.{least_append}
+use Rattle.cp_rules_body.proofs.Tells.{least_append}
 use Rattle.cp_rules.specs.Checking.{State}
 
 abbrev pub told_in : Environment → Option Violation → Violations → State

@@ -8,7 +8,7 @@ use Rattle.cp_model.specs.declared.rules.Violation.{Violation}
 use Rattle.cp_model.specs.RulesJudged.{Broken, Judged, Sound, least, violations_of}
 use Rattle.cp_model.specs.RulesEnvironment.{Environment, Members}
 use Rattle.cp_model.specs.RulesTypes as ty
-use Rattle.cp_judge.proofs.Tells.{least_append}
+use Rattle.cp_rules_body.proofs.Tells.{least_append}
 use Rattle.cp_rules.specs.Checking.{Makes, State, first_of, telling}
 use Rattle.cp_rules.specs.Outer as o
 use Rattle.cp_rules.specs.Outer.{Known, Knows, TellsOuter}

@@ -14,7 +14,7 @@ use Rattle.cp_model.specs.RulesEnvironment.{standard_environment}
 use Rattle.cp_model.specs.RulesJudged.{Violations, least}
 use Rattle.cp_model.specs.RulesNeeds.{need_statements}
 use Rattle.cp_model.specs.RulesStatements.{statements}
-use Rattle.cp_judge.proofs.Tells.{least_append}
+use Rattle.cp_rules_body.proofs.Tells.{least_append}
 use Rattle.cp_rules.specs.Checking.{State, after}
 use Rattle.cp_rules.specs.Definitions.{define_sections, define_types}
 use Rattle.cp_rules.specs.Endings.{rest_from, told_with, whole}

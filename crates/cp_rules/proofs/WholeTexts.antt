@@ -18,7 +18,7 @@ use Rattle.cp_rules.specs.Declaring.{Declares}
 use Rattle.cp_rules.specs.Definitions.{define_sections, define_types}
 use Rattle.cp_rules.specs.Texts.{body_violations}
 use Rattle.cp_rules.specs.Endings.{told_with}
-use Rattle.cp_later.specs.Rest.{Rest}
+use Rattle.cp_rules_cutoff.specs.Rest.{Rest}
 use Rattle.cp_rules.proofs.Earliest.{nothing_told, part_told}
 use Rattle.cp_rules.proofs.Telling.{told_in, told_more}
 

@@ -7,8 +7,8 @@ use Rattle.cp_model.specs.RulesJudged.{Judged, Violations, least, violations_of}
 use Rattle.cp_model.specs.RulesEnvironment.{Environment, c1_declared, declare, with_names}
 use Rattle.cp_model.specs.RulesTypes.{Made}
 use Rattle.cp_model.specs.RulesDeclarations.{Declared}
-use Rattle.cp_names.specs.Tables.{with_values_from}
-pub use Rattle.cp_judge.specs.Tells.{first_of}
+use Rattle.cp_base_names.specs.Tables.{with_values_from}
+pub use Rattle.cp_rules_body.specs.Tells.{first_of}
 
 -- The environment so far, and the earliest violation that was told.
 pub record State : Type 0 where

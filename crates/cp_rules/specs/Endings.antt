@@ -4,7 +4,7 @@ use Rattle.cp_model.specs.Syntax as s
 use Rattle.cp_model.specs.View as view
 use Rattle.cp_model.specs.declared.rules.Violation.{Violation}
 use Rattle.cp_model.specs.RulesJudged.{least}
-use Rattle.cp_later.specs.Rest.{Rest, rest_violations}
+use Rattle.cp_rules_cutoff.specs.Rest.{Rest, rest_violations}
 use Rattle.cp_rules.specs.Checking.{State}
 use Rattle.cp_rules.specs.declared.left.Left.{Left}
 

@@ -13,7 +13,7 @@ use Rattle.cp_model.specs.declared.rules.Violation.{Violation}
 use Rattle.cp_model.specs.RulesJudged.{Judged, Sound, Broken, Violations, unless, violation, violations_of}
 use Rattle.cp_model.specs.RulesEnvironment.{Environment, Members, Text, row_of}
 use Rattle.cp_model.specs.RulesTypes as ty
-use Rattle.cp_names.specs.Tables.{with_new}
+use Rattle.cp_base_names.specs.Tables.{with_new}
 use Rattle.cp_rules.specs.Outer.{Known}
 
 -- ---- names of fields

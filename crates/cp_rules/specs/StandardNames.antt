@@ -5,7 +5,7 @@ use Rattle.cp_model.specs.declared.rules.Entity.TheVariants as entity
 use Rattle.cp_model.specs.declared.rules.Standard.TheVariants as standard
 use Rattle.cp_model.specs.RulesEnvironment.{Names, Text, boolean, char, integer, queue}
 use Rattle.cp_model.specs.Names.{lookup}
-use Rattle.cp_names.specs.Tables.{with_new}
+use Rattle.cp_base_names.specs.Tables.{with_new}
 
 -- The first declaration counts.
 abbrev pub with_name : Text → Entity → Names → Names

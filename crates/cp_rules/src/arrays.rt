@@ -10,10 +10,10 @@ ghost use Rattle.cp_rules.specs.Outer.{Knows, TellsOuter, around_both, array, ar
 
 use crate::checker::{Checker, Judged};
 use crate::words::{is_within, product};
-use cp_judge::Environment;
-use cp_judge::constants::constant_at;
 use cp_model::rules::{Rule, Structure, TypeRow};
 use cp_model::tree::Constant;
+use cp_rules_body::Environment;
+use cp_rules_body::constants::constant_at;
 use std::alloc::AllocError;
 
 // The number of integers from `low` to `high`.

@@ -6,11 +6,11 @@ ghost use Rattle.cp_model.specs.RulesJudged as j;
 ghost use Rattle.cp_rules.specs.Checking.{State, Judges, after, declared_name, telling, with_set};
 
 use crate::standard::standard_environment;
-use cp_judge::Environment;
-use cp_judge::telling::{Told, fail_with_violation, unless_holds};
+use cp_base_names::Key;
 use cp_model::rules::{Entity, Rule, Violation};
 use cp_model::tree::Identifier;
-use cp_names::Key;
+use cp_rules_body::Environment;
+use cp_rules_body::telling::{Told, fail_with_violation, unless_holds};
 use std::alloc::{AllocError, Global};
 use std::marker::Model;
 

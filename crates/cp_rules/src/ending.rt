@@ -1,16 +1,16 @@
 //! When judging ends early: once a violation is told, all that is left of the text stands after its
 //! place, and nothing broken that is visible is earlier. Then nothing that is told of the rest is
-//! earlier, as cp_later proves.
+//! earlier, as cp_rules_cutoff proves.
 
 ghost use Rattle.std.specs.Prelude.{◌≡◌, IsTrue};
-ghost use Rattle.cp_later.specs.Later as later;
+ghost use Rattle.cp_rules_cutoff.specs.Later as later;
 ghost use Rattle.cp_rules.specs.Endings.{rest_of, told_with};
 
 use crate::checker::Checker;
 use crate::left::Left;
-use cp_judge::Environment;
-use cp_judge::telling::is_before;
 use cp_model::rules::{Entity, Returns, Violation};
+use cp_rules_body::Environment;
+use cp_rules_body::telling::is_before;
 
 // Whether a violation isn't earlier than `first`.
 fn is_later(first: Violation, violation: Violation) -> bool

@@ -11,10 +11,10 @@ ghost use Rattle.cp_rules.specs.Headings.{lent};
 ghost use Rattle.cp_rules.specs.Routines.{enter_region};
 
 use crate::checker::Checker;
-use cp_judge::needs::need_of_statements;
-use cp_judge::statements::statements;
 use cp_model::rules::{Entity, ParameterRow, Region};
 use cp_model::tree::{Identifier, Statement};
+use cp_rules_body::needs::need_of_statements;
+use cp_rules_body::statements::statements;
 use std::alloc::AllocError;
 
 impl<'t> Checker<'t> {

@@ -15,9 +15,9 @@ ghost use Rattle.cp_rules.specs.Headings.{Heads, collection, hidden_group, is_by
 use crate::checker::{Checker, Judged};
 use crate::variables::{UNFINISHED, words};
 use crate::words::{product, sum};
-use cp_judge::Environment;
 use cp_model::rules::{Access, Entity, ParameterRow, Rule, Structure};
 use cp_model::tree::{Identifier, Parameters, Sort};
+use cp_rules_body::Environment;
 use std::alloc::{AllocError, Global};
 
 /// The parameters of a heading: what each name stands for after it, their rows, and the words that

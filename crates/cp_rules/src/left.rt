@@ -2,11 +2,11 @@
 //! means.
 
 ghost use Rattle.std.specs.Prelude.{◌≡◌, ◌&&◌};
-ghost use Rattle.cp_later.specs.After.{all_after, routine_after, section_after, type_definition_after, variables_after};
-ghost use Rattle.cp_later.specs.Rest.{rest_after};
+ghost use Rattle.cp_rules_cutoff.specs.After.{all_after, routine_after, section_after, type_definition_after, variables_after};
+ghost use Rattle.cp_rules_cutoff.specs.Rest.{rest_after};
 
-use cp_later::parts::{Part, all_after, both_after};
 use cp_model::tree::{Section, Tree, TypeDefinition};
+use cp_rules_cutoff::parts::{Part, all_after, both_after};
 
 /// What is left of a text after some of its definitions: the rest of a section of types, further
 /// sections, and the initial process.

@@ -5,8 +5,8 @@ ghost use Rattle.cp_model.specs.Names.{lookup};
 ghost use Rattle.cp_model.specs.Rules.{routine_member, routine_members};
 
 use crate::checker::Checker;
-use cp_judge::environment::Members;
 use cp_model::rules::{Entity, Member};
+use cp_rules_body::environment::Members;
 use std::alloc::AllocError;
 
 // Adds what a name stands for, if that is a routine.

@@ -7,10 +7,10 @@ ghost use Rattle.cp_model.specs.RulesTypes as types;
 ghost use Rattle.cp_rules.specs.Checking.{Judges};
 
 use crate::checker::{Checker, Judged};
-use cp_judge::constants::{constant, unfinished_of_other_sort};
-use cp_judge::names::resolve;
 use cp_model::rules::{Entity, Rule};
 use cp_model::tree::{Constant, Identifier};
+use cp_rules_body::constants::{constant, unfinished_of_other_sort};
+use cp_rules_body::names::resolve;
 
 impl<'t> Checker<'t> {
     /// What a name stands for. C1: it isn't visible. A violation in its declaration is reported

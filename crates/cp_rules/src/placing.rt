@@ -10,11 +10,11 @@ ghost use Rattle.cp_rules.specs.Checking.{Judges};
 ghost use Rattle.cp_rules.specs.Outer.{TellsOuter, index_type, is_written_structure, misplaces_queues, judge_in_position};
 
 use crate::checker::{Checker, Judged};
-use cp_judge::Environment;
-use cp_judge::constants::constant_at;
-use cp_judge::names::find_entity;
 use cp_model::rules::{Entity, Position, Rule, Structure};
 use cp_model::tree::{Identifier, Sort, TypeExpression};
+use cp_rules_body::Environment;
+use cp_rules_body::constants::constant_at;
+use cp_rules_body::names::find_entity;
 
 fn is_class(sort: Sort) -> bool
     ensures { result ≡ types.is_class sort }

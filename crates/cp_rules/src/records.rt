@@ -10,11 +10,11 @@ ghost use Rattle.cp_rules.specs.Records.{broken_in, is_new, or_first, record_of,
 
 use crate::checker::{Checker, Judged};
 use crate::words::{is_within, sum};
-use cp_judge::Environment;
-use cp_judge::environment::Members;
+use cp_base_names::Key;
 use cp_model::rules::{Member, Rule, Structure, TypeRow, Violation};
 use cp_model::tree::Identifier;
-use cp_names::Key;
+use cp_rules_body::Environment;
+use cp_rules_body::environment::Members;
 use std::alloc::{AllocError, Global};
 
 /// The fields of a record so far, and the first violation in them.

@@ -4,12 +4,12 @@ ghost use Rattle.std.specs.Prelude.{◌≡◌, IfOk, OnOk, true};
 ghost use Rattle.cp_model.specs.RulesEnvironment as r;
 ghost use Rattle.cp_rules.specs.StandardNames as standard_names;
 
-use cp_judge::Environment;
-use cp_judge::bases::{BOOLEAN, CHAR, INTEGER, QUEUE};
-use cp_judge::scope::Scope;
+use cp_base_names::Key;
 use cp_model::ordinals::{FIRST_INTEGER, LAST_CHARACTER, LAST_INTEGER};
 use cp_model::rules::{Entity, Standard, Structure, TypeRow};
-use cp_names::Key;
+use cp_rules_body::Environment;
+use cp_rules_body::bases::{BOOLEAN, CHAR, INTEGER, QUEUE};
+use cp_rules_body::scope::Scope;
 use std::alloc::{AllocError, Global};
 
 // Declares a standard name. No two are the same.

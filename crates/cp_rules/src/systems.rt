@@ -11,9 +11,9 @@ ghost use Rattle.cp_rules.specs.Systems.{HeadsSystem, JudgesParts, added_system,
 use crate::checker::Checker;
 use crate::headings::Heading;
 use crate::words::sum;
-use cp_judge::environment::Members;
 use cp_model::rules::{Entity, Part, Position, Region, Structure, SystemRow, TypeRow};
 use cp_model::tree::{Identifier, Sort, System};
+use cp_rules_body::environment::Members;
 use std::alloc::AllocError;
 
 fn variable_position(sort: Sort) -> Position

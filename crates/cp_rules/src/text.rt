@@ -14,11 +14,11 @@ ghost use Rattle.cp_rules.specs.Checking.{telling};
 use crate::checker::Checker;
 use crate::left::Left;
 use crate::words::{is_within, sum};
-use cp_judge::statements::statements;
-use cp_judge::telling::Told;
+use cp_base_names::Key;
 use cp_model::rules::{Position, Rule, Violation};
 use cp_model::tree::{Body, Sort, Statement, Tree};
-use cp_names::Key;
+use cp_rules_body::statements::statements;
+use cp_rules_body::telling::Told;
 use std::alloc::{AllocError, Global};
 
 /// Why a text isn't accepted.

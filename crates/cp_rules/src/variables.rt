@@ -10,10 +10,10 @@ ghost use Rattle.cp_rules.specs.Declaring.{Declares, entity_of_type, words_of_ty
 
 use crate::checker::{Checker, Judged};
 use crate::words::{product, sum};
-use cp_judge::Environment;
-use cp_judge::bases::INTEGER;
 use cp_model::rules::{Access, Entity, Position, Structure};
 use cp_model::tree::{Fields, Sort};
+use cp_rules_body::Environment;
+use cp_rules_body::bases::INTEGER;
 use std::alloc::AllocError;
 
 /// What a name stands for while its type isn't known: a variable, which can't be used as a type.

@@ -2,9 +2,9 @@
 use Rattle.std.proofs.Common.{◌≡◌, ℕ, zero, suc, ◌+◌, ◌-◌, ◌<◌, ◌≤◌, Bool, true, false, List, [], ◌∷◌, ◌++◌, Option, Ok, refl, sym, ap, ◌∙◌, arith}
 use Rattle.cp_model.specs.Tokens.{Token}
 use Rattle.cp_model.specs.Tokens.{Kind}
-use Rattle.cp_grammar.specs.declared.stop.Stop.{Stop}
-use Rattle.cp_grammar.specs.declared.stop.Stop.TheVariants.{Memory, Wrong, Deep}
-use Rattle.cp_grammar.specs.Reading.{Reader, Outcome, and_then, kind_at, repeat, Fails}
+use Rattle.cp_model_grammar.specs.declared.stop.Stop.{Stop}
+use Rattle.cp_model_grammar.specs.declared.stop.Stop.TheVariants.{Memory, Wrong, Deep}
+use Rattle.cp_model_grammar.specs.Reading.{Reader, Outcome, and_then, kind_at, repeat, Fails}
 
 pub fails_then : {A B : Type 0} (s : Stop) (o : Outcome A) (f : A → Reader B) → Fails s o → Fails s (and_then o f)
 fails_then Memory o f h = tt

@@ -1,8 +1,8 @@
 -- Whether a level may be opened.
 use Rattle.std.proofs.Common.{◌≡◌, ℕ, suc, ◌-◌, ◌<◌, Some, None, ap, arith}
-use Rattle.cp_grammar.specs.Expressions.{inner_at, factor_at, expression_at}
-use Rattle.cp_grammar.specs.Types.{inner_type_at, type_at}
-use Rattle.cp_grammar.specs.Statements.{deeper_at, statement_at}
+use Rattle.cp_model_grammar.specs.Expressions.{inner_at, factor_at, expression_at}
+use Rattle.cp_model_grammar.specs.Types.{inner_type_at, type_at}
+use Rattle.cp_model_grammar.specs.Statements.{deeper_at, statement_at}
 
 pub no_factor : (room : ℕ) → room ≡ 0 → inner_at room ≡ None
 unfolding inner_at

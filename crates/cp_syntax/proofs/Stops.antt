@@ -3,11 +3,11 @@ use Rattle.std.proofs.Common.{◌≡◌, ℕ, suc, ◌-◌, ◌<◌, ◌≤◌, 
 use Rattle.std.proofs.lemmas.List.{take-append-drop, append-nil}
 use Rattle.cp_model.specs.Grammar.{nesting_limit, BeginsWithin}
 use Rattle.cp_model.specs.Tokens.{Token}
-use Rattle.cp_grammar.specs.Laws.{TextIsComplete, StopsInside, FrontBeginsAText, WrongIsFirst, DeepIsFirst, DeepOpensTheNext, DeepBeginsADeeperText}
-use Rattle.cp_grammar.specs.Reading.{Fails}
-use Rattle.cp_grammar.specs.Text.{text_at}
-use Rattle.cp_grammar.specs.declared.stop.Stop.{Stop}
-use Rattle.cp_grammar.specs.declared.stop.Stop.TheVariants.{Memory, Wrong, Deep}
+use Rattle.cp_model_grammar.specs.Laws.{TextIsComplete, StopsInside, FrontBeginsAText, WrongIsFirst, DeepIsFirst, DeepOpensTheNext, DeepBeginsADeeperText}
+use Rattle.cp_model_grammar.specs.Reading.{Fails}
+use Rattle.cp_model_grammar.specs.Text.{text_at}
+use Rattle.cp_model_grammar.specs.declared.stop.Stop.{Stop}
+use Rattle.cp_model_grammar.specs.declared.stop.Stop.TheVariants.{Memory, Wrong, Deep}
 use Rattle.cp_syntax.specs.Refusals.{TokenAt, NoTokenAt, HasNoTree, NoTextHas, OpensTooDeep, Refused, Tells}
 use Rattle.cp_syntax.specs.declared.refusal.SyntaxError.{SyntaxError}
 use Rattle.cp_syntax.specs.declared.refusal.SyntaxError.TheVariants as error

@@ -4,7 +4,7 @@ use denote.Enum.Declared.{tag_of}
 use Rattle.cp_model.specs.contracts.token.Symbol.{the_type}
 use Rattle.cp_model.specs.declared.token.Symbol.{Symbol}
 use Rattle.cp_model.specs.declared.token.Symbol.TheVariants as symbol
-use Rattle.cp_grammar.specs.Kinds.{code}
+use Rattle.cp_model_grammar.specs.Kinds.{code}
 
 pub tag_is_code : (x : Symbol) → tag_of the_type x ≡ code x
 tag_is_code symbol.Array = refl

@@ -3,15 +3,15 @@ use Rattle.std.specs.Prelude.{ℕ, ◌-◌, ◌<◌, List, Result}
 use Rattle.std.specs.Borrow.{Bor}
 use Rattle.std.specs.declared.alloc.Global.{Global}
 use Rattle.cp_model.specs.Tokens.{Token}
-use Rattle.cp_grammar.specs.declared.stop.Stop.{Stop}
+use Rattle.cp_model_grammar.specs.declared.stop.Stop.{Stop}
 use Rattle.cp_model.specs.View as view
 use Rattle.cp_model.specs.declared.tree.Expression.{Expression}
 use Rattle.cp_model.specs.declared.tree.TypeExpression.{TypeExpression}
 use Rattle.cp_model.specs.declared.tree.Statement.{Statement}
-use Rattle.cp_grammar.specs.Reading.{Reader, Gives}
-use Rattle.cp_grammar.specs.Expressions.{factor_at}
-use Rattle.cp_grammar.specs.Types.{type_at}
-use Rattle.cp_grammar.specs.Statements.{statement_at}
+use Rattle.cp_model_grammar.specs.Reading.{Reader, Gives}
+use Rattle.cp_model_grammar.specs.Expressions.{factor_at}
+use Rattle.cp_model_grammar.specs.Types.{type_at}
+use Rattle.cp_model_grammar.specs.Statements.{statement_at}
 
 -- The reader may be called with `room`, and then its result is that of the specified reader for as
 -- many levels.

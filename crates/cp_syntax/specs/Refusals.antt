@@ -4,8 +4,8 @@ use Rattle.cp_model.specs.Syntax as s
 use Rattle.cp_model.specs.Grammar.{Reads, Begins, BeginsWithin, text, nesting_limit}
 use Rattle.cp_model.specs.Levels.{text_levels}
 use Rattle.cp_model.specs.Tokens.{Token}
-use Rattle.cp_grammar.specs.declared.stop.Stop.{Stop}
-use Rattle.cp_grammar.specs.declared.stop.Stop.TheVariants.{Memory, Wrong, Deep}
+use Rattle.cp_model_grammar.specs.declared.stop.Stop.{Stop}
+use Rattle.cp_model_grammar.specs.declared.stop.Stop.TheVariants.{Memory, Wrong, Deep}
 use Rattle.cp_syntax.specs.declared.refusal.SyntaxError.{SyntaxError}
 use Rattle.cp_syntax.specs.declared.refusal.SyntaxError.TheVariants as error
 

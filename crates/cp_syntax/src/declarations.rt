@@ -3,13 +3,13 @@
 ghost use Rattle.std.specs.Prelude.{◌≡◌, ⊤, Option};
 ghost use Rattle.cp_model.specs.Syntax as s;
 ghost use Rattle.cp_model.specs.View as view;
-ghost use Rattle.cp_grammar.specs.Reading.{kind_at, Reader, Gives};
-ghost use Rattle.cp_grammar.specs.Kinds.{is_name};
-ghost use Rattle.cp_grammar.specs.Reading as reading;
-ghost use Rattle.cp_grammar.specs.Types.{type_at};
-ghost use Rattle.cp_grammar.specs.Statements.{Deeper, deeper_at};
-ghost use Rattle.cp_grammar.specs.Declarations as spec;
-ghost use Rattle.cp_grammar.specs.Text as text;
+ghost use Rattle.cp_model_grammar.specs.Reading.{kind_at, Reader, Gives};
+ghost use Rattle.cp_model_grammar.specs.Kinds.{is_name};
+ghost use Rattle.cp_model_grammar.specs.Reading as reading;
+ghost use Rattle.cp_model_grammar.specs.Types.{type_at};
+ghost use Rattle.cp_model_grammar.specs.Statements.{Deeper, deeper_at};
+ghost use Rattle.cp_model_grammar.specs.Declarations as spec;
+ghost use Rattle.cp_model_grammar.specs.Text as text;
 
 use crate::levels::Parser;
 use crate::lists::{Item, Node, one_or_more, repeated};
@@ -17,9 +17,9 @@ use crate::names::{constant, identifier, names};
 use crate::routines::{body, parameters, routines, variables};
 use crate::tokens::{Read, after, expect, peek, sees_name};
 use crate::types::type_expression;
-use cp_grammar::Stop;
 use cp_model::token::{Kind, Symbol, Token};
 use cp_model::tree::{ConstantDefinition, Defined, Section, Sort, System, Tree, TypeDefinition};
+use cp_model_grammar::Stop;
 use std::alloc::Global;
 
 impl Node<Global> for ConstantDefinition {
@@ -33,7 +33,7 @@ impl Node<Global> for ConstantDefinition {
 
     ghost reader = { λ alloc. spec.constant_definition_of };
 
-    #[tactic(auto, unfolding(cp_grammar::specs::Declarations::constant_definition_of))]
+    #[tactic(auto, unfolding(cp_model_grammar::specs::Declarations::constant_definition_of))]
     fn read(alloc: Global, tokens: &[Token]) -> Read<'_, ConstantDefinition> {
         let (name, rest) = identifier(alloc, tokens)?;
         let (_, rest) = expect(rest, Symbol::Equal)?;
@@ -52,7 +52,7 @@ impl Item<Global> for ConstantDefinition {
 }
 
 /// Reads a system type after the word that says its sort.
-#[tactic(auto, unfolding(cp_grammar::specs::Declarations::system_from))]
+#[tactic(auto, unfolding(cp_model_grammar::specs::Declarations::system_from))]
 fn system(parser: Parser, sort: Sort, tokens: &[Token]) -> Read<'_, System>
     ensures { Gives view.system result
         (spec.system_from (type_at parser.room) (deeper_at parser.room) sort tokens.now) }
@@ -74,7 +74,7 @@ fn system(parser: Parser, sort: Sort, tokens: &[Token]) -> Read<'_, System>
     ))
 }
 
-#[tactic(auto, unfolding(cp_grammar::specs::Declarations::system_type))]
+#[tactic(auto, unfolding(cp_model_grammar::specs::Declarations::system_type))]
 fn system_type(parser: Parser, sort: Sort, tokens: &[Token]) -> Read<'_, Defined>
     ensures { Gives view.defined_type result
         (spec.system_type (type_at parser.room) (deeper_at parser.room) sort tokens.now) }
@@ -83,7 +83,7 @@ fn system_type(parser: Parser, sort: Sort, tokens: &[Token]) -> Read<'_, Defined
     Ok((Defined::System(system), rest))
 }
 
-#[tactic(auto, unfolding(cp_grammar::specs::Declarations::enumeration_of))]
+#[tactic(auto, unfolding(cp_model_grammar::specs::Declarations::enumeration_of))]
 fn enumeration(alloc: Global, tokens: &[Token]) -> Read<'_, Defined>
     ensures { (of : Reader s.TypeExpression) (deeper : Option Deeper)
         → Gives view.defined_type result (spec.enumeration_of of deeper tokens.now) }
@@ -93,7 +93,7 @@ fn enumeration(alloc: Global, tokens: &[Token]) -> Read<'_, Defined>
     Ok((Defined::Enumeration(values), rest))
 }
 
-#[tactic(auto, unfolding(cp_grammar::specs::Declarations::written_type))]
+#[tactic(auto, unfolding(cp_model_grammar::specs::Declarations::written_type))]
 fn written_type(parser: Parser, tokens: &[Token]) -> Read<'_, Defined>
     ensures { Gives view.defined_type result
         (spec.written_type (type_at parser.room) (deeper_at parser.room) tokens.now) }
@@ -103,7 +103,7 @@ fn written_type(parser: Parser, tokens: &[Token]) -> Read<'_, Defined>
 }
 
 /// Reads what a type definition gives a name to.
-#[tactic(auto, unfolding(cp_grammar::specs::Declarations::defined_of, cp_grammar::specs::Declarations::defined_by))]
+#[tactic(auto, unfolding(cp_model_grammar::specs::Declarations::defined_of, cp_model_grammar::specs::Declarations::defined_by))]
 fn defined_type(parser: Parser, tokens: &[Token]) -> Read<'_, Defined>
     ensures { Gives view.defined_type result
         (spec.defined_of (type_at parser.room) (deeper_at parser.room) tokens.now) }
@@ -129,7 +129,7 @@ impl Node<Parser> for TypeDefinition {
 
     ghost reader = { λ x. spec.type_definition_of (type_at x.room) (deeper_at x.room) };
 
-    #[tactic(auto, unfolding(cp_grammar::specs::Declarations::type_definition_of))]
+    #[tactic(auto, unfolding(cp_model_grammar::specs::Declarations::type_definition_of))]
     fn read(parser: Parser, tokens: &[Token]) -> Read<'_, TypeDefinition> {
         let (name, rest) = identifier(parser.alloc, tokens)?;
         let (_, rest) = expect(rest, Symbol::Equal)?;
@@ -157,7 +157,7 @@ impl Node<Parser> for Section {
     ghost reader = { λ x. spec.section_of (type_at x.room) (deeper_at x.room) };
 
     /// Reads the definitions after one word `const` or `type`.
-    #[tactic(auto, unfolding(cp_grammar::specs::Declarations::section_of, cp_grammar::specs::Declarations::section_by))]
+    #[tactic(auto, unfolding(cp_model_grammar::specs::Declarations::section_of, cp_model_grammar::specs::Declarations::section_by))]
     fn read(parser: Parser, tokens: &[Token]) -> Read<'_, Section> {
         match peek(tokens) {
             Some(Kind::Symbol(Symbol::Const)) => {
@@ -185,7 +185,7 @@ impl Item<Parser> for Section {
 }
 
 /// Reads a text up to its `.`.
-#[tactic(auto, unfolding(cp_grammar::specs::Text::tree_of))]
+#[tactic(auto, unfolding(cp_model_grammar::specs::Text::tree_of))]
 fn tree(parser: Parser, tokens: &[Token]) -> Read<'_, Tree>
     ensures { Gives view.tree result
         (text.tree_of (type_at parser.room) (deeper_at parser.room) tokens.now) }
@@ -207,7 +207,7 @@ fn tree(parser: Parser, tokens: &[Token]) -> Read<'_, Tree>
 }
 
 /// Reads a whole text. No token may follow its tree.
-#[tactic(auto, unfolding(cp_grammar::specs::Text::text_of))]
+#[tactic(auto, unfolding(cp_model_grammar::specs::Text::text_of))]
 pub fn text(alloc: Global, room: usize, tokens: &[Token]) -> Read<'_, Tree>
     ensures { Gives view.tree result (text.text_at room tokens.now) }
 {

@@ -11,18 +11,18 @@ ghost use Rattle.cp_model.specs.View as view;
 ghost use Rattle.cp_model.specs.Tokens.{Kind};
 ghost use Rattle.cp_model.specs.declared.token.Symbol.TheVariants as symbol;
 ghost use Rattle.cp_model.specs.declared.tree.Operator as plain;
-ghost use Rattle.cp_grammar.specs.Kinds.{is_symbol};
-ghost use Rattle.cp_grammar.specs.Reading.{kind_at, Reader, Gives};
-ghost use Rattle.cp_grammar.specs.Expressions as spec;
+ghost use Rattle.cp_model_grammar.specs.Kinds.{is_symbol};
+ghost use Rattle.cp_model_grammar.specs.Reading.{kind_at, Reader, Gives};
+ghost use Rattle.cp_model_grammar.specs.Expressions as spec;
 ghost use Rattle.cp_syntax.specs.Nests.{FactorsAt};
 
 use crate::levels::{Level, Nested, read_at};
 use crate::lists::{Item, Node, lone, one_or_more, repeated, separated};
 use crate::operators::{product_operator, relation_operator, sign, sum_operator};
 use crate::tokens::{Read, after, place, sees};
-use cp_grammar::Stop;
 use cp_model::token::{Symbol, Token};
 use cp_model::tree::{Expression, Index, Operation, Operator};
+use cp_model_grammar::Stop;
 use std::alloc::{AllocError, Global};
 
 impl Nested for Expression {
@@ -100,7 +100,7 @@ impl<O: Operators> Node<O> for Operation {
 
     ghost reader = { λ x. spec.operation_of O.operators (O.operands x) };
 
-    #[tactic(auto, unfolding(cp_grammar::specs::Expressions::operation_of))]
+    #[tactic(auto, unfolding(cp_model_grammar::specs::Expressions::operation_of))]
     fn read(class: O, tokens: &[Token]) -> Read<'_, Operation> {
         let Some(operator) = O::operator(tokens) else {
             return Err(Stop::Wrong(tokens.len()));
@@ -127,7 +127,7 @@ impl<O: Operators> Item<O> for Operation {
 }
 
 /// Reads the operations after the first operand.
-#[tactic(auto, using(crate::proofs::Loops::repeat_rests), unfolding(cp_grammar::specs::Expressions::chain_from))]
+#[tactic(auto, using(crate::proofs::Loops::repeat_rests), unfolding(cp_model_grammar::specs::Expressions::chain_from))]
 #[inline(always)]
 fn chain<O: Operators>(
     alloc: Global,
@@ -172,7 +172,7 @@ fn relation(alloc: Global, left: Expression, right: Operation) -> Result<Express
 }
 
 /// Reads factors with operators between them.
-#[tactic(auto, unfolding(cp_grammar::specs::Expressions::term_of))]
+#[tactic(auto, unfolding(cp_model_grammar::specs::Expressions::term_of))]
 #[inline(always)]
 fn term<F: Fn(Global, usize, &[Token]) -> Read<'_, Expression> + Copy>(
     level: Level<F>,
@@ -186,7 +186,7 @@ fn term<F: Fn(Global, usize, &[Token]) -> Read<'_, Expression> + Copy>(
 }
 
 /// Reads a term, with or without a sign before it.
-#[tactic(auto, unfolding(cp_grammar::specs::Expressions::signed_term))]
+#[tactic(auto, unfolding(cp_model_grammar::specs::Expressions::signed_term))]
 #[inline(always)]
 fn signed_term<F: Fn(Global, usize, &[Token]) -> Read<'_, Expression> + Copy>(
     level: Level<F>,
@@ -207,7 +207,7 @@ fn signed_term<F: Fn(Global, usize, &[Token]) -> Read<'_, Expression> + Copy>(
 }
 
 /// Reads terms with operators between them, and with or without a sign before the first.
-#[tactic(auto, unfolding(cp_grammar::specs::Expressions::simple_of))]
+#[tactic(auto, unfolding(cp_model_grammar::specs::Expressions::simple_of))]
 #[inline(always)]
 fn simple<F: Fn(Global, usize, &[Token]) -> Read<'_, Expression> + Copy>(
     level: Level<F>,
@@ -230,7 +230,7 @@ impl<F: Fn(Global, usize, &[Token]) -> Read<'_, Expression> + Copy> Node<Level<F
     ghost reader = { λ x. spec.expression_of (spec.factor_at x.room) };
 
     /// Reads two simple expressions with a relation between them, or one alone.
-    #[tactic(auto, unfolding(cp_grammar::specs::Expressions::expression_of))]
+    #[tactic(auto, unfolding(cp_model_grammar::specs::Expressions::expression_of))]
     fn read(level: Level<F>, tokens: &[Token]) -> Read<'_, Expression> {
         let (left, rest) = simple(level, tokens)?;
         let Some(operator) = relation_operator(rest) else {
@@ -248,7 +248,7 @@ impl<F: Fn(Global, usize, &[Token]) -> Read<'_, Expression> + Copy> Node<Level<F
 }
 
 /// Reads one or more expressions, with commas between them.
-#[tactic(auto, unfolding(cp_grammar::specs::Expressions::expressions_from))]
+#[tactic(auto, unfolding(cp_model_grammar::specs::Expressions::expressions_from))]
 pub fn expressions<F: Fn(Global, usize, &[Token]) -> Read<'_, Expression> + Copy>(
     level: Level<F>,
     tokens: &[Token],
@@ -270,7 +270,7 @@ impl<F: Fn(Global, usize, &[Token]) -> Read<'_, Expression> + Copy> Node<Level<F
     ghost reader = { λ x. spec.index_of (spec.factor_at x.room) };
 
     /// Reads the `[` or the `,`, and the index after it.
-    #[tactic(auto, unfolding(cp_grammar::specs::Expressions::index_of))]
+    #[tactic(auto, unfolding(cp_model_grammar::specs::Expressions::index_of))]
     fn read(level: Level<F>, tokens: &[Token]) -> Read<'_, Index> {
         let at = place(tokens);
         let (value, rest) = Expression::read(level, after(tokens))?;
@@ -287,7 +287,7 @@ impl<F: Fn(Global, usize, &[Token]) -> Read<'_, Expression> + Copy> Item<Level<F
 }
 
 /// Reads one or more indices, each after a `[` or a `,`.
-#[tactic(auto, unfolding(cp_grammar::specs::Expressions::indices_from))]
+#[tactic(auto, unfolding(cp_model_grammar::specs::Expressions::indices_from))]
 pub fn indices<F: Fn(Global, usize, &[Token]) -> Read<'_, Expression> + Copy>(
     level: Level<F>,
     tokens: &[Token],

@@ -3,8 +3,8 @@
 ghost use Rattle.std.specs.Prelude.{◌≡◌, map};
 ghost use Rattle.cp_model.specs.Syntax as s;
 ghost use Rattle.cp_model.specs.View as view;
-ghost use Rattle.cp_grammar.specs.Reading.{kind_at, Gives};
-ghost use Rattle.cp_grammar.specs.Expressions as spec;
+ghost use Rattle.cp_model_grammar.specs.Reading.{kind_at, Gives};
+ghost use Rattle.cp_model_grammar.specs.Expressions as spec;
 ghost use Rattle.cp_syntax.specs.Nests.{FactorsBelow};
 
 use crate::expressions::{expressions, indices};
@@ -12,9 +12,9 @@ use crate::levels::{Level, inner, read_at};
 use crate::lists::{Item, Node, repeated};
 use crate::names::identifier;
 use crate::tokens::{Read, after, expect, peek, place, sees};
-use cp_grammar::Stop;
 use cp_model::token::{Kind, Symbol, Token};
 use cp_model::tree::{Designator, Expression, Selector};
+use cp_model_grammar::Stop;
 use std::alloc::Global;
 
 impl<F: Fn(Global, usize, &[Token]) -> Read<'_, Expression> + Copy> Node<Level<F>> for Selector {
@@ -27,7 +27,7 @@ impl<F: Fn(Global, usize, &[Token]) -> Read<'_, Expression> + Copy> Node<Level<F
     ghost reader = { λ x. spec.selector_of (spec.inner_at x.room) };
 
     /// Reads a field or indices, depending on the next mark.
-    #[tactic(auto, unfolding(cp_grammar::specs::Expressions::selector_of, cp_grammar::specs::Expressions::selector_by, cp_grammar::specs::Expressions::field_of))]
+    #[tactic(auto, unfolding(cp_model_grammar::specs::Expressions::selector_of, cp_model_grammar::specs::Expressions::selector_by, cp_model_grammar::specs::Expressions::field_of))]
     fn read(level: Level<F>, tokens: &[Token]) -> Read<'_, Selector> {
         match peek(tokens) {
             Some(Kind::Symbol(Symbol::Dot)) => {
@@ -53,7 +53,7 @@ impl<F: Fn(Global, usize, &[Token]) -> Read<'_, Expression> + Copy> Item<Level<F
 }
 
 /// Reads indices in brackets.
-#[tactic(auto, unfolding(cp_grammar::specs::Expressions::indexed_of))]
+#[tactic(auto, unfolding(cp_model_grammar::specs::Expressions::indexed_of))]
 fn indexed<F: Fn(Global, usize, &[Token]) -> Read<'_, Expression> + Copy>(
     level: Level<F>,
     tokens: &[Token],
@@ -67,7 +67,7 @@ fn indexed<F: Fn(Global, usize, &[Token]) -> Read<'_, Expression> + Copy>(
 }
 
 /// Reads a name and the selectors after it.
-#[tactic(auto, unfolding(cp_grammar::specs::Expressions::designator_of))]
+#[tactic(auto, unfolding(cp_model_grammar::specs::Expressions::designator_of))]
 fn designator_from<F: Fn(Global, usize, &[Token]) -> Read<'_, Expression> + Copy>(
     level: Level<F>,
     tokens: &[Token],
@@ -82,7 +82,7 @@ fn designator_from<F: Fn(Global, usize, &[Token]) -> Read<'_, Expression> + Copy
 }
 
 /// Reads arguments in parentheses.
-#[tactic(auto, unfolding(cp_grammar::specs::Expressions::arguments_of))]
+#[tactic(auto, unfolding(cp_model_grammar::specs::Expressions::arguments_of))]
 fn arguments<F: Fn(Global, usize, &[Token]) -> Read<'_, Expression> + Copy>(
     level: Level<F>,
     tokens: &[Token],
@@ -97,7 +97,7 @@ fn arguments<F: Fn(Global, usize, &[Token]) -> Read<'_, Expression> + Copy>(
 }
 
 /// Reads a designator, or a call of a function with arguments.
-#[tactic(auto, unfolding(cp_grammar::specs::Expressions::named_of, cp_grammar::specs::Expressions::call_or_part))]
+#[tactic(auto, unfolding(cp_model_grammar::specs::Expressions::named_of, cp_model_grammar::specs::Expressions::call_or_part))]
 fn designator_or_call<F: Fn(Global, usize, &[Token]) -> Read<'_, Expression> + Copy>(
     level: Level<F>,
     tokens: &[Token],
@@ -115,7 +115,7 @@ fn designator_or_call<F: Fn(Global, usize, &[Token]) -> Read<'_, Expression> + C
 }
 
 /// Reads an expression in parentheses.
-#[tactic(auto, unfolding(cp_grammar::specs::Expressions::parenthesized_of))]
+#[tactic(auto, unfolding(cp_model_grammar::specs::Expressions::parenthesized_of))]
 fn parentheses<F: Fn(Global, usize, &[Token]) -> Read<'_, Expression> + Copy>(
     level: Level<F>,
     tokens: &[Token],
@@ -132,7 +132,7 @@ fn parentheses<F: Fn(Global, usize, &[Token]) -> Read<'_, Expression> + Copy>(
 }
 
 /// Reads a `not` and the factor after it.
-#[tactic(auto, unfolding(cp_grammar::specs::Expressions::not_of))]
+#[tactic(auto, unfolding(cp_model_grammar::specs::Expressions::not_of))]
 fn negation<F: Fn(Global, usize, &[Token]) -> Read<'_, Expression> + Copy>(
     level: Level<F>,
     tokens: &[Token],
@@ -147,7 +147,7 @@ fn negation<F: Fn(Global, usize, &[Token]) -> Read<'_, Expression> + Copy>(
 }
 
 /// Reads a factor, depending on the next token.
-#[tactic(auto, unfolding(cp_grammar::specs::Expressions::factor_of, cp_grammar::specs::Expressions::factor_by))]
+#[tactic(auto, unfolding(cp_model_grammar::specs::Expressions::factor_of, cp_model_grammar::specs::Expressions::factor_by))]
 pub fn factor_from<F: Fn(Global, usize, &[Token]) -> Read<'_, Expression> + Copy>(
     level: Level<F>,
     tokens: &[Token],
@@ -207,7 +207,7 @@ pub fn designator(alloc: Global, room: usize, tokens: &[Token]) -> Read<'_, Desi
 }
 
 /// Reads arguments in parentheses or none, if `room` levels may be opened.
-#[tactic(auto, unfolding(cp_grammar::specs::Expressions::optional_arguments_of))]
+#[tactic(auto, unfolding(cp_model_grammar::specs::Expressions::optional_arguments_of))]
 pub fn optional_arguments(alloc: Global, room: usize, tokens: &[Token]) -> Read<'_, Vec<Expression>>
     ensures { Gives (λ v. map view.expression v.items) result
         (spec.optional_arguments_at room tokens.now) }

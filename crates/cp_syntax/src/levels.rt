@@ -1,16 +1,16 @@
 //! Parts that may contain parts of their own kind, within the limit of levels.
 
 ghost use Rattle.std.specs.Prelude.{◌≡◌, ℕ, IfOk, IfErr, Some, None, length};
-ghost use Rattle.cp_grammar.specs.declared.stop.Stop.TheVariants.{Deep};
-ghost use Rattle.cp_grammar.specs.Reading.{Reader, Gives};
-ghost use Rattle.cp_grammar.specs.Expressions.{inner_at, factor_at, expression_at};
-ghost use Rattle.cp_grammar.specs.Types.{inner_type_at, type_at};
-ghost use Rattle.cp_grammar.specs.Statements.{deeper_at, statement_at};
+ghost use Rattle.cp_model_grammar.specs.declared.stop.Stop.TheVariants.{Deep};
+ghost use Rattle.cp_model_grammar.specs.Reading.{Reader, Gives};
+ghost use Rattle.cp_model_grammar.specs.Expressions.{inner_at, factor_at, expression_at};
+ghost use Rattle.cp_model_grammar.specs.Types.{inner_type_at, type_at};
+ghost use Rattle.cp_model_grammar.specs.Statements.{deeper_at, statement_at};
 ghost use Rattle.cp_syntax.specs.Nests.{Nests, Below};
 
 use crate::tokens::Read;
-use cp_grammar::Stop;
 use cp_model::token::Token;
+use cp_model_grammar::Stop;
 use std::alloc::Global;
 
 /// What the rules of all other parts share: `room` levels may be opened.

@@ -2,8 +2,8 @@
 
 ghost use Rattle.std.specs.Prelude.{◌≡◌, ◌++◌, ◌∷◌, map, [], Bool, IfOk, OnOk, Option};
 ghost use Rattle.cp_model.specs.Tokens.{Kind};
-ghost use Rattle.cp_grammar.specs.Reading.{kind_at, Reader, Gives};
-ghost use Rattle.cp_grammar.specs.Reading as reading;
+ghost use Rattle.cp_model_grammar.specs.Reading.{kind_at, Reader, Gives};
+ghost use Rattle.cp_model_grammar.specs.Reading as reading;
 
 use crate::tokens::{Read, after, sees};
 use cp_model::token::{Symbol, Token};
@@ -109,7 +109,7 @@ pub fn repeated<X: Item<R>, R: Copy>(alloc: Global, rules: R, tokens: &[Token]) 
 }
 
 /// Reads one item, and more as long as the next token begins one.
-#[tactic(auto, unfolding(cp_grammar::specs::Reading::repeat))]
+#[tactic(auto, unfolding(cp_model_grammar::specs::Reading::repeat))]
 pub fn one_or_more<X: Item<R>, R: Copy>(
     alloc: Global,
     rules: R,

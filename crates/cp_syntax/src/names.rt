@@ -1,18 +1,18 @@
 //! Names and constants.
 
 ghost use Rattle.std.specs.Prelude.{◌≡◌, ⊤};
-ghost use Rattle.cp_grammar.specs.Reading.{kind_at, Gives};
-ghost use Rattle.cp_grammar.specs.Names as spec;
+ghost use Rattle.cp_model_grammar.specs.Reading.{kind_at, Gives};
+ghost use Rattle.cp_model_grammar.specs.Names as spec;
 
 use crate::lists::{Node, separated};
 use crate::tokens::{Read, after, peek, place};
-use cp_grammar::Stop;
 use cp_model::token::{Kind, Name, Symbol, Token};
 use cp_model::tree::{Constant, Identifier};
+use cp_model_grammar::Stop;
 use std::alloc::Global;
 
 /// Reads a name, with its place.
-#[tactic(auto, unfolding(cp_grammar::specs::Names::identifier_of))]
+#[tactic(auto, unfolding(cp_model_grammar::specs::Names::identifier_of))]
 pub fn identifier(alloc: Global, tokens: &[Token]) -> Read<'_, Identifier>
     ensures { Gives (λ x. x) result (spec.identifier_of tokens.now) }
 {
@@ -32,7 +32,7 @@ pub fn identifier(alloc: Global, tokens: &[Token]) -> Read<'_, Identifier>
 }
 
 /// Reads one or more names, with commas between them.
-#[tactic(auto, unfolding(cp_grammar::specs::Names::names_of))]
+#[tactic(auto, unfolding(cp_model_grammar::specs::Names::names_of))]
 pub fn names(alloc: Global, tokens: &[Token]) -> Read<'_, Vec<Identifier>>
     ensures { Gives (λ v. v.items) result (spec.names_of tokens.now) }
 {
@@ -40,7 +40,7 @@ pub fn names(alloc: Global, tokens: &[Token]) -> Read<'_, Vec<Identifier>>
 }
 
 /// Reads a constant.
-#[tactic(auto, unfolding(cp_grammar::specs::Names::constant_of))]
+#[tactic(auto, unfolding(cp_model_grammar::specs::Names::constant_of))]
 pub fn constant(alloc: Global, tokens: &[Token]) -> Read<'_, Constant>
     ensures { Gives (λ c. c) result (spec.constant_of tokens.now) }
 {
@@ -76,7 +76,7 @@ fn negative(at: usize, tokens: &[Token]) -> Read<'_, Constant>
 }
 
 /// Reads one or more constants, with commas between them.
-#[tactic(auto, unfolding(cp_grammar::specs::Names::constants_of))]
+#[tactic(auto, unfolding(cp_model_grammar::specs::Names::constants_of))]
 pub fn constants(alloc: Global, tokens: &[Token]) -> Read<'_, Vec<Constant>>
     ensures { Gives (λ v. v.items) result (spec.constants_of tokens.now) }
 {

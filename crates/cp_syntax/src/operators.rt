@@ -1,8 +1,8 @@
 //! The operators, by the symbols that they are written with.
 
 ghost use Rattle.std.specs.Prelude.{◌≡◌};
-ghost use Rattle.cp_grammar.specs.Reading.{kind_at};
-ghost use Rattle.cp_grammar.specs.Expressions as spec;
+ghost use Rattle.cp_model_grammar.specs.Reading.{kind_at};
+ghost use Rattle.cp_model_grammar.specs.Expressions as spec;
 
 use crate::tokens::peek;
 use cp_model::token::{Kind, Symbol, Token};

@@ -8,9 +8,9 @@ ghost use Rattle.cp_syntax.specs.Refusals.{NoTokenAt, Refused, Tells, TokenAt};
 
 use crate::declarations::text;
 use crate::refusal::SyntaxError;
-use cp_grammar::{Stop, refusal_laws, text_laws};
 use cp_model::token::Token;
 use cp_model::tree::Tree;
+use cp_model_grammar::{Stop, refusal_laws, text_laws};
 use std::alloc::Global;
 
 /// The largest number of levels that a text may have open at once.

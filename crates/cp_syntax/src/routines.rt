@@ -3,11 +3,11 @@
 ghost use Rattle.std.specs.Prelude.{◌≡◌, ⊤, map};
 ghost use Rattle.cp_model.specs.Syntax as s;
 ghost use Rattle.cp_model.specs.View as view;
-ghost use Rattle.cp_grammar.specs.Kinds.{is_symbol, is_name};
-ghost use Rattle.cp_grammar.specs.Reading.{kind_at, Gives};
-ghost use Rattle.cp_grammar.specs.Types.{type_at};
-ghost use Rattle.cp_grammar.specs.Statements.{deeper_at};
-ghost use Rattle.cp_grammar.specs.Declarations as spec;
+ghost use Rattle.cp_model_grammar.specs.Kinds.{is_symbol, is_name};
+ghost use Rattle.cp_model_grammar.specs.Reading.{kind_at, Gives};
+ghost use Rattle.cp_model_grammar.specs.Types.{type_at};
+ghost use Rattle.cp_model_grammar.specs.Statements.{deeper_at};
+ghost use Rattle.cp_model_grammar.specs.Declarations as spec;
 ghost use Rattle.cp_syntax.specs.Views.{heading};
 
 use crate::levels::{Level, Parser};
@@ -16,9 +16,9 @@ use crate::names::{identifier, names};
 use crate::statements::block;
 use crate::tokens::{Read, after, expect, optional_symbol, peek, sees, sees_name};
 use crate::types::type_expression;
-use cp_grammar::Stop;
 use cp_model::token::{Kind, Symbol, Token};
 use cp_model::tree::{Body, Fields, Identifier, Parameters, Routine};
+use cp_model_grammar::Stop;
 use std::alloc::Global;
 
 impl Node<Global> for Parameters {
@@ -30,7 +30,7 @@ impl Node<Global> for Parameters {
 
     ghost reader = { λ alloc. spec.parameter_group_of };
 
-    #[tactic(auto, unfolding(cp_grammar::specs::Declarations::parameter_group_of))]
+    #[tactic(auto, unfolding(cp_model_grammar::specs::Declarations::parameter_group_of))]
     fn read(alloc: Global, tokens: &[Token]) -> Read<'_, Parameters> {
         let (by_reference, rest) = optional_symbol(tokens, Symbol::Var)?;
         let (names, rest) = names(alloc, rest)?;
@@ -48,7 +48,7 @@ impl Node<Global> for Parameters {
 }
 
 /// Reads parameters in parentheses, or none.
-#[tactic(auto, unfolding(cp_grammar::specs::Declarations::parameters_of, cp_grammar::specs::Declarations::some_parameters_of))]
+#[tactic(auto, unfolding(cp_model_grammar::specs::Declarations::parameters_of, cp_model_grammar::specs::Declarations::some_parameters_of))]
 pub fn parameters(alloc: Global, tokens: &[Token]) -> Read<'_, Vec<Parameters>>
     ensures { Gives (λ v. map view.parameters v.items) result (spec.parameters_of tokens.now) }
 {
@@ -70,7 +70,7 @@ pub struct Heading {
 }
 
 /// Reads the result type of a function, and nothing for a procedure.
-#[tactic(auto, unfolding(cp_grammar::specs::Declarations::result_type_of))]
+#[tactic(auto, unfolding(cp_model_grammar::specs::Declarations::result_type_of))]
 fn result_type(alloc: Global, is_function: bool, tokens: &[Token]) -> Read<'_, Option<Identifier>>
     ensures { Gives (λ t. t) result (spec.result_type_of is_function tokens.now) }
 {
@@ -82,7 +82,7 @@ fn result_type(alloc: Global, is_function: bool, tokens: &[Token]) -> Read<'_, O
     Ok((Some(name), rest))
 }
 
-#[tactic(auto, unfolding(cp_grammar::specs::Declarations::heading_of, cp_grammar::specs::Declarations::heading_from))]
+#[tactic(auto, unfolding(cp_model_grammar::specs::Declarations::heading_of, cp_model_grammar::specs::Declarations::heading_from))]
 fn routine_heading(alloc: Global, tokens: &[Token]) -> Read<'_, Heading>
     ensures { Gives heading result (spec.heading_of tokens.now) }
 {
@@ -113,7 +113,7 @@ impl Node<Parser> for Fields {
     ghost reader = { λ x. spec.variable_group_of (type_at x.room) };
 
     /// Reads variables of one type, and the `;` after them.
-    #[tactic(auto, unfolding(cp_grammar::specs::Declarations::variable_group_of))]
+    #[tactic(auto, unfolding(cp_model_grammar::specs::Declarations::variable_group_of))]
     fn read(parser: Parser, tokens: &[Token]) -> Read<'_, Fields> {
         let level = Level {
             alloc: parser.alloc,
@@ -135,7 +135,7 @@ impl Item<Parser> for Fields {
 }
 
 /// Reads variables after the word `var`, or none.
-#[tactic(auto, unfolding(cp_grammar::specs::Declarations::variables_of, cp_grammar::specs::Declarations::some_variables_of))]
+#[tactic(auto, unfolding(cp_model_grammar::specs::Declarations::variables_of, cp_model_grammar::specs::Declarations::some_variables_of))]
 pub fn variables(parser: Parser, tokens: &[Token]) -> Read<'_, Vec<Fields>>
     ensures { Gives (λ v. map view.variables v.items) result
         (spec.variables_of (type_at parser.room) tokens.now) }
@@ -147,7 +147,7 @@ pub fn variables(parser: Parser, tokens: &[Token]) -> Read<'_, Vec<Fields>>
 }
 
 /// Reads the statements of a system type, a routine or the initial process.
-#[tactic(auto, unfolding(cp_grammar::specs::Declarations::body_of))]
+#[tactic(auto, unfolding(cp_model_grammar::specs::Declarations::body_of))]
 pub fn body(parser: Parser, tokens: &[Token]) -> Read<'_, Body>
     ensures { Gives view.body result (spec.body_of (deeper_at parser.room) tokens.now) }
 {
@@ -166,7 +166,7 @@ impl Node<Parser> for Routine {
 
     ghost reader = { λ x. spec.routine_of (type_at x.room) (deeper_at x.room) };
 
-    #[tactic(auto, unfolding(cp_grammar::specs::Declarations::routine_of))]
+    #[tactic(auto, unfolding(cp_model_grammar::specs::Declarations::routine_of))]
     fn read(parser: Parser, tokens: &[Token]) -> Read<'_, Routine> {
         let (heading, rest) = routine_heading(parser.alloc, tokens)?;
         let (variables, rest) = variables(parser, rest)?;
@@ -198,7 +198,7 @@ impl Item<Parser> for Routine {
 }
 
 /// Reads procedures and functions, as long as there are any.
-#[tactic(auto, unfolding(cp_grammar::specs::Declarations::routines_of))]
+#[tactic(auto, unfolding(cp_model_grammar::specs::Declarations::routines_of))]
 pub fn routines(parser: Parser, tokens: &[Token]) -> Read<'_, Vec<Routine>>
     ensures { Gives (λ v. map view.routine v.items) result
         (spec.routines_of (type_at parser.room) (deeper_at parser.room) tokens.now) }

@@ -3,9 +3,9 @@
 ghost use Rattle.std.specs.Prelude.{⊤};
 ghost use Rattle.cp_model.specs.Syntax as s;
 ghost use Rattle.cp_model.specs.View as view;
-ghost use Rattle.cp_grammar.specs.Reading.{Gives};
-ghost use Rattle.cp_grammar.specs.Expressions.{inner_at};
-ghost use Rattle.cp_grammar.specs.Statements as spec;
+ghost use Rattle.cp_model_grammar.specs.Reading.{Gives};
+ghost use Rattle.cp_model_grammar.specs.Expressions.{inner_at};
+ghost use Rattle.cp_model_grammar.specs.Statements as spec;
 
 use crate::factors::{designator, expression, optional_arguments};
 use crate::levels::Parser;
@@ -17,7 +17,7 @@ use cp_model::tree::{Assignment, InitItem, ProcedureCall, Statement};
 use std::alloc::Global;
 
 /// Reads an assignment or a call of a procedure.
-#[tactic(auto, unfolding(cp_grammar::specs::Statements::designated_of, cp_grammar::specs::Statements::assign_or_perform))]
+#[tactic(auto, unfolding(cp_model_grammar::specs::Statements::designated_of, cp_model_grammar::specs::Statements::assign_or_perform))]
 pub fn assignment_or_call(alloc: Global, room: usize, tokens: &[Token]) -> Read<'_, Statement>
     ensures { Gives view.statement result (spec.designated_of (inner_at room) tokens.now) }
 {
@@ -41,7 +41,7 @@ pub fn assignment_or_call(alloc: Global, room: usize, tokens: &[Token]) -> Read<
 }
 
 /// Reads the word `init` and the components after it.
-#[tactic(auto, unfolding(cp_grammar::specs::Statements::init_of))]
+#[tactic(auto, unfolding(cp_model_grammar::specs::Statements::init_of))]
 pub fn init(alloc: Global, room: usize, tokens: &[Token]) -> Read<'_, Statement>
     ensures { Gives view.statement result (spec.init_of (inner_at room) tokens.now) }
 {
@@ -61,7 +61,7 @@ impl Node<Parser> for InitItem {
 
     ghost reader = { λ x. spec.init_item_of (inner_at x.room) };
 
-    #[tactic(auto, unfolding(cp_grammar::specs::Statements::init_item_of))]
+    #[tactic(auto, unfolding(cp_model_grammar::specs::Statements::init_item_of))]
     fn read(parser: Parser, tokens: &[Token]) -> Read<'_, InitItem> {
         let (component, rest) = identifier(parser.alloc, tokens)?;
         let (arguments, rest) = optional_arguments(parser.alloc, parser.room, rest)?;

@@ -3,9 +3,9 @@
 ghost use Rattle.std.specs.Prelude.{◌≡◌, map};
 ghost use Rattle.cp_model.specs.Syntax as s;
 ghost use Rattle.cp_model.specs.View as view;
-ghost use Rattle.cp_grammar.specs.Reading.{Gives};
-ghost use Rattle.cp_grammar.specs.Expressions.{inner_at};
-ghost use Rattle.cp_grammar.specs.Statements as spec;
+ghost use Rattle.cp_model_grammar.specs.Reading.{Gives};
+ghost use Rattle.cp_model_grammar.specs.Expressions.{inner_at};
+ghost use Rattle.cp_model_grammar.specs.Statements as spec;
 ghost use Rattle.cp_syntax.specs.Nests.{StatementsAt, StatementsBelow};
 
 use crate::factors::expression;
@@ -14,9 +14,9 @@ use crate::lists::{Node, separated};
 use crate::names::{constants, identifier};
 use crate::simple_statements::{assignment_or_call, init};
 use crate::tokens::{Read, after, expect, peek, place, sees};
-use cp_grammar::Stop;
 use cp_model::token::{Kind, Symbol, Token};
 use cp_model::tree::{Arm, Body, Direction, ForHeader, Statement};
+use cp_model_grammar::Stop;
 use std::alloc::Global;
 
 impl Nested for Statement {
@@ -38,7 +38,7 @@ impl<F: Fn(Global, usize, &[Token]) -> Read<'_, Statement> + Copy> Node<Level<F>
 
     // A statement before a semicolon that is nothing is told without a call.
     #[inline(always)]
-    #[tactic(auto, unfolding(cp_grammar::specs::Statements::statement_of, cp_grammar::specs::Statements::statement_by))]
+    #[tactic(auto, unfolding(cp_model_grammar::specs::Statements::statement_of, cp_model_grammar::specs::Statements::statement_by))]
     fn read(level: Level<F>, tokens: &[Token]) -> Read<'_, Statement> {
         match peek(tokens) {
             Some(Kind::Symbol(Symbol::Semicolon)) => Ok((Statement::Empty, tokens)),
@@ -56,7 +56,7 @@ impl<F: Fn(Global, usize, &[Token]) -> Read<'_, Statement> + Copy> Node<Level<F>
 
     ghost reader = { λ x. spec.arm_of (spec.statement_at x.room) };
 
-    #[tactic(auto, unfolding(cp_grammar::specs::Statements::arm_of))]
+    #[tactic(auto, unfolding(cp_model_grammar::specs::Statements::arm_of))]
     fn read(level: Level<F>, tokens: &[Token]) -> Read<'_, Arm> {
         let (labels, rest) = constants(level.alloc, tokens)?;
         let (_, rest) = expect(rest, Symbol::Colon)?;
@@ -66,7 +66,7 @@ impl<F: Fn(Global, usize, &[Token]) -> Read<'_, Statement> + Copy> Node<Level<F>
 }
 
 /// Reads one or more statements, with semicolons between them.
-#[tactic(auto, unfolding(cp_grammar::specs::Statements::statements_from))]
+#[tactic(auto, unfolding(cp_model_grammar::specs::Statements::statements_from))]
 fn statements<F: Fn(Global, usize, &[Token]) -> Read<'_, Statement> + Copy>(
     level: Level<F>,
     tokens: &[Token],
@@ -79,7 +79,7 @@ fn statements<F: Fn(Global, usize, &[Token]) -> Read<'_, Statement> + Copy>(
 }
 
 /// Reads from a `begin` to its `end`.
-#[tactic(auto, unfolding(cp_grammar::specs::Statements::block_of))]
+#[tactic(auto, unfolding(cp_model_grammar::specs::Statements::block_of))]
 fn block_from<F: Fn(Global, usize, &[Token]) -> Read<'_, Statement> + Copy>(
     level: Level<F>,
     tokens: &[Token],
@@ -93,7 +93,7 @@ fn block_from<F: Fn(Global, usize, &[Token]) -> Read<'_, Statement> + Copy>(
     Ok((Body { at, statements }, rest))
 }
 
-#[tactic(auto, unfolding(cp_grammar::specs::Statements::compound_of))]
+#[tactic(auto, unfolding(cp_model_grammar::specs::Statements::compound_of))]
 fn compound<F: Fn(Global, usize, &[Token]) -> Read<'_, Statement> + Copy>(
     level: Level<F>,
     tokens: &[Token],
@@ -109,7 +109,7 @@ fn compound<F: Fn(Global, usize, &[Token]) -> Read<'_, Statement> + Copy>(
 
 /// Reads an `if`. An `else` belongs to the statement that is being read when it comes: the
 /// nearest `if` before it that has none.
-#[tactic(auto, unfolding(cp_grammar::specs::Statements::if_of, cp_grammar::specs::Statements::else_part))]
+#[tactic(auto, unfolding(cp_model_grammar::specs::Statements::if_of, cp_model_grammar::specs::Statements::else_part))]
 fn conditional<F: Fn(Global, usize, &[Token]) -> Read<'_, Statement> + Copy>(
     level: Level<F>,
     tokens: &[Token],
@@ -137,7 +137,7 @@ fn conditional<F: Fn(Global, usize, &[Token]) -> Read<'_, Statement> + Copy>(
     ))
 }
 
-#[tactic(auto, unfolding(cp_grammar::specs::Statements::case_of))]
+#[tactic(auto, unfolding(cp_model_grammar::specs::Statements::case_of))]
 fn case<F: Fn(Global, usize, &[Token]) -> Read<'_, Statement> + Copy>(
     level: Level<F>,
     tokens: &[Token],
@@ -155,7 +155,7 @@ fn case<F: Fn(Global, usize, &[Token]) -> Read<'_, Statement> + Copy>(
     Ok((Statement::Case { selector, arms }, rest))
 }
 
-#[tactic(auto, unfolding(cp_grammar::specs::Statements::while_of))]
+#[tactic(auto, unfolding(cp_model_grammar::specs::Statements::while_of))]
 fn while_loop<F: Fn(Global, usize, &[Token]) -> Read<'_, Statement> + Copy>(
     level: Level<F>,
     tokens: &[Token],
@@ -172,7 +172,7 @@ fn while_loop<F: Fn(Global, usize, &[Token]) -> Read<'_, Statement> + Copy>(
     Ok((Statement::While { condition, body }, rest))
 }
 
-#[tactic(auto, unfolding(cp_grammar::specs::Statements::repeat_of))]
+#[tactic(auto, unfolding(cp_model_grammar::specs::Statements::repeat_of))]
 fn repeat_loop<F: Fn(Global, usize, &[Token]) -> Read<'_, Statement> + Copy>(
     level: Level<F>,
     tokens: &[Token],
@@ -189,7 +189,7 @@ fn repeat_loop<F: Fn(Global, usize, &[Token]) -> Read<'_, Statement> + Copy>(
     Ok((Statement::Repeat { body, condition }, rest))
 }
 
-#[tactic(auto, unfolding(cp_grammar::specs::Statements::for_of))]
+#[tactic(auto, unfolding(cp_model_grammar::specs::Statements::for_of))]
 fn for_loop<F: Fn(Global, usize, &[Token]) -> Read<'_, Statement> + Copy>(
     level: Level<F>,
     tokens: &[Token],
@@ -216,7 +216,7 @@ fn for_loop<F: Fn(Global, usize, &[Token]) -> Read<'_, Statement> + Copy>(
     Ok((Statement::For { header, body }, rest))
 }
 
-#[tactic(auto, unfolding(cp_grammar::specs::Statements::cycle_of))]
+#[tactic(auto, unfolding(cp_model_grammar::specs::Statements::cycle_of))]
 fn cycle<F: Fn(Global, usize, &[Token]) -> Read<'_, Statement> + Copy>(
     level: Level<F>,
     tokens: &[Token],
@@ -231,7 +231,7 @@ fn cycle<F: Fn(Global, usize, &[Token]) -> Read<'_, Statement> + Copy>(
 }
 
 /// Reads a statement, depending on the next token. It may be empty.
-#[tactic(auto, unfolding(cp_grammar::specs::Statements::statement_of, cp_grammar::specs::Statements::statement_by))]
+#[tactic(auto, unfolding(cp_model_grammar::specs::Statements::statement_of, cp_model_grammar::specs::Statements::statement_by))]
 pub fn statement_from<F: Fn(Global, usize, &[Token]) -> Read<'_, Statement> + Copy>(
     level: Level<F>,
     tokens: &[Token],
@@ -257,7 +257,7 @@ pub fn statement_from<F: Fn(Global, usize, &[Token]) -> Read<'_, Statement> + Co
     }
 }
 
-#[tactic(auto, unfolding(cp_grammar::specs::Statements::direction_of))]
+#[tactic(auto, unfolding(cp_model_grammar::specs::Statements::direction_of))]
 fn direction(tokens: &[Token]) -> Read<'_, Direction>
     ensures { Gives (λ way. way) result (spec.direction_of tokens.now) }
 {

@@ -2,12 +2,12 @@
 
 ghost use Rattle.std.specs.Prelude.{◌≡◌, ◌==◌, Some, None, IfSome, IsNone};
 ghost use Rattle.cp_model.specs.Kinds.{kind_of};
-ghost use Rattle.cp_grammar.specs.Kinds.{code, is_symbol, is_name};
-ghost use Rattle.cp_grammar.specs.Reading.{kind_at, place_at, tail, Gives};
-ghost use Rattle.cp_grammar.specs.Reading as reading;
+ghost use Rattle.cp_model_grammar.specs.Kinds.{code, is_symbol, is_name};
+ghost use Rattle.cp_model_grammar.specs.Reading.{kind_at, place_at, tail, Gives};
+ghost use Rattle.cp_model_grammar.specs.Reading as reading;
 
-use cp_grammar::Stop;
 use cp_model::token::{Kind, Symbol, Token};
+use cp_model_grammar::Stop;
 
 /// What was read and the tokens after it, or why reading stopped.
 pub type Read<'a, X> = Result<(X, &'a [Token]), Stop>;
@@ -42,7 +42,7 @@ pub fn peek(tokens: &[Token]) -> Option<&Kind>
 }
 
 /// Whether the next token is this symbol.
-#[tactic(auto, unfolding(cp_grammar::specs::Kinds::is_symbol))]
+#[tactic(auto, unfolding(cp_model_grammar::specs::Kinds::is_symbol))]
 pub fn sees(tokens: &[Token], symbol: Symbol) -> bool
     ensures { result ≡ is_symbol symbol (kind_at tokens.now) }
 {
@@ -67,7 +67,7 @@ pub fn sees_name(tokens: &[Token]) -> bool
 }
 
 /// Takes this symbol and returns its place.
-#[tactic(auto, unfolding(cp_grammar::specs::Reading::expect))]
+#[tactic(auto, unfolding(cp_model_grammar::specs::Reading::expect))]
 pub fn expect(tokens: &[Token], symbol: Symbol) -> Read<'_, usize>
     ensures { Gives (λ at. at) result (reading.expect symbol tokens.now) }
 {
@@ -78,7 +78,7 @@ pub fn expect(tokens: &[Token], symbol: Symbol) -> Read<'_, usize>
 }
 
 /// Takes this symbol if it is the next token, and returns its place.
-#[tactic(auto, unfolding(cp_grammar::specs::Reading::optional_symbol))]
+#[tactic(auto, unfolding(cp_model_grammar::specs::Reading::optional_symbol))]
 pub fn optional_symbol(tokens: &[Token], symbol: Symbol) -> Read<'_, Option<usize>>
     ensures { Gives (λ at. at) result (reading.optional_symbol symbol tokens.now) }
 {

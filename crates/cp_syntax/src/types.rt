@@ -3,18 +3,18 @@
 ghost use Rattle.std.specs.Prelude.{◌≡◌};
 ghost use Rattle.cp_model.specs.Syntax as s;
 ghost use Rattle.cp_model.specs.View as view;
-ghost use Rattle.cp_grammar.specs.Reading.{Gives, and_then, by_kind};
-ghost use Rattle.cp_grammar.specs.Names.{identifier_of, constant_of};
-ghost use Rattle.cp_grammar.specs.Types as spec;
+ghost use Rattle.cp_model_grammar.specs.Reading.{Gives, and_then, by_kind};
+ghost use Rattle.cp_model_grammar.specs.Names.{identifier_of, constant_of};
+ghost use Rattle.cp_model_grammar.specs.Types as spec;
 ghost use Rattle.cp_syntax.specs.Nests.{TypesAt, TypesBelow};
 
 use crate::levels::{Level, Nested, inner, read_at};
 use crate::lists::{Node, separated};
 use crate::names::{constant, identifier, names};
 use crate::tokens::{Read, after, expect, peek, place};
-use cp_grammar::Stop;
 use cp_model::token::{Kind, Symbol, Token};
 use cp_model::tree::{Constant, Fields, TypeExpression};
+use cp_model_grammar::Stop;
 use std::alloc::Global;
 
 impl Nested for TypeExpression {
@@ -50,7 +50,7 @@ impl<F: Fn(Global, usize, &[Token]) -> Read<'_, TypeExpression> + Copy> Node<Lev
     ghost reader = { λ x. spec.group_of (spec.type_at x.room) };
 
     /// Reads names of one type: fields or variables.
-    #[tactic(auto, unfolding(cp_grammar::specs::Types::group_of))]
+    #[tactic(auto, unfolding(cp_model_grammar::specs::Types::group_of))]
     fn read(level: Level<F>, tokens: &[Token]) -> Read<'_, Fields> {
         let (names, rest) = names(level.alloc, tokens)?;
         let (_, rest) = expect(rest, Symbol::Colon)?;
@@ -59,7 +59,7 @@ impl<F: Fn(Global, usize, &[Token]) -> Read<'_, TypeExpression> + Copy> Node<Lev
     }
 }
 
-#[tactic(auto, unfolding(cp_grammar::specs::Types::array_of))]
+#[tactic(auto, unfolding(cp_model_grammar::specs::Types::array_of))]
 fn array<F: Fn(Global, usize, &[Token]) -> Read<'_, TypeExpression> + Copy>(
     level: Level<F>,
     tokens: &[Token],
@@ -87,7 +87,7 @@ fn array<F: Fn(Global, usize, &[Token]) -> Read<'_, TypeExpression> + Copy>(
     ))
 }
 
-#[tactic(auto, unfolding(cp_grammar::specs::Types::record_of))]
+#[tactic(auto, unfolding(cp_model_grammar::specs::Types::record_of))]
 fn record<F: Fn(Global, usize, &[Token]) -> Read<'_, TypeExpression> + Copy>(
     level: Level<F>,
     tokens: &[Token],
@@ -106,7 +106,7 @@ fn record<F: Fn(Global, usize, &[Token]) -> Read<'_, TypeExpression> + Copy>(
 
 /// Reads a type. A name is a type or the first bound of a subrange, depending on the token after
 /// it.
-#[tactic(auto, unfolding(cp_grammar::specs::Types::type_of, cp_grammar::specs::Types::type_by))]
+#[tactic(auto, unfolding(cp_model_grammar::specs::Types::type_of, cp_model_grammar::specs::Types::type_by))]
 pub fn type_from<F: Fn(Global, usize, &[Token]) -> Read<'_, TypeExpression> + Copy>(
     level: Level<F>,
     tokens: &[Token],
@@ -136,7 +136,7 @@ fn subrange(alloc: Global, tokens: &[Token]) -> Read<'_, TypeExpression>
 }
 
 /// Reads the rest of a subrange after its first bound.
-#[tactic(auto, unfolding(cp_grammar::specs::Types::subrange_from))]
+#[tactic(auto, unfolding(cp_model_grammar::specs::Types::subrange_from))]
 fn subrange_from(alloc: Global, low: Constant, tokens: &[Token]) -> Read<'_, TypeExpression>
     ensures { Gives view.type_expression result (spec.subrange_from low tokens.now) }
 {
@@ -146,7 +146,7 @@ fn subrange_from(alloc: Global, low: Constant, tokens: &[Token]) -> Read<'_, Typ
     Ok((TypeExpression::Subrange(bounds), rest))
 }
 
-#[tactic(auto, unfolding(cp_grammar::specs::Types::named_or_subrange))]
+#[tactic(auto, unfolding(cp_model_grammar::specs::Types::named_or_subrange))]
 fn name_or_subrange(alloc: Global, tokens: &[Token]) -> Read<'_, TypeExpression>
     ensures { Gives view.type_expression result
         (and_then (identifier_of tokens.now) (λ x. by_kind (spec.named_or_subrange x))) }

@@ -1,8 +1,8 @@
 -- The parts of a trace, joined.
 use Rattle.std.proofs.Common.{◌++◌, ◌<◌, List, ℕ, arith, length, length-append}
 use Rattle.cp_trace.specs.Tracers.{IsPart, IsTrace}
-use Rattle.cp_plan.specs.declared.trace.TraceForm.{TraceForm}
-use Rattle.cp_plan.specs.declared.trace.TraceForm.TheVariants as form
+use Rattle.cp_base_config.specs.declared.trace.TraceForm.{TraceForm}
+use Rattle.cp_base_config.specs.declared.trace.TraceForm.TheVariants as form
 use Rattle.cp_trace.proofs.ObjectLines.{objects_joined}
 
 pub parts_joined : (f : TraceForm) (a b : List ℕ) → IsPart f a → IsPart f b → IsPart f (a ++ b)

@@ -1,8 +1,8 @@
 -- What a tracer tells, by its form.
 use Rattle.std.specs.Prelude.{ℕ, List}
 use Rattle.cp_trace.specs.Telling.{AreObjects, IsAnything, IsRound, IsSomething}
-use Rattle.cp_plan.specs.declared.trace.TraceForm.{TraceForm}
-use Rattle.cp_plan.specs.declared.trace.TraceForm.TheVariants as form
+use Rattle.cp_base_config.specs.declared.trace.TraceForm.{TraceForm}
+use Rattle.cp_base_config.specs.declared.trace.TraceForm.TheVariants as form
 use Rattle.cp_trace.specs.declared.tracer.Tracer.{Tracer}
 use Rattle.cp_trace.specs.declared.tracer.Tracer.TheVariants as tracer
 

@@ -3,8 +3,8 @@
 use crate::colours::colour;
 use crate::grid::Cell;
 use crate::members::name_of;
-use cp_members::roster::{Member, Roster};
-use cp_members::status::fault_number;
+use cp_inspect::roster::{Member, Roster};
+use cp_inspect::status::fault_number;
 use std::alloc::{AllocError, Global};
 
 /// Cells of a row that are the same, from a column up to another.

@@ -2,9 +2,9 @@
 
 use crate::members::{chosen, name_of};
 use crate::topic::Topic;
-use cp_members::readings::Readings;
-use cp_members::roster::{Member, Roster};
-use cp_members::state::ProcState;
+use cp_inspect::readings::Readings;
+use cp_inspect::roster::{Member, Roster};
+use cp_inspect::state::ProcState;
 use cp_model::state::Fault;
 use cp_private::outside::Holder;
 use std::alloc::{AllocError, Global};

@@ -4,9 +4,9 @@ ghost use Rattle.std.specs.Prelude.{OnOk};
 ghost use Rattle.cp_trace.specs.Telling.{Adds, IsRound};
 
 use crate::changes::{Change, Changes, Output, Step, Value, VariableChange};
-use cp_digits::decimal::{push_integer, push_natural};
-use cp_members::roster::Member;
-use cp_members::text::push_all_escaped;
+use cp_base_digits::decimal::{push_integer, push_natural};
+use cp_inspect::roster::Member;
+use cp_inspect::text::push_all_escaped;
 use std::alloc::{AllocError, Global};
 
 // Adds a text between apostrophes, with escapes.

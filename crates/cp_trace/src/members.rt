@@ -1,7 +1,7 @@
 //! The processes and monitors of which a trace tells, and their names.
 
-use cp_members::roster::{Member, Roster};
-use cp_scope::small_number;
+use cp_compile_symbols::small_number;
+use cp_inspect::roster::{Member, Roster};
 use std::alloc::{AllocError, Global};
 
 /// Returns bytes of a name, a path or a transcript as a string. They are ASCII, as texts are.

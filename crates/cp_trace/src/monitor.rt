@@ -3,9 +3,9 @@
 use crate::changes::{Change, Step};
 use crate::values::Values;
 use crate::vocabulary::Vocabulary;
-use cp_members::places::Place;
-use cp_members::readings::Readings;
-use cp_members::roster::Member;
+use cp_inspect::places::Place;
+use cp_inspect::readings::Readings;
+use cp_inspect::roster::Member;
 use cp_private::outside::Holder;
 use std::alloc::{AllocError, Global};
 

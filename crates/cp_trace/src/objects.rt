@@ -4,8 +4,8 @@ ghost use Rattle.std.specs.Prelude.{OnOk};
 ghost use Rattle.cp_trace.specs.Telling.{Adds, AreObjects};
 
 use crate::changes::{Change, Changes};
-use cp_formats::object::line;
-use cp_members::roster::Member;
+use cp_inspect::roster::Member;
+use cp_output_formats::object::line;
 use serde::Serialize;
 use std::alloc::{AllocError, Global};
 

@@ -4,10 +4,10 @@ use crate::changes::{Change, Output, Step};
 use crate::members::word;
 use crate::values::Values;
 use crate::vocabulary::Vocabulary;
-use cp_members::places::Place;
-use cp_members::readings::Readings;
-use cp_members::roster::Member;
-use cp_members::state::ProcState;
+use cp_inspect::places::Place;
+use cp_inspect::readings::Readings;
+use cp_inspect::roster::Member;
+use cp_inspect::state::ProcState;
 use std::alloc::{AllocError, Global};
 
 /// A process when it was seen last.

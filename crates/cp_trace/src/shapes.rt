@@ -1,7 +1,7 @@
 //! Where the variables of components lie. Components of one type share their places.
 
-use cp_members::places::Place;
-use cp_members::readings::Readings;
+use cp_inspect::places::Place;
+use cp_inspect::readings::Readings;
 use std::alloc::{AllocError, Global};
 
 // The places of the components of a type.

@@ -10,8 +10,8 @@ use crate::bars::{Bar, bars};
 use crate::colours::{LEGEND_HEIGHT, LEGEND_WIDTH, STYLE, colour, push_legend};
 use crate::grid::{Cell, Grid, Row};
 use crate::markup::{Area, begin_rectangle, push_rectangle, push_text};
-use cp_members::readings::Readings;
-use cp_members::roster::Member;
+use cp_inspect::readings::Readings;
+use cp_inspect::roster::Member;
 use std::alloc::AllocError;
 use std::fmt::Write;
 

@@ -4,8 +4,8 @@ ghost use Rattle.std.specs.Prelude.{OnOk};
 ghost use Rattle.cp_trace.specs.Telling.{Adds, IsAnything, IsSomething};
 
 use crate::grid::{Cell, Grid, Row};
-use cp_members::readings::Readings;
-use cp_members::roster::Member;
+use cp_inspect::readings::Readings;
+use cp_inspect::roster::Member;
 use std::alloc::AllocError;
 use std::fmt::Write;
 

@@ -1,6 +1,6 @@
 //! Of what a trace tells.
 
-use cp_members::roster::Roster;
+use cp_inspect::roster::Roster;
 use cp_model::tree::Tree;
 
 /// Of what a trace tells: the processes and monitors of a text, in some rounds of its machine.

@@ -7,9 +7,9 @@ use crate::process::SeenProcess;
 use crate::shapes::Shapes;
 use crate::topic::Topic;
 use crate::vocabulary::Vocabulary;
-use cp_members::places::Place;
-use cp_members::readings::Readings;
-use cp_members::roster::Member;
+use cp_inspect::places::Place;
+use cp_inspect::readings::Readings;
+use cp_inspect::roster::Member;
 use std::alloc::{AllocError, Global};
 
 // A process or monitor as it was seen last.

@@ -10,8 +10,8 @@ use crate::svg::Picture;
 use crate::timeline::Timeline;
 use crate::topic::Topic;
 use crate::trace::Trace;
-use cp_members::readings::Readings;
-use cp_plan::trace::TraceForm;
+use cp_base_config::trace::TraceForm;
+use cp_inspect::readings::Readings;
 use std::alloc::{AllocError, Global};
 
 /// Who follows a machine and tells of it. What it has seen takes memory that doesn't grow with the

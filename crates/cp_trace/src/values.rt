@@ -3,10 +3,10 @@
 use crate::changes::{Change, VariableChange};
 use crate::members::word;
 use crate::vocabulary::Vocabulary;
-use cp_members::place::Value;
-use cp_members::places::Place;
-use cp_members::readings::Readings;
-use cp_members::roster::Member;
+use cp_inspect::place::Value;
+use cp_inspect::places::Place;
+use cp_inspect::readings::Readings;
+use cp_inspect::roster::Member;
 use std::alloc::{AllocError, Global};
 
 /// The values of the variables of a component when they were seen last.

@@ -2,13 +2,13 @@
 
 use crate::changes::Value;
 use crate::members::{name_of, word};
-use cp_members::place;
-use cp_members::readings::Readings;
-use cp_members::roster::{Member, Roster};
+use cp_base_names::{Key, NameTable};
+use cp_compile_symbols::Base;
+use cp_inspect::place;
+use cp_inspect::readings::Readings;
+use cp_inspect::roster::{Member, Roster};
 use cp_model::tree::{Defined, Identifier, Section, Tree, TypeDefinition};
-use cp_names::{Key, NameTable};
 use cp_private::outside::Holder;
-use cp_scope::Base;
 use std::alloc::{AllocError, Global};
 
 // The values of each enumeration, by its name.

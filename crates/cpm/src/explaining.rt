@@ -3,11 +3,11 @@
 use crate::opening::open_named;
 use crate::printing::flush;
 use crate::status::Failure;
-use cp_accept::refusal::{Refusal, exit_of};
-use cp_access::graph::Form;
-use cp_command::command::Explaining;
+use cp_cli::command::Explaining;
 use cp_explain::explain::{draw_text, explain_all_text, explain_text};
 use cp_explain::object::explain_object;
+use cp_explain_rights::graph::Form;
+use cp_frontend::refusal::{Refusal, exit_of};
 use std::alloc::Global;
 use std::fs::Files;
 use std::io::{self, Input, Print, Write};

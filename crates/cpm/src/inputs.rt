@@ -2,8 +2,8 @@
 
 use crate::opening::{Source, open, open_named, read_bytes};
 use crate::status::Failure;
-use cp_command::command::{Inputs, NamedInput};
-use cp_inputs::named::{InputOf, joined_input};
+use cp_cli::command::{Inputs, NamedInput};
+use cp_cli_inputs::named::{InputOf, joined_input};
 use std::alloc::Global;
 use std::fs::Files;
 use std::io::{Input, Read};

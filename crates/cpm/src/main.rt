@@ -22,9 +22,9 @@ mod status;
 
 use crate::perform::perform;
 use crate::status::{Failure, USAGE};
-use cp_accept::refusal::Refusal;
-use cp_command::command::CommandError;
-use cp_command::reading::read_command;
+use cp_cli::command::CommandError;
+use cp_cli::reading::read_command;
+use cp_frontend::refusal::Refusal;
 use std::process::ExitCode;
 use std::{env, io};
 

@@ -6,9 +6,9 @@ ghost use Rattle.std.specs.Io.KnownBytes.{ReadConsumes};
 ghost use Rattle.cpm.specs.Sources.{remaining_of};
 
 use crate::status::Failure;
-use cp_accept::reading::read_text;
-use cp_accept::refusal::Refusal;
-use cp_command::command::STANDARD_INPUT;
+use cp_cli::command::STANDARD_INPUT;
+use cp_frontend::reading::read_text;
+use cp_frontend::refusal::Refusal;
 use std::alloc::Global;
 use std::fs::{self, Files};
 use std::io::{self, Cursor, ErrorKind, Input, Read};

@@ -4,7 +4,7 @@ use crate::explaining::explain;
 use crate::printing::{print_page, print_version};
 use crate::running::{check, outcome, replay, run, trace};
 use crate::status::Failure;
-use cp_command::command::Command;
+use cp_cli::command::Command;
 use cp_outcome::status::status_of;
 use std::alloc::Global;
 use std::fs::Files;
@@ -23,7 +23,7 @@ use std::thread::Threads;
 /// I1 if a file can't be opened, `Unopened` or `Unread` for the file of `explain` and the input of
 /// one process, `Input` if such inputs make no input or the text lacks the process of `--out`,
 /// `NoMember` if a name of a trace is unknown, and the refusals of `execute` and `execute_order` of
-/// cp_execute, of `execute_outcome` and `execute_trace` of cp_observe, and of `explain_text`,
+/// cp_execute, of `execute_outcome` and `execute_trace` of cp_execute_observe, and of `explain_text`,
 /// `explain_all_text` and `explain_object` of cp_explain.
 pub(crate) fn perform<
     'a,

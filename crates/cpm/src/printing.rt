@@ -1,8 +1,8 @@
 //! Standard output.
 
-use cp_accept::refusal::Refusal;
-use cp_accept::writing::write_result;
-use cp_command::command::VERSION;
+use cp_cli::command::VERSION;
+use cp_frontend::refusal::Refusal;
+use cp_frontend::writing::write_result;
 use std::io::{self, Print, Write};
 
 /// Hands over what the writer may hold back.

@@ -1,23 +1,23 @@
 //! Checks, runs, outcomes, traces and replays. Each opens all that it reads before it reads any of
 //! it, and prints its result. Errors are those of opening, of joining inputs, and of the calls of
-//! cp_execute and cp_observe.
+//! cp_execute and cp_execute_observe.
 
 use crate::inputs::{Sources, open_inputs, open_sources};
 use crate::opening::{Source, open, read_bytes};
 use crate::printing::flush;
 use crate::progress::Progress;
 use crate::status::Failure;
-use cp_accept::refusal::Refusal;
-use cp_command::command::{Inputs, STANDARD_INPUT};
+use cp_base_config::outcome::{OutcomeForm, UntilStill};
+use cp_base_config::run::{Replay, Run};
+use cp_base_config::trace::Tracing;
+use cp_cli::command::{Inputs, STANDARD_INPUT};
+use cp_cli_inputs::named::process_number;
 use cp_execute::execute::{Job, execute};
 use cp_execute::execute_order::execute_order;
-use cp_inputs::named::process_number;
-use cp_observe::execute_outcome::execute_outcome;
-use cp_observe::execute_trace::{execute_trace, unknown_name};
+use cp_execute_observe::execute_outcome::execute_outcome;
+use cp_execute_observe::execute_trace::{execute_trace, unknown_name};
+use cp_frontend::refusal::Refusal;
 use cp_outcome::verdict::Verdict;
-use cp_plan::outcome::{OutcomeForm, UntilStill};
-use cp_plan::run::{Replay, Run};
-use cp_plan::trace::Tracing;
 use std::alloc::Global;
 use std::fs::Files;
 use std::io::{self, Input, Print, Read};

@@ -1,11 +1,11 @@
 //! Why a command has no result, and the exit statuses.
 
 ghost use Rattle.std.specs.Prelude.{◌≡◌};
-ghost use Rattle.cp_accept.specs.declared.refusal.Refusal.TheVariants as refusal;
+ghost use Rattle.cp_frontend.specs.declared.refusal.Refusal.TheVariants as refusal;
 ghost use Rattle.cpm.specs.declared.status.Failure.TheVariants as failure;
 
-use cp_accept::refusal::{Refusal, exit_of};
-use cp_inputs::named::InputError;
+use cp_cli_inputs::named::InputError;
+use cp_frontend::refusal::{Refusal, exit_of};
 use std::alloc::AllocFailed;
 use std::io;
 use thiserror::Error;

@@ -1,8 +1,8 @@
 use Rattle.std.proofs.Common.{rules, arith, ◌≡◌, suc, ◌+◌, ◌<◌, ◌^◌, map, drop, ◌∷◌, Ok, Err, ap, sym, ◌∙◌}
 use Rattle.std.proofs.Math.Seq.{drop-cons}
 use Rattle.std.proofs.lemmas.List.{at_drop_all}
-use Rattle.cp_program_model.specs.Terms as terms
-use Rattle.cp_machine_model.specs.Values.{bind, place_of, value_of}
+use Rattle.cp_model_program.specs.Terms as terms
+use Rattle.cp_model_machine.specs.Values.{bind, place_of, value_of}
 use Rattle.cp_program.specs.Reaches.{cap_place, capped_result, chain_value, elements_place, offset_of, view_of}
 use Rattle.cp_program.specs.View as view
 use Rattle.cp_program.specs.declared.term.Spot.{out-Spot}

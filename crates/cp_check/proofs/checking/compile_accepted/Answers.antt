@@ -1,6 +1,6 @@
 use Rattle.std.proofs.Common.{◌∙◌, ap, subst, sym}
-use Rattle.cp_program_model.specs.Compile.{compile}
-use Rattle.cp_program_model.specs.StandsFor.{StandsFor}
+use Rattle.cp_model_program.specs.Compile.{compile}
+use Rattle.cp_model_program.specs.StandsFor.{StandsFor}
 use Rattle.cp_check.proofs.checking.compile_accepted.Goals as goal
 
 pub returns : goal.returns

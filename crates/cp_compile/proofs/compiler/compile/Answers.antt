@@ -1,9 +1,9 @@
 use Rattle.std.proofs.Common.{◌≡◌, ◌∙◌, ap, map}
 use Rattle.cp_model.specs.Declarations.{globals}
-use Rattle.cp_program_model.specs.Compile as code
+use Rattle.cp_model_program.specs.Compile as code
 use Rattle.cp_program.specs.View as view
 use Rattle.cp_program.specs.View.{plans_in}
-use Rattle.cp_emit.specs.Planning.{known_of}
+use Rattle.cp_compile_emit.specs.Planning.{known_of}
 use Rattle.cp_compile.specs.CompiledPrograms.{text_of}
 use Rattle.cp_compile.proofs.ProgramsCompiled.{planner_is, same_program}
 use Rattle.cp_compile.proofs.compiler.compile.Goals as goal

@@ -3,11 +3,11 @@ use Rattle.cp_model.specs.Abstract.{Name}
 use Rattle.cp_model.specs.Declarations.{globals}
 use Rattle.cp_model.specs.Names.{lookup}
 use Rattle.cp_model.specs.declared.tree.Tree as text
-use Rattle.cp_program_model.specs.Compile.{nothing_compiled}
-use Rattle.cp_emit.specs.Planning.{known_of}
-use Rattle.cp_scope.specs.declared.systems.SystemTable.{SystemTable}
-use Rattle.cp_scope.specs.Systems.{SystemStands}
-use Rattle.cp_scope.specs.Texts.{TablesStand}
+use Rattle.cp_model_program.specs.Compile.{nothing_compiled}
+use Rattle.cp_compile_emit.specs.Planning.{known_of}
+use Rattle.cp_compile_symbols.specs.declared.systems.SystemTable.{SystemTable}
+use Rattle.cp_compile_symbols.specs.Systems.{SystemStands}
+use Rattle.cp_compile_symbols.specs.Texts.{TablesStand}
 use Rattle.cp_compile.specs.CompiledPrograms.{IsPlanner, text_of, text_types}
 use Rattle.cp_compile.specs.CompiledSystems.{IsSystem}
 use Rattle.cp_compile.specs.CompiledTexts.{IsText, TypesAre}

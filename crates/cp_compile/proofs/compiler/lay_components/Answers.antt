@@ -1,6 +1,6 @@
 use Rattle.std.proofs.Common.{rules, ◌≡◌, ◌+◌, ◌++◌, ◌∷◌, ◌∙◌, List, [], ap, length, refl, subst, sym}
 use Rattle.cp_model.specs.Declarations.{declarations, globals}
-use Rattle.cp_program_model.specs.Compile as code
+use Rattle.cp_model_program.specs.Compile as code
 use Rattle.cp_compile.specs.declared.components.Owner.{Owner}
 use Rattle.cp_compile.specs.CompiledComponents.{AreOwners}
 use Rattle.cp_compile.specs.CompiledPrograms.{monitor_owners, process_owners, text_of, text_types}

@@ -1,11 +1,11 @@
 use Rattle.std.proofs.Common.{◌<◌, ◌∙◌, length, map, subst, arith}
 use Rattle.cp_model.specs.Declarations.{declarations}
-use Rattle.cp_scope.specs.Texts.{AreSystems}
-use Rattle.cp_scope.specs.Variables.{declared_entry}
-use Rattle.cp_scope.specs.declared.tables.Tables.{Tables}
-use Rattle.cp_emit.specs.ComponentPlans.{ArePlans}
-use Rattle.cp_emit.specs.Planning.{known_of}
-use Rattle.cp_emit.proofs.PlansKept.{number_there, plan_kept}
+use Rattle.cp_compile_symbols.specs.Texts.{AreSystems}
+use Rattle.cp_compile_symbols.specs.Variables.{declared_entry}
+use Rattle.cp_compile_symbols.specs.declared.tables.Tables.{Tables}
+use Rattle.cp_compile_emit.specs.ComponentPlans.{ArePlans}
+use Rattle.cp_compile_emit.specs.Planning.{known_of}
+use Rattle.cp_compile_emit.proofs.PlansKept.{number_there, plan_kept}
 use Rattle.cp_compile.specs.CompiledPrograms.{text_of}
 use Rattle.cp_compile.proofs.ProgramsCompiled.{planner_after, planner_types}
 use Rattle.cp_compile.proofs.compiler.make_plans.Goals as goal

@@ -1,7 +1,7 @@
 use Rattle.std.proofs.Common.{◌∙◌, ap, sym}
 use Rattle.cp_model.specs.Erase as erase
 use Rattle.cp_model.specs.View as tree
-use Rattle.cp_program_model.specs.Compile.{first_of_type}
+use Rattle.cp_model_program.specs.Compile.{first_of_type}
 use Rattle.cp_compile.proofs.TextsCompiled.{array_has_no_units, array_is_element}
 use Rattle.cp_compile.proofs.definitions.+first_of_type_expression.Goals as goal
 

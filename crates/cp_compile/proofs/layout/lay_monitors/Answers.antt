@@ -1,7 +1,7 @@
 use Rattle.std.proofs.Common.{rules, ◌≡◌, ◌+◌, ◌∷◌, List, arith, drop, get_or, refl, subst, sym}
 use Rattle.std.proofs.lemmas.List.{at_drop_more, drop_all}
-use Rattle.cp_program_model.specs.Compile.{monitors_at}
-use Rattle.cp_program_model.specs.Layout.{component_words}
+use Rattle.cp_model_program.specs.Compile.{monitors_at}
+use Rattle.cp_model_program.specs.Layout.{component_words}
 use Rattle.cp_program.specs.View as view
 use Rattle.cp_program.specs.declared.program.Monitor.{Monitor}
 use Rattle.cp_compile.specs.declared.components.Owner.{Owner}

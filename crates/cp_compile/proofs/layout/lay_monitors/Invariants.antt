@@ -1,10 +1,10 @@
 use Rattle.std.proofs.Common.{List, drop}
 use Rattle.cp_model.specs.Types.{GlobalScope}
-use Rattle.cp_program_model.specs.Compile as code
-use Rattle.cp_program_model.specs.Compile.{monitors_at}
-use Rattle.cp_program_model.specs.Layout.{component_words}
+use Rattle.cp_model_program.specs.Compile as code
+use Rattle.cp_model_program.specs.Compile.{monitors_at}
+use Rattle.cp_model_program.specs.Layout.{component_words}
 use Rattle.cp_program.specs.View as view
-use Rattle.cp_program_model.specs.Programs.{StartPlan}
+use Rattle.cp_model_program.specs.Programs.{StartPlan}
 use Rattle.cp_compile.specs.CompiledComponents.{AreOwners}
 use Rattle.cp_compile.proofs.LaidOut.{PartlyLaid}
 use Rattle.cp_compile.proofs.layout.lay_monitors.Given as goal

@@ -1,6 +1,6 @@
 use Rattle.std.proofs.Common.{rules, ◌≡◌, ◌+◌, ◌∷◌, List, drop, get_or, refl, subst, sym}
 use Rattle.std.proofs.lemmas.List.{at_drop_more, drop_all}
-use Rattle.cp_program_model.specs.Compile.{processes_at, waiting_words}
+use Rattle.cp_model_program.specs.Compile.{processes_at, waiting_words}
 use Rattle.cp_program.specs.View as view
 use Rattle.cp_program.specs.declared.program.Process.{Process}
 use Rattle.cp_compile.specs.declared.components.Owner.{Owner}

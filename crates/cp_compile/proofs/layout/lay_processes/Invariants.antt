@@ -1,9 +1,9 @@
 use Rattle.std.proofs.Common.{List, drop}
 use Rattle.cp_model.specs.Types.{GlobalScope}
-use Rattle.cp_program_model.specs.Compile as code
-use Rattle.cp_program_model.specs.Compile.{processes_at, waiting_words}
+use Rattle.cp_model_program.specs.Compile as code
+use Rattle.cp_model_program.specs.Compile.{processes_at, waiting_words}
 use Rattle.cp_program.specs.View as view
-use Rattle.cp_program_model.specs.Programs.{StartPlan}
+use Rattle.cp_model_program.specs.Programs.{StartPlan}
 use Rattle.cp_compile.specs.CompiledComponents.{AreOwners}
 use Rattle.cp_compile.proofs.LaidOut.{PartlyLaid}
 use Rattle.cp_compile.proofs.layout.lay_processes.Given as goal

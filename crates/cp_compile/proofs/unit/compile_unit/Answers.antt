@@ -1,8 +1,8 @@
 use Rattle.std.proofs.Common.{◌≡◌, ◌∷◌, ◌++◌, ◌∙◌, [], ap, drop, length, map, sym}
-use Rattle.cp_program_model.specs.CodeNeeds.{need_of_all}
-use Rattle.cp_program_model.specs.CodedStatements as statements
-use Rattle.cp_program_model.specs.Compile.{code_unit}
-use Rattle.cp_emit.specs.Emission.{operations_of, place_of, units_of}
+use Rattle.cp_model_program.specs.CodeNeeds.{need_of_all}
+use Rattle.cp_model_program.specs.CodedStatements as statements
+use Rattle.cp_model_program.specs.Compile.{code_unit}
+use Rattle.cp_compile_emit.specs.Emission.{operations_of, place_of, units_of}
 use Rattle.cp_program.specs.View as view
 use Rattle.cp_compile.specs.Compiles.{body_of}
 use Rattle.cp_compile.proofs.UnitsCompiled.{unit_compiled}

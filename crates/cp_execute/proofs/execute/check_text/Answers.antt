@@ -1,5 +1,5 @@
 use Rattle.std.proofs.lemmas.Result.{err_from_is_err_and}
-use Rattle.cp_accept.proofs.Faults.{known_fault}
+use Rattle.cp_frontend.proofs.Faults.{known_fault}
 use Rattle.cp_execute.proofs.execute.check_text.Goals as goal
 
 pub returns-in_err-read_accepted-clause-faults : goal.returns-in_err-read_accepted-clause-faults

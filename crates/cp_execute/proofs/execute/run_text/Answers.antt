@@ -4,13 +4,13 @@ use Rattle.std.proofs.lemmas.Result.{err_from_is_err_and, on_ok_weaker}
 use Rattle.cp_model.specs.Syntax as s
 use Rattle.cp_model.specs.View as view
 use Rattle.cp_model.proofs.Results.{if_err, on_err}
-use Rattle.cp_accept.specs.Cutting.{judge_input}
+use Rattle.cp_frontend.specs.Cutting.{judge_input}
 use Rattle.cp_execute.specs.Executed.{IsDue}
-use Rattle.cp_accept.specs.Takings.{concern}
-use Rattle.cp_accept.specs.Texts.{IsAccepted}
-use Rattle.cp_accept.proofs.Faults.{known_text_fault, memory_fault, write_fault}
-use Rattle.cp_accept.proofs.Takings.{input_kept, input_written, memory_at, no_write_of_input, no_write_of_text, text_at, text_taken}
-use Rattle.cp_accept.proofs.TextRefusals.{of_known, run_refused_input, run_refused_text}
+use Rattle.cp_frontend.specs.Takings.{concern}
+use Rattle.cp_frontend.specs.Texts.{IsAccepted}
+use Rattle.cp_frontend.proofs.Faults.{known_text_fault, memory_fault, write_fault}
+use Rattle.cp_frontend.proofs.Takings.{input_kept, input_written, memory_at, no_write_of_input, no_write_of_text, text_at, text_taken}
+use Rattle.cp_frontend.proofs.TextRefusals.{of_known, run_refused_input, run_refused_text}
 use Rattle.cp_execute.proofs.execute.run_text.Given.{Over}
 use Rattle.cp_execute.proofs.execute.run_text.Goals as goal
 use Rattle.cp_execute.proofs.execute.run_text.Goals.{After-drop-tree-2}

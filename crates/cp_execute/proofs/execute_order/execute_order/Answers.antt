@@ -3,11 +3,11 @@ use Rattle.std.proofs.lemmas.Result.{err_from_is_err_and, on_ok_weaker}
 use Rattle.cp_model.specs.View as view
 use Rattle.cp_model.proofs.Results.{if_err, on_err}
 use Rattle.cp_execute.specs.Replayed.{IsReplayed, RefusesOrder}
-use Rattle.cp_accept.specs.Refusals.{of_read}
-use Rattle.cp_accept.specs.Takings.{concern}
+use Rattle.cp_frontend.specs.Refusals.{of_read}
+use Rattle.cp_frontend.specs.Takings.{concern}
 use Rattle.cp_execute.proofs.OrderRefusals.{input_refused, order_refused, order_unread, refuses_order_of, replay_refused_input, replay_refused_order, replay_refused_text, text_refused, write_refused}
 use Rattle.cp_execute.proofs.OrdersDue.{input_is_fit, replay_due}
-use Rattle.cp_accept.proofs.Takings.{input_before, input_kept, input_written, no_write_of_input, no_write_of_order, no_write_of_text, order_after_input, order_after_text, order_at, order_failed, order_written, text_at, text_taken}
+use Rattle.cp_frontend.proofs.Takings.{input_before, input_kept, input_written, no_write_of_input, no_write_of_order, no_write_of_text, order_after_input, order_after_text, order_at, order_failed, order_written, text_at, text_taken}
 use Rattle.cp_execute.proofs.execute_order.execute_order.Goals as goal
 
 -- ---- the text is refused

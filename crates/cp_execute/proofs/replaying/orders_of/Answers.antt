@@ -1,6 +1,6 @@
 use Rattle.std.proofs.Common.{rules, ap}
 use Rattle.std.proofs.lemmas.Result.{err_from_is_err_and}
-use Rattle.cp_orders.specs.Reading.{Refuses}
+use Rattle.cp_base_schedule.specs.Reading.{Refuses}
 use Rattle.cp_execute.specs.Replayed.{rounds_told}
 use Rattle.cp_execute.proofs.OrderRefusals.{order_refused_for}
 use Rattle.cp_execute.proofs.replaying.orders_of.Goals as goal

@@ -1,18 +1,18 @@
 use Rattle.std.proofs.Common.{◌∙◌, refl, subst, sym}
-use Rattle.cp_machine_model.specs.InState.{IsIn}
-use Rattle.cp_machine_model.proofs.MachineStarts.{start_calm}
+use Rattle.cp_model_machine.specs.InState.{IsIn}
+use Rattle.cp_model_machine.proofs.MachineStarts.{start_calm}
 use Rattle.cp_model.specs.Declarations.{globals}
 use Rattle.cp_model.specs.Orders.{replay}
 use Rattle.cp_model.specs.Start.{start}
 use Rattle.cp_model.specs.View as view
 use Rattle.cp_model.proofs.Results.{if_ok}
-use Rattle.cp_orders.specs.Reading.{AllWithin}
-use Rattle.cp_orders.specs.Rounds.{rounds_of}
+use Rattle.cp_base_schedule.specs.Reading.{AllWithin}
+use Rattle.cp_base_schedule.specs.Rounds.{rounds_of}
 use Rattle.cp_program.specs.View as program_view
-use Rattle.cp_program_model.specs.StandsFor.{StandsFor}
+use Rattle.cp_model_program.specs.StandsFor.{StandsFor}
 use Rattle.cp_rounds.specs.Views.{machine_of}
 use Rattle.cp_rounds.proofs.InStates.{process_count_is}
-use Rattle.cp_start.specs.Starts.{setup_of}
+use Rattle.cp_execute_start.specs.Starts.{setup_of}
 use Rattle.cp_execute.specs.Replayed.{timed}
 use Rattle.cp_execute.proofs.Replays.{replay_calm}
 use Rattle.cp_execute.proofs.Reported.{lent, reported}

@@ -1,8 +1,8 @@
 use Rattle.std.proofs.Common.{rules, ◌≡◌, ◌+◌, ◌≤◌, ℕ, suc, List, Some, None, length, take, take_all, sym, subst, arith}
 use Rattle.std.specs.Prelude.{slice_get}
 use Rattle.cp_model.specs.Rounds.{Event}
-use Rattle.cp_orders.specs.Events.{events_of}
-use Rattle.cp_orders.specs.Rounds.{rounds_of}
+use Rattle.cp_base_schedule.specs.Events.{events_of}
+use Rattle.cp_base_schedule.specs.Rounds.{rounds_of}
 use Rattle.cp_rounds.proofs.After.{text_kept_more}
 use Rattle.cp_execute.specs.Replayed.{MakesReplays}
 use Rattle.cp_execute.proofs.Replays.{none_past, one_more}

@@ -1,5 +1,5 @@
 use Rattle.std.proofs.Common.{◌≡◌, ◌+◌, take}
-use Rattle.cp_orders.specs.Rounds.{rounds_of}
+use Rattle.cp_base_schedule.specs.Rounds.{rounds_of}
 use Rattle.cp_rounds.specs.Views.{KeepsText, processes_of}
 use Rattle.cp_execute.specs.Replayed.{MakesReplays}
 use Rattle.cp_execute.proofs.replaying.replay_rounds.Given as goal

@@ -1,10 +1,10 @@
 use Rattle.std.proofs.Common.{◌≡◌, ◌∙◌, [], Ok, refl, subst}
 use Rattle.std.proofs.lemmas.Result.{err_from_is_err_and}
 use Rattle.cp_model.specs.View as view
-use Rattle.cp_orders.specs.Rounds.{rounds_of}
+use Rattle.cp_base_schedule.specs.Rounds.{rounds_of}
 use Rattle.cp_program.specs.View as program_view
-use Rattle.cp_program_model.specs.StandsFor.{StandsFor}
-use Rattle.cp_start.specs.Starts.{setup_of}
+use Rattle.cp_model_program.specs.StandsFor.{StandsFor}
+use Rattle.cp_execute_start.specs.Starts.{setup_of}
 use Rattle.cp_execute.specs.Replayed.{RefusesOrderFor, judge_order, judge_order_of}
 use Rattle.cp_execute.proofs.replaying.replay_text.Goals as goal
 

@@ -1,13 +1,13 @@
 use Rattle.std.proofs.Common.{refl}
-use Rattle.cp_machine_model.specs.InState.{IsIn}
-use Rattle.cp_machine_model.proofs.MachineStarts.{run_calm, start_calm}
+use Rattle.cp_model_machine.specs.InState.{IsIn}
+use Rattle.cp_model_machine.proofs.MachineStarts.{run_calm, start_calm}
 use Rattle.cp_model.specs.Declarations.{globals}
 use Rattle.cp_model.specs.Rounds as meaning
 use Rattle.cp_model.specs.Start.{start}
 use Rattle.cp_model.specs.View as view
 use Rattle.cp_model.proofs.Results.{if_ok}
 use Rattle.cp_rounds.specs.Views.{machine_of}
-use Rattle.cp_start.specs.Starts.{setup_of}
+use Rattle.cp_execute_start.specs.Starts.{setup_of}
 use Rattle.cp_execute.proofs.Reported.{lent, reported}
 use Rattle.cp_execute.proofs.running.run_program.Goals as goal
 

@@ -1,8 +1,8 @@
 use Rattle.std.proofs.Common.{[], refl, ap, sym, ◌∙◌}
 use Rattle.cp_private.specs.States as states
-use Rattle.cp_machine_model.specs.KernelSteps.{stage_of}
-use Rattle.cp_machine_model.specs.Machines as plain
-use Rattle.cp_machine_model.specs.PrivateStates.{PrivateState}
+use Rattle.cp_model_machine.specs.KernelSteps.{stage_of}
+use Rattle.cp_model_machine.specs.Machines as plain
+use Rattle.cp_model_machine.specs.PrivateStates.{PrivateState}
 use Rattle.cp_program.specs.View as view
 use Rattle.cp_kernel.specs.KernelOf.{kernel_of}
 use Rattle.cp_kernel.proofs.Begins.{begun_number, not_fresh}

@@ -3,7 +3,7 @@ use Rattle.std.specs.Prelude.{slice_index_or}
 use Rattle.std.proofs.lemmas.Option.{slice_get-get_or}
 use Rattle.cp_private.specs.States.{private_of}
 use Rattle.cp_private.specs.declared.private.Private.{Private}
-use Rattle.cp_machine_model.specs.Machines as plain
+use Rattle.cp_model_machine.specs.Machines as plain
 use Rattle.cp_program.specs.View as view
 use Rattle.cp_kernel.specs.KernelOf.{kernel_of}
 use Rattle.cp_kernel.specs.Turns.{parts_of}

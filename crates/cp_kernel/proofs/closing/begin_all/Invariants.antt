@@ -1,6 +1,6 @@
 use Rattle.std.proofs.Common.{◌≡◌, ℕ, List, map}
 use Rattle.cp_private.specs.declared.private.Private.{Private}
-use Rattle.cp_machine_model.specs.Machines as plain
+use Rattle.cp_model_machine.specs.Machines as plain
 use Rattle.cp_program.specs.View as view
 use Rattle.cp_kernel.specs.KernelOf.{kernel_of}
 use Rattle.cp_kernel.specs.Turns.{parts_of}

@@ -1,5 +1,5 @@
 use Rattle.std.proofs.Common.{◌≡◌, map}
-use Rattle.cp_machine_model.specs.Machines as plain
+use Rattle.cp_model_machine.specs.Machines as plain
 use Rattle.cp_private.specs.States.{stage as stage_view}
 use Rattle.cp_kernel.proofs.Changed.{changed_below}
 use Rattle.cp_kernel.proofs.closing.close_stages.Given as goal

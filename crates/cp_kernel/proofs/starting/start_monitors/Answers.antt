@@ -1,6 +1,6 @@
 use Rattle.std.proofs.Common.{rules, ◌≡◌, ◌<◌, ◌+◌, ◌-◌, slice_get, suc, length, drop, ap, sym, ◌∙◌, arith}
-use Rattle.cp_program_model.specs.Programs as code
-use Rattle.cp_machine_model.specs.Machines as plain
+use Rattle.cp_model_program.specs.Programs as code
+use Rattle.cp_model_machine.specs.Machines as plain
 use Rattle.cp_program.specs.View as view
 use Rattle.std.specs.Prelude.{List}
 use Rattle.cp_kernel.proofs.Starts.{next_monitor}

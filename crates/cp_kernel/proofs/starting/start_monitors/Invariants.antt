@@ -1,5 +1,5 @@
 use Rattle.std.proofs.Common.{◌≡◌, ◌≤◌, length, drop}
-use Rattle.cp_machine_model.specs.Machines as plain
+use Rattle.cp_model_machine.specs.Machines as plain
 use Rattle.cp_program.specs.View as view
 use Rattle.cp_kernel.proofs.starting.start_monitors.Given as goal
 

@@ -1,6 +1,6 @@
 use Rattle.std.proofs.Common.{rules, ◌≡◌, length, ap, ◌∙◌}
 use Rattle.cp_program.specs.View as view
-use Rattle.cp_machine_model.specs.Steps.{step_with}
+use Rattle.cp_model_machine.specs.Steps.{step_with}
 use Rattle.cp_private.specs.States as states
 use Rattle.cp_kernel.proofs.Parting.{lent, outside_same}
 use Rattle.cp_kernel.proofs.step.act.Goals as goal

@@ -1,5 +1,5 @@
 use Rattle.std.proofs.Common.{[], ap, sym, ◌∙◌}
-use Rattle.cp_machine_model.specs.KernelSteps.{is_begun, stage_of}
+use Rattle.cp_model_machine.specs.KernelSteps.{is_begun, stage_of}
 use Rattle.cp_program.specs.View as view
 use Rattle.cp_kernel.specs.Due.{is_kernel}
 use Rattle.cp_kernel.specs.KernelOf.{kernel_of, turning}

@@ -3,7 +3,7 @@ use Rattle.std.specs.Prelude.{Vec}
 use Rattle.std.specs.Global.{Global}
 use Rattle.cp_private.specs.declared.outside.Stage.{Stage}
 use Rattle.cp_program.specs.View as view
-use Rattle.cp_machine_model.specs.KernelSteps as plain
+use Rattle.cp_model_machine.specs.KernelSteps as plain
 use Rattle.cp_private.specs.States as states
 use Rattle.cp_kernel.specs.KernelOf.{IsAmong, IsBegun, kernel_of, turning}
 use Rattle.cp_kernel.proofs.Asking.{room_kept}

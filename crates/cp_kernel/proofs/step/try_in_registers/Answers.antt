@@ -1,8 +1,8 @@
 use Rattle.std.proofs.Common.{◌≡◌, length, ap, sym, ◌∙◌}
 use Rattle.cp_program.specs.View as view
-use Rattle.cp_machine_model.specs.Calling.{gate_effect}
-use Rattle.cp_machine_model.specs.KernelSteps as plain
-use Rattle.cp_machine_model.specs.PrivateStates.{Leaves, NoEffect}
+use Rattle.cp_model_machine.specs.Calling.{gate_effect}
+use Rattle.cp_model_machine.specs.KernelSteps as plain
+use Rattle.cp_model_machine.specs.PrivateStates.{Leaves, NoEffect}
 use Rattle.cp_private.proofs.Parted.{parted_as, step_due}
 use Rattle.cp_private.specs.States as states
 use Rattle.cp_kernel.specs.KernelOf.{kernel_of, turning}

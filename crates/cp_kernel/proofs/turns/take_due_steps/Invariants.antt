@@ -1,5 +1,5 @@
 use Rattle.std.proofs.Common.{◌≡◌, ◌≤◌, ◌+◌, ◌*◌, ◌-◌, ℕ, true, vec_capacity, vec_len}
-use Rattle.cp_machine_model.specs.KernelSteps as plain
+use Rattle.cp_model_machine.specs.KernelSteps as plain
 use Rattle.cp_program.specs.View as view
 use Rattle.cp_private.specs.Rooms.{HasRoomFor}
 use Rattle.cp_kernel.specs.KernelOf.{HasRoomForAskers, IsBegun, turning}

@@ -1,8 +1,8 @@
 use Rattle.std.proofs.Common.{◌≡◌, ◌-◌, suc, refl, ap, sym, ◌∙◌, arith}
 use Rattle.std.specs.Prelude.{map}
 use Rattle.cp_private.specs.States as states
-use Rattle.cp_machine_model.specs.KernelSteps as plain
-use Rattle.cp_machine_model.specs.PrivateStates.{is_running}
+use Rattle.cp_model_machine.specs.KernelSteps as plain
+use Rattle.cp_model_machine.specs.PrivateStates.{is_running}
 use Rattle.cp_program.specs.View as view
 use Rattle.cp_kernel.specs.KernelOf.{turning}
 use Rattle.cp_kernel.proofs.Stepping.{steps_more}

@@ -1,7 +1,7 @@
 use Rattle.std.proofs.Common.{◌≡◌, ◌≤◌, ℕ, List, true}
 use Rattle.cp_private.specs.States.{activity}
-use Rattle.cp_machine_model.specs.KernelSteps as plain
-use Rattle.cp_machine_model.specs.PrivateStates.{is_running}
+use Rattle.cp_model_machine.specs.KernelSteps as plain
+use Rattle.cp_model_machine.specs.PrivateStates.{is_running}
 use Rattle.cp_program.specs.View as view
 use Rattle.cp_kernel.specs.KernelOf.{HasRoomForAskers, IsBegun, turning}
 use Rattle.cp_kernel.proofs.turns.take_quick_steps.Given as goal

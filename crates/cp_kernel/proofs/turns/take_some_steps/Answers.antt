@@ -1,5 +1,5 @@
 use Rattle.std.proofs.Common.{◌≡◌, ◌+◌, subst, ap, sym, ◌∙◌, arith}
-use Rattle.cp_machine_model.specs.KernelSteps as plain
+use Rattle.cp_model_machine.specs.KernelSteps as plain
 use Rattle.cp_program.specs.View as view
 use Rattle.cp_kernel.specs.KernelOf.{IsBegun}
 use Rattle.cp_kernel.proofs.Asking.{less}

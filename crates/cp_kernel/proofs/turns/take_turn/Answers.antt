@@ -1,7 +1,7 @@
 use Rattle.std.proofs.Common.{◌≡◌, ◌≤◌, ◌+◌, ◌-◌, ◌*◌, ℕ, [], Some, slice_get, vec_len, vec_capacity, ap, sym, subst, ◌∙◌, arith}
 use Rattle.std.specs.Prelude.{Vec}
 use Rattle.std.specs.Global.{Global}
-use Rattle.cp_machine_model.specs.KernelSteps as plain
+use Rattle.cp_model_machine.specs.KernelSteps as plain
 use Rattle.cp_program.specs.View as view
 use Rattle.cp_kernel.specs.KernelOf.{Bytes, HasRoomForBytes, turning}
 use Rattle.cp_kernel.specs.Turns.{Moves}

@@ -1,5 +1,5 @@
 use Rattle.std.proofs.Common.{rules, ◌≡◌, ◌++◌}
-use Rattle.cp_machine_model.specs.Machines.{transcript_of}
+use Rattle.cp_model_machine.specs.Machines.{transcript_of}
 use Rattle.cp_rounds.specs.Views.{machine_of, output_of}
 use Rattle.cp_outcome.proofs.Transcripts.{whole_transcript}
 use Rattle.cp_outcome.proofs.transcript.transcript.Goals as goal

@@ -1,5 +1,5 @@
 use Rattle.std.proofs.Common.{◌≡◌, ◌≤◌, ◌<◌, ◌+◌, ◌*◌, ◌^◌, ◌++◌, IfSome, drop, length, take}
-use Rattle.cp_program_model.specs.Starts.{carry_out}
+use Rattle.cp_model_program.specs.Starts.{carry_out}
 use Rattle.cp_program.specs.View.{plan_of, plans_of}
 use Rattle.cp_private.specs.Plans.{carried, carried_or_same}
 use Rattle.cp_private.proofs.CarriedOut.{left_over}

@@ -1,5 +1,5 @@
 use Rattle.std.proofs.Common.{◌≤◌, ◌∙◌, ap, sym, take, arith}
-use Rattle.cp_program_model.specs.Starts.{carry_out}
+use Rattle.cp_model_program.specs.Starts.{carry_out}
 use Rattle.cp_program.specs.View.{plan_at, plans_of}
 use Rattle.cp_program.proofs.PlansKnown.{no_plan_below, plan_below}
 use Rattle.cp_private.proofs.CarriedOut.{carried_beyond}

@@ -1,8 +1,8 @@
 use Rattle.std.proofs.Common.{rules, ◌≡◌, ap, subst, sym, ◌∙◌}
 use Rattle.cp_model.specs.Turns as meaning
-use Rattle.cp_machine_model.specs.Laws.{ground_of}
-use Rattle.cp_machine_model.specs.PartOf.{PartOf}
-use Rattle.cp_machine_model.specs.Steps.{private_steps}
+use Rattle.cp_model_machine.specs.Laws.{ground_of}
+use Rattle.cp_model_machine.specs.PartOf.{PartOf}
+use Rattle.cp_model_machine.specs.Steps.{private_steps}
 use Rattle.cp_program.specs.View as view
 use Rattle.cp_private.specs.States.{private_of}
 use Rattle.cp_private.proofs.turns.private_turn.Goals as goal

@@ -1,8 +1,8 @@
 use Rattle.std.proofs.Common.{sym, ap, subst, ◌∙◌}
 use Rattle.cp_model.specs.Turns as meaning
 use Rattle.cp_program.specs.View as view
-use Rattle.cp_machine_model.specs.KernelSteps.{kernel_step}
-use Rattle.cp_machine_model.specs.Laws.{TurningOf}
+use Rattle.cp_model_machine.specs.KernelSteps.{kernel_step}
+use Rattle.cp_model_machine.specs.Laws.{TurningOf}
 use Rattle.cp_private.specs.Promises.{beside}
 use Rattle.cp_private.specs.States.{effect}
 use Rattle.cp_private.proofs.Parted.{kernel_step_made}

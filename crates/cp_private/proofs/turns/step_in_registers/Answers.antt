@@ -1,5 +1,5 @@
 use Rattle.std.proofs.Common.{◌≡◌, Some, ap, sym, ◌∙◌}
-use Rattle.cp_machine_model.specs.Steps.{act_on, operation_of}
+use Rattle.cp_model_machine.specs.Steps.{act_on, operation_of}
 use Rattle.cp_program.specs.View as view
 use Rattle.cp_private.specs.States.{join}
 use Rattle.cp_private.proofs.turns.step_in_registers.Goals as goal

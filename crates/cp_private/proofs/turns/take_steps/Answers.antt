@@ -1,5 +1,5 @@
 use Rattle.std.proofs.Common.{◌≡◌, suc, ◌-◌, ap, sym, ◌∙◌, arith}
-use Rattle.cp_machine_model.specs.Steps as plain
+use Rattle.cp_model_machine.specs.Steps as plain
 use Rattle.cp_program.specs.View as view
 use Rattle.cp_private.specs.States.{private_of}
 use Rattle.cp_private.proofs.Lasting.{steps_more, steps_rest}

@@ -1,5 +1,5 @@
 use Rattle.std.proofs.Common.{◌≡◌, ◌≤◌, ◌+◌, ◌*◌, ◌-◌, vec_capacity, vec_len}
-use Rattle.cp_machine_model.specs.Steps as plain
+use Rattle.cp_model_machine.specs.Steps as plain
 use Rattle.cp_program.specs.View as view
 use Rattle.cp_private.specs.Rooms.{HasRoomFor}
 use Rattle.cp_private.specs.States.{IsReady, private_of}

@@ -1,7 +1,7 @@
 use Rattle.std.proofs.Common.{rules, arith, ◌≡◌, ◌+◌, ◌-◌, ◌<◌, length, to_z, of_z, ap, sym, ◌∙◌}
 use Rattle.std.specs.Prelude.{min, slice_set}
 use Rattle.std.specs.Int.{w32}
-use Rattle.cp_program_model.specs.Starts.{block, paste}
+use Rattle.cp_model_program.specs.Starts.{block, paste}
 use Rattle.cp_private.proofs.Blocks.{brought_all, brought_more}
 use Rattle.cp_private.proofs.words.bring.Goals as goal
 

@@ -2,7 +2,7 @@ use Rattle.std.proofs.Common.{◌≡◌, ◌+◌, ◌-◌, ◌++◌, ap, ◌∙�
 use Rattle.std.specs.Prelude.{slice_set}
 use Rattle.std.specs.Int.{w32}
 use Rattle.std.proofs.lemmas.Int.{to_z-of_z}
-use Rattle.cp_program_model.specs.Starts.{block, paste, word}
+use Rattle.cp_model_program.specs.Starts.{block, paste, word}
 use Rattle.cp_program.specs.Reaches.{cap_place}
 use Rattle.cp_private.proofs.Blocks.{copied_down}
 use Rattle.cp_private.proofs.words.copy_down.Goals as goal

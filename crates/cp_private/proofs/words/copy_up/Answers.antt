@@ -2,7 +2,7 @@ use Rattle.std.proofs.Common.{◌≡◌, ◌+◌, ◌-◌, ◌++◌, ap, ◌∙�
 use Rattle.std.specs.Prelude.{slice_set}
 use Rattle.std.specs.Int.{w32}
 use Rattle.std.proofs.lemmas.Int.{to_z-of_z}
-use Rattle.cp_program_model.specs.Starts.{block, paste, word}
+use Rattle.cp_model_program.specs.Starts.{block, paste, word}
 use Rattle.cp_private.proofs.Blocks.{copied_up}
 use Rattle.cp_private.proofs.words.copy_up.Goals as goal
 

@@ -1,5 +1,5 @@
 use Rattle.std.proofs.Common.{◌≡◌, ◌++◌, length}
-use Rattle.cp_program_model.specs.Starts.{block, paste}
+use Rattle.cp_model_program.specs.Starts.{block, paste}
 use Rattle.cp_private.proofs.words.copy_up.Given as goal
 
 -- The iterations that are left lead to the same words as all of them.

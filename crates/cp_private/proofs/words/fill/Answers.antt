@@ -3,7 +3,7 @@ use Rattle.std.specs.Prelude.{min}
 use Rattle.std.specs.Int.{w32}
 use Rattle.std.proofs.lemmas.Int.{to_z-of_z}
 use Rattle.std.proofs.lemmas.List.{length-append}
-use Rattle.cp_program_model.specs.Starts.{fill}
+use Rattle.cp_model_program.specs.Starts.{fill}
 use Rattle.cp_private.proofs.Blocks.{fill_ends, fill_more}
 use Rattle.cp_private.proofs.words.fill.Goals as goal
 

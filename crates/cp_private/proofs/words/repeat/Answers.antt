@@ -1,6 +1,6 @@
 use Rattle.std.proofs.Common.{◌+◌, ◌-◌, ◌≤◌, ◌++◌, length, ap, sym, ◌∙◌, arith}
 use Rattle.std.proofs.lemmas.List.{length-append}
-use Rattle.cp_program_model.specs.Starts.{repeat_block}
+use Rattle.cp_model_program.specs.Starts.{repeat_block}
 use Rattle.cp_private.proofs.Blocks.{repeated_beyond, repeated_more, repeated_nothing}
 use Rattle.cp_private.proofs.words.repeat.Goals as goal
 

@@ -1,6 +1,6 @@
 use Rattle.std.proofs.Common.{◌≡◌, ◌-ℤ◌, ◌*ℤ◌, ap, sym, ◌∙◌}
 use Rattle.cp_model.specs.Erase.{operator_of}
-use Rattle.cp_machine_model.specs.Values.{apply}
+use Rattle.cp_model_machine.specs.Values.{apply}
 use Rattle.cp_program.proofs.Wide.{wide, widened, in_range_wide, difference_fits, product_fits}
 use Rattle.cp_program.proofs.arithmetic.apply.Goals as goal
 

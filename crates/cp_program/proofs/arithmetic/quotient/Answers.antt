@@ -1,7 +1,7 @@
 use Rattle.std.proofs.Common.{◌≡◌, ◌∙◌, ap, pos, negsuc}
 use Rattle.std.specs.Prelude.{int_div}
 use Rattle.std.specs.Int.{w32, cast_unsigned}
-use Rattle.cp_program_model.specs.Functions.{in_range}
+use Rattle.cp_model_program.specs.Functions.{in_range}
 use Rattle.cp_program.proofs.Wide.{apart, in_range_narrow, quotient_fits, unless_zero_passed}
 use Rattle.cp_program.proofs.arithmetic.quotient.Goals as goal
 

@@ -4,7 +4,7 @@ use Rattle.std.specs.Int.{w32, w64}
 use Rattle.std.proofs.lemmas.Int.{ints, to_z-of_z}
 use Rattle.cp_model.specs.Places.{within}
 use Rattle.cp_model.specs.declared.state.Fault.TheVariants as fault
-use Rattle.cp_program_model.specs.Functions.{unless}
+use Rattle.cp_model_program.specs.Functions.{unless}
 use Rattle.cp_program.proofs.Wide.{bounds_wide, wide, widened}
 use Rattle.cp_program.proofs.arithmetic.shift.Goals as goal
 

@@ -1,8 +1,8 @@
 use Rattle.std.proofs.Common.{◌∙◌, ap, sym}
-use Rattle.cp_machine_model.specs.KernelSteps.{stage_of}
+use Rattle.cp_model_machine.specs.KernelSteps.{stage_of}
 use Rattle.cp_rounds.specs.ProcessStates.{activity_at}
 use Rattle.cp_rounds.specs.Views.{machine_of}
-use Rattle.cp_members.specs.Statuses.{asks_for_gate}
+use Rattle.cp_inspect.specs.Statuses.{asks_for_gate}
 use Rattle.cp_report.proofs.StatesTold.{asker_told}
 use Rattle.cp_report.proofs.chains.is_asking.Goals as goal
 

@@ -1,7 +1,7 @@
 use Rattle.std.proofs.Common.{rules, ◌≡◌, ◌∙◌, ◌++◌, ◌+◌, ◌-◌, ◌<◌, ℕ, ap, length, arith}
 use Rattle.cp_model.specs.States.{numbers_from}
-use Rattle.cp_machine_model.specs.Chains.{chain_line_of, chain_lines}
-use Rattle.cp_machine_model.specs.KernelSteps.{Kernel}
+use Rattle.cp_model_machine.specs.Chains.{chain_line_of, chain_lines}
+use Rattle.cp_model_machine.specs.KernelSteps.{Kernel}
 use Rattle.cp_rounds.specs.Views.{machine_of}
 use Rattle.cp_report.proofs.ChainsTold.{next_line}
 use Rattle.cp_report.proofs.chains.push_chains.Goals as goal

@@ -1,6 +1,6 @@
 use Rattle.std.proofs.Common.{◌≡◌, ◌+◌, ◌-◌, ◌++◌, length}
 use Rattle.cp_model.specs.States.{numbers_from}
-use Rattle.cp_machine_model.specs.Chains.{chain_lines, machine_chains}
+use Rattle.cp_model_machine.specs.Chains.{chain_lines, machine_chains}
 use Rattle.cp_rounds.specs.Views.{machine_of}
 use Rattle.cp_report.proofs.chains.push_chains.Given as goal
 

@@ -3,10 +3,10 @@ use Rattle.cp_rounds.specs.Views.{machine_of}
 use Rattle.cp_model.specs.Abstract.{Monitor, Process}
 use Rattle.cp_model.specs.Declarations.{globals}
 use Rattle.cp_model.specs.Report.{components_of}
-use Rattle.cp_machine_model.specs.Reports.{machine_report}
-use Rattle.cp_scope.specs.Standing.{entry}
-use Rattle.cp_scope.specs.Texts.{TablesStand}
-use Rattle.cp_members.specs.Lists.{AreListed}
+use Rattle.cp_model_machine.specs.Reports.{machine_report}
+use Rattle.cp_compile_symbols.specs.Standing.{entry}
+use Rattle.cp_compile_symbols.specs.Texts.{TablesStand}
+use Rattle.cp_inspect.specs.Lists.{AreListed}
 use Rattle.cp_report.proofs.Initial.{listed}
 use Rattle.cp_report.proofs.report.report.Goals as goal
 

@@ -1,8 +1,8 @@
 use Rattle.std.proofs.Common.{◌≡◌, ◌+◌, ℕ, length, sym, ap, subst, ◌∙◌, arith}
-use Rattle.cp_machine_model.specs.Machines.{Machine, end_round, kernel_turns, phased_rounds}
+use Rattle.cp_model_machine.specs.Machines.{Machine, end_round, kernel_turns, phased_rounds}
 use Rattle.cp_model.specs.States.{numbers_from}
-use Rattle.cp_desk.specs.Inputs.{input_of}
-use Rattle.cp_desk.specs.Turned.{moment_of, with_turn_taken}
+use Rattle.cp_rounds_handoff.specs.Inputs.{input_of}
+use Rattle.cp_rounds_handoff.specs.Turned.{moment_of, with_turn_taken}
 use Rattle.cp_rounds.specs.Ahead.{IsReadyAhead, IsTime, PartsAhead}
 use Rattle.cp_rounds.proofs.AheadPasses.{has_made, one_more, round_is}
 use Rattle.cp_rounds.proofs.Made.{parts_count}

@@ -1,7 +1,7 @@
 use Rattle.std.proofs.Common.{◌≡◌, ◌+◌, length}
-use Rattle.cp_machine_model.specs.Machines.{Machine, phased_rounds}
+use Rattle.cp_model_machine.specs.Machines.{Machine, phased_rounds}
 use Rattle.cp_model.specs.States.{numbers_from}
-use Rattle.cp_desk.specs.Turned.{with_turn_taken}
+use Rattle.cp_rounds_handoff.specs.Turned.{with_turn_taken}
 use Rattle.cp_rounds.specs.Ahead.{IsReadyAhead, IsTime, PartsAhead}
 use Rattle.cp_rounds.proofs.ahead.finish_one_by_one.Given as goal
 

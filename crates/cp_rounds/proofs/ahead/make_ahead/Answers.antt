@@ -1,7 +1,7 @@
 use Rattle.std.proofs.Common.{◌≡◌, ◌+◌, ℕ, suc, length, refl, subst, ◌∙◌, arith}
-use Rattle.cp_machine_model.specs.Machines.{Machine, phased_rounds}
+use Rattle.cp_model_machine.specs.Machines.{Machine, phased_rounds}
 use Rattle.cp_model.specs.States.{numbers_from}
-use Rattle.cp_desk.specs.Turned.{with_turn_taken}
+use Rattle.cp_rounds_handoff.specs.Turned.{with_turn_taken}
 use Rattle.cp_rounds.specs.Ahead.{AreBack, PartsAhead}
 use Rattle.cp_rounds.specs.MachineOf.{machine_with}
 use Rattle.cp_rounds.specs.Made.{IsReadyFor}

@@ -1,8 +1,8 @@
 use Rattle.std.proofs.Common.{◌≡◌, ◌≢◌, ◌<◌, ℕ, suc, Some, length, slice_get}
-use Rattle.cp_ahead.specs.Ahead.{HasBegun}
+use Rattle.cp_model_ahead.specs.Ahead.{HasBegun}
 use Rattle.cp_kernel.specs.KernelOf.{kernel_of}
 use Rattle.cp_private.specs.declared.private.Private.{Private}
-use Rattle.cp_desk.specs.Tasks.{AreLeft, AreMade, AreTaken}
+use Rattle.cp_rounds_handoff.specs.Tasks.{AreLeft, AreMade, AreTaken}
 use Rattle.cp_rounds.specs.Ahead.{turns_ahead}
 use Rattle.cp_rounds.proofs.ahead.take_all_back.Given as goal
 

@@ -3,8 +3,8 @@ use Rattle.cp_private.specs.Resting.{rests}
 use Rattle.cp_private.specs.States.{private_of}
 use Rattle.cp_private.specs.declared.private.Private.{Private}
 use Rattle.cp_program.specs.View as view
-use Rattle.cp_desk.specs.Quiet.{is_quiet}
-use Rattle.cp_desk.specs.Turned.{take_turn}
+use Rattle.cp_rounds_handoff.specs.Quiet.{is_quiet}
+use Rattle.cp_rounds_handoff.specs.Turned.{take_turn}
 use Rattle.cp_rounds.proofs.AheadTurns.{rests_taken}
 use Rattle.cp_rounds.proofs.ahead.take_back.Goals as goal
 

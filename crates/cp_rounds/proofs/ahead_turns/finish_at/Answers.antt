@@ -1,11 +1,11 @@
 use Rattle.std.proofs.Common.{◌≡◌, ◌≢◌, ◌<◌, ◌+◌, ◌-◌, ◌*◌, ℕ, Some, slice_get, vec_len, sym, ap, subst, ◌∙◌, arith}
 use Rattle.cp_kernel.specs.KernelOf.{HasRoomForBytes, turning}
 use Rattle.cp_kernel.specs.Turns.{IsTurned}
-use Rattle.cp_machine_model.specs.KernelSteps.{kernel_steps}
+use Rattle.cp_model_machine.specs.KernelSteps.{kernel_steps}
 use Rattle.cp_private.specs.declared.private.Private.{Private}
 use Rattle.cp_program.specs.View as view
-use Rattle.cp_desk.specs.Inputs.{input_at}
-use Rattle.cp_desk.proofs.Lists.{got_at, got_or}
+use Rattle.cp_rounds_handoff.specs.Inputs.{input_at}
+use Rattle.cp_rounds_handoff.proofs.Lists.{got_at, got_or}
 use Rattle.cp_rounds.specs.Ahead.{turns_ahead}
 use Rattle.cp_rounds.proofs.AheadPasses.{turns_at}
 use Rattle.cp_rounds.proofs.AheadRounds.{ahead_made, ready_ahead, ready_turned, turn_made_ahead}

@@ -1,5 +1,5 @@
 use Rattle.std.proofs.Common.{◌≡◌, length, refl, sym, subst, ◌∙◌, arith}
-use Rattle.cp_machine_model.specs.Machines.{kernel_turns}
+use Rattle.cp_model_machine.specs.Machines.{kernel_turns}
 use Rattle.cp_model.specs.States.{numbers_from}
 use Rattle.cp_rounds.specs.Ahead.{IsReadyAhead, PartsAhead}
 use Rattle.cp_rounds.proofs.AheadRounds.{end_ahead, ready_ended}

@@ -1,5 +1,5 @@
 use Rattle.std.proofs.Common.{◌≡◌, ℕ, length}
-use Rattle.cp_machine_model.specs.Machines.{Machine, kernel_turns}
+use Rattle.cp_model_machine.specs.Machines.{Machine, kernel_turns}
 use Rattle.cp_model.specs.States.{numbers_from}
 use Rattle.cp_rounds.specs.Ahead.{IsReadyAhead, IsTime, PartsAhead}
 use Rattle.cp_rounds.proofs.ahead_turns.finish_round.Given as goal

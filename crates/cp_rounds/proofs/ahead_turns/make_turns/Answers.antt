@@ -2,9 +2,9 @@ use Rattle.std.proofs.Common.{◌≡◌, ◌<◌, ◌+◌, ◌-◌, ℕ, suc, So
 use Rattle.cp_private.specs.States.{private_of}
 use Rattle.cp_private.specs.declared.private.Private.{Private}
 use Rattle.cp_program.specs.View as view
-use Rattle.cp_desk.specs.Inputs.{input_at}
-use Rattle.cp_desk.specs.Turned.{take_turn}
-use Rattle.cp_desk.proofs.Lists.{got_or}
+use Rattle.cp_rounds_handoff.specs.Inputs.{input_at}
+use Rattle.cp_rounds_handoff.specs.Turned.{take_turn}
+use Rattle.cp_rounds_handoff.proofs.Lists.{got_or}
 use Rattle.cp_rounds.specs.Ahead.{IsReadyAhead, turns_ahead}
 use Rattle.cp_rounds.proofs.AheadPasses.{all_turned, none_turned, one_turned, ready_next, turns_at}
 use Rattle.cp_rounds.proofs.ahead_turns.make_turns.Goals as goal

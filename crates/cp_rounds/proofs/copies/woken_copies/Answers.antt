@@ -1,7 +1,7 @@
 use Rattle.std.proofs.Common.{◌≡◌, ℕ, List, [], Some, length, slice_get, sym, ap, ◌∙◌, subst, arith}
 use Rattle.cp_private.specs.States.{private_of}
 use Rattle.cp_private.specs.declared.private.Private.{Private}
-use Rattle.cp_desk.proofs.Lists.{got_or}
+use Rattle.cp_rounds_handoff.proofs.Lists.{got_or}
 use Rattle.cp_rounds.specs.Replayed.{EachWoken}
 use Rattle.cp_rounds.proofs.Replays.{none_woken, one_woken}
 use Rattle.cp_rounds.proofs.Rounds.{longer}

@@ -1,8 +1,8 @@
 use Rattle.std.proofs.Common.{◌≡◌, Bool, sym, ap, ◌∙◌}
 use Rattle.cp_private.specs.States.{private_of}
 use Rattle.cp_private.specs.declared.private.Private.{Private}
-use Rattle.cp_machine_model.specs.Machines.{wake_one}
-use Rattle.cp_desk.specs.Turned.{woken}
+use Rattle.cp_model_machine.specs.Machines.{wake_one}
+use Rattle.cp_rounds_handoff.specs.Turned.{woken}
 use Rattle.cp_rounds.proofs.copies.woken_copy.Goals as goal
 use Rattle.cp_rounds.proofs.copies.woken_copy.Goals.{then-wakes, else-wakes}
 

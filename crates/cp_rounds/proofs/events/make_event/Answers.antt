@@ -1,11 +1,11 @@
 use Rattle.std.proofs.Common.{◌≡◌, ◌≤◌, ◌-◌, suc, Some, length, slice_get, slice_set, subst, sym, ap, ◌∙◌, arith}
 use Rattle.std.proofs.lemmas.Result.{IfOk-weaker}
-use Rattle.cp_machine_model.specs.Replays as plain
-use Rattle.cp_machine_model.specs.Replays.{process_of}
-use Rattle.cp_orders.specs.Events.{event_of}
-use Rattle.cp_orders.specs.declared.event.Event.{Event}
+use Rattle.cp_model_machine.specs.Replays as plain
+use Rattle.cp_model_machine.specs.Replays.{process_of}
+use Rattle.cp_base_schedule.specs.Events.{event_of}
+use Rattle.cp_base_schedule.specs.declared.event.Event.{Event}
 use Rattle.cp_private.specs.declared.private.Private.{Private}
-use Rattle.cp_desk.proofs.Lists.{got_or}
+use Rattle.cp_rounds_handoff.proofs.Lists.{got_or}
 use Rattle.cp_rounds.specs.Replayed.{Leads}
 use Rattle.cp_rounds.proofs.Replays.{step_leads, turn_leads}
 use Rattle.cp_rounds.proofs.events.make_event.Goals as goal

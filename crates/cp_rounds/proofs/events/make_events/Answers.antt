@@ -1,10 +1,10 @@
 use Rattle.std.proofs.Common.{◌≡◌, ◌≤◌, ◌<◌, length, get_or, subst, sym, ◌∙◌, arith}
 use Rattle.std.proofs.lemmas.List.{get_or-map, length-map}
 use Rattle.cp_model.specs.Rounds as meaning
-use Rattle.cp_machine_model.specs.Replays as plain
-use Rattle.cp_machine_model.specs.Replays.{process_of}
-use Rattle.cp_orders.specs.Events.{event_of, events_of}
-use Rattle.cp_orders.specs.declared.event.Event.TheVariants.{P}
+use Rattle.cp_model_machine.specs.Replays as plain
+use Rattle.cp_model_machine.specs.Replays.{process_of}
+use Rattle.cp_base_schedule.specs.Events.{event_of, events_of}
+use Rattle.cp_base_schedule.specs.declared.event.Event.TheVariants.{P}
 use Rattle.cp_rounds.specs.Replayed.{Leads}
 use Rattle.cp_rounds.proofs.Replays.{all_lead, none_lead, one_more_leads, process_within}
 use Rattle.cp_rounds.proofs.events.make_events.Goals as goal

@@ -1,7 +1,7 @@
 use Rattle.std.proofs.Common.{take}
 use Rattle.std.specs.List.{fold}
-use Rattle.cp_machine_model.specs.Replays.{event}
-use Rattle.cp_orders.specs.Events.{events_of}
+use Rattle.cp_model_machine.specs.Replays.{event}
+use Rattle.cp_base_schedule.specs.Events.{events_of}
 use Rattle.cp_rounds.specs.Replayed.{Leads}
 use Rattle.cp_rounds.proofs.events.make_events.Given as goal
 

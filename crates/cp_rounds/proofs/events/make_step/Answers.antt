@@ -1,9 +1,9 @@
 use Rattle.std.proofs.Common.{◌≡◌, ◌-◌, [], List, ℕ, subst, ap, ◌∙◌}
 use Rattle.cp_private.specs.States.{private_of}
-use Rattle.cp_machine_model.specs.PrivateStates.{PrivateState}
-use Rattle.cp_machine_model.specs.Steps.{private_steps}
+use Rattle.cp_model_machine.specs.PrivateStates.{PrivateState}
+use Rattle.cp_model_machine.specs.Steps.{private_steps}
 use Rattle.cp_program.specs.View as view
-use Rattle.cp_desk.specs.Inputs.{input_at}
+use Rattle.cp_rounds_handoff.specs.Inputs.{input_at}
 use Rattle.cp_rounds.proofs.events.make_step.Goals as goal
 
 pub returns : goal.returns

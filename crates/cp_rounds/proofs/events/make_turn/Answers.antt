@@ -2,9 +2,9 @@ use Rattle.std.proofs.Common.{rules, ◌≡◌, ◌-◌, [], List, ℕ, length, 
 use Rattle.cp_kernel.specs.KernelOf.{Bytes, kernel_of}
 use Rattle.cp_kernel.specs.Turns.{IsTurned}
 use Rattle.cp_kernel.proofs.Asking.{room_kept}
-use Rattle.cp_machine_model.specs.PrivateStates.{PrivateState}
+use Rattle.cp_model_machine.specs.PrivateStates.{PrivateState}
 use Rattle.cp_program.specs.View as view
-use Rattle.cp_desk.specs.Inputs.{input_at}
+use Rattle.cp_rounds_handoff.specs.Inputs.{input_at}
 use Rattle.cp_rounds.proofs.Replays.{turn_with_room}
 use Rattle.cp_rounds.proofs.Rooms.{same_stages}
 use Rattle.cp_rounds.proofs.events.make_turn.Goals as goal

@@ -1,7 +1,7 @@
 use Rattle.std.proofs.Common.{◌≡◌, ℕ, length, take}
-use Rattle.cp_desk.specs.Numbers.{AreNumbered}
-use Rattle.cp_desk.specs.Tasks.{AreHere, AreLeft, is_none}
-use Rattle.cp_desk.specs.Turned.{moment_of}
+use Rattle.cp_rounds_handoff.specs.Numbers.{AreNumbered}
+use Rattle.cp_rounds_handoff.specs.Tasks.{AreHere, AreLeft, is_none}
+use Rattle.cp_rounds_handoff.specs.Turned.{moment_of}
 use Rattle.cp_rounds.specs.Made.{IsReady}
 use Rattle.cp_rounds.specs.Runs.{TurnsTaken}
 use Rattle.cp_rounds.proofs.finishing.finish_all.Given as goal

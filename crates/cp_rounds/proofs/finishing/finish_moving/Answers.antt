@@ -1,10 +1,10 @@
 use Rattle.std.proofs.Common.{List, sym, ◌∙◌, subst, arith}
 use Rattle.std.proofs.lemmas.List.{take_more_set}
 use Rattle.cp_private.specs.declared.private.Private.{Private}
-use Rattle.cp_desk.specs.Numbers.{AreNumbered}
+use Rattle.cp_rounds_handoff.specs.Numbers.{AreNumbered}
 use Rattle.cp_rounds.specs.Runs.{TurnsTaken}
 use Rattle.cp_rounds.proofs.MoreTurns.{numbers_more, ready_more, taken_more}
-use Rattle.cp_ahead.proofs.Turns.{set_apart}
+use Rattle.cp_model_ahead.proofs.Turns.{set_apart}
 use Rattle.cp_rounds.proofs.finishing.finish_moving.Goals as goal
 
 pub returns-clause-taken : goal.returns-clause-taken

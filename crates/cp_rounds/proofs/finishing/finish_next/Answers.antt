@@ -1,8 +1,8 @@
 use Rattle.std.proofs.Common.{◌≡◌, ◌+◌, ◌-◌, ◌++◌, ◌∷◌, [], List, take, sym, ap, ◌∙◌, subst, arith}
 use Rattle.std.proofs.lemmas.List.{take_more}
 use Rattle.cp_private.specs.declared.private.Private.{Private}
-use Rattle.cp_desk.specs.Numbers.{AreNumbered}
-use Rattle.cp_desk.specs.Inputs.{input_at}
+use Rattle.cp_rounds_handoff.specs.Numbers.{AreNumbered}
+use Rattle.cp_rounds_handoff.specs.Inputs.{input_at}
 use Rattle.cp_rounds.specs.Runs.{TurnsTaken}
 use Rattle.cp_rounds.proofs.MoreTurns.{numbers_more, ready_still, taken_more}
 use Rattle.cp_rounds.proofs.finishing.finish_next.Goals as goal

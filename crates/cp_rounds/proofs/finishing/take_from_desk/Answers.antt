@@ -1,7 +1,7 @@
 use Rattle.std.proofs.Common.{◌≡◌, ◌-◌, ℕ, sym, subst, arith}
 use Rattle.cp_private.specs.States.{private_of}
-use Rattle.cp_desk.specs.Tasks.{AreMade, AreTaken}
-use Rattle.cp_desk.specs.declared.moment.Moment.{Moment}
+use Rattle.cp_rounds_handoff.specs.Tasks.{AreMade, AreTaken}
+use Rattle.cp_rounds_handoff.specs.declared.moment.Moment.{Moment}
 use Rattle.cp_rounds.proofs.finishing.take_from_desk.Goals as goal
 
 pub returns : goal.returns

@@ -3,8 +3,8 @@ use Rattle.std.proofs.lemmas.Option.{same_Some}
 use Rattle.cp_private.specs.States.{private_of}
 use Rattle.cp_private.specs.declared.private.Private.{Private}
 use Rattle.cp_program.specs.View as view
-use Rattle.cp_desk.specs.Inputs.{input_at}
-use Rattle.cp_desk.specs.Turned as plain
+use Rattle.cp_rounds_handoff.specs.Inputs.{input_at}
+use Rattle.cp_rounds_handoff.specs.Turned as plain
 use Rattle.cp_rounds.proofs.finishing.turn_here.Goals as goal
 
 pub returns : goal.returns

@@ -1,8 +1,8 @@
 use Rattle.std.proofs.Common.{ℕ, List, length, subst, sym, ◌∙◌}
 use Rattle.std.specs.List.{fold}
-use Rattle.cp_machine_model.specs.Machines.{wake}
-use Rattle.cp_machine_model.specs.Replays.{AreWithin, event}
-use Rattle.cp_orders.specs.Events.{events_of}
+use Rattle.cp_model_machine.specs.Machines.{wake}
+use Rattle.cp_model_machine.specs.Replays.{AreWithin, event}
+use Rattle.cp_base_schedule.specs.Events.{events_of}
 use Rattle.cp_private.specs.declared.private.Private.{Private}
 use Rattle.cp_rounds.specs.Replayed.{AreWoken}
 use Rattle.cp_rounds.proofs.Replays.{leads_then, replay_ends, start_leads}

@@ -1,5 +1,5 @@
 use Rattle.std.proofs.Common.{◌≡◌, ◌+◌, length, ap, ◌∙◌}
-use Rattle.cp_desk.specs.Turned.{moment_of}
+use Rattle.cp_rounds_handoff.specs.Turned.{moment_of}
 use Rattle.cp_rounds.proofs.Made.{one_round_made}
 use Rattle.cp_rounds.proofs.round.make_round.Goals as goal
 

@@ -1,7 +1,7 @@
 use Rattle.std.proofs.Common.{rules, ◌≡◌, ℕ, IfSome, List, sym, subst}
 use Rattle.cp_private.specs.declared.private.Private.{Private}
-use Rattle.cp_desk.specs.Numbers.{AreNumbered}
-use Rattle.cp_desk.specs.Tasks.{AllFree, is_none}
+use Rattle.cp_rounds_handoff.specs.Numbers.{AreNumbered}
+use Rattle.cp_rounds_handoff.specs.Tasks.{AllFree, is_none}
 use Rattle.cp_rounds.specs.Made.{IsReadyFor}
 use Rattle.cp_rounds.specs.Runs.{IsOpened}
 use Rattle.cp_rounds.proofs.AheadTurns.{ready_fewer}

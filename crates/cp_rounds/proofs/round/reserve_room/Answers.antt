@@ -2,8 +2,8 @@ use Rattle.std.proofs.Common.{◌≡◌, ◌≢◌, ◌+◌, ◌-◌, ◌*◌, �
 use Rattle.cp_kernel.specs.KernelOf.{HasRoomForAskers, HasRoomForBytes}
 use Rattle.cp_kernel.proofs.Asking.{room_kept}
 use Rattle.cp_private.specs.declared.private.Private.{Private}
-use Rattle.cp_desk.specs.Tasks.{HasRoomLeft}
-use Rattle.cp_desk.proofs.Lists.{got_below, got_or, got_set}
+use Rattle.cp_rounds_handoff.specs.Tasks.{HasRoomLeft}
+use Rattle.cp_rounds_handoff.proofs.Lists.{got_below, got_or, got_set}
 use Rattle.cp_rounds.proofs.Rooms.{same_more, same_stages}
 use Rattle.cp_rounds.proofs.round.reserve_room.Goals as goal
 

@@ -1,7 +1,7 @@
 use Rattle.std.proofs.Common.{◌≡◌, ◌<◌, ◌+◌, ◌*◌, ℕ, suc, false, Some, length, slice_get, vec_len}
 use Rattle.cp_kernel.specs.KernelOf.{HasRoomForAskers, HasRoomForBytes}
 use Rattle.cp_private.specs.declared.private.Private.{Private}
-use Rattle.cp_desk.specs.Tasks.{HasRoomLeft}
+use Rattle.cp_rounds_handoff.specs.Tasks.{HasRoomLeft}
 use Rattle.cp_rounds.specs.Runs.{AreSame}
 use Rattle.cp_rounds.proofs.round.reserve_room.Given as goal
 

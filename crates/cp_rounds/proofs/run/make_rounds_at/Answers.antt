@@ -5,10 +5,10 @@ use denote.Param.Send.{IsSync, sendable}
 use denote.Param.SendFields.{as_row_sync, declared_sync}
 use mir.Syntax.{named}
 use Rattle.std.proofs.Crossing.{crosses}
-use Rattle.cp_plan.proofs.plan.Plan.TheSendSync as plan
-use Rattle.cp_desk.proofs.desk.Desk.TheSendSync as desk
-use Rattle.cp_desk.specs.contracts.desk.Desk as desks
-use Rattle.cp_desk.specs.contracts.desk_turns.DeskTurns as turns
+use Rattle.cp_base_config.proofs.plan.Plan.TheSendSync as plan
+use Rattle.cp_rounds_handoff.proofs.desk.Desk.TheSendSync as desk
+use Rattle.cp_rounds_handoff.specs.contracts.desk.Desk as desks
+use Rattle.cp_rounds_handoff.specs.contracts.desk_turns.DeskTurns as turns
 use Rattle.cp_rounds.proofs.run.make_rounds_at.Goals as goal
 
 pub start-requires-sync-W : goal.start-requires-sync-W

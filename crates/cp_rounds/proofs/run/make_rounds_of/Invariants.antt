@@ -1,8 +1,8 @@
 use Rattle.std.proofs.Common.{◌+◌, ◌*◌, slice_get}
 use Rattle.cp_program.specs.View as view
-use Rattle.cp_desk.specs.Inputs.{input_at}
-use Rattle.cp_desk.specs.Quiet.{is_quiet}
-use Rattle.cp_desk.specs.Turned as plain
+use Rattle.cp_rounds_handoff.specs.Inputs.{input_at}
+use Rattle.cp_rounds_handoff.specs.Quiet.{is_quiet}
+use Rattle.cp_rounds_handoff.specs.Turned as plain
 use Rattle.cp_rounds.specs.Runs.{name_of}
 use Rattle.cp_rounds.proofs.run.make_rounds_of.Given as goal
 

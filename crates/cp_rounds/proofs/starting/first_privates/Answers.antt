@@ -1,9 +1,9 @@
 use Rattle.std.proofs.Common.{◌≡◌, ◌+◌, ◌-◌, ℕ, suc, List, Some, slice_get, length, sym, ap, ◌∙◌, subst, arith, ⊎_elim}
 use Rattle.cp_private.specs.States.{private_of}
 use Rattle.cp_private.specs.declared.private.Private.{Private}
-use Rattle.cp_machine_model.specs.Machines.{first_part}
+use Rattle.cp_model_machine.specs.Machines.{first_part}
 use Rattle.cp_program.specs.View as view
-use Rattle.cp_desk.proofs.Lists.{got_snoc}
+use Rattle.cp_rounds_handoff.proofs.Lists.{got_snoc}
 use Rattle.cp_rounds.specs.Starts.{AreFirst}
 use Rattle.cp_rounds.proofs.Rounds.{longer}
 use Rattle.cp_rounds.proofs.starting.first_privates.Goals as goal

@@ -1,5 +1,5 @@
 use Rattle.std.proofs.Common.{◌<◌, ◌&&◌, ◌+◌, Bool, ap, drop, length, sym, ◌∙◌}
-use Rattle.cp_later.specs.Later.{names_later}
+use Rattle.cp_rules_cutoff.specs.Later.{names_later}
 use Rattle.cp_rules.proofs.EarlyEnds.{names_from, no_name}
 use Rattle.cp_rules.proofs.ending.are_names_later.Goals as goal
 use Rattle.cp_rules.proofs.ending.are_names_later.Goals.{in-Some+else-not-is_entity_later, in_default}

@@ -1,5 +1,5 @@
 use Rattle.std.proofs.Common.{◌≡◌, drop}
-use Rattle.cp_later.specs.Later.{names_later}
+use Rattle.cp_rules_cutoff.specs.Later.{names_later}
 use Rattle.cp_rules.proofs.ending.are_names_later.Given as goal
 
 -- the rest of the names decides

@@ -1,5 +1,5 @@
 use Rattle.std.proofs.Common.{◌≡◌, drop}
-use Rattle.cp_later.specs.Later.{routines_later}
+use Rattle.cp_rules_cutoff.specs.Later.{routines_later}
 use Rattle.cp_rules.proofs.ending.are_routines_later.Given as goal
 
 -- the rest of the routines decides

@@ -1,5 +1,5 @@
 use Rattle.std.proofs.Common.{◌≡◌, map, ◌-◌}
-use Rattle.cp_grammar.specs.Reading as reading
+use Rattle.cp_model_grammar.specs.Reading as reading
 use Rattle.cp_syntax.proofs.lists.read_while.Given as goal
 
 -- what is still to be read completes the whole

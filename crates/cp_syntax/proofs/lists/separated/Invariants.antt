@@ -1,7 +1,7 @@
 use Rattle.std.proofs.Common.{◌≡◌, map, ◌-◌}
-use Rattle.cp_grammar.specs.Kinds.{is_symbol}
-use Rattle.cp_grammar.specs.Reading.{◌>>=◌, take_token, repeat}
-use Rattle.cp_grammar.specs.Reading as reading
+use Rattle.cp_model_grammar.specs.Kinds.{is_symbol}
+use Rattle.cp_model_grammar.specs.Reading.{◌>>=◌, take_token, repeat}
+use Rattle.cp_model_grammar.specs.Reading as reading
 use Rattle.cp_syntax.proofs.lists.separated.Given as goal
 
 -- what is still to be read completes the whole

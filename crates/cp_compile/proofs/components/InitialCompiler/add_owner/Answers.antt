@@ -1,9 +1,9 @@
 use Rattle.std.proofs.Common.{rules, ◌≡◌, ◌∷◌, ◌++◌, ◌∙◌, [], List, None, Some, false, slice_get, subst, sym, true}
 use Rattle.cp_model.specs.Components.{is_component_of}
 use Rattle.cp_model.specs.Erase as erase
-use Rattle.cp_program_model.specs.Compile.{of_sort, owners_of}
-use Rattle.cp_scope.specs.Numbering.{system_of}
-use Rattle.cp_scope.specs.Standing.{row_at, system_at}
+use Rattle.cp_model_program.specs.Compile.{of_sort, owners_of}
+use Rattle.cp_compile_symbols.specs.Numbering.{system_of}
+use Rattle.cp_compile_symbols.specs.Standing.{row_at, system_at}
 use Rattle.cp_compile.specs.declared.components.Owner.{Owner}
 use Rattle.cp_compile.specs.CompiledComponents.{AreOwners}
 use Rattle.cp_compile.proofs.ComponentsCompiled.{no_owner, one_put, owner_has_number, owner_has_table, owner_has_type}

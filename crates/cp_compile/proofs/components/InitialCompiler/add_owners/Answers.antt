@@ -1,9 +1,9 @@
 use Rattle.std.proofs.Common.{◌≡◌, ◌+◌, ◌∷◌, ◌++◌, List, [], ap, drop, false, get_or, map, refl, subst}
 use Rattle.std.proofs.lemmas.List.{at_drop_more, drop_all}
 use Rattle.cp_model.specs.Erase as erase
-use Rattle.cp_program_model.specs.Compile.{of_sort, owners_of}
-use Rattle.cp_scope.specs.declared.variables.Declared.{Declared}
-use Rattle.cp_scope.specs.Variables.{declared_entry}
+use Rattle.cp_model_program.specs.Compile.{of_sort, owners_of}
+use Rattle.cp_compile_symbols.specs.declared.variables.Declared.{Declared}
+use Rattle.cp_compile_symbols.specs.Variables.{declared_entry}
 use Rattle.cp_compile.proofs.ComponentsCompiled.{PartlyOwned, all_owned, one_owned}
 use Rattle.cp_compile.proofs.components.InitialCompiler.add_owners.Goals as goal
 

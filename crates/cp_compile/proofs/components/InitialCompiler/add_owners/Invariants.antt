@@ -3,10 +3,10 @@ use Rattle.cp_model.specs.Abstract.{Group, Name}
 use Rattle.cp_model.specs.Declarations.{Variable}
 use Rattle.cp_model.specs.Erase as erase
 use Rattle.cp_model.specs.Types.{GlobalScope}
-use Rattle.cp_program_model.specs.Compile as code
-use Rattle.cp_program_model.specs.Compile.{of_sort, owners_of}
-use Rattle.cp_scope.specs.Variables.{declared_entry}
-use Rattle.cp_program_model.specs.Programs.{StartPlan}
+use Rattle.cp_model_program.specs.Compile as code
+use Rattle.cp_model_program.specs.Compile.{of_sort, owners_of}
+use Rattle.cp_compile_symbols.specs.Variables.{declared_entry}
+use Rattle.cp_model_program.specs.Programs.{StartPlan}
 use Rattle.cp_compile.specs.CompiledComponents.{AreOwners, IsInitial}
 use Rattle.cp_compile.proofs.ComponentsCompiled.{PartlyOwned}
 use Rattle.cp_compile.proofs.components.InitialCompiler.add_owners.Given as goal

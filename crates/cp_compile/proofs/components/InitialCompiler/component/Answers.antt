@@ -1,7 +1,7 @@
 use Rattle.std.proofs.Common.{rules, ◌≡◌, ◌+◌, ◌∙◌, ap, length, subst}
 use Rattle.cp_model.specs.Names.{lookup}
 use Rattle.cp_model.proofs.Results.{if_ok}
-use Rattle.cp_program_model.specs.Scopes.{declared_type, or_zero}
+use Rattle.cp_model_program.specs.Scopes.{declared_type, or_zero}
 use Rattle.cp_compile.specs.CompiledComponents.{IsOwner}
 use Rattle.cp_compile.proofs.ComponentsCompiled.{component_put}
 use Rattle.cp_compile.proofs.components.InitialCompiler.component.Goals as goal

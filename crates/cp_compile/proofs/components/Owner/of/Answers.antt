@@ -1,7 +1,7 @@
 use Rattle.std.proofs.Common.{rules, ◌≡◌, ◌+◌, ◌∙◌, ℕ, Option, Some, length, refl, suc, subst}
-use Rattle.cp_typing.specs.Words.{words_of_members}
-use Rattle.cp_scope.specs.Components.{own_members}
-use Rattle.cp_scope.specs.Layouts.{Counts, rights_of}
+use Rattle.cp_law_typing.specs.Words.{words_of_members}
+use Rattle.cp_compile_symbols.specs.Components.{own_members}
+use Rattle.cp_compile_symbols.specs.Layouts.{Counts, rights_of}
 use Rattle.cp_compile.proofs.ComponentsCompiled.{component_counted, waiting_counted}
 use Rattle.cp_compile.proofs.components.Owner.of.Goals as goal
 

@@ -4,8 +4,8 @@ use Rattle.cp_model.specs.Abstract.{Definition}
 use Rattle.cp_model.specs.Erase as erase
 use Rattle.cp_model.specs.View as tree
 use Rattle.cp_model.proofs.Results.{if_ok}
-use Rattle.cp_program_model.specs.Compile.{with_definition}
-use Rattle.cp_emit.specs.Planning.{known_of}
+use Rattle.cp_model_program.specs.Compile.{with_definition}
+use Rattle.cp_compile_emit.specs.Planning.{known_of}
 use Rattle.cp_compile.specs.CompiledTexts.{IsDefined, IsNamed}
 use Rattle.cp_compile.proofs.TextsCompiled.{system_defined}
 use Rattle.cp_compile.proofs.definitions.TextCompiler.first_of.Goals as goal

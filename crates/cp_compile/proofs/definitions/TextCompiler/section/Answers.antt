@@ -1,8 +1,8 @@
 use Rattle.std.proofs.Common.{◌∙◌, ap, subst, sym}
 use Rattle.cp_model.specs.Erase as erase
 use Rattle.cp_model.specs.View as tree
-use Rattle.cp_program_model.specs.Compile.{with_definitions}
-use Rattle.cp_emit.specs.Planning.{known_of}
+use Rattle.cp_model_program.specs.Compile.{with_definitions}
+use Rattle.cp_compile_emit.specs.Planning.{known_of}
 use Rattle.cp_compile.specs.CompiledTexts.{TypesAre}
 use Rattle.cp_compile.proofs.TextsCompiled.{constants_compiled}
 use Rattle.cp_compile.proofs.definitions.TextCompiler.section.Goals as goal

@@ -4,7 +4,7 @@ use Rattle.cp_model.specs.Abstract.{Definition}
 use Rattle.cp_model.specs.Erase as erase
 use Rattle.cp_model.specs.View as tree
 use Rattle.cp_model.specs.declared.tree.Section.{Section}
-use Rattle.cp_emit.specs.Planning.{known_of}
+use Rattle.cp_compile_emit.specs.Planning.{known_of}
 use Rattle.cp_compile.proofs.TextsCompiled.{PartlyDefined, all_defined, more_defined}
 use Rattle.cp_compile.proofs.definitions.TextCompiler.sections.Goals as goal
 

@@ -1,6 +1,6 @@
 use Rattle.std.proofs.Common.{◌∙◌, ap, length, refl, sym}
 use Rattle.cp_model.specs.Abstract as a
-use Rattle.cp_emit.specs.Planning.{known_of}
+use Rattle.cp_compile_emit.specs.Planning.{known_of}
 use Rattle.cp_compile.specs.declared.system.SystemCompiler.{SystemCompiler}
 use Rattle.cp_compile.proofs.TextsCompiled.{system_known}
 use Rattle.cp_compile.proofs.definitions.TextCompiler.system.Goals as goal

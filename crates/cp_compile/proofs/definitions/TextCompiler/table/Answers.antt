@@ -1,6 +1,6 @@
 use Rattle.std.proofs.Common.{rules, ◌≡◌, None, Some}
 use Rattle.cp_model.specs.Names.{lookup}
-use Rattle.cp_translate.proofs.Initialising.{table_found}
+use Rattle.cp_compile_lower.proofs.Initialising.{table_found}
 use Rattle.cp_compile.specs.CompiledTexts.{system_number}
 use Rattle.cp_compile.proofs.TextsCompiled.{system_numbered, system_there}
 use Rattle.cp_compile.proofs.definitions.TextCompiler.table.Goals as goal

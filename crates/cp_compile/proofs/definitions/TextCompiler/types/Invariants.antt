@@ -2,8 +2,8 @@ use Rattle.std.proofs.Common.{drop, map}
 use Rattle.cp_model.specs.Erase as erase
 use Rattle.cp_model.specs.Types.{GlobalScope}
 use Rattle.cp_model.specs.View as tree
-use Rattle.cp_program_model.specs.Compile.{CompiledTypes}
-use Rattle.cp_emit.specs.Planning.{known_of}
+use Rattle.cp_model_program.specs.Compile.{CompiledTypes}
+use Rattle.cp_compile_emit.specs.Planning.{known_of}
 use Rattle.cp_compile.specs.CompiledTexts.{AreNamed, IsText, TypesAre}
 use Rattle.cp_compile.proofs.TextsCompiled.{PartlyDefined}
 use Rattle.cp_compile.proofs.definitions.TextCompiler.types.Given as goal

@@ -1,8 +1,8 @@
 use Rattle.std.proofs.Common.{subst, sym}
 use Rattle.std.proofs.lemmas.Result.{on_ok_weaker}
-use Rattle.cp_program_model.specs.Compile.{with_body, with_routines}
-use Rattle.cp_scope.specs.Systems.{routines_of}
-use Rattle.cp_emit.specs.Planning.{known_of}
+use Rattle.cp_model_program.specs.Compile.{with_body, with_routines}
+use Rattle.cp_compile_symbols.specs.Systems.{routines_of}
+use Rattle.cp_compile_emit.specs.Planning.{known_of}
 use Rattle.cp_compile.specs.Compiles.{IsCompiled}
 use Rattle.cp_compile.proofs.system.SystemCompiler.compile.Goals as goal
 

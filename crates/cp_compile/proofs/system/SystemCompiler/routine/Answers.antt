@@ -2,10 +2,10 @@ use Rattle.std.proofs.Common.{◌∙◌, Some, ap, map}
 use Rattle.std.proofs.lemmas.Result.{on_ok_weaker}
 use Rattle.cp_model.specs.Erase as erase
 use Rattle.cp_model.specs.View as tree
-use Rattle.cp_program_model.specs.Programs.{Return}
+use Rattle.cp_model_program.specs.Programs.{Return}
 use Rattle.cp_model.specs.Declarations.{declarations}
-use Rattle.cp_scope.specs.Variables.{declared_entry}
-use Rattle.cp_emit.specs.Planning.{known_of}
+use Rattle.cp_compile_symbols.specs.Variables.{declared_entry}
+use Rattle.cp_compile_emit.specs.Planning.{known_of}
 use Rattle.cp_program.specs.View as view
 use Rattle.cp_compile.proofs.SystemsCompiled.{function_written, planner_knows, result_written, routine_compiled, scope_made, unit_scope}
 use Rattle.cp_compile.proofs.system.SystemCompiler.routine.Goals as goal

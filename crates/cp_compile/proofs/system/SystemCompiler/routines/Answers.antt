@@ -3,9 +3,9 @@ use Rattle.std.proofs.lemmas.List.{at_drop_more, drop_all}
 use Rattle.cp_model.specs.Erase as erase
 use Rattle.cp_model.specs.View as tree
 use Rattle.cp_model.specs.declared.tree.Routine.{Routine}
-use Rattle.cp_scope.specs.Systems.{routines_of}
-use Rattle.cp_emit.specs.Planning.{known_of}
-use Rattle.cp_emit.proofs.Continuing.{continues_after, continues_itself, continues_more}
+use Rattle.cp_compile_symbols.specs.Systems.{routines_of}
+use Rattle.cp_compile_emit.specs.Planning.{known_of}
+use Rattle.cp_compile_emit.proofs.Continuing.{continues_after, continues_itself, continues_more}
 use Rattle.cp_compile.specs.Compiles.{IsCompiled}
 use Rattle.cp_compile.proofs.SystemsCompiled.{PartlyCompiled, one_routine, routine_has_table, routine_known}
 use Rattle.cp_compile.proofs.system.SystemCompiler.routines.Goals as goal

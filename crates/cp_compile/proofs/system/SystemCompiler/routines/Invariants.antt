@@ -1,11 +1,11 @@
 use Rattle.std.proofs.Common.{◌≡◌, ℕ, List, drop}
 use Rattle.cp_model.specs.Abstract.{Name, System}
 use Rattle.cp_model.specs.Types.{GlobalScope}
-use Rattle.cp_program_model.specs.Compile.{Compiled}
-use Rattle.cp_scope.specs.Systems.{routines_of}
+use Rattle.cp_model_program.specs.Compile.{Compiled}
+use Rattle.cp_compile_symbols.specs.Systems.{routines_of}
 use Rattle.cp_compile.specs.CompiledSystems.{IsSystem}
-use Rattle.cp_emit.specs.Emission.{Continues}
-use Rattle.cp_emit.specs.Planning.{known_of}
+use Rattle.cp_compile_emit.specs.Emission.{Continues}
+use Rattle.cp_compile_emit.specs.Planning.{known_of}
 use Rattle.cp_compile.specs.Compiles.{IsCompiled}
 use Rattle.cp_compile.proofs.SystemsCompiled.{PartlyCompiled}
 use Rattle.cp_compile.proofs.system.SystemCompiler.routines.Given as goal

@@ -2,7 +2,7 @@ use Rattle.std.proofs.Common.{rules, ◌≡◌, true, false, Err, length, refl, 
 use Rattle.std.specs.Int.{w32}
 use Rattle.cp_model.specs.Places.{within}
 use Rattle.cp_model.specs.StandardCalls.{next_input}
-use Rattle.cp_machine_model.specs.PrivateStates.{go_to, private_outcome}
+use Rattle.cp_model_machine.specs.PrivateStates.{go_to, private_outcome}
 use Rattle.cp_private.proofs.Results.{placed, unplaced}
 use Rattle.cp_private.proofs.private.Private.accept.Goals as goal
 

@@ -2,8 +2,8 @@
 -- The lemmas of `Calling` say how it ends: without a unit, by a fault, or by entering the unit. Passing
 -- arguments and starting words write words alone, so the registers still have room for the unit.
 use Rattle.std.proofs.Common.{rules, arith, ◌≡◌, true, false, Err, length, refl, ap, sym, ◌∙◌}
-use Rattle.cp_machine_model.specs.PrivateStates.{Outside, PrivateState}
-use Rattle.cp_machine_model.specs.Calling.{call_step, enter}
+use Rattle.cp_model_machine.specs.PrivateStates.{Outside, PrivateState}
+use Rattle.cp_model_machine.specs.Calling.{call_step, enter}
 use Rattle.cp_program.specs.View as view
 use Rattle.cp_private.specs.Calls.{back, called_of, passing_of}
 use Rattle.cp_private.specs.States.{join, outcome, outside_of}

@@ -3,9 +3,9 @@
 -- arguments and starting words write words alone, so the registers still have room for the unit, and the
 -- frame that was kept is still there.
 use Rattle.std.proofs.Common.{rules, arith, ◌≡◌, ◌+◌, true, false, Err, length, refl, ap, sym, ◌∙◌}
-use Rattle.cp_machine_model.specs.PrivateStates.{Outside, PrivateState, fault_in}
-use Rattle.cp_machine_model.specs.Passing.{pass_all}
-use Rattle.cp_machine_model.specs.Calling.{call_step, enter, start_words}
+use Rattle.cp_model_machine.specs.PrivateStates.{Outside, PrivateState, fault_in}
+use Rattle.cp_model_machine.specs.Passing.{pass_all}
+use Rattle.cp_model_machine.specs.Calling.{call_step, enter, start_words}
 use Rattle.cp_program.specs.View as view
 use Rattle.cp_model.specs.declared.state.Fault.TheVariants as fault
 use Rattle.cp_private.specs.Calls.{back, called_of, passing_of}

@@ -1,7 +1,7 @@
 use Rattle.std.proofs.Common.{rules, arith, ◌≡◌, ◌+◌, length, to_z, of_z, ap, ◌∙◌}
 use Rattle.std.specs.Int.{w32}
-use Rattle.cp_program_model.specs.Layout.{natural}
-use Rattle.cp_machine_model.specs.Passing as plain
+use Rattle.cp_model_program.specs.Layout.{natural}
+use Rattle.cp_model_machine.specs.Passing as plain
 use Rattle.cp_program.specs.Reaches.{cap_place}
 use Rattle.cp_program.specs.View as view
 use Rattle.cp_private.specs.States.{join, outside_of}

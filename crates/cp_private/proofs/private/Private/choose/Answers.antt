@@ -1,7 +1,7 @@
 use Rattle.std.proofs.Common.{rules, ◌≡◌, Err, length, to_z, of_z, ap, refl, sym, ◌∙◌}
 use Rattle.std.specs.Int.{w32}
-use Rattle.cp_program_model.specs.Tables.{place_in}
-use Rattle.cp_machine_model.specs.Steps.{go_to_arm}
+use Rattle.cp_model_program.specs.Tables.{place_in}
+use Rattle.cp_model_machine.specs.Steps.{go_to_arm}
 use Rattle.cp_program.specs.View as view
 use Rattle.cp_private.specs.States.{join}
 use Rattle.cp_private.proofs.private.Private.choose.Goals as goal

@@ -1,6 +1,6 @@
 use Rattle.std.proofs.Common.{rules, arith, ◌≡◌, ◌+◌, ◌+ℤ◌, pos, to_z, of_z, ◌∙◌}
 use Rattle.std.specs.Int.{w32}
-use Rattle.cp_program_model.specs.Layout.{natural}
+use Rattle.cp_model_program.specs.Layout.{natural}
 use Rattle.cp_program.specs.Reaches.{cap_place}
 use Rattle.cp_private.proofs.private.Private.class_right.Goals as goal
 

@@ -1,6 +1,6 @@
 use Rattle.std.proofs.Common.{arith, ◌≡◌, Ok, ap}
-use Rattle.cp_machine_model.specs.PrivateStates.{NoEffect, go_to, view_of}
-use Rattle.cp_machine_model.specs.Values.{place_of}
+use Rattle.cp_model_machine.specs.PrivateStates.{NoEffect, go_to, view_of}
+use Rattle.cp_model_machine.specs.Values.{place_of}
 use Rattle.cp_program.specs.View as view
 use Rattle.cp_private.specs.States.{join}
 use Rattle.cp_private.proofs.private.Private.copy_quickly.Goals as goal

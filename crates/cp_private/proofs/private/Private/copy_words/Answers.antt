@@ -1,5 +1,5 @@
 use Rattle.std.proofs.Common.{rules, ◌≡◌, Err, length, refl, ap, sym, ◌∙◌}
-use Rattle.cp_machine_model.specs.PrivateStates.{go_to, private_outcome}
+use Rattle.cp_model_machine.specs.PrivateStates.{go_to, private_outcome}
 use Rattle.cp_private.proofs.Results.{placed, unplaced}
 use Rattle.cp_private.proofs.private.Private.copy_words.Goals as goal
 

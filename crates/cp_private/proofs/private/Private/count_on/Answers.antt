@@ -2,7 +2,7 @@ use Rattle.std.proofs.Common.{rules, ◌≡◌, ◌+◌, false, to_z, of_z}
 use Rattle.std.specs.Int.{w32}
 use Rattle.cp_model.specs.Integers.{same_integer}
 use Rattle.cp_model.specs.StatementSteps.{next_counter}
-use Rattle.cp_program_model.specs.Starts.{word}
+use Rattle.cp_model_program.specs.Starts.{word}
 use Rattle.cp_private.proofs.private.Private.count_on.Goals as goal
 
 pub returns-in-Some-clause-step : goal.returns-in-Some-clause-step

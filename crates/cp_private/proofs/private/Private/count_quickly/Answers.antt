@@ -3,9 +3,9 @@ use Rattle.std.specs.Int.{w32}
 use Rattle.cp_model.specs.Integers.{same_integer}
 use Rattle.cp_model.specs.Places.{within}
 use Rattle.cp_model.specs.StatementSteps.{next_counter}
-use Rattle.cp_program_model.specs.Starts.{word}
-use Rattle.cp_machine_model.specs.PrivateStates.{NoEffect, go_to, set_temp, set_word, view_of}
-use Rattle.cp_machine_model.specs.Values.{root_place}
+use Rattle.cp_model_program.specs.Starts.{word}
+use Rattle.cp_model_machine.specs.PrivateStates.{NoEffect, go_to, set_temp, set_word, view_of}
+use Rattle.cp_model_machine.specs.Values.{root_place}
 use Rattle.cp_program.specs.View as view
 use Rattle.cp_private.specs.States.{join}
 use Rattle.cp_private.proofs.private.Private.count_quickly.Goals as goal

@@ -1,8 +1,8 @@
 use Rattle.std.proofs.Common.{rules, arith, ◌≡◌, ◌+◌, true, length, to_z, of_z, ap, ◌∙◌}
 use Rattle.std.specs.Int.{w32}
 use Rattle.cp_model.specs.Places.{within}
-use Rattle.cp_machine_model.specs.PrivateStates.{go_to, private_outcome, set_temp, view_of}
-use Rattle.cp_machine_model.specs.Values.{root_place}
+use Rattle.cp_model_machine.specs.PrivateStates.{go_to, private_outcome, set_temp, view_of}
+use Rattle.cp_model_machine.specs.Values.{root_place}
 use Rattle.cp_program.specs.Reaches.{cap_place}
 use Rattle.cp_program.specs.View as view
 use Rattle.cp_private.specs.States.{join, outside_of}

@@ -1,5 +1,5 @@
 use Rattle.std.proofs.Common.{ap, ◌∙◌}
-use Rattle.cp_machine_model.specs.Values.{place_of}
+use Rattle.cp_model_machine.specs.Values.{place_of}
 use Rattle.cp_program.specs.Reaches.{capped_result}
 use Rattle.cp_program.specs.View as view
 use Rattle.cp_private.proofs.private.Private.deep_place.Goals as goal

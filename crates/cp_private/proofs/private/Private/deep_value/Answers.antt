@@ -1,5 +1,5 @@
 use Rattle.std.proofs.Common.{ap, ◌∙◌}
-use Rattle.cp_machine_model.specs.Values.{value_of}
+use Rattle.cp_model_machine.specs.Values.{value_of}
 use Rattle.cp_program.specs.View as view
 use Rattle.cp_private.proofs.private.Private.deep_value.Goals as goal
 

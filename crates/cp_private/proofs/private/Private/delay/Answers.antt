@@ -5,8 +5,8 @@ use Rattle.std.specs.Int.{w32}
 use Rattle.std.specs.Prelude.{int_le, pos}
 use Rattle.std.proofs.lemmas.Bool.{le-ltb, lt-ltb}
 use Rattle.std.proofs.lemmas.List.{length-append}
-use Rattle.cp_machine_model.specs.PrivateStates.{Delays, PrivateState, go_to, view_of}
-use Rattle.cp_machine_model.specs.Values.{place_of}
+use Rattle.cp_model_machine.specs.PrivateStates.{Delays, PrivateState, go_to, view_of}
+use Rattle.cp_model_machine.specs.Values.{place_of}
 use Rattle.cp_program.specs.Reaches.{cap_place}
 use Rattle.cp_program.specs.View as view
 use Rattle.cp_private.specs.States.{join, outside_of}

@@ -4,9 +4,9 @@ use Rattle.std.specs.Fmt.{signed_decimal}
 use Rattle.std.specs.Int.Signed.{mag}
 use Rattle.cp_model.specs.Decimal.{decimal}
 use Rattle.cp_model.specs.StandardCalls.{byte}
-use Rattle.cp_machine_model.specs.PrivateStates.{go_to, private_outcome}
+use Rattle.cp_model_machine.specs.PrivateStates.{go_to, private_outcome}
 use Rattle.cp_private.specs.States.{join}
-use Rattle.cp_digits.proofs.Digits.{decimal_is}
+use Rattle.cp_base_digits.proofs.Digits.{decimal_is}
 use Rattle.cp_private.proofs.private.Private.display.Goals as goal
 
 pub returns-in_err-n-clause-step : goal.returns-in_err-n-clause-step

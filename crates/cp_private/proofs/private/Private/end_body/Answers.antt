@@ -1,5 +1,5 @@
 use Rattle.std.proofs.Common.{arith, ◌≡◌, ◌-◌, ap, ◌∙◌}
-use Rattle.cp_machine_model.specs.Calling.{leave}
+use Rattle.cp_model_machine.specs.Calling.{leave}
 use Rattle.cp_private.specs.States.{frame, frames_in, join}
 use Rattle.cp_private.proofs.private.Private.end_body.Goals as goal
 

@@ -1,5 +1,5 @@
 use Rattle.std.proofs.Common.{ap, ◌∙◌}
-use Rattle.cp_machine_model.specs.Calling.{enter}
+use Rattle.cp_model_machine.specs.Calling.{enter}
 use Rattle.cp_program.specs.View as view
 use Rattle.cp_private.specs.Calls.{back, called_of}
 use Rattle.cp_private.proofs.private.Private.enter.Goals as goal

@@ -4,9 +4,9 @@
 use Rattle.std.proofs.Common.{rules, arith, ◌≡◌, ◌+◌, pos, map, true, false, Err, length, refl, ap, sym, ◌∙◌}
 use Rattle.std.proofs.lemmas.List.{length-map}
 use Rattle.cp_model.specs.Integers.{same_integer}
-use Rattle.cp_machine_model.specs.PrivateStates.{Acting, Outside, PrivateState, private_outcome, set_word}
-use Rattle.cp_machine_model.specs.Calling.{class_at, enter, init_class, settle}
-use Rattle.cp_machine_model.specs.Passing.{component_called}
+use Rattle.cp_model_machine.specs.PrivateStates.{Acting, Outside, PrivateState, private_outcome, set_word}
+use Rattle.cp_model_machine.specs.Calling.{class_at, enter, init_class, settle}
+use Rattle.cp_model_machine.specs.Passing.{component_called}
 use Rattle.cp_program.specs.Reaches.{cap_place}
 use Rattle.cp_program.specs.View as view
 use Rattle.cp_private.specs.Calls.{passing_of}

@@ -4,9 +4,9 @@
 use Rattle.std.proofs.Common.{rules, arith, ◌≡◌, ◌+◌, map, true, false, Err, length, refl, ap, sym, ◌∙◌}
 use Rattle.std.proofs.lemmas.List.{length-map}
 use Rattle.std.specs.Prelude.{not}
-use Rattle.cp_machine_model.specs.PrivateStates.{Acting, Opens, Outside, PrivateState}
-use Rattle.cp_machine_model.specs.Calling.{enter, init_monitor, settle}
-use Rattle.cp_machine_model.specs.Passing.{component_called}
+use Rattle.cp_model_machine.specs.PrivateStates.{Acting, Opens, Outside, PrivateState}
+use Rattle.cp_model_machine.specs.Calling.{enter, init_monitor, settle}
+use Rattle.cp_model_machine.specs.Passing.{component_called}
 use Rattle.cp_program.specs.View as view
 use Rattle.cp_private.specs.Calls.{called_of, passing_of}
 use Rattle.cp_private.specs.States.{join, outcome, outside_of}

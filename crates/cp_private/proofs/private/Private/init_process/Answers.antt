@@ -2,9 +2,9 @@ use Rattle.std.proofs.Common.{rules, arith, ◌≡◌, ◌+◌, map, true, lengt
 use Rattle.std.proofs.lemmas.List.{length-map}
 use Rattle.std.specs.Prelude.{not}
 use Rattle.cp_model.specs.declared.state.Fault.TheVariants as fault
-use Rattle.cp_machine_model.specs.PrivateStates.{Acting, PrivateState, Starts, go_to, guard}
-use Rattle.cp_machine_model.specs.Calling.{parameters_start, settle}
-use Rattle.cp_machine_model.specs.Passing.{Passing, pass_all, when_passed}
+use Rattle.cp_model_machine.specs.PrivateStates.{Acting, PrivateState, Starts, go_to, guard}
+use Rattle.cp_model_machine.specs.Calling.{parameters_start, settle}
+use Rattle.cp_model_machine.specs.Passing.{Passing, pass_all, when_passed}
 use Rattle.cp_program.specs.View as view
 use Rattle.cp_private.specs.Calls.{passing_of}
 use Rattle.cp_private.specs.States.{join, outside_of}

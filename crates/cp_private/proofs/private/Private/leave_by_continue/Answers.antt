@@ -4,11 +4,11 @@
 use Rattle.std.proofs.Common.{rules, arith, ◌≡◌, ◌∷◌, ℕ, ◌-◌, List, Bool, true, false, pos, Ok, Err, length, refl, ap, sym, to_z, of_z, ◌∙◌}
 use Rattle.std.specs.Prelude.{if◌then◌else◌}
 use Rattle.std.specs.Int.{w32}
-use Rattle.cp_program_model.specs.Starts.{word}
-use Rattle.cp_machine_model.specs.PrivateStates.{Acting, Continues, Frame, PrivateState, private_outcome, set_word, view_of}
-use Rattle.cp_machine_model.specs.Steps.{is_held}
-use Rattle.cp_machine_model.specs.Calling.{leave, return_with, with_frame}
-use Rattle.cp_machine_model.specs.Values.{place_of}
+use Rattle.cp_model_program.specs.Starts.{word}
+use Rattle.cp_model_machine.specs.PrivateStates.{Acting, Continues, Frame, PrivateState, private_outcome, set_word, view_of}
+use Rattle.cp_model_machine.specs.Steps.{is_held}
+use Rattle.cp_model_machine.specs.Calling.{leave, return_with, with_frame}
+use Rattle.cp_model_machine.specs.Values.{place_of}
 use Rattle.cp_program.specs.Reaches.{cap_place}
 use Rattle.cp_program.specs.View as view
 use Rattle.cp_private.specs.Calls.{returning}

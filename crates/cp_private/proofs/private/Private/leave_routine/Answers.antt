@@ -1,6 +1,6 @@
 use Rattle.std.proofs.Common.{rules, arith, ◌≡◌, ◌-◌, List, Err, ap, sym, ◌∙◌}
-use Rattle.cp_machine_model.specs.PrivateStates.{Frame, Leaves}
-use Rattle.cp_machine_model.specs.Calling.{gate_effect, leave, return_with, with_frame}
+use Rattle.cp_model_machine.specs.PrivateStates.{Frame, Leaves}
+use Rattle.cp_model_machine.specs.Calling.{gate_effect, leave, return_with, with_frame}
 use Rattle.cp_private.specs.Calls.{returning}
 use Rattle.cp_private.specs.States.{frame, frames_in, join}
 use Rattle.cp_private.proofs.Returning.{returned, unreturned}

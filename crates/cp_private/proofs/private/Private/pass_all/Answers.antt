@@ -1,7 +1,7 @@
 use Rattle.std.proofs.Common.{rules, ◌≡◌}
 use Rattle.cp_private.specs.Calls.{passing_of}
 use Rattle.cp_private.specs.States.{join, outside_of}
-use Rattle.cp_machine_model.specs.Passing as plain
+use Rattle.cp_model_machine.specs.Passing as plain
 use Rattle.cp_program.specs.View as view
 use Rattle.cp_private.proofs.private.Private.pass_all.Goals as goal
 

@@ -1,5 +1,5 @@
 use Rattle.std.proofs.Common.{◌≡◌, ℕ, length, map}
-use Rattle.cp_machine_model.specs.Passing.{pass_all}
+use Rattle.cp_model_machine.specs.Passing.{pass_all}
 use Rattle.cp_program.specs.View as view
 use Rattle.cp_private.specs.Keeping.{ChangesOnlyWords}
 use Rattle.cp_private.specs.States.{join, outside_of}

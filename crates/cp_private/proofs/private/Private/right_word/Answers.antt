@@ -1,6 +1,6 @@
 use Rattle.std.proofs.Common.{rules, arith, ◌≡◌, ◌+◌, to_z, of_z, ap, ◌∙◌}
 use Rattle.std.specs.Int.{w32}
-use Rattle.cp_machine_model.specs.Passing as plain
+use Rattle.cp_model_machine.specs.Passing as plain
 use Rattle.cp_program.specs.Reaches.{cap_place}
 use Rattle.cp_private.specs.States.{join}
 use Rattle.cp_private.proofs.private.Private.right_word.Goals as goal

@@ -1,6 +1,6 @@
 use Rattle.std.proofs.Common.{rules, ◌≡◌, to_z, of_z, Err, length, refl, ap, sym, ◌∙◌}
 use Rattle.std.specs.Int.{w32}
-use Rattle.cp_machine_model.specs.Steps.{set_within}
+use Rattle.cp_model_machine.specs.Steps.{set_within}
 use Rattle.cp_private.specs.States.{join, outcome}
 use Rattle.cp_private.proofs.Results.{placed, unplaced}
 use Rattle.cp_private.proofs.private.Private.set.Goals as goal

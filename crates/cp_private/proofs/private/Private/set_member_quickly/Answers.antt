@@ -1,8 +1,8 @@
 use Rattle.std.proofs.Common.{rules, ◌≡◌, ◌+◌, Ok, to_z, of_z, ap, ◌∙◌}
 use Rattle.std.specs.Int.{w32}
-use Rattle.cp_machine_model.specs.PrivateStates.{view_of}
-use Rattle.cp_machine_model.specs.Steps.{set_within}
-use Rattle.cp_machine_model.specs.Values.{value_of}
+use Rattle.cp_model_machine.specs.PrivateStates.{view_of}
+use Rattle.cp_model_machine.specs.Steps.{set_within}
+use Rattle.cp_model_machine.specs.Values.{value_of}
 use Rattle.cp_program.specs.View as view
 use Rattle.cp_private.specs.States.{join}
 use Rattle.cp_private.proofs.private.Private.set_member_quickly.Goals as goal

@@ -1,8 +1,8 @@
 use Rattle.std.proofs.Common.{rules, arith, ◌≡◌, to_z, of_z, Err, length, refl, ap, sym, ◌∙◌}
 use Rattle.std.specs.Int.{w32}
-use Rattle.cp_machine_model.specs.PrivateStates.{view_of}
-use Rattle.cp_machine_model.specs.Steps.{set_within}
-use Rattle.cp_machine_model.specs.Values.{root_place}
+use Rattle.cp_model_machine.specs.PrivateStates.{view_of}
+use Rattle.cp_model_machine.specs.Steps.{set_within}
+use Rattle.cp_model_machine.specs.Values.{root_place}
 use Rattle.cp_program.specs.Reaches.{cap_place}
 use Rattle.cp_program.specs.View as view
 use Rattle.cp_private.specs.States.{join, outcome, outside_of}

@@ -1,7 +1,7 @@
 use Rattle.std.proofs.Common.{rules, ◌≡◌, true, to_z, of_z, ap}
 use Rattle.std.specs.Int.{w32}
 use Rattle.cp_model.specs.Places.{within}
-use Rattle.cp_machine_model.specs.PrivateStates.{go_to, private_outcome}
+use Rattle.cp_model_machine.specs.PrivateStates.{go_to, private_outcome}
 use Rattle.cp_private.proofs.private.Private.set_within.Goals as goal
 
 pub returns-clause-step : goal.returns-clause-step

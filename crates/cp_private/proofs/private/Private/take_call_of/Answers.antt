@@ -1,7 +1,7 @@
 use Rattle.std.proofs.Common.{rules, ◌≡◌, [], true, Some, length, ap, sym, ◌∙◌}
-use Rattle.cp_machine_model.specs.Calling.{call_step}
-use Rattle.cp_machine_model.specs.PrivateStates.{is_running}
-use Rattle.cp_machine_model.specs.Steps.{act, is_private}
+use Rattle.cp_model_machine.specs.Calling.{call_step}
+use Rattle.cp_model_machine.specs.PrivateStates.{is_running}
+use Rattle.cp_model_machine.specs.Steps.{act, is_private}
 use Rattle.cp_program.specs.View as view
 use Rattle.cp_private.specs.States.{join, outside_of, private_of}
 use Rattle.cp_private.proofs.Unshared.{private_acted}

@@ -1,5 +1,5 @@
 use Rattle.std.proofs.Common.{ap, sym, ◌∙◌}
-use Rattle.cp_machine_model.specs.Steps.{act}
+use Rattle.cp_model_machine.specs.Steps.{act}
 use Rattle.cp_program.specs.View as view
 use Rattle.cp_private.specs.States.{join}
 use Rattle.cp_private.proofs.private.Private.take_quick_step.Goals as goal

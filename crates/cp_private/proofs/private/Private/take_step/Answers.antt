@@ -1,8 +1,8 @@
 use Rattle.std.proofs.Common.{◌≡◌, [], false, true, Some, ap, sym, ◌∙◌}
 use Rattle.std.specs.Prelude.{if◌then◌else◌, not}
-use Rattle.cp_machine_model.specs.PrivateStates.{is_running}
-use Rattle.cp_machine_model.specs.Steps.{act, alone, is_kernel_operation, is_private, operation_of}
-use Rattle.cp_program_model.specs.Programs as op
+use Rattle.cp_model_machine.specs.PrivateStates.{is_running}
+use Rattle.cp_model_machine.specs.Steps.{act, alone, is_kernel_operation, is_private, operation_of}
+use Rattle.cp_model_program.specs.Programs as op
 use Rattle.cp_program.specs.View as view
 use Rattle.std.proofs.lemmas.List.{nil_from_length}
 use Rattle.cp_private.specs.States.{join, private_of}

@@ -1,7 +1,7 @@
 use Rattle.std.proofs.Common.{rules, ◌≡◌, [], true, Some, ap, sym, ◌∙◌}
 use Rattle.std.proofs.lemmas.List.{nil_from_length}
-use Rattle.cp_machine_model.specs.PrivateStates.{Acting, is_running}
-use Rattle.cp_machine_model.specs.Steps.{is_private}
+use Rattle.cp_model_machine.specs.PrivateStates.{Acting, is_running}
+use Rattle.cp_model_machine.specs.Steps.{is_private}
 use Rattle.cp_program.specs.View as view
 use Rattle.cp_private.specs.States.{join, private_of}
 use Rattle.cp_private.proofs.Unshared.{private_acted}

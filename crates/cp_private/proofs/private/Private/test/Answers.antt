@@ -1,7 +1,7 @@
 use Rattle.std.proofs.Common.{rules, ◌≡◌, Err, length, refl, ap, sym, ◌∙◌}
 use Rattle.std.specs.Prelude.{pos, if◌then◌else◌}
 use Rattle.cp_model.specs.Integers.{same_integer}
-use Rattle.cp_machine_model.specs.PrivateStates.{go_to, private_outcome}
+use Rattle.cp_model_machine.specs.PrivateStates.{go_to, private_outcome}
 use Rattle.cp_private.specs.States.{join}
 use Rattle.cp_private.proofs.private.Private.test.Goals as goal
 

@@ -1,7 +1,7 @@
 use Rattle.std.proofs.Common.{rules, arith, ◌≡◌, to_z, of_z, true, false, Ok, Some, refl, ap, ◌∙◌}
 use Rattle.std.specs.Int.{w32}
 use Rattle.cp_model.specs.Integers.{same_integer}
-use Rattle.cp_program_model.specs.Starts.{unset}
+use Rattle.cp_model_program.specs.Starts.{unset}
 use Rattle.cp_private.specs.States.{join}
 use Rattle.cp_private.proofs.private.Private.value_to_return.Goals as goal
 

@@ -1,5 +1,5 @@
 use Rattle.std.proofs.Common.{rules, ◌≡◌, ◌++◌, ap}
-use Rattle.cp_machine_model.specs.PrivateStates.{go_to}
+use Rattle.cp_model_machine.specs.PrivateStates.{go_to}
 use Rattle.cp_private.specs.States.{join}
 use Rattle.cp_private.proofs.private.Private.write_out.Goals as goal
 

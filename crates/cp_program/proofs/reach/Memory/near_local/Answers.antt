@@ -1,6 +1,6 @@
 use Rattle.std.proofs.Common.{◌≡◌, ap, sym, Ok}
-use Rattle.cp_program_model.specs.Starts.{word}
-use Rattle.cp_machine_model.specs.Values.{value_of}
+use Rattle.cp_model_program.specs.Starts.{word}
+use Rattle.cp_model_machine.specs.Values.{value_of}
 use Rattle.cp_program.specs.Reaches.{view_with}
 use Rattle.cp_program.specs.View as view
 use Rattle.cp_program.proofs.Found.{found_as}

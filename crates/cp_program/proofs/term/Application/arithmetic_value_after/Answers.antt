@@ -1,7 +1,7 @@
 use Rattle.std.proofs.Common.{rules, ◌≡◌, ap, sym, ◌∙◌}
 use Rattle.cp_model.specs.Abstract as operator
 use Rattle.cp_model.specs.Erase.{operator_of}
-use Rattle.cp_program_model.specs.Terms as plain
+use Rattle.cp_model_program.specs.Terms as plain
 use Rattle.cp_program.specs.Reaches.{view_with}
 use Rattle.cp_program.specs.View as view
 use Rattle.cp_program.proofs.Found.{add_local, add_member, after_known, before_known, found, kept, local_before, member_before, multiply_local, multiply_member, subtract_local, subtract_member, told}

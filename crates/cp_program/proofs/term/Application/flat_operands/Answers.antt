@@ -1,6 +1,6 @@
 use Rattle.std.proofs.Common.{rules, ◌≡◌, ap, ◌∙◌}
 use Rattle.cp_model.specs.Erase.{operator_of}
-use Rattle.cp_program_model.specs.Terms as plain
+use Rattle.cp_model_program.specs.Terms as plain
 use Rattle.cp_program.specs.Reaches.{view_with}
 use Rattle.cp_program.specs.View as view
 use Rattle.cp_program.proofs.Found.{after_known, before_known, kept, local_before, member_before, told, with_local, with_member}

@@ -1,6 +1,6 @@
 use Rattle.std.proofs.Common.{rules, ◌≡◌, subst, IfSome}
 use Rattle.cp_model.specs.Erase.{operator_of}
-use Rattle.cp_machine_model.specs.Values as values
+use Rattle.cp_model_machine.specs.Values as values
 use Rattle.cp_program.specs.Reaches.{apply_operation, view_with}
 use Rattle.cp_program.specs.View as view
 use Rattle.cp_program.proofs.Found.{kept}

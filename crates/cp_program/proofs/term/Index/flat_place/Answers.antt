@@ -1,5 +1,5 @@
 use Rattle.std.proofs.Common.{rules, ◌≡◌, ap, sym, subst, ◌∙◌, ◌+◌, Ok, IfSome, to_z, of_z, w32}
-use Rattle.cp_machine_model.specs.Values.{bind, value_of}
+use Rattle.cp_model_machine.specs.Values.{bind, value_of}
 use Rattle.cp_program.specs.Reaches.{offset_of, view_with}
 use Rattle.cp_program.specs.View as view
 use Rattle.cp_program.proofs.Chains.{index_is}

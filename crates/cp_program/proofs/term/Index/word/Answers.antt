@@ -1,6 +1,6 @@
 use Rattle.std.proofs.Common.{rules, ◌≡◌, length, map, ap, sym, ◌∙◌}
 use Rattle.std.proofs.lemmas.List.{nil_from_length}
-use Rattle.cp_machine_model.specs.Values.{value_of}
+use Rattle.cp_model_machine.specs.Values.{value_of}
 use Rattle.cp_program.specs.declared.term.Term.{out-Term}
 use Rattle.cp_program.specs.Reaches.{view_with}
 use Rattle.cp_program.specs.View as view

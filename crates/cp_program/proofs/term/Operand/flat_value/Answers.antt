@@ -1,5 +1,5 @@
 use Rattle.std.proofs.Common.{ap, sym, ◌∙◌}
-use Rattle.cp_machine_model.specs.Values.{value_of}
+use Rattle.cp_model_machine.specs.Values.{value_of}
 use Rattle.cp_program.specs.Reaches.{view_with}
 use Rattle.cp_program.specs.View as view
 use Rattle.cp_program.proofs.Found.{found, operand_local, operand_member}

@@ -1,9 +1,9 @@
 use Rattle.std.proofs.Common.{rules, ◌≡◌, pos, ap, sym, ◌∙◌, Ok, to_z, of_z, w32}
 use Rattle.cp_model.specs.Integers.{same_integer}
-use Rattle.cp_program_model.specs.Starts.{word}
-use Rattle.cp_program_model.specs.Terms as terms
-use Rattle.cp_machine_model.specs.Values as values
-use Rattle.cp_machine_model.specs.Values.{bind, value_of}
+use Rattle.cp_model_program.specs.Starts.{word}
+use Rattle.cp_model_program.specs.Terms as terms
+use Rattle.cp_model_machine.specs.Values as values
+use Rattle.cp_model_machine.specs.Values.{bind, value_of}
 use Rattle.cp_program.specs.Reaches.{view_with}
 use Rattle.cp_program.specs.View as view
 use Rattle.cp_program.proofs.Found.{found_as, operand_not, operand_through}

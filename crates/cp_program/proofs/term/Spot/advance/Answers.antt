@@ -1,6 +1,6 @@
 use Rattle.std.proofs.Common.{rules, ℕ, suc, ◌≡◌, ◌+◌, ◌-◌, length, ap, sym, ◌∙◌}
-use Rattle.cp_program_model.specs.Terms as plain
-use Rattle.cp_program_model.specs.TermsFor.{move_spot}
+use Rattle.cp_model_program.specs.Terms as plain
+use Rattle.cp_model_program.specs.TermsFor.{move_spot}
 use Rattle.cp_program.specs.View.{PlainIndex, index, root, term}
 use Rattle.cp_program.specs.declared.term.Index.{out-Index}
 use Rattle.cp_program.specs.declared.term.Spot.{out-Spot}

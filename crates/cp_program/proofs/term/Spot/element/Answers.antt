@@ -2,7 +2,7 @@ use Rattle.std.proofs.Common.{◌≡◌, [], ◌∷◌, ◌++◌, map, ap, sym, 
 use Rattle.std.specs.Int.{w32}
 use Rattle.std.proofs.lemmas.Int.{to_z-of_z}
 use Rattle.std.proofs.lemmas.List.{map-append}
-use Rattle.cp_program_model.specs.Terms as plain
+use Rattle.cp_model_program.specs.Terms as plain
 use Rattle.cp_program.specs.View.{PlainIndex, elements_of, index, root, term}
 use Rattle.cp_program.specs.declared.term.Index.{Index, roll-Index}
 use Rattle.cp_program.specs.declared.term.Operand.{Operand}

@@ -1,7 +1,7 @@
 use Rattle.std.proofs.Common.{◌≡◌, ap, Ok}
-use Rattle.cp_program_model.specs.Starts.{word}
-use Rattle.cp_program_model.specs.Terms as terms
-use Rattle.cp_machine_model.specs.Values.{bind, place_of, value_of}
+use Rattle.cp_model_program.specs.Starts.{word}
+use Rattle.cp_model_program.specs.Terms as terms
+use Rattle.cp_model_machine.specs.Values.{bind, place_of, value_of}
 use Rattle.cp_program.specs.Reaches.{view_with}
 use Rattle.cp_program.specs.View as view
 use Rattle.cp_program.proofs.Found.{found_as, told}

@@ -1,7 +1,7 @@
 use Rattle.std.proofs.Common.{rules, ◌≡◌, length, ap, ◌∙◌, map, Ok}
 use Rattle.std.proofs.lemmas.List.{nil_from_length}
-use Rattle.cp_program_model.specs.Terms as terms
-use Rattle.cp_machine_model.specs.Values.{place_of, root_place}
+use Rattle.cp_model_program.specs.Terms as terms
+use Rattle.cp_model_machine.specs.Values.{place_of, root_place}
 use Rattle.cp_program.specs.declared.term.Spot.{out-Spot}
 use Rattle.cp_program.specs.Reaches.{view_with}
 use Rattle.cp_program.specs.View as view

@@ -1,6 +1,6 @@
 use Rattle.std.proofs.Common.{ap, sym, ◌∙◌, map}
-use Rattle.cp_program_model.specs.Terms as terms
-use Rattle.cp_machine_model.specs.Values.{place_of}
+use Rattle.cp_model_program.specs.Terms as terms
+use Rattle.cp_model_machine.specs.Values.{place_of}
 use Rattle.cp_program.specs.declared.term.Spot.{out-Spot}
 use Rattle.cp_program.specs.Reaches.{elements_place, view_with}
 use Rattle.cp_program.specs.View as view

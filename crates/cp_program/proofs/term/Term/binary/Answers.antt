@@ -1,5 +1,5 @@
 use Rattle.std.proofs.Common.{◌≡◌, IfOk, IfSome, ap, subst, ◌∙◌}
-use Rattle.cp_program_model.specs.Terms as plain
+use Rattle.cp_model_program.specs.Terms as plain
 use Rattle.cp_model.specs.Erase.{operator_of}
 use Rattle.cp_program.specs.View.{application, applied_to, term}
 use Rattle.cp_program.proofs.term.Term.binary.Goals as goal

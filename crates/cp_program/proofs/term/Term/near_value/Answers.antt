@@ -1,5 +1,5 @@
 use Rattle.std.proofs.Common.{rules, ◌≡◌, ℤ, ap, sym, subst, ◌∙◌, Ok, IfSome, map}
-use Rattle.cp_machine_model.specs.Values.{bind, value_of}
+use Rattle.cp_model_machine.specs.Values.{bind, value_of}
 use Rattle.cp_program.specs.declared.term.Term.{out-Term}
 use Rattle.cp_program.specs.Reaches.{chain_value, view_with}
 use Rattle.cp_program.specs.View as view

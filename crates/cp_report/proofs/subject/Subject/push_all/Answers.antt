@@ -4,8 +4,8 @@ use Rattle.std.proofs.lemmas.Result.{on_ok_weaker}
 use Rattle.cp_model.specs.Abstract.{Process}
 use Rattle.cp_model.specs.Declarations.{globals, reported_members}
 use Rattle.cp_model.specs.Report.{components_of}
-use Rattle.cp_program_model.specs.Layout.{head_words}
-use Rattle.cp_machine_model.specs.Reports.{process_lines}
+use Rattle.cp_model_program.specs.Layout.{head_words}
+use Rattle.cp_model_machine.specs.Reports.{process_lines}
 use Rattle.cp_report.specs.Lines.{rounds_line}
 use Rattle.cp_report.specs.Subjects.{machine_in}
 use Rattle.cp_report.proofs.Initial.{report_told}

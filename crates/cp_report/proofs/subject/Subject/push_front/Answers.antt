@@ -1,8 +1,8 @@
 use Rattle.std.proofs.Common.{rules, ◌≡◌, ◌++◌, ◌∷◌, [], ◌∙◌}
 use Rattle.std.proofs.lemmas.Result.{on_ok_weaker}
-use Rattle.cp_machine_model.specs.KernelSteps.{stage_of}
-use Rattle.cp_machine_model.specs.Machines.{transcript_of}
-use Rattle.cp_machine_model.specs.Reports.{stage_text, transcript_line}
+use Rattle.cp_model_machine.specs.KernelSteps.{stage_of}
+use Rattle.cp_model_machine.specs.Machines.{transcript_of}
+use Rattle.cp_model_machine.specs.Reports.{stage_text, transcript_line}
 use Rattle.cp_rounds.specs.ProcessStates.{activity_at}
 use Rattle.cp_rounds.specs.Views.{output_of}
 use Rattle.cp_report.specs.Lines.{title}

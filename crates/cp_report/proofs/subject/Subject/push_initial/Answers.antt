@@ -3,11 +3,11 @@ use Rattle.std.specs.Prelude.{codes, option_map, slice_get}
 use Rattle.std.proofs.lemmas.Result.{on_ok_weaker}
 use Rattle.cp_model.specs.Declarations.{globals, members_from, reported_members}
 use Rattle.cp_model.specs.Types.{NoMembers}
-use Rattle.cp_program_model.specs.Layout.{head_words}
-use Rattle.cp_desk.specs.Inputs.{input_of}
+use Rattle.cp_model_program.specs.Layout.{head_words}
+use Rattle.cp_rounds_handoff.specs.Inputs.{input_of}
 use Rattle.cp_private.specs.States.{private_of}
-use Rattle.cp_scope.specs.Variables.{variables_of}
-use Rattle.cp_machine_model.specs.Reports.{lines_visit, visit_members}
+use Rattle.cp_compile_symbols.specs.Variables.{variables_of}
+use Rattle.cp_model_machine.specs.Reports.{lines_visit, visit_members}
 use Rattle.cp_report.specs.Subjects.{machine_in}
 use Rattle.cp_report.proofs.Initial.{declared_members, initial_head, initial_members}
 use Rattle.cp_report.proofs.ProcessesTold.{process_told}

@@ -3,8 +3,8 @@ use Rattle.std.proofs.lemmas.Result.{on_ok_weaker}
 use Rattle.cp_kernel.specs.KernelOf.{kernel_of}
 use Rattle.cp_model.specs.Declarations.{globals}
 use Rattle.cp_private.specs.States.{holder}
-use Rattle.cp_machine_model.specs.KernelSteps.{gate_of}
-use Rattle.cp_machine_model.specs.Reports.{lines_visit, visit_component}
+use Rattle.cp_model_machine.specs.KernelSteps.{gate_of}
+use Rattle.cp_model_machine.specs.Reports.{lines_visit, visit_component}
 use Rattle.cp_program.specs.View as view
 use Rattle.cp_report.specs.Lines.{gate_line_of}
 use Rattle.cp_report.specs.Subjects.{machine_in}

@@ -2,12 +2,12 @@ use Rattle.std.proofs.Common.{rules, ◌≡◌, ◌+◌, ◌++◌, ◌<◌, [], 
 use Rattle.std.specs.Prelude.{slice_index_or}
 use Rattle.cp_model.specs.Abstract.{Monitor}
 use Rattle.cp_model.specs.Report.{components_of}
-use Rattle.cp_machine_model.specs.Reports.{monitor_lines, monitors_lines}
-use Rattle.cp_scope.specs.Standing.{entry}
-use Rattle.cp_scope.specs.declared.types.Field.{Field}
+use Rattle.cp_model_machine.specs.Reports.{monitor_lines, monitors_lines}
+use Rattle.cp_compile_symbols.specs.Standing.{entry}
+use Rattle.cp_compile_symbols.specs.declared.types.Field.{Field}
 use Rattle.cp_report.specs.Subjects.{machine_in}
 use Rattle.cp_report.proofs.LinesTold.{LinesToTell, one_component}
-use Rattle.cp_members.proofs.MembersTold.{drop_first}
+use Rattle.cp_inspect.proofs.MembersTold.{drop_first}
 use Rattle.cp_report.proofs.subject.Subject.push_monitors.Goals as goal
 
 pub loop-index-preserved : goal.loop-index-preserved

@@ -2,8 +2,8 @@ use Rattle.std.proofs.Common.{◌++◌, drop, map, suc}
 use Rattle.cp_model.specs.Abstract.{Monitor}
 use Rattle.cp_model.specs.Report.{components_of}
 use Rattle.cp_model.specs.States.{Setup}
-use Rattle.cp_machine_model.specs.Reports.{monitors_lines}
-use Rattle.cp_scope.specs.Standing.{entry}
+use Rattle.cp_model_machine.specs.Reports.{monitors_lines}
+use Rattle.cp_compile_symbols.specs.Standing.{entry}
 use Rattle.cp_report.specs.Subjects.{IsOf, machine_in}
 use Rattle.cp_report.proofs.LinesTold.{LinesToTell}
 use Rattle.cp_report.proofs.subject.Subject.push_monitors.Given as goal

@@ -3,9 +3,9 @@ use Rattle.std.specs.Prelude.{option_map, slice_get}
 use Rattle.std.proofs.lemmas.Result.{on_ok_weaker}
 use Rattle.cp_model.specs.Declarations.{globals}
 use Rattle.cp_model.specs.Report.{component_members}
-use Rattle.cp_desk.specs.Inputs.{input_of}
+use Rattle.cp_rounds_handoff.specs.Inputs.{input_of}
 use Rattle.cp_private.specs.States.{private_of}
-use Rattle.cp_machine_model.specs.Reports.{head_of, lines_visit, visit_members}
+use Rattle.cp_model_machine.specs.Reports.{head_of, lines_visit, visit_members}
 use Rattle.cp_report.specs.Subjects.{machine_in}
 use Rattle.cp_report.proofs.ProcessesTold.{process_told}
 use Rattle.cp_report.proofs.subject.Subject.push_process.Goals as goal

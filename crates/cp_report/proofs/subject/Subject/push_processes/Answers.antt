@@ -2,12 +2,12 @@ use Rattle.std.proofs.Common.{rules, ◌≡◌, ◌+◌, ◌++◌, ◌<◌, [], 
 use Rattle.std.specs.Prelude.{slice_index_or}
 use Rattle.cp_model.specs.Declarations.{globals}
 use Rattle.cp_model.specs.Report.{component_members}
-use Rattle.cp_machine_model.specs.Reports.{head_of, process_lines, processes_lines}
-use Rattle.cp_scope.specs.Standing.{entry}
-use Rattle.cp_scope.specs.declared.types.Field.{Field}
+use Rattle.cp_model_machine.specs.Reports.{head_of, process_lines, processes_lines}
+use Rattle.cp_compile_symbols.specs.Standing.{entry}
+use Rattle.cp_compile_symbols.specs.declared.types.Field.{Field}
 use Rattle.cp_report.specs.Subjects.{machine_in}
 use Rattle.cp_report.proofs.LinesTold.{LinesToTell, one_component}
-use Rattle.cp_members.proofs.MembersTold.{drop_first}
+use Rattle.cp_inspect.proofs.MembersTold.{drop_first}
 use Rattle.cp_report.proofs.subject.Subject.push_processes.Goals as goal
 
 pub loop-index-preserved : goal.loop-index-preserved

@@ -2,9 +2,9 @@ use Rattle.std.proofs.Common.{◌++◌, List, drop, map, suc}
 use Rattle.cp_model.specs.Abstract.{Name}
 use Rattle.cp_model.specs.Declarations.{Variable}
 use Rattle.cp_model.specs.States.{Setup}
-use Rattle.cp_machine_model.specs.Reports.{processes_lines}
-use Rattle.cp_scope.specs.Standing.{entry}
-use Rattle.cp_members.specs.Lists.{AreListed}
+use Rattle.cp_model_machine.specs.Reports.{processes_lines}
+use Rattle.cp_compile_symbols.specs.Standing.{entry}
+use Rattle.cp_inspect.specs.Lists.{AreListed}
 use Rattle.cp_report.specs.Subjects.{IsOf, machine_in}
 use Rattle.cp_report.proofs.LinesTold.{LinesToTell}
 use Rattle.cp_report.proofs.subject.Subject.push_processes.Given as goal

@@ -1,8 +1,8 @@
 use Rattle.std.proofs.Common.{◌++◌, sym, ap, ◌∙◌}
 use Rattle.std.proofs.lemmas.Result.{on_ok_weaker}
-use Rattle.cp_machine_model.specs.KernelSteps.{stage_of}
+use Rattle.cp_model_machine.specs.KernelSteps.{stage_of}
 use Rattle.cp_rounds.specs.ProcessStates.{activity_at}
-use Rattle.cp_members.specs.Statuses.{state_text}
+use Rattle.cp_inspect.specs.Statuses.{state_text}
 use Rattle.cp_report.specs.Subjects.{machine_in}
 use Rattle.cp_report.proofs.StatesTold.{stage_told}
 use Rattle.cp_report.proofs.subject.Subject.push_status.Goals as goal

@@ -1,6 +1,6 @@
 use Rattle.std.proofs.Common.{sym, subst}
 use Rattle.cp_model.specs.States.{monitor_count}
-use Rattle.cp_machine_model.specs.Chains.{IsChainOf}
+use Rattle.cp_model_machine.specs.Chains.{IsChainOf}
 use Rattle.cp_rounds.specs.Views.{machine_of}
 use Rattle.cp_rounds.proofs.machine.Machine.chain.Goals as goal
 

@@ -1,9 +1,9 @@
 use Rattle.std.proofs.Common.{◌≡◌, ◌≤◌, [], List, Some, ap, arith, length, slice_get, subst, sym, ◌∙◌}
 use Rattle.cp_kernel.specs.KernelOf.{kernel_of}
-use Rattle.cp_machine_model.specs.KernelSteps.{stage_of}
+use Rattle.cp_model_machine.specs.KernelSteps.{stage_of}
 use Rattle.cp_private.specs.States.{activity}
 use Rattle.cp_private.specs.declared.private.Private.{Private}
-use Rattle.cp_desk.proofs.Lists.{got_or}
+use Rattle.cp_rounds_handoff.proofs.Lists.{got_or}
 use Rattle.cp_rounds.specs.Stillness.{moves}
 use Rattle.cp_rounds.specs.Views.{processes_of}
 use Rattle.cp_rounds.proofs.StillStates.{rests_more, tell_moving, tell_still}

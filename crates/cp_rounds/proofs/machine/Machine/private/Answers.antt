@@ -1,6 +1,6 @@
 use Rattle.std.proofs.Common.{rules, ◌≡◌, ◌≤◌, ◌<◌, ◌-◌, ◌∙◌, Some, ap, length, slice_get, slice_index_or, sym}
 use Rattle.cp_private.specs.declared.private.Private.{Private}
-use Rattle.cp_desk.proofs.Lists.{got_or}
+use Rattle.cp_rounds_handoff.proofs.Lists.{got_or}
 use Rattle.cp_rounds.proofs.Made.{part_at, part_past}
 use Rattle.cp_rounds.proofs.machine.Machine.private.Goals as goal
 

@@ -1,5 +1,5 @@
 use Rattle.std.proofs.Common.{rules, ◌≡◌, ◌<◌, ◌^◌, length, subst, sym, ◌∙◌}
-use Rattle.cp_desk.specs.Inputs.{input_of}
+use Rattle.cp_rounds_handoff.specs.Inputs.{input_of}
 use Rattle.cp_rounds.proofs.Made.{parts_count}
 use Rattle.cp_rounds.proofs.Shown.{few_numbered}
 use Rattle.cp_rounds.proofs.machine.Machine.processes.Goals as goal

@@ -1,4 +1,4 @@
-use Rattle.cp_orders.specs.Events.{events_of}
+use Rattle.cp_base_schedule.specs.Events.{events_of}
 use Rattle.cp_rounds.proofs.InStates.{makes_replay}
 use Rattle.cp_rounds.proofs.machine.Machine.replay.Goals as goal
 

@@ -1,8 +1,8 @@
 use Rattle.std.proofs.Common.{◌≡◌, ◌-◌, List, [], ℕ, None, Option, Some, slice_get, sym, ap, ◌∙◌}
 use Rattle.std.specs.Prelude.{option_map}
 use Rattle.cp_private.specs.States.{private_of}
-use Rattle.cp_machine_model.specs.PrivateStates.{PrivateState}
-use Rattle.cp_desk.specs.Inputs.{input_of}
+use Rattle.cp_model_machine.specs.PrivateStates.{PrivateState}
+use Rattle.cp_rounds_handoff.specs.Inputs.{input_of}
 use Rattle.cp_rounds.specs.Views.{machine_of}
 use Rattle.cp_rounds.proofs.machine.Machine.transcript.Goals as goal
 

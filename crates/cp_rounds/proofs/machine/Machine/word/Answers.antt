@@ -1,9 +1,9 @@
 use Rattle.std.proofs.Common.{rules, ◌≡◌, ◌-◌, List, [], ℤ, None, Option, Some, slice_get, sym, ap, ◌∙◌, of_z, to_z, w32}
 use Rattle.std.specs.Prelude.{option_map}
-use Rattle.cp_program_model.specs.Starts.{word}
+use Rattle.cp_model_program.specs.Starts.{word}
 use Rattle.cp_private.specs.States.{private_of}
-use Rattle.cp_machine_model.specs.PrivateStates.{PrivateState}
-use Rattle.cp_desk.specs.Inputs.{input_of}
+use Rattle.cp_model_machine.specs.PrivateStates.{PrivateState}
+use Rattle.cp_rounds_handoff.specs.Inputs.{input_of}
 use Rattle.cp_rounds.specs.Views.{machine_of}
 use Rattle.cp_rounds.proofs.machine.Machine.word.Goals as goal
 

@@ -3,7 +3,7 @@ use Rattle.cp_model.specs.declared.rules.Rule.TheVariants.{C13}
 use Rattle.cp_model.specs.RulesJudged.{Violations, unless}
 use Rattle.cp_model.specs.RulesTypes.{cap_words}
 use Rattle.cp_model.specs.View as view
-use Rattle.cp_judge.specs.Tells.{with_part}
+use Rattle.cp_rules_body.specs.Tells.{with_part}
 use Rattle.cp_rules.specs.Checking.{State, telling}
 use Rattle.cp_rules.proofs.WholeTexts.{broken_body, sound_body}
 use Rattle.cp_rules.proofs.checker.Checker.initial_body.Goals as goal

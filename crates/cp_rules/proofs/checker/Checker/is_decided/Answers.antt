@@ -1,5 +1,5 @@
 use Rattle.std.proofs.Common.{ap, sym, ◌∙◌}
-use Rattle.cp_later.specs.Later.{environment_later}
+use Rattle.cp_rules_cutoff.specs.Later.{environment_later}
 use Rattle.cp_rules.specs.Checking.{State}
 use Rattle.cp_rules.specs.Endings.{rest_of}
 use Rattle.cp_rules.proofs.EarlyEnds.{decided}

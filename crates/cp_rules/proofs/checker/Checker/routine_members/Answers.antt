@@ -1,7 +1,7 @@
 use Rattle.std.proofs.Common.{◌≡◌, ◌<◌, ◌≤◌, ap, arith, length, slice_get, sym, subst, ◌∙◌}
 use Rattle.cp_model.specs.RulesEnvironment.{Text}
 use Rattle.cp_model.specs.declared.rules.Entity.{Entity}
-use Rattle.cp_names.specs.Tables.{AreDistinct}
+use Rattle.cp_base_names.specs.Tables.{AreDistinct}
 use Rattle.cp_rules.specs.Checking.{State}
 use Rattle.cp_rules.proofs.RoutinesAmong.{next_added, none_within}
 use Rattle.cp_rules.proofs.checker.Checker.routine_members.Goals as goal

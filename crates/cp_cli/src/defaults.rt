@@ -1,0 +1,24 @@
+//! The numbers that stand for options that aren't given.
+
+use cp_base_config::limits::LARGEST_PART;
+
+/// The rounds of a run.
+pub const ROUNDS: u32 = 2;
+
+/// The most rounds that an outcome makes.
+pub const LIMIT: u32 = 10_000;
+
+/// The steps of a turn.
+pub const TURN: u32 = 100;
+
+/// The workers.
+pub const WORKERS: u32 = 2;
+
+/// The processes of a chunk.
+pub const CHUNK: u32 = 1;
+
+/// The processes of a wave.
+pub const WAVE: u32 = LARGEST_PART;
+
+/// The rounds between two ticks of the clock.
+pub const TICK: u32 = 1;

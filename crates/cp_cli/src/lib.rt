@@ -1,0 +1,24 @@
+//! The command line: from the words that cpm is given to a command.
+//!
+//! - `command`: what cpm can be asked to do.
+//! - `reading`: parses the words by the `grammar`, and takes the command from what was parsed, with
+//!   the values of its `options`, which are `numbers` or `defaults`, and its `inputs`.
+//! - `misuse`: what is wrong with words that the grammar lets pass.
+//!
+//! `specs/Commands.antt` and `specs/Numbers.antt` define what arguments mean.
+#![tactic(auto)]
+
+pub mod command;
+pub mod defaults;
+mod grammar;
+mod inputs;
+mod misuse;
+pub mod numbers;
+mod options;
+pub mod reading;
+
+pub use cp_base_config::outcome::{OutcomeForm, UntilStill};
+pub use cp_base_config::run::{Replay, Run};
+pub use cp_base_config::trace::{TraceForm, Tracing};
+pub use cp_explain::explain::Extent;
+pub use cp_explain_rights::graph::Form;

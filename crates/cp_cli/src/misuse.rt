@@ -1,0 +1,85 @@
+//! What is wrong with words that the grammar lets pass.
+
+ghost use Rattle.std.specs.Prelude.{◌≡◌};
+ghost use Rattle.cp_cli.specs.declared.misuse.Misuse.TheVariants as misuse;
+
+use crate::command::CommandError;
+use clap::error::ErrorKind;
+use cp_explain::rules::ALL;
+use std::alloc::{AllocError, AllocFailed, Global};
+use thiserror::Error;
+
+/// Why words that the grammar lets pass give no command.
+#[derive(Clone, Copy, Debug, Error)]
+pub(crate) enum Misuse<'a> {
+    #[error("--{name} takes decimal digits, from {low} to {most}")]
+    OutOfRange {
+        name: &'static str,
+        low: u32,
+        most: u32,
+    },
+    #[error("--in takes NAME=FILE, not {word}")]
+    Unnamed {
+        word: &'a str,
+    },
+    #[error("--in names {name} twice")]
+    NamedTwice {
+        name: &'a str,
+    },
+    #[error("--in is given more than {most} times")]
+    ManyNamed {
+        most: usize,
+    },
+    #[error("--only takes names with commas between them, not {word}")]
+    NoNames {
+        word: &'a str,
+    },
+    #[error("--from is above --to")]
+    FromAboveTo,
+    #[error("only one of the files can be standard input")]
+    StandardInputTwice,
+    #[error("there is no rule {word}: {ALL}")]
+    NoRule {
+        word: &'a str,
+    },
+    #[error("--all tells the violations of a text: it takes a file, not a rule")]
+    AllOfRule,
+    #[error("--json explains a text: it takes a file, not a rule")]
+    JsonOfRule,
+    #[error("{what} is missing")]
+    Missing {
+        what: &'static str,
+    },
+    #[error("memory was refused")]
+    Memory,
+}
+
+impl<'a, T: Drop> From<AllocFailed<T>> for Misuse<'a> {
+    ghost from_gives = { λ _ m. m ≡ misuse.Memory };
+
+    fn from(_error: AllocFailed<T>) -> Misuse<'a> {
+        Misuse::Memory
+    }
+}
+
+fn told(
+    alloc: Global,
+    grammar: &mut clap::Command<'_>,
+    misuse: &Misuse<'_>,
+) -> Result<clap::Error, AllocError> {
+    let text = format!(in alloc; "{misuse}")?;
+    grammar.error(ErrorKind::ValueValidation, text.as_str())
+}
+
+impl<'a> Misuse<'a> {
+    /// The error that tells it, with the usage of the program.
+    pub(crate) fn error(&self, alloc: Global, grammar: &mut clap::Command<'_>) -> CommandError {
+        if let Misuse::Memory = self {
+            return CommandError::Memory;
+        }
+        match told(alloc, grammar, self) {
+            Ok(error) => CommandError::Usage(error),
+            Err(_) => CommandError::Memory,
+        }
+    }
+}

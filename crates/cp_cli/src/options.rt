@@ -1,0 +1,169 @@
+//! The values of options.
+
+ghost use Rattle.std.specs.Prelude.{◌≡◌, ◌≤◌, IfOk};
+ghost use Rattle.cp_base_config.specs.Plans.{AreInRange, IsTick, IsTurn};
+ghost use Rattle.cp_cli.specs.Commands.{Has, HasReplay};
+
+use crate::defaults;
+use crate::misuse::Misuse;
+use crate::numbers::{LARGEST_NUMBER, number};
+use clap::ArgMatches;
+use cp_base_config::limits::{LARGEST_PART, LONGEST_TICK, LONGEST_TURN, MOST_WORKERS};
+use cp_base_config::outcome::{OutcomeForm, UntilStill};
+use cp_base_config::plan::Plan;
+use cp_base_config::run::{Replay, Run};
+use cp_base_config::tick::Tick;
+use cp_base_config::trace::{TraceForm, Tracing};
+use cp_base_config::turn::Turn;
+use std::alloc::Global;
+
+/// The run with these numbers.
+pub(crate) fn run_of(
+    rounds: u32,
+    turn: u32,
+    workers: u32,
+    chunk: u32,
+    wave: u32,
+    tick: u32,
+    chains: bool,
+) -> Run
+    requires plan { AreInRange turn workers chunk wave }
+    requires tick { IsTick tick }
+    ensures { Has rounds turn workers chunk wave tick chains result }
+{
+    match (Plan::new(turn, workers, chunk, wave), Tick::new(tick)) {
+        (Ok(plan), Ok(tick)) => Run {
+            rounds,
+            plan,
+            tick,
+            chains,
+        },
+        _ => unreachable!(),
+    }
+}
+
+// The replay with these numbers.
+fn replay_of(turn: u32, tick: u32, chains: bool) -> Replay
+    requires turn { IsTurn turn }
+    requires tick { IsTick tick }
+    ensures { HasReplay turn tick chains result }
+{
+    match (Turn::new(turn), Tick::new(tick)) {
+        (Ok(turn), Ok(tick)) => Replay { turn, tick, chains },
+        _ => unreachable!(),
+    }
+}
+
+/// The number of an option, or `otherwise` if it isn't given.
+pub(crate) fn count<'a>(
+    matches: &ArgMatches<'a>,
+    name: &'static str,
+    low: u32,
+    most: u32,
+    otherwise: u32,
+) -> Result<u32, Misuse<'a>>
+    requires small { most ≤ LARGEST_NUMBER }
+    requires within { (low ≤ otherwise) × (otherwise ≤ most) }
+    ensures within { IfOk result (λ n. (low ≤ n) × (n ≤ most)) }
+{
+    let Some(text) = matches.get_str(name) else {
+        return Ok(otherwise);
+    };
+    match number(text.as_bytes(), low, most) {
+        Some(n) => Ok(n),
+        None => Err(Misuse::OutOfRange { name, low, most }),
+    }
+}
+
+/// The run of so many rounds with the numbers of the other options.
+pub(crate) fn read_run<'a>(
+    matches: &ArgMatches<'a>,
+    rounds: u32,
+    chains: bool,
+) -> Result<Run, Misuse<'a>>
+    ensures { IfOk result (λ run. run.rounds ≡ rounds) }
+{
+    let turn = count(matches, "turn", 1, LONGEST_TURN, defaults::TURN)?;
+    let workers = count(matches, "workers", 1, MOST_WORKERS, defaults::WORKERS)?;
+    let chunk = count(matches, "chunk", 1, LARGEST_PART, defaults::CHUNK)?;
+    let wave = count(matches, "wave", 1, LARGEST_PART, defaults::WAVE)?;
+    let tick = count(matches, "tick", 1, LONGEST_TICK, defaults::TICK)?;
+    Ok(run_of(rounds, turn, workers, chunk, wave, tick, chains))
+}
+
+/// The run until nothing can move that the options tell.
+pub(crate) fn read_outcome<'a>(matches: &ArgMatches<'a>) -> Result<UntilStill, Misuse<'a>>
+    ensures { IfOk result (λ how. how.limit ≤ LARGEST_NUMBER) }
+{
+    let limit = count(matches, "limit", 0, LARGEST_NUMBER, defaults::LIMIT)?;
+    let Run { plan, tick, .. } = read_run(matches, limit, false)?;
+    Ok(UntilStill { limit, plan, tick })
+}
+
+/// The form of an outcome that the options tell. The grammar lets only one of them pass.
+pub(crate) fn read_form<'a>(matches: &ArgMatches<'a>) -> OutcomeForm<&'a str> {
+    match matches.get_str("out") {
+        Some(process) => OutcomeForm::Transcript(process),
+        None if matches.get_flag("dot") => OutcomeForm::Dot,
+        None if matches.get_flag("json") => OutcomeForm::Json,
+        None => OutcomeForm::Verdict,
+    }
+}
+
+// The form of a trace that the options tell. The grammar lets only one of them pass.
+fn read_trace_form<'a>(matches: &ArgMatches<'a>) -> TraceForm {
+    if matches.get_flag("timeline") {
+        TraceForm::Timeline
+    } else if matches.get_flag("svg") {
+        TraceForm::Svg
+    } else if matches.get_flag("json") {
+        TraceForm::Json
+    } else {
+        TraceForm::Lines
+    }
+}
+
+/// The trace that the options tell. It ends with the last round that is told.
+pub(crate) fn read_trace<'a>(matches: &ArgMatches<'a>) -> Result<Tracing, Misuse<'a>>
+    ensures { IfOk result (λ how. how.rounds ≤ LARGEST_NUMBER) }
+{
+    let rounds = count(matches, "rounds", 0, LARGEST_NUMBER, defaults::ROUNDS)?;
+    let from = count(matches, "from", 1, LARGEST_NUMBER, 1)?;
+    let to = count(matches, "to", 1, LARGEST_NUMBER, LARGEST_NUMBER)?;
+    if to < from {
+        return Err(Misuse::FromAboveTo);
+    }
+    let Run { plan, tick, .. } = read_run(matches, rounds, false)?;
+    Ok(Tracing {
+        rounds: rounds.min(to),
+        from,
+        form: read_trace_form(matches),
+        plan,
+        tick,
+    })
+}
+
+/// The names that `--only` gives, with commas between them.
+pub(crate) fn read_only<'a>(
+    alloc: Global,
+    matches: &ArgMatches<'a>,
+) -> Result<Vec<&'a str>, Misuse<'a>> {
+    let mut names = Vec::new(alloc);
+    let Some(word) = matches.get_str("only") else {
+        return Ok(names);
+    };
+    for name in word.split(',') {
+        if name.is_empty() {
+            return Err(Misuse::NoNames { word });
+        }
+        names.push(name)?;
+    }
+    Ok(names)
+}
+
+/// The replay that the options tell.
+pub(crate) fn read_replay<'a>(matches: &ArgMatches<'a>) -> Result<Replay, Misuse<'a>> {
+    let turn = count(matches, "turn", 1, LONGEST_TURN, defaults::TURN)?;
+    let tick = count(matches, "tick", 1, LONGEST_TICK, defaults::TICK)?;
+    Ok(replay_of(turn, tick, matches.get_flag("chains")))
+}

@@ -1,0 +1,196 @@
+//! From the words of a command line to a command.
+
+ghost use Rattle.std.specs.Prelude.{◌≡◌, ◌≤◌, IfOk, IsOk, length};
+ghost use Rattle.cp_cli.specs.Commands.{HasRounds, IsWithoutWords};
+
+use crate::command::{Command, CommandError, Explaining, Inputs};
+use crate::defaults::{CHUNK, ROUNDS, TICK, TURN, WAVE, WORKERS};
+use crate::grammar::grammar;
+use crate::inputs::read_inputs;
+use crate::misuse::Misuse;
+use crate::numbers::LARGEST_NUMBER;
+use crate::options::{
+    count, read_form, read_only, read_outcome, read_replay, read_run, read_trace, run_of,
+};
+use clap::ArgMatches;
+use clap::error::ErrorKind;
+use cp_explain::explain::Extent;
+use cp_explain::rules::{is_like_rule, rule_page};
+use cp_explain_rights::graph::Form;
+use std::alloc::Global;
+use std::convert::AsStr;
+
+// What `explain` writes of a text, by its flags.
+fn explaining(matches: &ArgMatches<'_>) -> Explaining {
+    let all = matches.get_flag("all");
+    if matches.get_flag("json") {
+        return Explaining::Object(if all { Extent::All } else { Extent::First });
+    }
+    if all {
+        return Explaining::All;
+    }
+    Explaining::First(if matches.get_flag("dot") {
+        Form::Dot
+    } else {
+        Form::Lines
+    })
+}
+
+// The command `explain` of parsed arguments: explains the rule with that name, or else the text of
+// the file with that name.
+fn explain<'a>(file: &'a str, matches: &ArgMatches<'a>) -> Result<Command<'a>, Misuse<'a>>
+    ensures { IfOk result HasRounds }
+{
+    match rule_page(file) {
+        Some(_) if matches.get_flag("all") => Err(Misuse::AllOfRule),
+        Some(_) if matches.get_flag("json") => Err(Misuse::JsonOfRule),
+        Some(page) => Ok(Command::ExplainRule { page }),
+        None if is_like_rule(file) => Err(Misuse::NoRule { word: file }),
+        None => Ok(Command::Explain {
+            file,
+            what: explaining(matches),
+        }),
+    }
+}
+
+// The command `run` of parsed arguments.
+fn run<'a>(
+    alloc: Global,
+    file: &'a str,
+    matches: &ArgMatches<'a>,
+) -> Result<Command<'a>, Misuse<'a>>
+    ensures { IfOk result HasRounds }
+{
+    let rounds = count(matches, "rounds", 0, LARGEST_NUMBER, ROUNDS)?;
+    Ok(Command::Run {
+        file: Some(file),
+        run: read_run(matches, rounds, matches.get_flag("chains"))?,
+        input: read_inputs(alloc, matches)?.beside(&[file])?,
+        progress: matches.get_flag("progress"),
+    })
+}
+
+// The command `outcome` of parsed arguments.
+fn outcome<'a>(
+    alloc: Global,
+    file: &'a str,
+    matches: &ArgMatches<'a>,
+) -> Result<Command<'a>, Misuse<'a>>
+    ensures { IfOk result HasRounds }
+{
+    Ok(Command::Outcome {
+        file,
+        how: read_outcome(matches)?,
+        form: read_form(matches),
+        input: read_inputs(alloc, matches)?.beside(&[file])?,
+        progress: matches.get_flag("progress"),
+    })
+}
+
+// The command `trace` of parsed arguments.
+fn trace<'a>(
+    alloc: Global,
+    file: &'a str,
+    matches: &ArgMatches<'a>,
+) -> Result<Command<'a>, Misuse<'a>>
+    ensures { IfOk result HasRounds }
+{
+    Ok(Command::Trace {
+        file,
+        how: read_trace(matches)?,
+        only: read_only(alloc, matches)?,
+        input: read_inputs(alloc, matches)?.beside(&[file])?,
+        progress: matches.get_flag("progress"),
+    })
+}
+
+// The command `replay` of parsed arguments.
+fn replay<'a>(
+    alloc: Global,
+    file: &'a str,
+    matches: &ArgMatches<'a>,
+) -> Result<Command<'a>, Misuse<'a>>
+    ensures { IfOk result HasRounds }
+{
+    let Some(order) = matches.get_str("ORDER") else {
+        return Err(Misuse::Missing { what: "ORDER" });
+    };
+    Ok(Command::Replay {
+        file,
+        order,
+        replay: read_replay(matches)?,
+        input: read_inputs(alloc, matches)?.beside(&[file, order])?,
+    })
+}
+
+// The command of parsed arguments. The grammar requires a command and its file, so neither is
+// missing.
+fn command_of<'a>(alloc: Global, matches: &ArgMatches<'a>) -> Result<Command<'a>, Misuse<'a>>
+    ensures { IfOk result HasRounds }
+{
+    let Some((name, matches)) = matches.subcommand() else {
+        return Err(Misuse::Missing { what: "a command" });
+    };
+    let Some(file) = matches.get_str("FILE") else {
+        return Err(Misuse::Missing { what: "FILE" });
+    };
+    match name {
+        "check" => Ok(Command::Check { file }),
+        "explain" => explain(file, matches),
+        "outcome" => outcome(alloc, file, matches),
+        "replay" => replay(alloc, file, matches),
+        "trace" => trace(alloc, file, matches),
+        _ => run(alloc, file, matches),
+    }
+}
+
+// The command if there are no words after the program's name.
+fn without_words<'a>() -> Command<'a>
+    ensures rounds { HasRounds result }
+    ensures none { IsWithoutWords result }
+{
+    Command::Run {
+        file: None,
+        run: run_of(ROUNDS, TURN, WORKERS, CHUNK, WAVE, TICK, false),
+        input: Inputs::Empty,
+        progress: false,
+    }
+}
+
+// To ask for the version is a command.
+fn version_or<'a>(error: clap::Error) -> Result<Command<'a>, CommandError>
+    ensures { IfOk result HasRounds }
+{
+    match error.kind() {
+        ErrorKind::DisplayVersion => Ok(Command::Version),
+        _ => Err(CommandError::from(error)),
+    }
+}
+
+/// Parses the words of a command line, the first of which is the program's name. If there are no
+/// others, the command is to run the text of standard input for 2 rounds.
+///
+/// # Errors
+///
+/// `Usage` if the words are those of no command or ask for help, and `Memory` if memory runs out.
+pub fn read_command<'a, S: AsStr>(
+    alloc: Global,
+    words: &'a [S],
+) -> Result<Command<'a>, CommandError>
+    ensures rounds { IfOk result HasRounds }
+    ensures none { length words.entry.now ≤ 1 → IfOk result IsWithoutWords }
+    ensures some { length words.entry.now ≤ 1 → IsOk result }
+{
+    if words.len() <= 1 {
+        return Ok(without_words());
+    }
+    let mut grammar = grammar(alloc)?;
+    let matches = match grammar.try_get_matches_from_mut(words) {
+        Ok(matches) => matches,
+        Err(error) => return version_or(error),
+    };
+    match command_of(alloc, &matches) {
+        Ok(command) => Ok(command),
+        Err(misuse) => Err(misuse.error(alloc, &mut grammar)),
+    }
+}

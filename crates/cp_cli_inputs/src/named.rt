@@ -1,0 +1,182 @@
+//! The processes of a text by name: their numbers, and the joined input of those that have one.
+
+ghost use Rattle.std.specs.Prelude.{◌≡◌};
+ghost use Rattle.cp_frontend.specs.declared.refusal.Refusal.TheVariants as refusal;
+ghost use Rattle.cp_cli_inputs.specs.declared.named.InputError.TheVariants as error;
+
+use cp_check::checking::tables_of;
+use cp_compile_symbols::{Field, small_number};
+use cp_frontend::checking::tree_of;
+use cp_frontend::cutting::LONGEST_INPUT;
+use cp_frontend::joining::{join, misplaced};
+use cp_frontend::reading::{ReadError, read_text};
+use cp_frontend::refusal::Refusal;
+use cp_inspect::listing::components;
+use cp_inspect::roster::INITIAL;
+use cp_model::tree::{Sort, Tree};
+use cp_rules::text::judge;
+use std::alloc::{AllocError, AllocFailed, Global};
+use std::io::Read;
+use thiserror::Error;
+
+/// The input of the process with this name, and the name of the file that it is read from.
+#[derive(Drop)]
+pub struct InputOf<'a, R> {
+    pub process: &'a str,
+    pub file: &'a str,
+    pub reader: R,
+}
+
+/// Why inputs by name make no input.
+#[derive(Clone, Copy, Debug, Error)]
+pub enum InputError<'a> {
+    /// The text is refused, the inputs are too long, or memory ran out.
+    #[error("{0}")]
+    Refused(Refusal),
+    /// The text has no process with this name.
+    #[error("error: the text has no process {process}")]
+    NoProcess { process: &'a str },
+    /// A file holds a byte that no input of a process has.
+    #[error("refused I3 at {at} of {file}: byte {byte}; an input has bytes 0 to 127 but for 28")]
+    Byte { file: &'a str, at: usize, byte: u8 },
+    /// A file can't be read.
+    #[error("{file} can't be read")]
+    Unread { file: &'a str },
+}
+
+impl<'a> From<Refusal> for InputError<'a> {
+    ghost from_gives = { λ refusal e. e ≡ error.Refused refusal };
+
+    fn from(refusal: Refusal) -> InputError<'a> {
+        InputError::Refused(refusal)
+    }
+}
+
+impl<'a> From<AllocError> for InputError<'a> {
+    ghost from_gives = { λ _ e. e ≡ error.Refused refusal.Memory };
+
+    fn from(_error: AllocError) -> InputError<'a> {
+        InputError::Refused(Refusal::Memory)
+    }
+}
+
+impl<'a, T: Drop> From<AllocFailed<T>> for InputError<'a> {
+    ghost from_gives = { λ _ e. e ≡ error.Refused refusal.Memory };
+
+    fn from(_error: AllocFailed<T>) -> InputError<'a> {
+        InputError::Refused(Refusal::Memory)
+    }
+}
+
+// The processes of an accepted text by number, from 2.
+fn processes<'t>(alloc: Global, tree: &'t Tree) -> Result<Vec<Field<'t>>, Refusal> {
+    judge(alloc, tree)?;
+    Ok(declared_processes(alloc, tree)?)
+}
+
+// The processes that a text declares, from number 2 on.
+fn declared_processes<'t>(alloc: Global, tree: &'t Tree) -> Result<Vec<Field<'t>>, AllocError> {
+    let tables = tables_of(alloc, tree)?;
+    components(alloc, &tables, Sort::Process)
+}
+
+// The index of the process with this name, from 0: its number less one.
+fn index_of(processes: &[Field<'_>], name: &str) -> Option<usize> {
+    let name = name.as_bytes();
+    match processes.iter().position(|process| process.name == name) {
+        Some(at) => Some(at.saturating_add(1)),
+        None if name == INITIAL => Some(0),
+        None => None,
+    }
+}
+
+impl<'a, R: Read> InputOf<'a, R> {
+    // Reads the input.
+    fn read(&mut self, alloc: Global) -> Result<Vec<u8>, InputError<'a>> {
+        let bytes = match read_text(alloc, &mut self.reader) {
+            Ok(bytes) => bytes,
+            Err(ReadError::Read) => return Err(InputError::Unread { file: self.file }),
+            Err(ReadError::Memory) => return Err(InputError::from(AllocError)),
+        };
+        match misplaced(&bytes) {
+            None => Ok(bytes),
+            Some(at) => Err(InputError::Byte {
+                file: self.file,
+                at,
+                byte: bytes.get(at).copied().unwrap_or(0),
+            }),
+        }
+    }
+}
+
+// Reads the inputs into the places of their processes. They have at most as many bytes as one input
+// may have.
+fn read_inputs<'a, R: Read>(
+    alloc: Global,
+    processes: &[Field<'_>],
+    named: &mut [InputOf<'a, R>],
+    inputs: &mut [Vec<u8>],
+) -> Result<(), InputError<'a>> {
+    let mut length: usize = inputs.len();
+    for input in named {
+        let place = index_of(processes, input.process).and_then(|at| inputs.get_mut(at));
+        let Some(place) = place else {
+            return Err(InputError::NoProcess {
+                process: input.process,
+            });
+        };
+        let bytes = input.read(alloc)?;
+        length = length.saturating_add(bytes.len());
+        if LONGEST_INPUT < length {
+            return Err(InputError::Refused(Refusal::InputSize));
+        }
+        *place = bytes;
+    }
+    Ok(())
+}
+
+/// Returns the number of the process with this name. Process 1 is named `initial`, unless another
+/// process has that name.
+///
+/// # Errors
+///
+/// `Refused` with S, Y or C if the text isn't accepted, `NoProcess` if it has no such process, and
+/// M if memory runs out.
+pub fn process_number<'a>(
+    alloc: Global,
+    text: &[u8],
+    name: &'a str,
+) -> Result<u32, InputError<'a>> {
+    let tree = tree_of(alloc, text)?;
+    let processes = processes(alloc, &tree)?;
+    match index_of(&processes, name) {
+        Some(index) => Ok(small_number(index.saturating_add(1))?),
+        None => Err(InputError::NoProcess { process: name }),
+    }
+}
+
+/// Reads the inputs of the processes that are named, and returns the joined input of the text.
+/// Process 1 is named `initial`, unless another process has that name. A process that isn't named
+/// has no input.
+///
+/// # Errors
+///
+/// `Refused` with S, Y or C if the text isn't accepted; then, in the order of the names,
+/// `NoProcess`, `Unread` and `Byte`, and `Refused` with I4 once the inputs and the bytes 28 behind
+/// them have more than 1,048,576 bytes. Also M. A reader is read to its end or through byte
+/// 1,048,577, and no further.
+pub fn joined_input<'a, R: Read>(
+    alloc: Global,
+    text: &[u8],
+    named: &mut [InputOf<'a, R>],
+) -> Result<Vec<u8>, InputError<'a>> {
+    let tree = tree_of(alloc, text)?;
+    let processes = processes(alloc, &tree)?;
+    let mut inputs: Vec<Vec<u8>> = Vec::new(alloc);
+    inputs.push(Vec::new(alloc))?;
+    for _process in &processes {
+        inputs.push(Vec::new(alloc))?;
+    }
+    read_inputs(alloc, &processes, named, &mut inputs)?;
+    Ok(join(alloc, &inputs)?)
+}

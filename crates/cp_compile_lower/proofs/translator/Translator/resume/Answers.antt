@@ -1,0 +1,20 @@
+use Rattle.cp_model.specs.Erase as erase
+use Rattle.cp_model.specs.View as tree
+use Rattle.cp_model_program.specs.CodedStatements.{runs_function}
+use Rattle.cp_model_program.specs.CodedTerms.{coded_variable}
+use Rattle.cp_model_program.specs.Programs as op
+use Rattle.cp_program.specs.declared.operation.Operation.TheVariants as operation
+use Rattle.cp_compile_lower.proofs.Answered.{both_ok}
+use Rattle.cp_compile_lower.proofs.Emitting.{entered}
+use Rattle.cp_compile_lower.proofs.translator.Translator.resume.Goals as goal
+
+pub returns : goal.returns
+returns c =
+    both_ok c.emit.result
+    (λ place at emits s scope.
+    let passed = c.in_ok-queue.ensures s scope in
+    let d = coded_variable s (erase.expression (tree.expression c.args.e.now)) c.args.low in
+    entered c.args.emitter.now c.emit.new.self place c.in_ok-queue.calls.items d.calls
+    (operation.Continue c.in_ok-queue.queue c.runs_function-function.result) (op.Continue d.spot (runs_function s.routine)) passed.0
+    (λ i. op.Continue (passed.1 i) (c.runs_function-function.ensures s scope i)) at emits)
+    c.emit.ensures.entry c.emit.ensures.emits

@@ -1,0 +1,186 @@
+//! Assignments: to the result of the running function, and to variables.
+
+ghost use Rattle.std.specs.Prelude.{◌≡◌, [], false, IfOk};
+ghost use Rattle.cp_model.specs.Abstract as a;
+ghost use Rattle.cp_model.specs.Erase as erase;
+ghost use Rattle.cp_model.specs.Types.{ResolvedType};
+ghost use Rattle.cp_model.specs.View as tree;
+ghost use Rattle.cp_law_typing.specs.StaticTypes.{place_type};
+ghost use Rattle.cp_model_program.specs.CodedStatements as coded;
+ghost use Rattle.cp_model_program.specs.CodedTerms.{CodedSpot, CodedTerm, coded_spot, coded_term, coded_variable};
+ghost use Rattle.cp_model_program.specs.Scopes as code;
+ghost use Rattle.cp_model_program.specs.Scopes.{environment};
+ghost use Rattle.cp_compile_emit.specs.Emission.{place_of};
+ghost use Rattle.cp_compile_symbols.specs.Expressions.{is_simple};
+ghost use Rattle.cp_compile_symbols.specs.Places.{TypeIs};
+ghost use Rattle.cp_compile_symbols.specs.Scopes.{IsScope};
+ghost use Rattle.cp_compile_symbols.specs.Standing.{simple_of};
+ghost use Rattle.cp_compile_lower.specs.Statements.{Enters, StatementOf};
+ghost use Rattle.cp_compile_lower.specs.Translated.{IsSpot};
+
+use crate::made::MadeSpot;
+use crate::translator::Translator;
+use crate::types::{bounds_of, simple_bounds};
+use cp_compile_emit::{CodedCall, Emitter};
+use cp_compile_symbols::{Simple, is_part};
+use cp_model::tree::{Designator, Expression};
+use cp_program::operation::{Assignment, Operation};
+use std::alloc::AllocError;
+
+impl<'s, 't> Translator<'s, 't> {
+    // Whether a name is that of the running function, and not that of one of its parameters or
+    // variables.
+    fn names_result(&self, name: &[u8]) -> bool
+        ensures { (s : code.Scope) → IsScope self.now.scope s
+            → result ≡ coded.is_result s (a.Plain name.now) }
+    {
+        if self.scope.local(name).is_some() {
+            return false;
+        }
+        match self.scope.routine() {
+            None => false,
+            Some(routine) => name == routine.name && routine.result.is_some(),
+        }
+    }
+
+    // Whether a designator means the result of the running function.
+    fn is_result(&self, d: &Designator) -> bool
+        ensures { (s : code.Scope) → IsScope self.now.scope s
+            → result ≡ coded.is_result s (erase.designator (tree.designator d.now)) }
+    {
+        if is_part(d) {
+            return false;
+        }
+        self.names_result(d.root.name.as_bytes())
+    }
+
+    // Emits an assignment to the result of the running function.
+    fn set_result(
+        &self,
+        d: &Designator,
+        e: &Expression,
+        low: u32,
+        next: u32,
+        emitter: &mut Emitter,
+    ) -> Result<u32, AllocError>
+        ensures { IfOk result (λ entry. (s : code.Scope) → IsScope self.now.scope s
+            → Enters emitter.old emitter.new entry (coded.set_result
+            (place_type (environment s) (erase.designator (tree.designator d.now)))
+            (coded_term s (erase.expression (tree.expression e.now)) low)
+            (place_of emitter.old) next)) }
+    {
+        let of = self.scope.place_type(d);
+        let bounds = bounds_of(self.scope.tables().types.simple(of));
+        let mut calls = Vec::new(self.alloc);
+        let made = self.term(e, low, &mut calls)?;
+        let set = Operation::SetResult(Assignment {
+            value: made.term,
+            bounds,
+            next,
+        });
+        emitter.emit(calls, set, d.root.at)
+    }
+
+    // Emits an assignment to a variable of a simple type. `calls` has the calls of its place.
+    fn set_simple(
+        &self,
+        to: MadeSpot,
+        simple: Simple,
+        e: &Expression,
+        calls: Vec<CodedCall>,
+        next: u32,
+        origin: usize,
+        emitter: &mut Emitter,
+    ) -> Result<u32, AllocError>
+        ensures { IfOk result (λ entry. (s : code.Scope) (c : CodedSpot) (f : CodedSpot)
+            → IsScope self.now.scope s → IsSpot [] calls.items to c
+            → Enters emitter.old emitter.new entry (coded.store s.globals (simple_of simple.entry) c
+            (coded_term s (erase.expression (tree.expression e.now)) to.temps) f
+            (place_of emitter.old) next)) }
+    {
+        let mut calls = calls;
+        let made = self.term(e, to.temps, &mut calls)?;
+        let assignment = Assignment {
+            value: made.term,
+            bounds: simple_bounds(simple),
+            next,
+        };
+        let set = Operation::set(to.spot, assignment);
+        emitter.emit(calls, set, origin)
+    }
+
+    // Emits a copy to a variable whose type isn't simple. `calls` has the calls of its place.
+    fn copy_words(
+        &self,
+        to: MadeSpot,
+        e: &Expression,
+        calls: Vec<CodedCall>,
+        next: u32,
+        origin: usize,
+        emitter: &mut Emitter,
+    ) -> Result<u32, AllocError>
+        ensures { IfOk result (λ entry. (s : code.Scope) (c : CodedSpot) (t : ResolvedType)
+            (f : CodedTerm) → IsScope self.now.scope s
+            → TypeIs self.now.scope.tables.now.types to.of t → is_simple t ≡ false
+            → IsSpot [] calls.items to c
+            → Enters emitter.old emitter.new entry (coded.store s.globals t c f
+            (coded_variable s (erase.expression (tree.expression e.now)) to.temps)
+            (place_of emitter.old) next)) }
+    {
+        let mut calls = calls;
+        let size = self.place_words(to.of)?;
+        let from = self.argument_spot(e, to.temps, &mut calls)?;
+        let copy = Operation::CopyWords {
+            to: to.spot,
+            from: from.spot,
+            size,
+            next,
+        };
+        emitter.emit(calls, copy, origin)
+    }
+
+    // Emits an assignment to a variable.
+    fn store(
+        &self,
+        d: &Designator,
+        e: &Expression,
+        low: u32,
+        next: u32,
+        emitter: &mut Emitter,
+    ) -> Result<u32, AllocError>
+        ensures { IfOk result (λ entry. (s : code.Scope) → IsScope self.now.scope s
+            → let to = coded_spot s (erase.designator (tree.designator d.now)) low in
+            Enters emitter.old emitter.new entry (coded.store s.globals
+            (place_type (environment s) (erase.designator (tree.designator d.now))) to
+            (coded_term s (erase.expression (tree.expression e.now)) to.temps)
+            (coded_variable s (erase.expression (tree.expression e.now)) to.temps)
+            (place_of emitter.old) next)) }
+    {
+        let mut calls = Vec::new(self.alloc);
+        let to = self.spot(d, low, &mut calls)?;
+        match self.scope.tables().types.simple(to.of) {
+            Some(simple) => self.set_simple(to, simple, e, calls, next, d.root.at, emitter),
+            None => self.copy_words(to, e, calls, next, d.root.at, emitter),
+        }
+    }
+
+    /// Emits an assignment to the result of the running function or to a variable.
+    pub fn assign(
+        &self,
+        d: &Designator,
+        e: &Expression,
+        low: u32,
+        next: u32,
+        emitter: &mut Emitter,
+    ) -> Result<u32, AllocError>
+        ensures { IfOk result (StatementOf self.now.scope emitter.old emitter.new
+            (a.Assign (erase.designator (tree.designator d.now))
+            (erase.expression (tree.expression e.now))) low next) }
+    {
+        if self.is_result(d) {
+            self.set_result(d, e, low, next, emitter)
+        } else {
+            self.store(d, e, low, next, emitter)
+        }
+    }
+}

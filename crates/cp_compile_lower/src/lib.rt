@@ -1,0 +1,42 @@
+//! Translates expressions, designators and statements to operations.
+//!
+//! A `Translator` has the scope of a unit. Whatever the tree, the result of each function equals
+//! that of a function of `cp_model_program`'s definitions (`CodedTerms.antt`,
+//! `CodedStatements.antt`), in each scope that its tables stand for:
+//!
+//! - `expressions`: terms and spots, and the calls to make before them, in order
+//!   (`specs/Translated.antt`). Expressions, designators and arguments contain one another.
+//!   `names`, `parts`, `operators`, `standard`, `calls` and `arguments` have the steps that aren't
+//!   part of this recursion.
+//! - `statements`: the operations of a statement, and where they are entered
+//!   (`specs/Statements.antt`). `operations`, `assignments`, `procedures` and `initialisation` have
+//!   the statements that contain no statements, and `components` has what they need of named
+//!   components.
+//!
+//! Recursion follows nesting alone, and lists are handled by loops. Each part of a tree is visited
+//! once, except that `succ`, `pred`, `display` and `accept` also look for the type of their
+//! argument. What no accepted text has, as a part of something without parts or a name that means
+//! nothing, stands for what the definitions say. The only error is want of room.
+#![tactic(auto)]
+
+mod arguments;
+mod assignments;
+mod calls;
+mod components;
+mod expressions;
+mod initialisation;
+mod made;
+mod names;
+mod operations;
+mod operators;
+mod origins;
+mod parts;
+mod procedures;
+mod standard;
+mod starts;
+mod statements;
+mod translator;
+mod types;
+
+pub use made::{MadeArgument, MadeArguments, MadeSpot};
+pub use translator::Translator;

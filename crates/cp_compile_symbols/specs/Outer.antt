@@ -1,0 +1,52 @@
+-- The outermost scope: when the tables stand for it, and how definitions change it.
+use Rattle.std.specs.Prelude.{◌++◌, ◌∷◌, ℕ, ℤ, List, map}
+use Rattle.cp_model.specs.Abstract as a
+use Rattle.cp_model.specs.Abstract.{Definition, Name}
+use Rattle.cp_model.specs.Declarations.{define, define_all, enumeration_constants, reported_members}
+use Rattle.cp_model.specs.Erase as erase
+use Rattle.cp_model.specs.View as view
+use Rattle.cp_model.specs.Types.{ComponentOf, GlobalScope, ResolvedType, standard_scope}
+use Rattle.cp_model.specs.declared.tree.Identifier.{Identifier}
+use Rattle.cp_model.specs.declared.tree.System.{System}
+use Rattle.cp_compile_symbols.specs.declared.names.Names.{Names}
+use Rattle.cp_compile_symbols.specs.declared.outer.Outer.{Outer}
+use Rattle.cp_compile_symbols.specs.declared.types.Types.{Types}
+use Rattle.cp_compile_symbols.specs.Standing.{Keeps, ScopeStands, Stands}
+
+abbrev pub OuterStands : Outer → GlobalScope → Type 0
+OuterStands outer g = ScopeStands outer.names outer.types g
+
+-- If the old tables stand for a scope `g`, the new ones stand for `f g`.
+abbrev pub Defines : Outer → Outer → (GlobalScope → GlobalScope) → Type 0
+Defines old new f = (g : GlobalScope) → OuterStands old g → OuterStands new (f g)
+
+abbrev pub with_value : Name → a.BaseType × ℤ → GlobalScope → GlobalScope
+with_value x v g = record g { constants = (x, v) ∷ g.constants }
+
+abbrev pub with_values : a.BaseType → ℕ → List Identifier → GlobalScope → GlobalScope
+with_values b k xs g = record g { constants = enumeration_constants b k (map erase.name xs) ++ g.constants }
+
+abbrev pub with_type : Name → (GlobalScope → ResolvedType) → GlobalScope → GlobalScope
+with_type x of g = record g { types = (x, of g) ∷ g.types }
+
+abbrev pub with_standard : GlobalScope → GlobalScope
+with_standard g = record { constants = standard_scope.constants ++ g.constants; types = standard_scope.types ++ g.types }
+
+-- The new tables give the name `x` to type number `n`, whatever type that number stands for.
+abbrev pub NamesType : Outer → Outer → Name → ℕ → Type 0
+NamesType old new x n =
+    (g : GlobalScope) (t : ResolvedType) → OuterStands old g → Stands old.types n t → OuterStands new (with_type x (λ h. t) g)
+
+abbrev pub component_of : System → GlobalScope → ResolvedType
+component_of y g = let s = erase.system (view.system y) in ComponentOf s (reported_members g s)
+
+-- The type of the components of `y` is made, with the number `n`.
+pub record MakesComponents (names : Names) (old new : Types) (y : System) (n : ℕ) : Type 0 where
+  pub keeps : Keeps old new
+  pub stands : (g : GlobalScope) → ScopeStands names old g → Stands new n (component_of y g)
+
+abbrev pub defining : Definition → GlobalScope → GlobalScope
+defining d g = define g d
+
+abbrev pub defining_all : List Definition → GlobalScope → GlobalScope
+defining_all ds g = define_all g ds

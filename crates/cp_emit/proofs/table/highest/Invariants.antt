@@ -1,7 +1,0 @@
-use Rattle.std.proofs.Common.{◌≡◌, drop, map}
-use Rattle.cp_program_model.specs.CodedStatements as coded
-use Rattle.cp_program.specs.Labels.{arm}
-use Rattle.cp_emit.proofs.table.highest.Given as goal
-
-abbrev pub invariant-loop-x : goal.invariant-loop-x
-invariant-loop-x l = coded.highest l.greatest (map arm (drop l.x-index l.arms)) ≡ coded.highest l.n (map arm l.arms)

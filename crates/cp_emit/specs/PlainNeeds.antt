@@ -1,6 +1,0 @@
--- The needs of units, as the plain data of the definitions.
-use Rattle.cp_program_model.specs.CodeNeeds as needs
-use Rattle.cp_emit.specs.declared.need.Need.{Need}
-
-abbrev pub plain_need : Need → needs.Need
-plain_need n = record { words = n.words; temps = n.temps; frames = n.frames }

@@ -1,0 +1,23 @@
+-- What is written of an outcome, by its form.
+use Rattle.std.specs.Prelude.{◌<◌, ℕ, List, length}
+use Rattle.cp_model_machine.specs.InState.{IsIn}
+use Rattle.cp_model.specs.States.{Setup, State}
+use Rattle.cp_outcome.specs.Transcripts.{IsTranscript}
+use Rattle.cp_outcome.specs.declared.verdict.Verdict.{Verdict}
+use Rattle.cp_output_formats.specs.Json.{IsJsonLine}
+use Rattle.cp_outcome.specs.Outcomes.{BeginsWithVerdict}
+use Rattle.cp_rounds.specs.Views.{machine_of}
+use Rattle.cp_rounds.specs.declared.machine.Machine.{Machine}
+use Rattle.cp_base_config.specs.declared.outcome.OutcomeForm.{OutcomeForm}
+use Rattle.cp_base_config.specs.declared.outcome.OutcomeForm.TheVariants as form
+
+-- What is written of a state and of the verdict on it, after so many rounds.
+abbrev pub Tells : OutcomeForm ℕ → Setup → State → Verdict → ℕ → List ℕ → Type 0
+Tells form.Verdict setup s v rounds bytes = BeginsWithVerdict v rounds bytes
+Tells (form.Transcript p) setup s v rounds bytes = IsTranscript p setup s bytes
+Tells form.Dot setup s v rounds bytes = 0 < length bytes
+Tells form.Json setup s v rounds bytes = IsJsonLine bytes
+
+-- The same, of every state that the machine is in.
+abbrev pub IsToldOf : OutcomeForm ℕ → Machine → Verdict → List ℕ → Type 0
+IsToldOf form m v bytes = (setup : Setup) (s : State) → IsIn (machine_of m) setup s → Tells form setup s v m.rounds bytes

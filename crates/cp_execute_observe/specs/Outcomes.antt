@@ -1,0 +1,50 @@
+-- What the outcome of a run promises about the bytes that it reads and writes.
+use Rattle.std.specs.Prelude.{◌≡◌, ◌<◌, ◌≤◌, ℕ, Bool, false, true, List, Ok, Option, Some}
+use Rattle.std.specs.Io.KnownBytes.{Appends}
+use Rattle.cp_model.specs.Syntax as s
+use Rattle.cp_model.specs.Rounds.{run}
+use Rattle.cp_model.specs.Start.{start}
+use Rattle.cp_model.specs.States.{State}
+use Rattle.cp_outcome.specs.Verdicts.{verdict_of}
+use Rattle.cp_outcome.specs.declared.verdict.Verdict.{Verdict}
+use Rattle.cp_law_stillness.specs.Stillness.{is_still}
+use Rattle.cp_base_config.specs.declared.outcome.OutcomeForm.{OutcomeForm}
+use Rattle.cp_base_config.specs.declared.outcome.UntilStill.{UntilStill}
+use Rattle.cp_frontend.specs.Cutting.{judge_input}
+use Rattle.cp_execute_start.specs.Starts.{setup_of}
+use Rattle.cp_execute_observe.specs.Forms.{Tells}
+use Rattle.cp_frontend.specs.Takings.{AppendsSome}
+use Rattle.cp_frontend.specs.Texts.{IsAccepted}
+
+-- The state that one processor reaches by so many rounds.
+abbrev pub state_after : UntilStill → s.Tree → List ℕ → ℕ → State
+state_after how t input n = let setup = setup_of t input how.tick.rounds in run setup how.plan.turn.steps n (start setup)
+
+abbrev pub is_still_after : UntilStill → s.Tree → List ℕ → ℕ → Bool
+is_still_after how t input n = is_still (setup_of t input how.tick.rounds) (state_after how t input n)
+
+-- After so many rounds nothing can move or the limit is reached, and after no fewer. It is the
+-- verdict on that state, and the bytes tell of both in the form.
+pub record IsOutcome (how : UntilStill) (form : OutcomeForm ℕ) (t : s.Tree) (input : List ℕ) (v : Verdict) (bytes : List ℕ) : Type 0 where
+  pub rounds : ℕ
+  pub most : rounds ≤ how.limit
+  pub still : rounds < how.limit → is_still_after how t input rounds ≡ true
+  pub first : (k : ℕ) → k < rounds → is_still_after how t input k ≡ false
+  pub verdict : verdict_of (setup_of t input how.tick.rounds) (state_after how t input rounds) ≡ v
+  pub told : Tells form (setup_of t input how.tick.rounds) (state_after how t input rounds) v rounds bytes
+
+-- If the text is known, then it is accepted. If the input is known too, it isn't refused, and
+-- `Writes` holds of an outcome with this verdict.
+abbrev pub Due : UntilStill → OutcomeForm ℕ → Verdict → Option (List ℕ) → Option (List ℕ) → (List ℕ → Type 0) → Type 0
+Due how form v text input Writes =
+    (xs : List ℕ) → text ≡ Some xs
+    → (t : s.Tree) × IsAccepted xs t
+    × ((ys : List ℕ) → input ≡ Some ys → (judge_input ys ≡ Ok tt) × (bytes : List ℕ) × IsOutcome how form t ys v bytes × Writes bytes)
+
+-- What was written is an outcome with this verdict.
+abbrev pub TellsOutcome : UntilStill → OutcomeForm ℕ → Verdict → Option (List ℕ) → Option (List ℕ) → Option (List ℕ) → Option (List ℕ) → Type 0
+TellsOutcome how form v text input old new = Due how form v text input (Appends old new)
+
+-- After a write that failed: a prefix of an outcome was written.
+abbrev pub BeginsOutcome : UntilStill → OutcomeForm ℕ → Option (List ℕ) → Option (List ℕ) → Option (List ℕ) → Option (List ℕ) → Type 0
+BeginsOutcome how form text input old new = (v : Verdict) × Due how form v text input (AppendsSome old new)

@@ -1,0 +1,23 @@
+-- What a trace writes, and why it ends early.
+use Rattle.std.specs.Prelude.{◌≡◌, ◌⊎◌, ◌++◌, ℕ, List, Option}
+use Rattle.std.specs.Io.KnownBytes.{Appends}
+use Rattle.cp_frontend.specs.declared.refusal.Refusal.{Refusal}
+use Rattle.cp_frontend.specs.declared.refusal.Refusal.TheVariants as refusal
+use Rattle.cp_trace.specs.Tracers.{IsTrace}
+use Rattle.cp_base_config.specs.declared.trace.TraceForm.{TraceForm}
+
+-- Known bytes stay at the front, and some come behind them.
+abbrev pub Extends : Option (List ℕ) → Option (List ℕ) → Type 0
+Extends old new = (bytes : List ℕ) × Appends old new bytes
+
+-- What was held is written, or held on, in the same order.
+abbrev pub Moves : Option (List ℕ) → Option (List ℕ) → List ℕ → List ℕ → Type 0
+Moves old new held holds = (bytes : List ℕ) × Appends old new bytes × (held ≡ bytes ++ holds)
+
+-- A whole trace of this form is written.
+abbrev pub WritesTrace : TraceForm → Option (List ℕ) → Option (List ℕ) → Type 0
+WritesTrace form old new = (bytes : List ℕ) × Appends old new bytes × IsTrace form bytes
+
+-- Memory ran out, or a write failed.
+abbrev pub IsMemoryOrWrite : Refusal → Type 0
+IsMemoryOrWrite e = (e ≡ refusal.Memory) ⊎ (e ≡ refusal.Write)

@@ -1,0 +1,112 @@
+//! Traces: read and check a text, run it on an input, and write what became of its processes and
+//! monitors, round by round.
+
+ghost use Rattle.std.specs.Prelude.{◌≡◌, IfErr, IfOk, IfSome, OnOk};
+ghost use Rattle.std.specs.Io.KnownBytes.{Keeps};
+ghost use Rattle.cp_frontend.specs.KnownRefusals.{IsFaultOrOfInput, RefusesRun};
+ghost use Rattle.cp_frontend.specs.Takings.{TakesInput, TakesText};
+ghost use Rattle.cp_execute_observe.specs.Writing.{Extends, IsMemoryOrWrite, WritesTrace};
+ghost use Rattle.cp_execute_observe.specs.Traces.{Traces};
+ghost use Rattle.cp_frontend.specs.declared.refusal.Refusal.TheVariants as refusal;
+
+use crate::tracing::machine_after_trace;
+use cp_base_config::trace::Tracing;
+use cp_check::checking::tables_of;
+use cp_compile_symbols::Tables;
+use cp_frontend::checking::accept;
+use cp_frontend::refusal::Refusal;
+use cp_frontend::sources::{read_accepted, read_input};
+use cp_inspect::roster::Roster;
+use cp_model::tree::Tree;
+use cp_rounds::gate::TurnGate;
+use cp_rounds::halted::Halted;
+use std::alloc::{AllocError, Global};
+use std::io::{Read, Write};
+use std::sync::Wait;
+use std::thread::Threads;
+
+// Returns the first of these names that no process and no monitor has, if there is one.
+fn first_unknown<'a>(roster: &Roster, names: &[&'a str]) -> Result<Option<&'a str>, AllocError> {
+    for name in names {
+        if roster.member(name.as_bytes())?.is_none() {
+            return Ok(Some(*name));
+        }
+    }
+    Ok(None)
+}
+
+// The same of the processes and monitors in the tables of a text.
+fn unknown_in_tables<'a>(
+    alloc: Global,
+    tables: &Tables<'_>,
+    names: &[&'a str],
+) -> Result<Option<&'a str>, AllocError> {
+    let roster = Roster::of(alloc, tables)?;
+    first_unknown(&roster, names)
+}
+
+// The same of those of an accepted text.
+fn unknown_in_tree<'a>(
+    alloc: Global,
+    tree: &Tree,
+    names: &[&'a str],
+) -> Result<Option<&'a str>, AllocError> {
+    let tables = tables_of(alloc, tree)?;
+    unknown_in_tables(alloc, &tables, names)
+}
+
+/// Returns the first of these names that no process and no monitor of a text has, if there is one.
+///
+/// # Errors
+///
+/// S, Y or C if the text isn't accepted, and M if memory runs out.
+pub fn unknown_name<'a>(
+    alloc: Global,
+    text: &[u8],
+    names: &[&'a str],
+) -> Result<Option<&'a str>, Refusal> {
+    let tree = accept(alloc, text)?;
+    Ok(unknown_in_tree(alloc, &tree, names)?)
+}
+
+/// Runs the text of one reader on the input of another, and writes in the form of the trace what
+/// became of its processes and monitors, from the first round that is told. Returns the machine
+/// after the last round. Tells of those with the names in `only`, or of all if there are none.
+/// Takes memory that doesn't grow with the rounds.
+///
+/// # Errors
+///
+/// For the text I1, S, Y or C, then for the input I1, I4 or I3. Also M, and I2 if a write fails.
+/// After M or I2 the beginning may have been written, and after any other refusal
+/// nothing. Each reader is read to its end or through byte 1,048,577, and no further. The input
+/// isn't read if the text is refused.
+pub fn execute_trace<H: Threads + Wait + Sync, R: Read, S: Read, W: Write, G: TurnGate>(
+    rt: &H,
+    alloc: Global,
+    text: &mut R,
+    input: &mut S,
+    only: &[&str],
+    how: &Tracing,
+    gate: &G,
+    out: &mut W,
+) -> Result<Halted, Refusal>
+    ensures done { IfOk result
+        (λ machine. Traces how.now machine (R.remaining text.old) (S.remaining input.old)) }
+    ensures told { OnOk result
+        (WritesTrace how.now.form (W.contents out.old) (W.contents out.new)) }
+    ensures written { Extends (W.contents out.old) (W.contents out.new) }
+    ensures unwritten { IfErr result
+        (λ e. (IsMemoryOrWrite e → ⊥) → Keeps (W.contents out.old) (W.contents out.new)) }
+    ensures refused { IfErr result
+        (λ e. (e ≡ refusal.Write → ⊥)
+        → IfSome (R.remaining text.old) (λ xs. RefusesRun xs (S.remaining input.old) e)) }
+    ensures faults { IfErr result
+        (IsFaultOrOfInput (R.remaining text.old) (S.remaining input.old)) }
+    ensures text { TakesText result (R.remaining text.old) (R.remaining text.new) }
+    ensures input { TakesInput result (S.remaining input.old) (S.remaining input.new) }
+{
+    let tree = read_accepted(alloc, text)?;
+    let bytes = read_input(alloc, input)?;
+    let machine = machine_after_trace(rt, alloc, &tree, &bytes, only, how, gate, out)?;
+    Ok(machine)
+}

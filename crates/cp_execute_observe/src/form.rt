@@ -1,0 +1,72 @@
+//! What is written of a run that ends when nothing can move: its outcome in one of the forms.
+
+ghost use Rattle.std.specs.Prelude.{IfOk};
+ghost use Rattle.cp_output_formats.specs.Json.{IsJsonLine};
+ghost use Rattle.cp_execute_observe.specs.Forms.{IsToldOf};
+ghost use Rattle.cp_base_config.specs.declared.outcome.OutcomeForm.TheVariants as forms;
+
+use crate::standing::standing_of;
+use cp_base_config::outcome::OutcomeForm;
+use cp_frontend::sources::Text;
+use cp_outcome::outcome::{outcome, word_of};
+use cp_outcome::transcript::transcript;
+use cp_outcome::verdict::Verdict;
+use cp_outcome_reasons::names::Source;
+use cp_outcome_reasons::object::object;
+use cp_outcome_reasons::reasons::reasons;
+use cp_outcome_reasons::waits::waits;
+use cp_rounds::machine::Machine;
+use std::alloc::{AllocError, Global};
+
+// Returns the report of a machine with the verdict on it and the reasons for that.
+fn report_with_reasons(
+    alloc: Global,
+    source: Source<'_, '_>,
+    machine: &Machine,
+    verdict: Verdict,
+) -> Result<Vec<u8>, AllocError>
+    ensures { IfOk result (λ bytes. IsToldOf forms.Verdict machine.now verdict bytes.items) }
+{
+    let reasons = reasons(alloc, source)?;
+    outcome(alloc, machine, verdict, &reasons)
+}
+
+// Returns the outcome of a machine with this verdict as a JSON object on a line.
+fn object_of(alloc: Global, source: Source<'_, '_>, verdict: Verdict) -> Result<Vec<u8>, AllocError>
+    ensures { IfOk result (λ bytes. IsJsonLine bytes.items) }
+{
+    object(
+        alloc,
+        source,
+        str::from_utf8(word_of(verdict)).unwrap_or(""),
+    )
+}
+
+/// Returns what is written of a machine that runs the program of a text, and of the verdict on it.
+///
+/// # Errors
+///
+/// `AllocError` if memory runs out.
+pub(crate) fn told<'t>(
+    alloc: Global,
+    text: &'t Text,
+    machine: &Machine<'_, 't>,
+    verdict: Verdict,
+    form: OutcomeForm<u32>,
+) -> Result<Vec<u8>, AllocError>
+    ensures { IfOk result (λ bytes. IsToldOf form machine.now verdict bytes.items) }
+{
+    let standing = standing_of(alloc, machine)?;
+    let source = Source {
+        bytes: &text.bytes,
+        tree: &text.tree,
+        tables: machine.tables(),
+        standing: &standing,
+    };
+    match form {
+        OutcomeForm::Verdict => report_with_reasons(alloc, source, machine, verdict),
+        OutcomeForm::Transcript(process) => transcript(alloc, machine, process),
+        OutcomeForm::Dot => waits(alloc, source),
+        OutcomeForm::Json => object_of(alloc, source, verdict),
+    }
+}

@@ -1,0 +1,75 @@
+//! Running a program and writing, round by round, what became of its processes and monitors.
+
+ghost use Rattle.std.specs.Prelude.{◌≡◌, IfErr, IfOk, OnOk};
+ghost use Rattle.cp_model.specs.Rules.{Accepted};
+ghost use Rattle.cp_model.specs.View as view;
+ghost use Rattle.cp_execute_observe.specs.Writing.{Extends, IsMemoryOrWrite, WritesTrace};
+ghost use Rattle.cp_execute_observe.specs.Traces.{IsTraced, IsTracedFrom};
+
+use crate::rounds::trace;
+use cp_base_config::trace::Tracing;
+use cp_check::checking::{CompiledText, compile_accepted};
+use cp_execute_start::starting::machine_at_start;
+use cp_frontend::refusal::Refusal;
+use cp_model::tree::Tree;
+use cp_rounds::gate::TurnGate;
+use cp_rounds::halted::Halted;
+use cp_rounds::machine::Machine;
+use std::alloc::Global;
+use std::io::Write;
+use std::sync::Wait;
+use std::thread::Threads;
+
+// Makes all rounds of a machine at its start, writes what is told of each, and returns the machine
+// after the last one.
+fn trace_machine<'t, H: Threads + Wait + Sync, W: Write, G: TurnGate>(
+    rt: &H,
+    alloc: Global,
+    tree: &'t Tree,
+    mut machine: Machine<'_, 't>,
+    only: &[&str],
+    how: &Tracing,
+    gate: &G,
+    out: &mut W,
+) -> Result<Halted, Refusal>
+    requires first { machine.rounds ≡ 0 }
+    ensures state { IfOk result (IsTracedFrom how.now machine.entry) }
+    ensures told { OnOk result
+        (WritesTrace how.now.form (W.contents out.old) (W.contents out.new)) }
+    ensures written { Extends (W.contents out.old) (W.contents out.new) }
+    ensures fault { IfErr result IsMemoryOrWrite }
+{
+    trace(rt, alloc, tree, &mut machine, only, how, gate, out)?;
+    Ok(machine.halt())
+}
+
+/// Runs the program of an accepted text, writes what is told of each round from the first that is
+/// told, and returns the machine after the last round. Tells of the processes and monitors with the
+/// names in `only`, or of all if there are none.
+///
+/// # Errors
+///
+/// M if memory runs out, I2 if a write fails.
+pub(crate) fn machine_after_trace<H: Threads + Wait + Sync, W: Write, G: TurnGate>(
+    rt: &H,
+    alloc: Global,
+    tree: &Tree,
+    input: &[u8],
+    only: &[&str],
+    how: &Tracing,
+    gate: &G,
+    out: &mut W,
+) -> Result<Halted, Refusal>
+    requires accepted { Accepted (view.tree tree.now) }
+    ensures state { IfOk result
+        (λ machine. IsTraced how.now (view.tree tree.now) input.now machine) }
+    ensures told { OnOk result
+        (WritesTrace how.now.form (W.contents out.old) (W.contents out.new)) }
+    ensures written { Extends (W.contents out.old) (W.contents out.new) }
+    ensures fault { IfErr result IsMemoryOrWrite }
+{
+    let compiled = compile_accepted(alloc, tree)?;
+    let CompiledText { program, tables } = compiled;
+    let machine = machine_at_start(alloc, program, &tables, input, how.tick)?;
+    trace_machine(rt, alloc, tree, machine, only, how, gate, out)
+}

@@ -1,0 +1,78 @@
+//! Running a program until nothing can move: from its input to the outcome.
+
+ghost use Rattle.std.specs.Prelude.{◌≡◌, ℕ, List, IfErr, IfOk};
+ghost use Rattle.cp_model.specs.Rules.{Accepted};
+ghost use Rattle.cp_model.specs.Syntax as s;
+ghost use Rattle.cp_model.specs.View as view;
+ghost use Rattle.cp_execute_start.specs.Starts.{IsAtStart, setup_of};
+ghost use Rattle.cp_execute_observe.specs.Outcomes.{IsOutcome};
+ghost use Rattle.cp_frontend.specs.declared.refusal.Refusal.TheVariants as refusal;
+
+use crate::form::told;
+use cp_base_config::outcome::{OutcomeForm, UntilStill};
+use cp_check::checking::{CompiledText, compile_accepted};
+use cp_execute_start::starting::machine_at_start;
+use cp_frontend::refusal::Refusal;
+use cp_frontend::sources::Text;
+use cp_outcome::verdict::{Verdict, verdict_on};
+use cp_rounds::gate::TurnGate;
+use cp_rounds::machine::Machine;
+use std::alloc::Global;
+use std::sync::Wait;
+use std::thread::Threads;
+
+/// What became of a run, and the text that tells it.
+#[derive(Drop)]
+pub(crate) struct Outcome {
+    pub(crate) verdict: Verdict,
+    pub(crate) bytes: Vec<u8>,
+}
+
+// Runs a machine at its start until nothing can move, and returns the outcome in a form.
+fn outcome_of<'t, H: Threads + Wait + Sync, G: TurnGate>(
+    rt: &H,
+    alloc: Global,
+    text: &'t Text,
+    mut machine: Machine<'_, 't>,
+    how: &UntilStill,
+    form: OutcomeForm<u32>,
+    gate: &G,
+) -> Result<Outcome, Refusal>
+    requires first { machine.rounds ≡ 0 }
+    ensures outcome { IfOk result (λ outcome. (t : s.Tree) (input : List ℕ)
+        → IsAtStart (setup_of t input how.now.tick.rounds) machine.entry
+        → IsOutcome how.now form t input outcome.verdict outcome.bytes.items) }
+    ensures memory { IfErr result (λ e. e ≡ refusal.Memory) }
+{
+    let Ok(_rounds) = machine.run_until_still(rt, how.limit, &how.plan, gate) else {
+        return Err(Refusal::Memory);
+    };
+    let verdict = verdict_on(&machine);
+    let bytes = told(alloc, text, &machine, verdict, form)?;
+    Ok(Outcome { verdict, bytes })
+}
+
+/// Runs the program of an accepted text until nothing can move, and returns the outcome in a form.
+///
+/// # Errors
+///
+/// M if memory runs out.
+pub(crate) fn outcome_after_run<H: Threads + Wait + Sync, G: TurnGate>(
+    rt: &H,
+    alloc: Global,
+    text: &Text,
+    input: &[u8],
+    how: &UntilStill,
+    form: OutcomeForm<u32>,
+    gate: &G,
+) -> Result<Outcome, Refusal>
+    requires accepted { Accepted (view.tree text.now.tree) }
+    ensures outcome { IfOk result (λ outcome. IsOutcome how.now form
+        (view.tree text.now.tree) input.now outcome.verdict outcome.bytes.items) }
+    ensures memory { IfErr result (λ e. e ≡ refusal.Memory) }
+{
+    let compiled = compile_accepted(alloc, &text.tree)?;
+    let CompiledText { program, tables } = compiled;
+    let machine = machine_at_start(alloc, program, &tables, input, how.tick)?;
+    outcome_of(rt, alloc, text, machine, how, form, gate)
+}

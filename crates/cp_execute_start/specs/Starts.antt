@@ -1,0 +1,17 @@
+-- The system of a text and an input, and the state in which it starts.
+use Rattle.std.specs.Prelude.{ℕ, List}
+use Rattle.cp_model.specs.Erase as erase
+use Rattle.cp_model.specs.Input.{cut}
+use Rattle.cp_model.specs.Start.{start}
+use Rattle.cp_model.specs.States.{Setup}
+use Rattle.cp_model.specs.Syntax as s
+use Rattle.cp_model_machine.specs.InState.{IsIn}
+use Rattle.cp_rounds.specs.Views.{machine_of}
+use Rattle.cp_rounds.specs.declared.machine.Machine.{Machine}
+
+abbrev pub setup_of : s.Tree → List ℕ → ℕ → Setup
+setup_of t input tick = record { tree = erase.abstract t; inputs = cut input; tick = tick }
+
+-- The machine is in the state in which the system starts.
+abbrev pub IsAtStart : Setup → Machine → Type 0
+IsAtStart setup machine = IsIn (machine_of machine) setup (start setup)

@@ -1,0 +1,28 @@
+//! The access graph of a text, in either form.
+
+use crate::instances::Instances;
+use crate::{dot, lines};
+use cp_model::tree::Tree;
+use cp_output::page::Page;
+use std::alloc::{AllocError, Global};
+
+/// How a graph is written.
+#[derive(Clone, Copy)]
+pub enum Form {
+    /// As lines for people.
+    Lines,
+    /// As a graph for Graphviz.
+    Dot,
+}
+
+/// Writes the components of an accepted text, and which of them has a right to which. Fails only if
+/// memory runs out.
+pub fn graph(alloc: Global, tree: &Tree, form: Form) -> Result<Page, AllocError> {
+    let instances = Instances::of(alloc, tree)?;
+    let mut page = Page::new(alloc);
+    match form {
+        Form::Lines => lines::write(&mut page, &instances)?,
+        Form::Dot => dot::write(&mut page, &instances)?,
+    }
+    Ok(page)
+}

@@ -1,0 +1,67 @@
+//! Finds what stands at a place of a text, by walking over its tree.
+
+use crate::site::{Mark, NameRole, Pair, Purpose, Site};
+use cp_explain_names::scope::Scope;
+use cp_model::tree::{Expression, Identifier, Tree};
+
+/// Walks over a tree, and records what stands at one place of it.
+#[derive(Drop)]
+pub struct Finder<'t> {
+    pub(crate) at: usize,
+    pub(crate) scope: Scope<'t>,
+    pub(crate) site: Site<'t>,
+}
+
+impl<'t> Finder<'t> {
+    /// Returns a finder for the token at a place.
+    pub fn new(tree: &'t Tree, at: usize) -> Finder<'t> {
+        let scope = Scope {
+            tree,
+            system: None,
+            routine: None,
+        };
+        Finder {
+            at,
+            scope,
+            site: Site {
+                scope,
+                name: None,
+                purpose: None,
+                mark: None,
+                expression: None,
+                pair: None,
+                number: None,
+            },
+        }
+    }
+
+    pub(crate) fn name(&mut self, x: &'t Identifier, role: NameRole<'t>) {
+        if x.at == self.at {
+            self.site.scope = self.scope;
+            self.site.name = Some((x, role));
+        }
+    }
+
+    pub(crate) fn mark(&mut self, at: usize, mark: Mark) {
+        if at == self.at && self.site.mark.is_none() {
+            self.site.scope = self.scope;
+            self.site.mark = Some(mark);
+        }
+    }
+
+    // Of the expressions that begin at the place, the outermost one says what is wanted there.
+    pub(crate) fn purpose(&mut self, at: usize, e: &'t Expression, purpose: Purpose<'t>) {
+        if at == self.at && self.site.purpose.is_none() {
+            self.site.scope = self.scope;
+            self.site.purpose = Some(purpose);
+            self.site.expression = Some(e);
+        }
+    }
+
+    pub(crate) fn pair(&mut self, at: usize, pair: Pair<'t>) {
+        if at == self.at {
+            self.site.scope = self.scope;
+            self.site.pair = Some(pair);
+        }
+    }
+}

@@ -1,0 +1,146 @@
+//! The walk over expressions.
+
+use crate::finder::Finder;
+use crate::site::{Call, Mark, NameRole, Pair, Purpose};
+use cp_explain_names::places::first_token;
+use cp_model::tree::{Designator, Expression, Index, Operation, Selector};
+
+impl<'t> Finder<'t> {
+    /// Walks over an expression that is wanted for `purpose`.
+    pub(crate) fn expression_for(&mut self, e: &'t Expression, purpose: Purpose<'t>) {
+        self.purpose(first_token(e), e, purpose);
+        self.expression(e);
+    }
+
+    #[cycle(expressions)]
+    pub(crate) fn expression(&mut self, e: &'t Expression) {
+        match e {
+            Expression::Number { .. } | Expression::Character { .. } => {}
+            Expression::Designated(d) => self.designator(d, NameRole::Value, Call::Function(0)),
+            Expression::Call(d, list) => {
+                self.designator(
+                    d,
+                    NameRole::Function(list.len()),
+                    Call::Function(list.len()),
+                );
+                self.purposes(d, list);
+                self.expressions(list);
+            }
+            Expression::Parenthesized { inner, .. } => self.expression(inner),
+            Expression::Not { at, operand } | Expression::Signed { at, operand, .. } => {
+                self.mark(*at, Mark::Operator);
+                self.expression(operand);
+            }
+            Expression::Chain { first, rest } => {
+                self.pairs(first, rest);
+                self.expression(first);
+                self.operations(rest);
+            }
+        }
+    }
+
+    #[cycle(expressions)]
+    fn operations(&mut self, rest: &'t [Operation]) {
+        for operation in rest {
+            self.mark(operation.at, Mark::Operator);
+            self.expression(&operation.operand);
+        }
+    }
+
+    // Records the operands of each operator of a chain.
+    fn pairs(&mut self, first: &'t Expression, rest: &'t [Operation]) {
+        let mut last = None;
+        for operation in rest {
+            let pair = match last {
+                None => Pair::First(first, operation),
+                Some(operator) => Pair::Later(operator, operation),
+            };
+            self.pair(operation.at, pair);
+            last = Some(operation.operator);
+        }
+    }
+
+    // Records what each argument is wanted for.
+    pub(crate) fn purposes(&mut self, d: &'t Designator, list: &'t [Expression]) {
+        for number in 0..list.len() {
+            let e = &list[number];
+            self.purpose(first_token(e), e, Purpose::Argument(d, number));
+        }
+    }
+
+    #[cycle(expressions)]
+    pub(crate) fn expressions(&mut self, list: &'t [Expression]) {
+        for e in list {
+            self.expression(e);
+        }
+    }
+
+    /// Walks over a designator. If its first name stands alone, it has the role `alone`. A name
+    /// after its last `.` is called as `call` says.
+    #[cycle(expressions)]
+    pub(crate) fn designator(&mut self, d: &'t Designator, alone: NameRole<'t>, call: Call) {
+        self.names(d, alone, call);
+        self.index_purposes(d);
+        self.selectors(&d.selectors);
+    }
+
+    fn names(&mut self, d: &'t Designator, alone: NameRole<'t>, call: Call) {
+        match d.selectors.as_slice() {
+            [] => self.name(&d.root, alone),
+            _ => self.name(&d.root, NameRole::Root(d)),
+        }
+        for number in 0..d.selectors.len() {
+            let call = if number + 1 == d.selectors.len() {
+                call
+            } else {
+                Call::No
+            };
+            self.member(d, &d.selectors[number], call);
+        }
+    }
+
+    fn member(&mut self, d: &'t Designator, selector: &'t Selector, call: Call) {
+        if let Selector::Field { at, name } = selector {
+            self.mark(*at, Mark::Point);
+            self.name(name, NameRole::Member(d, call));
+        }
+    }
+
+    // Records what each index is wanted for.
+    fn index_purposes(&mut self, d: &'t Designator) {
+        for number in 0..d.selectors.len() {
+            if let Selector::Indexed(indices) = &d.selectors[number] {
+                self.purposes_of(d, number, indices);
+            }
+        }
+    }
+
+    fn purposes_of(&mut self, d: &'t Designator, selector: usize, indices: &'t [Index]) {
+        for number in 0..indices.len() {
+            let e = &indices[number].value;
+            self.purpose(first_token(e), e, Purpose::Index(d, selector, number));
+        }
+    }
+
+    #[cycle(expressions)]
+    fn selectors(&mut self, selectors: &'t [Selector]) {
+        for selector in selectors {
+            self.index_part(selector);
+        }
+    }
+
+    #[cycle(expressions)]
+    fn index_part(&mut self, selector: &'t Selector) {
+        if let Selector::Indexed(indices) = selector {
+            self.indices(indices);
+        }
+    }
+
+    #[cycle(expressions)]
+    fn indices(&mut self, indices: &'t [Index]) {
+        for index in indices {
+            self.mark(index.at, Mark::Index);
+            self.expression(&index.value);
+        }
+    }
+}

@@ -1,9 +1,0 @@
-//! Inputs by name: the input of each process from a reader of its own, joined into one.
-//!
-//! - `named`: the processes of a text by name: their numbers, and the joined input of those that
-//!   have one.
-//!
-//! cp_accept joins them.
-#![tactic(auto)]
-
-pub mod named;

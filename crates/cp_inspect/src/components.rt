@@ -1,0 +1,93 @@
+//! The lines of whole components.
+
+ghost use Rattle.std.specs.Prelude.{◌≡◌, OnOk, map};
+ghost use Rattle.cp_compile_symbols.specs.Standing.{entry};
+ghost use Rattle.cp_inspect.specs.Lists.{declared_member};
+ghost use Rattle.cp_inspect.specs.Tellings.{visit_of};
+ghost use Rattle.cp_inspect.specs.Walks.{TellsComponent, TellsMembers};
+
+use crate::heads::head_words;
+use crate::telling::Telling;
+use crate::walk::Walk;
+use cp_compile_symbols::{Declared, Field, Tables, TypeRow};
+use std::alloc::AllocError;
+
+impl Walk {
+    /// Reports members of a component, one after another, from the next address on.
+    pub(crate) fn members(
+        &mut self,
+        tables: &Tables,
+        telling: &Telling,
+        out: &mut Vec<u8>,
+        members: &[Field],
+    ) -> Result<(), AllocError>
+        ensures { OnOk result (TellsMembers tables.now (visit_of telling.now)
+            (map entry members.now) self.old.at out.old.items out.new.items) }
+    {
+        for member in members {
+            self.variable(tables, telling, out, member.name, member.of)?;
+        }
+        Ok(())
+    }
+
+    /// Reports the variables of a component whose words begin at `start` and whose type has the
+    /// number `row`.
+    ///
+    /// # Errors
+    ///
+    /// `AllocError` if memory runs out.
+    pub fn component(
+        &mut self,
+        tables: &Tables,
+        telling: &Telling,
+        out: &mut Vec<u8>,
+        row: usize,
+        start: usize,
+    ) -> Result<(), AllocError>
+        ensures { OnOk result (TellsComponent tables.now (visit_of telling.now) row start
+            out.old.items out.new.items) }
+    {
+        let Some(TypeRow::Component { system, members }) = tables.types.row(row) else {
+            return Ok(());
+        };
+        let head = head_words(tables, *system)?;
+        self.at = start.checked_add(head).ok_or(AllocError)?;
+        self.members(tables, telling, out, members)
+    }
+
+    // Reports variables of the initial process, one after another, from the next address on.
+    fn variables(
+        &mut self,
+        tables: &Tables,
+        telling: &Telling,
+        out: &mut Vec<u8>,
+        variables: &[Declared],
+    ) -> Result<(), AllocError>
+        ensures { OnOk result (TellsMembers tables.now (visit_of telling.now)
+            (map declared_member variables.now) self.old.at out.old.items out.new.items) }
+    {
+        for declared in variables {
+            self.variable(tables, telling, out, declared.name, declared.of)?;
+        }
+        Ok(())
+    }
+
+    /// Reports the variables of the initial process, whose words begin with its mark.
+    ///
+    /// # Errors
+    ///
+    /// `AllocError` if memory runs out.
+    pub fn initial(
+        &mut self,
+        tables: &Tables,
+        telling: &Telling,
+        out: &mut Vec<u8>,
+    ) -> Result<(), AllocError>
+        ensures { OnOk result (TellsMembers tables.now (visit_of telling.now)
+            (map declared_member tables.now.initial.variables.items) 1
+            out.old.items out.new.items) }
+    {
+        self.at = 1;
+        self.variables(tables, telling, out, &tables.initial.variables)
+    }
+}

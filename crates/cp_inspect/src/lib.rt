@@ -1,0 +1,28 @@
+//! Who there is in a text, and where their variables lie: processes and monitors by number and by
+//! name, and a walk over the parts of their variables, which tells of each part or keeps its place.
+//!
+//! All of this is read off the tables of a text and the words of a state, so it stands below the
+//! machine and its rounds. What is told is that of cp_model_machine's `specs/Reports.antt`.
+//!
+//! - `state`, `place`: the state of a process; whose a variable is, where it lies and its value.
+//! - `listing`, `roster`: the processes or monitors by number, and all of them by name.
+//! - `telling`, `walk`: what is told of a part of a variable, and the walk over all parts.
+//! - `heads`, `components`: how many words come before members, and the parts of whole components.
+//! - `places`: the places of the variables of a component.
+//! - `status`: the state of a process in words.
+//! - `readings`: what a trace reads of a machine, which stands above.
+//! - `text`: queues and bytes as text.
+#![tactic(auto)]
+
+mod components;
+mod heads;
+pub mod listing;
+pub mod place;
+pub mod places;
+pub mod readings;
+pub mod roster;
+pub mod state;
+pub mod status;
+pub mod telling;
+pub mod text;
+pub mod walk;

@@ -1,0 +1,61 @@
+//! The places of the variables of a component, in the order in which a report tells them.
+
+ghost use Rattle.std.specs.Prelude.{◌≡◌};
+
+use crate::place as machine;
+use crate::place::{Kind, Owner};
+use crate::telling::Telling;
+use crate::walk::Walk;
+use cp_compile_symbols::Tables;
+use std::alloc::{AllocError, Global};
+
+/// A simple part or a queue of a component.
+#[derive(Drop)]
+pub struct Place {
+    /// The text of its path.
+    pub path: Vec<u8>,
+    /// The address of its word. The first word of the component has the address 0.
+    pub at: usize,
+    pub kind: Kind,
+    /// The number of its type.
+    pub of: usize,
+}
+
+impl Place {
+    /// Returns the place in a machine of this part of a process or a monitor.
+    pub fn in_owner(&self, owner: Owner) -> machine::Place
+        ensures owner { result.owner ≡ owner }
+        ensures place { result.at ≡ self.now.at }
+        ensures kind { result.kind ≡ self.now.kind }
+    {
+        machine::Place {
+            owner,
+            at: self.at,
+            kind: self.kind,
+        }
+    }
+}
+
+/// Returns the places of a component whose type has the number `row`.
+///
+/// # Errors
+///
+/// `AllocError` if memory runs out.
+pub fn places(alloc: Global, tables: &Tables, row: usize) -> Result<Vec<Place>, AllocError> {
+    let mut walk = Walk::new(alloc, 0);
+    let mut nothing = Vec::new(alloc);
+    walk.component(tables, &Telling::Places, &mut nothing, row, 0)?;
+    Ok(walk.into_places())
+}
+
+/// Returns the places of the initial process.
+///
+/// # Errors
+///
+/// `AllocError` if memory runs out.
+pub fn initial_places(alloc: Global, tables: &Tables) -> Result<Vec<Place>, AllocError> {
+    let mut walk = Walk::new(alloc, 0);
+    let mut nothing = Vec::new(alloc);
+    walk.initial(tables, &Telling::Places, &mut nothing)?;
+    Ok(walk.into_places())
+}

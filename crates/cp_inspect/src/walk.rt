@@ -1,0 +1,329 @@
+//! The simple parts and queues of a variable, one after another, with their paths and the addresses
+//! of their words.
+//!
+//! A chain of named types may be very long, so the variables around a part are kept on a stack.
+//! Parts lie in the order in which they are visited, so the address of the next word only grows.
+
+ghost use Rattle.std.specs.Prelude.{◌≡◌, ◌+◌, ◌+ℤ◌, ◌++◌, ◌∷◌, ◌<◌, ◌^◌, pos, [], Some, OnOk, IfOk, codes, length, map, take};
+ghost use Rattle.std.specs.Borrow.{Bor};
+ghost use Rattle.cp_model.specs.Decimal.{decimal};
+ghost use Rattle.cp_model.specs.Erase as erase;
+ghost use Rattle.cp_model.specs.Locations.{Path};
+ghost use Rattle.cp_model.specs.Report.{path_text};
+ghost use Rattle.cp_model.specs.Types.{GlobalScope};
+ghost use Rattle.cp_model.specs.View as view;
+ghost use Rattle.cp_model.specs.declared.tree.System.{System};
+ghost use Rattle.cp_compile_symbols.specs.Standing.{ScopeStands, entry, row_at, system_at};
+ghost use Rattle.cp_compile_symbols.specs.declared.types.TypeRow.TheVariants as row_case;
+ghost use Rattle.cp_inspect.specs.Tellings.{tell_leaf, visit_of};
+ghost use Rattle.cp_inspect.specs.Walks.{Continues, Enters, Finishes, Visits, cursor as cursor_of, members_in};
+
+use crate::heads::class_head;
+use crate::place::Kind;
+use crate::places::Place;
+use crate::telling::Telling;
+use cp_base_digits::decimal::push_integer;
+use cp_compile_symbols::{Field, Tables, TypeRow, count_between};
+use std::alloc::{AllocError, Global};
+
+/// More parts than any report that fits in memory can have.
+const MOST_VISITS: u64 = 1 << 48;
+
+/// A record, component or array, by the number of its type, with some of its parts visited.
+#[derive(Clone, Copy)]
+pub(crate) struct Cursor {
+    pub(crate) row: usize,
+    /// How many of its parts have been visited.
+    pub(crate) next: usize,
+    /// The length of the text of its path.
+    pub(crate) path: usize,
+}
+
+/// A walk over the variables of one component.
+#[derive(Drop)]
+pub struct Walk {
+    /// What is left of the variables around the part, with the innermost last.
+    pub(crate) stack: Vec<Cursor>,
+    /// The text of the path of the part that is visited. It may be followed by text of another
+    /// path.
+    pub(crate) path: Vec<u8>,
+    /// The address of the next word.
+    pub(crate) at: usize,
+    /// The places that were visited to be kept.
+    pub(crate) places: Vec<Place>,
+}
+
+// Returns the index of an element of an array.
+fn index_at(low: i32, next: usize) -> i64
+    requires { next < 2 ^ 62 }
+    ensures { result ≡ low +ℤ pos next }
+{
+    i64::from(low) + next as i64
+}
+
+impl Walk {
+    /// Returns the places that were kept.
+    pub(crate) fn into_places(self) -> Vec<Place> {
+        let Walk {
+            stack: _,
+            path: _,
+            at: _,
+            places,
+        } = self;
+        places
+    }
+
+    /// Returns a walk that begins at an address.
+    pub fn new(alloc: Global, at: usize) -> Walk
+        ensures { result.at ≡ at }
+    {
+        Walk {
+            stack: Vec::new(alloc),
+            path: Vec::new(alloc),
+            at,
+            places: Vec::new(alloc),
+        }
+    }
+
+    // Passes `count` words.
+    fn pass(&mut self, count: usize) -> Result<(), AllocError>
+        ensures place { OnOk result (self.new.at ≡ self.old.at + count) }
+        ensures stack { self.new.stack ≡ self.old.stack }
+        ensures path { self.new.path ≡ self.old.path }
+    {
+        self.at = self.at.checked_add(count).ok_or(AllocError)?;
+        Ok(())
+    }
+
+    // Puts the variable whose path is in the buffer on the stack, so that its parts come next.
+    fn open(&mut self, row: usize) -> Result<(), AllocError>
+        ensures stack { OnOk result (self.new.stack.items ≡ self.old.stack.items ++
+            cursor_of row 0 (length self.old.path.items) ∷ []) }
+        ensures path { self.new.path ≡ self.old.path }
+        ensures place { self.new.at ≡ self.old.at }
+    {
+        let path = self.path.len();
+        self.stack.push(Cursor { row, next: 0, path })?;
+        Ok(())
+    }
+
+    // Keeps the place of a part whose type has the number `row`.
+    fn keep(&mut self, kind: Kind, row: usize) -> Result<(), AllocError>
+        ensures stack { self.new.stack ≡ self.old.stack }
+        ensures path { self.new.path ≡ self.old.path }
+        ensures place { self.new.at ≡ self.old.at }
+    {
+        self.places.push(Place {
+            path: self.path.clone()?,
+            at: self.at,
+            kind,
+            of: row,
+        })?;
+        Ok(())
+    }
+
+    // Reports a simple part or a queue, which has one word, or keeps its place. The number of its
+    // type is `row`.
+    fn tell(
+        &mut self,
+        telling: &Telling,
+        out: &mut Vec<u8>,
+        kind: Kind,
+        row: usize,
+    ) -> Result<(), AllocError>
+        ensures told { OnOk result ((p : Path) → path_text p ≡ self.old.path.items
+            → out.new.items
+            ≡ out.old.items ++ tell_leaf (visit_of telling.now) kind p self.old.at) }
+        ensures place { OnOk result (self.new.at ≡ self.old.at + 1) }
+        ensures stack { self.new.stack ≡ self.old.stack }
+        ensures path { self.new.path ≡ self.old.path }
+    {
+        if let Telling::Places = telling {
+            self.keep(kind, row)?;
+        }
+        telling.tell(out, kind, &self.path, self.at)?;
+        self.pass(1)
+    }
+
+    // Reports the variable whose path is in the buffer, if it is simple or a queue. The parts of
+    // any other variable come next.
+    fn enter(
+        &mut self,
+        tables: &Tables,
+        telling: &Telling,
+        out: &mut Vec<u8>,
+        row: usize,
+    ) -> Result<(), AllocError>
+        ensures { OnOk result (Enters tables.now (visit_of telling.now) row self.old self.new
+            out.old.items out.new.items) }
+    {
+        match tables.types.row(row) {
+            Some(TypeRow::Simple(_)) => self.tell(telling, out, Kind::Simple, row),
+            Some(TypeRow::Queue) => self.tell(telling, out, Kind::Queue, row),
+            Some(TypeRow::Array { .. }) => self.open(row),
+            Some(TypeRow::Record(_)) => self.open(row),
+            Some(TypeRow::Component { system, .. }) => match class_head(tables, *system)? {
+                Some(head) => {
+                    self.pass(head)?;
+                    self.open(row)
+                }
+                None => Ok(()),
+            },
+            Some(TypeRow::Unknown) => Ok(()),
+            None => Ok(()),
+        }
+    }
+
+    // Changes the path to that of a member of the variable.
+    fn name_member(&mut self, cursor: Cursor, name: &[u8]) -> Result<(), AllocError>
+        ensures path { OnOk result (self.new.path.items
+            ≡ take cursor.path self.old.path.items ++ (codes "." ++ name.now)) }
+        ensures stack { self.new.stack ≡ self.old.stack }
+        ensures place { self.new.at ≡ self.old.at }
+    {
+        self.path.truncate(cursor.path);
+        self.path.extend_from_slice(b".")?;
+        self.path.extend_from_slice(name)
+    }
+
+    // Changes the path to that of an element of the variable.
+    fn name_element(&mut self, cursor: Cursor, index: i64) -> Result<(), AllocError>
+        ensures path { OnOk result (self.new.path.items ≡ take cursor.path self.old.path.items ++
+            (codes "[" ++ (decimal index ++ codes "]"))) }
+        ensures stack { self.new.stack ≡ self.old.stack }
+        ensures place { self.new.at ≡ self.old.at }
+    {
+        self.path.truncate(cursor.path);
+        self.path.extend_from_slice(b"[")?;
+        push_integer(&mut self.path, index)?;
+        self.path.extend_from_slice(b"]")
+    }
+
+    // Leaves the parts of the variable after the next one for later.
+    fn leave_rest(&mut self, cursor: Cursor) -> Result<(), AllocError>
+        requires { cursor.next < 2 ^ 63 }
+        ensures stack { OnOk result (self.new.stack.items ≡ self.old.stack.items ++
+            cursor_of cursor.row (cursor.next + 1) cursor.path ∷ []) }
+        ensures path { self.new.path ≡ self.old.path }
+        ensures place { self.new.at ≡ self.old.at }
+    {
+        self.stack.push(Cursor {
+            next: cursor.next + 1,
+            ..cursor
+        })?;
+        Ok(())
+    }
+
+    // Enters the next member of a record or component, if one is left.
+    fn member(
+        &mut self,
+        tables: &Tables,
+        telling: &Telling,
+        out: &mut Vec<u8>,
+        cursor: Cursor,
+        members: &[Field],
+    ) -> Result<(), AllocError>
+        requires { members_in (row_at tables.now.types cursor.row)
+            ≡ Some (map entry members.now) }
+        ensures { OnOk result (Continues tables.now (visit_of telling.now) cursor self.old self.new
+            out.old.items out.new.items) }
+    {
+        let Some(member) = members.get(cursor.next) else {
+            return Ok(());
+        };
+        self.name_member(cursor, member.name)?;
+        self.leave_rest(cursor)?;
+        self.enter(tables, telling, out, member.of)
+    }
+
+    // Enters the next element of an array, if one is left.
+    fn element(
+        &mut self,
+        tables: &Tables,
+        telling: &Telling,
+        out: &mut Vec<u8>,
+        cursor: Cursor,
+        low: i32,
+        high: i32,
+        element: usize,
+    ) -> Result<(), AllocError>
+        requires { row_at tables.now.types cursor.row ≡ Some (row_case.Array low high element) }
+        ensures { OnOk result (Continues tables.now (visit_of telling.now) cursor self.old self.new
+            out.old.items out.new.items) }
+    {
+        if count_between(low, high) <= cursor.next {
+            return Ok(());
+        }
+        self.name_element(cursor, index_at(low, cursor.next))?;
+        self.leave_rest(cursor)?;
+        self.enter(tables, telling, out, element)
+    }
+
+    // Enters the next part of a variable that was taken from the stack, if one is left.
+    fn go_on(
+        &mut self,
+        tables: &Tables,
+        telling: &Telling,
+        out: &mut Vec<u8>,
+        cursor: Cursor,
+    ) -> Result<(), AllocError>
+        ensures { OnOk result (Continues tables.now (visit_of telling.now) cursor self.old self.new
+            out.old.items out.new.items) }
+    {
+        match tables.types.row(cursor.row) {
+            Some(TypeRow::Record(fields)) => self.member(tables, telling, out, cursor, fields),
+            Some(TypeRow::Component { members, .. }) => {
+                self.member(tables, telling, out, cursor, members)
+            }
+            Some(TypeRow::Array { low, high, element }) => {
+                self.element(tables, telling, out, cursor, *low, *high, *element)
+            }
+            Some(TypeRow::Simple(_)) => Ok(()),
+            Some(TypeRow::Queue) => Ok(()),
+            Some(TypeRow::Unknown) => Ok(()),
+            None => Ok(()),
+        }
+    }
+
+    // Walks over everything that is left.
+    fn finish(
+        &mut self,
+        tables: &Tables,
+        telling: &Telling,
+        out: &mut Vec<u8>,
+    ) -> Result<(), AllocError>
+        ensures { OnOk result (Finishes tables.now (visit_of telling.now) self.old self.new
+            out.old.items out.new.items) }
+    {
+        for _visit in 0..MOST_VISITS {
+            let Some(cursor) = self.stack.pop() else {
+                return Ok(());
+            };
+            self.go_on(tables, telling, out, cursor)?;
+        }
+        Err(AllocError)
+    }
+
+    /// Reports all parts of a variable with this name and type, which lies at the next address.
+    ///
+    /// # Errors
+    ///
+    /// `AllocError` if memory runs out.
+    pub fn variable(
+        &mut self,
+        tables: &Tables,
+        telling: &Telling,
+        out: &mut Vec<u8>,
+        name: &[u8],
+        row: usize,
+    ) -> Result<(), AllocError>
+        ensures { OnOk result (Visits tables.now (visit_of telling.now) name.now row self.old.at
+            self.new.at out.old.items out.new.items) }
+    {
+        self.stack.clear();
+        self.path.clear();
+        self.path.extend_from_slice(name)?;
+        self.enter(tables, telling, out, row)?;
+        self.finish(tables, telling, out)
+    }
+}

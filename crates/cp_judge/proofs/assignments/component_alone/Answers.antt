@@ -1,6 +1,0 @@
-use Rattle.std.proofs.Common.{sym}
-use Rattle.cp_judge.proofs.StatementsTold.{component_alone_some}
-use Rattle.cp_judge.proofs.assignments.component_alone.Goals as goal
-
-pub returns-in_default : goal.returns-in_default
-returns-in_default c = sym (component_alone_some c.args.env.now c.args.x.now c.args.selectors.now c.in_default.len_at_least)

@@ -1,5 +1,0 @@
-use Rattle.cp_judge.proofs.StatementsTold.{own_result_some}
-use Rattle.cp_judge.proofs.assignments.own_result.Goals as goal
-
-pub returns-in_default : goal.returns-in_default
-returns-in_default c = rw (own_result_some c.args.x.now c.args.selectors.now c.args.returns c.in_default.len_at_least) c.part_of_result.ensures

@@ -1,5 +1,0 @@
-use Rattle.cp_machine_model.proofs.MachineReplays.{lawful_replay_is_round, replay_is_replay}
-use Rattle.cp_machine_model.proofs.law.replays.Goals as goal
-
-pub returns : goal.returns
-returns c = record { replay = replay_is_replay; lawful = lawful_replay_is_round }

@@ -1,9 +1,0 @@
-use Rattle.cp_machine_model.proofs.MachineStarts.{run_is_reported}
-use Rattle.cp_machine_model.proofs.Reporting.{report_is_report}
-use Rattle.cp_machine_model.proofs.law.reports.Goals as goal
-
-pub returns : goal.returns
-returns c = record {
-  read = report_is_report;
-  run = run_is_reported;
-}

@@ -1,8 +1,0 @@
-//! Runs of some worked texts, which `worked/make_rows.py` selects.
-
-ghost use Rattle.cp_machine_rows.specs.Runs.{Runs};
-
-/// In each of these runs the machine of the compiled program gives the same answer as the meaning.
-pub fn runs_hold()
-    ensures { Runs }
-{}

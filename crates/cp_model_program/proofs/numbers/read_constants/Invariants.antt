@@ -1,0 +1,10 @@
+use Rattle.std.proofs.Common.{map, drop}
+use Rattle.cp_model.specs.Erase as erase
+use Rattle.cp_law_typing.specs.Magnitudes.{AreNegativesWithin}
+use Rattle.cp_model_program.proofs.numbers.read_constants.Given as goal
+
+-- all are within the bound, once the remaining ones are
+abbrev pub invariant-loop-d : goal.invariant-loop-d
+invariant-loop-d l =
+    AreNegativesWithin 65535 (map erase.constant_definition (drop l.d-index l.definitions))
+    → AreNegativesWithin 65535 (map erase.constant_definition l.fn.definitions)

@@ -1,0 +1,22 @@
+//! Objects of JSON: one on a line.
+
+ghost use Rattle.std.specs.Prelude.{IfOk};
+ghost use Rattle.cp_output_formats.specs.Json.{IsJsonLine};
+
+use serde::Serialize;
+use std::alloc::{AllocError, Global};
+
+/// Returns a value as JSON on one line, with the line feed at its end.
+///
+/// # Errors
+///
+/// `AllocError` if memory runs out.
+pub fn line<T: Serialize>(alloc: Global, value: &T) -> Result<Vec<u8>, AllocError>
+    ensures { IfOk result (λ bytes. IsJsonLine bytes.items) }
+{
+    let Ok(mut bytes) = serde_json::to_vec(alloc, value) else {
+        return Err(AllocError);
+    };
+    bytes.push(b'\n')?;
+    Ok(bytes)
+}

@@ -1,0 +1,18 @@
+-- Processes that have no kernel turn to make, whatever the kernel is.
+use Rattle.std.specs.Prelude.{ℕ, Bool, true, false, List, [], ◌∷◌}
+use Rattle.cp_model_program.specs.Programs.{Program}
+use Rattle.cp_model_machine.specs.PrivateStates.{PrivateState}
+use Rattle.cp_private.specs.Kinds.{kind_of}
+use Rattle.cp_private.specs.declared.kind.Kind.{Kind}
+use Rattle.cp_private.specs.declared.kind.Kind.TheVariants as kind
+
+abbrev pub is_quiet_by : Kind → List ℕ → Bool
+is_quiet_by kind.Private [] = true
+is_quiet_by kind.Private (b ∷ written) = false
+is_quiet_by kind.Kernel written = false
+is_quiet_by kind.None [] = true
+is_quiet_by kind.None (b ∷ written) = false
+
+-- No step of the kernel is next, and nothing that was written is left.
+abbrev pub is_quiet : Program → PrivateState → Bool
+is_quiet program o = is_quiet_by (kind_of program o) o.output

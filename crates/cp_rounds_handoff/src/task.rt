@@ -1,0 +1,206 @@
+//! Private turns on their way between threads.
+//!
+//! All that is known of a value taken out of a lock is its type. So the type of a task says what
+//! its private state comes from: the private state at its index at the start of its round. The cell
+//! of the round, which is written once, says which start that was.
+
+ghost use Rattle.std.specs.Prelude.{◌≡◌, ◌≢◌, ◌<◌, ◌≤◌, ◌+◌, ◌-◌, ◌^◌, ℕ, Bool, List, [], IfSome, Some, false, true, slice_get};
+ghost use Rattle.std.proofs.Props.{props};
+ghost use Rattle.cp_model_machine.specs.PrivateStates.{PrivateState};
+ghost use Rattle.cp_private.specs.States.{private_of};
+ghost use Rattle.cp_program.specs.View as view;
+ghost use Rattle.cp_rounds_handoff.specs.Quiet.{is_quiet};
+ghost use Rattle.cp_rounds_handoff.specs.Turned.{AreTimes};
+ghost use Rattle.cp_rounds_handoff.specs.Tasks.{AreMade, AreMade-prop, AreTaken, ComesOf, HasRoomLeft, IsCourseOf, IsShort, IsWide, is_some};
+ghost use Rattle.cp_rounds_handoff.specs.declared.moment.Moment as declared;
+
+use crate::moment::Moment;
+use crate::open_round::OpenRound;
+use crate::quiet::is_quiet;
+use crate::setting::Setting;
+use crate::turns::turn_in_place;
+use cp_base_config::turn::Turn;
+use cp_private::resident::Resident;
+use cp_rounds_workers::Sheets;
+use std::marker::{Brand, PhantomData};
+use std::snapshot::Snapshot;
+use std::sync::OnceToken;
+
+/// The private states at the start of a round, for proofs only.
+pub type Start = Snapshot<Vec<Resident>>;
+
+/// What is the same in all rounds of a run. Whoever begins the run chooses it.
+pub trait Course: Sheets {
+    /// Whether a process has no kernel turn to make, whatever the kernel is.
+    ghost quiet: { PrivateState → Bool };
+
+    /// What a turn makes of the content of a private state, at the time of a round.
+    ghost turned: { declared.Moment → PrivateState → PrivateState };
+
+    /// The time of a round.
+    ghost moment: { ℕ → declared.Moment };
+
+    /// The input of the process at an index.
+    ghost input: { ℕ → List ℕ };
+
+    /// The largest number of bytes that a turn writes.
+    ghost most: { ℕ };
+
+    /// The name of the cell that holds the start of a round.
+    ghost cell: { ℕ → ℕ };
+}
+
+impl Course for Brand {
+    ghost quiet = { λ _. false };
+
+    ghost turned = { λ w o. o };
+
+    ghost moment = { λ _. record { clock = 0; wakes = false } };
+
+    ghost input = { λ _. [] };
+
+    ghost most = { 0 };
+
+    ghost cell = { λ _. 0 };
+}
+
+/// The private turn of a process in a round, made or still to be made, and perhaps those of the
+/// rounds after it.
+#[derive(Drop)]
+pub struct Task<'a, C: Course> {
+    round: usize,
+    process: usize,
+    moment: Moment,
+    /// How many turns there are to make at most.
+    most: u32,
+    /// How many turns are made.
+    pub(crate) made: u32,
+    private: Resident,
+    start: OnceToken<'a, Start>,
+    of: PhantomData<C>,
+    ghost cell: { start.of ≡ C.cell round },
+    ghost time: { moment ≡ C.moment round },
+    ghost number: { private.number ≡ process },
+    ghost comes: { ComesOf (AreMade C.quiet C.turned C.moment round made) (C.input (process - 1))
+        start.value.value.items (process - 1) private } by { Prim.hlevel (AreMade-prop, props) },
+    ghost short: { IsShort C.most start.value.value.items (process - 1) (is_some made) private },
+    ghost room: { HasRoomLeft C.most (is_some made) private },
+    ghost wide: { IsWide C.most private },
+}
+
+impl<'a, C: Course> Task<'a, C> {
+    /// Returns the turn of a process in a round, which is still to be made, with those of the
+    /// rounds that are made at once. `start` shows that this is the start of the round.
+    pub fn new(
+        round: &OpenRound<'a, C>,
+        start: &OnceToken<'a, Start>,
+        process: usize,
+        private: Resident,
+    ) -> Task<'a, C>
+        requires cell { start.now.of ≡ C.cell round.now.index }
+        requires number { private.number ≡ process }
+        requires at { slice_get start.now.value.value.items (process - 1) ≡ Some private }
+        requires room { HasRoomLeft C.most false private }
+    {
+        Task {
+            round: round.index,
+            process,
+            moment: round.moment,
+            most: round.rounds,
+            made: 0,
+            private,
+            start: start.again(),
+            of: PhantomData,
+        }
+    }
+
+    /// Returns the number of the process.
+    pub fn process(&self) -> usize
+        ensures { result ≡ self.now.process }
+    {
+        self.process
+    }
+
+    /// Returns whether the turn of the round has been made.
+    pub fn is_made(&self) -> bool
+        ensures { result ≡ is_some self.now.made }
+    {
+        self.made > 0
+    }
+
+    // Makes the next turn, of a round at this time. Before any but the first one the process is
+    // quiet.
+    fn make_turn(&mut self, setting: &Setting, turn: Turn, moment: Moment)
+        requires course { IsCourseOf C.quiet C.turned C.input C.most setting.now turn.steps }
+        requires time { moment ≡ C.moment (self.old.round + self.old.made) }
+        requires quiet { self.old.made ≢ 0 → (input : List ℕ)
+            → is_quiet (view.program setting.now.program) (private_of self.old.private input)
+            ≡ true }
+        requires few { self.old.made < 2 ^ 32 - 1 }
+        ensures made { self.new.made ≡ self.old.made + 1 }
+    {
+        let private = self.private.private_mut();
+        turn_in_place(setting, private, self.process, moment, turn);
+        self.made += 1;
+    }
+
+    // Makes the turn of the next round, if there is one to make and the process is quiet. Returns
+    // whether it did.
+    fn make_next(&mut self, setting: &Setting, done: u64, turn: Turn) -> bool
+        requires course { IsCourseOf C.quiet C.turned C.input C.most setting.now turn.steps }
+        requires times { AreTimes C.moment setting.now done }
+        ensures made { self.old.made ≤ self.new.made }
+    {
+        if self.made >= self.most || !is_quiet(&setting.program, self.private.private()) {
+            return false;
+        }
+        let Some(moment) = setting.moment_of(done, self.round, self.made) else {
+            return false;
+        };
+        self.make_turn(setting, turn, moment);
+        true
+    }
+
+    /// Makes the turn, and those of later rounds while the process is quiet, of a run that began
+    /// after `done` rounds.
+    pub fn make(&mut self, setting: &Setting, done: u64, turn: Turn)
+        requires course { IsCourseOf C.quiet C.turned C.input C.most setting.now turn.steps }
+        requires times { AreTimes C.moment setting.now done }
+        requires first { self.old.made ≡ 0 }
+        ensures made { 0 < self.new.made }
+    {
+        self.make_turn(setting, turn, self.moment);
+        for _turn in 1..self.most {
+            if !self.make_next(setting, done, turn) {
+                return;
+            }
+        }
+    }
+
+    /// Returns the private state and the number of turns made, if that is at least 1 and at most
+    /// `most`, and they are the turns of this process from this round on.
+    pub fn finish(
+        self,
+        round: &OpenRound<'a, C>,
+        process: usize,
+        most: u32,
+    ) -> Option<(u32, Resident)>
+        ensures some { IfSome result (λ r. 0 < r.0) }
+        ensures few { IfSome result (λ r. r.0 ≤ most) }
+        ensures taken { IfSome result (λ r. AreTaken
+            (AreMade C.quiet C.turned C.moment round.now.index r.0) (C.input (process - 1)) C.most
+            round.now.start.value.items process r.1) }
+    {
+        let Some(start) = &round.token else {
+            return None;
+        };
+        if self.made == 0 || self.made > most {
+            return None;
+        }
+        if self.round != round.index || self.process != process {
+            return None;
+        }
+        start.agrees(&self.start);
+        Some((self.made, self.private))
+    }
+}

@@ -1,5 +1,0 @@
-use Rattle.cp_rows.proofs.ClassesComputed.{classes_and_rights_1-holds}
-use Rattle.cp_rows.proofs.rows.classes_hold.Goals as goal
-
-pub returns : goal.returns
-returns c = (classes_and_rights_1-holds)

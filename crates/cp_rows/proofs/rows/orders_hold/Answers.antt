@@ -1,5 +1,0 @@
-use Rattle.cp_rows.proofs.OrdersComputed.{a_lawful_order_1-holds, an_unlawful_order_1-holds, an_unlawful_order_2-holds, an_unlawful_order_3-holds, an_unlawful_order_4-holds, events_in_any_order_1-holds, events_in_any_order_2-holds}
-use Rattle.cp_rows.proofs.rows.orders_hold.Goals as goal
-
-pub returns : goal.returns
-returns c = (a_lawful_order_1-holds, an_unlawful_order_1-holds, an_unlawful_order_2-holds, an_unlawful_order_3-holds, an_unlawful_order_4-holds, events_in_any_order_1-holds, events_in_any_order_2-holds)

@@ -1,0 +1,272 @@
+//! Calls of routines: what a routine wants as arguments, and what it gives.
+
+ghost use Rattle.std.specs.Prelude.{◌≡◌, ◌∷◌, [], map, Option, None, Some, slice_get, length, nat_eq};
+ghost use Rattle.cp_model.specs.RulesEnvironment as r;
+ghost use Rattle.cp_model.specs.RulesNames as n;
+ghost use Rattle.cp_model.specs.RulesJudged.{meaning_of, Sound};
+ghost use Rattle.cp_model.specs.View.{designator};
+ghost use Rattle.cp_rules_body.specs.Callees.{wants_of, wants_if, TellsCallee, TellsWherever};
+ghost use Rattle.cp_rules_body.specs.Tells.{Tells, TellsOf};
+
+use crate::environment::Environment;
+use crate::names::{in_place, outside_definition, sort_rule};
+use crate::places::last_name;
+use crate::standard::{
+    judge_standard_function_call, judge_standard_procedure_call, standard_wants,
+};
+use crate::telling::{Told, answer_if, tell, tell_violation, unless_holds};
+use cp_model::rules::{
+    Entity, Gives, Mode, ParameterRow, Returns, RoutineRow, Rule, Violation, Want,
+};
+use cp_model::tree::{Designator, Identifier};
+
+/// What the arguments of a call must satisfy.
+#[derive(Clone, Copy)]
+pub enum Wants {
+    Nothing,
+    One(Want),
+    /// Parameters: the number of the first one, and how many there are.
+    Parameters(usize, usize),
+}
+
+/// The routine that is called: what it wants, and what it gives.
+#[derive(Clone, Copy)]
+pub struct Callee {
+    pub wants: Wants,
+    pub gives: Gives,
+}
+
+/// A call: what its arguments must satisfy, even if something is broken in its name, and the
+/// routine that is called.
+#[derive(Clone, Copy)]
+pub struct Called {
+    pub(crate) wants: Wants,
+    pub(crate) callee: Option<Callee>,
+}
+
+/// What a routine gives if it is called as a function. C2: the number of arguments is wrong.
+/// `rule`: the routine is a procedure.
+fn gives(told: &mut Told, rule: Rule, x: &Identifier, fits: bool, returns: Returns) -> Option<Gives>
+    ensures { Tells told.old told.new result (n.function_gives rule x.now fits returns) }
+{
+    match returns {
+        Returns::Nothing => tell_violation(told, if fits { rule } else { Rule::C2 }, x.at),
+        Returns::Value(t) => {
+            if fits {
+                return Some(Gives::Value(t));
+            }
+            tell_violation(told, Rule::C2, x.at)
+        }
+        Returns::Broken(violation) => {
+            unless_holds(told, fits, Rule::C2, x.at);
+            tell(told, violation);
+            None
+        }
+    }
+}
+
+// Judges a call of a routine as a function with `count` arguments.
+fn judge_function_call(
+    told: &mut Told,
+    rule: Rule,
+    x: &Identifier,
+    count: usize,
+    row: RoutineRow,
+) -> Option<Callee>
+    ensures { TellsWherever told.old told.new result
+        (λ env. n.function_called env rule x.now count row) }
+{
+    let gives = gives(told, rule, x, row.count == count, row.returns)?;
+    Some(Callee {
+        wants: Wants::Parameters(row.first, row.count),
+        gives,
+    })
+}
+
+fn is_procedure(returns: Returns) -> bool
+    ensures { result ≡ n.is_procedure returns }
+{
+    match returns {
+        Returns::Nothing => true,
+        _ => false,
+    }
+}
+
+// Judges a call of a routine as a procedure with `count` arguments.
+fn judge_procedure_call(
+    told: &mut Told,
+    x: &Identifier,
+    count: usize,
+    row: RoutineRow,
+) -> Option<Callee>
+    ensures { TellsWherever told.old told.new result
+        (λ env. n.procedure_called env x.now count row) }
+{
+    if is_procedure(row.returns) && row.count == count {
+        return Some(Callee {
+            wants: Wants::Parameters(row.first, row.count),
+            gives: Gives::Nothing,
+        });
+    }
+    tell_violation(told, Rule::C2, x.at)
+}
+
+// C5: a routine without `entry` stands after a component's `.`.
+pub fn has_entry(told: &mut Told, x: &Identifier, row: RoutineRow) -> bool
+    ensures { TellsOf told.old told.new result (n.c5_without_entry x.now row) }
+{
+    unless_holds(told, row.entry, Rule::C5, x.at)
+}
+
+// C5: an entry routine is called by its name alone.
+fn by_name(told: &mut Told, x: &Identifier, row: RoutineRow) -> bool
+    ensures { TellsOf told.old told.new result (n.c5_by_name x.now row) }
+{
+    unless_holds(told, !row.entry, Rule::C5, x.at)
+}
+
+/// Judges a call of a function with `count` arguments.
+#[tactic(auto, using(crate::proofs::CalleesTold::also_callee))]
+pub fn function(
+    env: &Environment,
+    told: &mut Told,
+    mode: Mode,
+    d: &Designator,
+    count: usize,
+    entity: Entity,
+) -> Option<Callee>
+    ensures { TellsCallee env.now told.old told.new result
+        (n.function_of env.now mode (designator d.now) count entity) }
+{
+    let x = last_name(d);
+    let rule = sort_rule(mode, d);
+    match entity {
+        Entity::Routine(number) => {
+            let row = env.routine(number);
+            let by_name = by_name(told, x, row);
+            answer_if(by_name, judge_function_call(told, rule, x, count, row))
+        }
+        Entity::Entry(number) => {
+            let row = env.routine(number);
+            let has_entry = has_entry(told, x, row);
+            answer_if(has_entry, judge_function_call(told, rule, x, count, row))
+        }
+        Entity::UnfinishedRoutine(row) => {
+            let finished = outside_definition(told, x, entity);
+            answer_if(finished, judge_function_call(told, rule, x, count, row))
+        }
+        Entity::Standard(standard) => {
+            let in_place = in_place(env, told, x, Entity::Standard(standard));
+            answer_if(
+                in_place,
+                judge_standard_function_call(told, rule, x, count, standard),
+            )
+        }
+        _ => {
+            outside_definition(told, x, entity);
+            tell_violation(told, rule, x.at)
+        }
+    }
+}
+
+/// Judges a call of a procedure with `count` arguments.
+#[tactic(auto, using(crate::proofs::CalleesTold::also_callee))]
+pub fn procedure(
+    env: &Environment,
+    told: &mut Told,
+    d: &Designator,
+    count: usize,
+    entity: Entity,
+) -> Option<Callee>
+    ensures { TellsCallee env.now told.old told.new result
+        (n.procedure_of env.now (designator d.now) count entity) }
+{
+    let x = last_name(d);
+    match entity {
+        Entity::Routine(number) => {
+            let row = env.routine(number);
+            let by_name = by_name(told, x, row);
+            answer_if(by_name, judge_procedure_call(told, x, count, row))
+        }
+        Entity::Entry(number) => {
+            let row = env.routine(number);
+            let has_entry = has_entry(told, x, row);
+            answer_if(has_entry, judge_procedure_call(told, x, count, row))
+        }
+        Entity::UnfinishedRoutine(row) => {
+            let finished = outside_definition(told, x, entity);
+            answer_if(finished, judge_procedure_call(told, x, count, row))
+        }
+        Entity::Standard(standard) => {
+            let in_place = in_place(env, told, x, Entity::Standard(standard));
+            answer_if(
+                in_place,
+                judge_standard_procedure_call(told, x, count, standard),
+            )
+        }
+        _ => {
+            outside_definition(told, x, entity);
+            tell_violation(told, Rule::C2, x.at)
+        }
+    }
+}
+
+fn parameters(row: RoutineRow) -> Wants
+    ensures { (env : r.Environment) → wants_of env result ≡ n.wants_of env row }
+{
+    Wants::Parameters(row.first, row.count)
+}
+
+// What the arguments of a call must satisfy, whatever is broken in the call.
+fn wants_of_entity(env: &Environment, entity: Entity) -> Wants
+    ensures { wants_of env.now result ≡ n.wants_named env.now (Sound entity) }
+{
+    match entity {
+        Entity::Routine(number) => parameters(env.routine(number)),
+        Entity::Entry(number) => parameters(env.routine(number)),
+        Entity::UnfinishedRoutine(row) => parameters(row),
+        Entity::Standard(standard) => standard_wants(standard),
+        _ => Wants::Nothing,
+    }
+}
+
+/// What the arguments of a call must satisfy: nothing if it isn't known what is called.
+pub fn wants_of_call(env: &Environment, entity: Option<Entity>, callee: Option<Callee>) -> Wants
+    ensures { wants_of env.now result ≡ wants_if env.now entity callee }
+{
+    match (callee, entity) {
+        (Some(callee), _) => callee.wants,
+        (None, Some(entity)) => wants_of_entity(env, entity),
+        (None, None) => Wants::Nothing,
+    }
+}
+
+/// The parameter with this number, counted from 0, among the `count` parameters from `first` on.
+pub fn parameter(
+    env: &Environment,
+    first: usize,
+    count: usize,
+    number: usize,
+) -> Option<ParameterRow>
+    ensures { result ≡ slice_get (r.parameters_from env.now first count) number }
+{
+    if number < count {
+        env.parameter(first, number)
+    } else {
+        None
+    }
+}
+
+/// What the argument with this number, counted from 0, must satisfy.
+pub fn want(env: &Environment, wants: Wants, number: usize) -> Option<Want>
+    ensures { result ≡ slice_get (wants_of env.now wants) number }
+{
+    match wants {
+        Wants::Nothing => None,
+        Wants::One(want) => { if number == 0 { Some(want) } else { None } }
+        Wants::Parameters(first, count) => {
+            let p = parameter(env, first, count, number)?;
+            Some(Want::Parameter(p))
+        }
+    }
+}

@@ -1,0 +1,69 @@
+//! Constants where they are written: in definitions, subranges and labels.
+
+ghost use Rattle.std.specs.Prelude.{◌≡◌, ◌++◌, [], ◌∷◌, pos, neg_ℤ, Option, None, Some};
+ghost use Rattle.cp_model.specs.RulesTypes as types;
+ghost use Rattle.cp_model.specs.RulesJudged.{also, breaks, violation};
+ghost use Rattle.cp_model.specs.declared.rules.Rule.TheVariants as rules;
+ghost use Rattle.cp_rules_body.specs.Tells.{TellsFirst};
+
+use crate::bases::{CHAR, INTEGER};
+use crate::environment::Environment;
+use crate::names::resolve;
+use crate::telling::{Told, fail_with_violation, unless_holds};
+use cp_model::rules::{Entity, Rule, Violation};
+use cp_model::tree::{Constant, Identifier};
+
+/// The place where a constant begins.
+pub fn constant_at(c: &Constant) -> usize
+    ensures { result ≡ types.constant_at c.now }
+{
+    match c {
+        Constant::Number { at, .. } => *at,
+        Constant::Negative { at, .. } => *at,
+        Constant::Character { at, .. } => *at,
+        Constant::Named(x) => x.at,
+    }
+}
+
+/// C4 and C2: the name of something unfinished that is of another sort than is wanted.
+pub fn unfinished_of_other_sort<A>(told: &mut Told, at: usize) -> Result<A, Violation>
+    ensures { TellsFirst told.old told.new result
+        (also (violation rules.C4 at ∷ []) (breaks rules.C2 at)) }
+{
+    let first = fail_with_violation(told, Rule::C4, at);
+    unless_holds(told, false, Rule::C2, at);
+    first
+}
+
+// C2: a constant is wanted, but the name is of another sort. C4: a constant is used inside its own
+// definition.
+fn constant_of_entity(
+    told: &mut Told,
+    x: &Identifier,
+    entity: Entity,
+) -> Result<(usize, i32), Violation>
+    ensures { TellsFirst told.old told.new result (types.c2_constant x.now entity) }
+{
+    match entity {
+        Entity::Constant(base, ordinal) => Ok((base, ordinal)),
+        Entity::UnfinishedConstant => fail_with_violation(told, Rule::C4, x.at),
+        Entity::UnfinishedType => unfinished_of_other_sort(told, x.at),
+        Entity::UnfinishedRoutine(_) => unfinished_of_other_sort(told, x.at),
+        _ => fail_with_violation(told, Rule::C2, x.at),
+    }
+}
+
+/// The base type and the ordinal of a constant, or the first violation in it.
+pub fn constant(env: &Environment, told: &mut Told, c: &Constant) -> Result<(usize, i32), Violation>
+    ensures { TellsFirst told.old told.new result (types.constant env.now c.now) }
+{
+    match c {
+        Constant::Number { value, .. } => Ok((INTEGER, i32::from(*value))),
+        Constant::Negative { value, .. } => Ok((INTEGER, -i32::from(*value))),
+        Constant::Character { ordinal, .. } => Ok((CHAR, i32::from(*ordinal))),
+        Constant::Named(x) => {
+            let entity = resolve(env, told, x)?;
+            constant_of_entity(told, x, entity)
+        }
+    }
+}

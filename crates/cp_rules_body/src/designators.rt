@@ -1,0 +1,216 @@
+//! The rules about the names of a designator, whatever else is broken in it.
+
+ghost use Rattle.std.specs.Prelude.{◌≡◌, ◌++◌, [], ◌∷◌, map, true, Option, None, Some};
+ghost use Rattle.cp_model.specs.RulesEnvironment as r;
+ghost use Rattle.cp_model.specs.RulesNames as n;
+ghost use Rattle.cp_model.specs.View.{designator, index, indices_of, selector, selectors_of};
+ghost use Rattle.cp_rules_body.specs.Tells.{TellsOf};
+
+use crate::callees::has_entry;
+use crate::environment::Environment;
+use crate::members::member_of_type;
+use crate::names::{find_entity, queue_in_place, sort_rule};
+use crate::places::{first_name, last_name};
+use crate::telling::{Told, unless_holds};
+use cp_model::rules::{Entity, Member, Mode, NamedPart, Rule, Structure};
+use cp_model::tree::{Designator, Identifier, Index, Selector};
+
+// The rule that is broken if the first name is of another sort: C2, or C10 where that rule applies.
+fn first_rule(mode: Mode) -> Rule
+    ensures { result ≡ n.first_rule mode }
+{
+    match mode {
+        Mode::Variable => Rule::C10,
+        Mode::FirstOperand => Rule::C10,
+        _ => Rule::C2,
+    }
+}
+
+fn is_type(env: &Environment, x: &Identifier) -> bool
+    ensures { result ≡ n.is_type (r.c1_named env.now x.now) }
+{
+    match find_entity(env, x) {
+        Some(Entity::Type(_)) => true,
+        Some(Entity::UnfinishedType) => true,
+        _ => false,
+    }
+}
+
+fn is_indexed_first(selectors: &[Selector]) -> bool
+    ensures { result ≡ n.is_indexed_first (selectors_of (map selector selectors.now)) }
+{
+    match selectors {
+        [Selector::Indexed(_), ..] => true,
+        _ => false,
+    }
+}
+
+// C2 or C10: the name of a type comes before `[`.
+fn no_indexed_type(env: &Environment, told: &mut Told, mode: Mode, d: &Designator) -> bool
+    ensures { TellsOf told.old told.new result (n.c2_before_index env.now mode (designator d.now)) }
+{
+    let wrong = is_indexed_first(&d.selectors) && is_type(env, &d.root);
+    unless_holds(told, !wrong, first_rule(mode), d.root.at)
+}
+
+// The member named `y` of what `x` stands for, if there is one.
+fn find_member(env: &Environment, x: &Identifier, y: &Identifier) -> Option<Member>
+    ensures { result ≡ n.member_selected env.now y.now.name (r.c1_named env.now x.now) }
+{
+    match find_entity(env, x) {
+        Some(Entity::Variable(t, _)) => member_of_type(env, t, y),
+        _ => None,
+    }
+}
+
+// C5: a routine after a component's `.` lacks `entry`.
+fn member_has_entry(env: &Environment, told: &mut Told, x: &Identifier, y: &Identifier) -> bool
+    ensures { TellsOf told.old told.new result
+        (n.c5_member env.now y.now
+        (n.member_selected env.now y.now.name (r.c1_named env.now x.now))) }
+{
+    match find_member(env, x, y) {
+        Some(Member::Routine(number)) => has_entry(told, y, env.routine(number)),
+        _ => true,
+    }
+}
+
+// C5: a routine after the first name lacks `entry`.
+fn selected_has_entry(
+    env: &Environment,
+    told: &mut Told,
+    x: &Identifier,
+    selectors: &[Selector],
+) -> bool
+    ensures { TellsOf told.old told.new result
+        (n.c5_selected env.now x.now (selectors_of (map selector selectors.now))) }
+{
+    match selectors {
+        [Selector::Field { name, .. }, ..] => member_has_entry(env, told, x, name),
+        _ => true,
+    }
+}
+
+// C5: in a designator, a routine after a component's `.` lacks `entry`.
+fn entry_after_point(env: &Environment, told: &mut Told, d: &Designator) -> bool
+    ensures { TellsOf told.old told.new result (n.c5_after_point env.now (designator d.now)) }
+{
+    selected_has_entry(env, told, &d.root, &d.selectors)
+}
+
+// Whether the first name of a designator is that of a variable which may be named here, and indices
+// come right after it: then nothing is broken in its names, as one look-up tells.
+fn indexes_variable(env: &Environment, mode: Mode, d: &Designator) -> bool
+    ensures { result ≡ true → n.c2_c5_c8_named env.now mode (designator d.now) ≡ [] }
+{
+    if !is_indexed_first(&d.selectors) {
+        return false;
+    }
+    match find_entity(env, &d.root) {
+        Some(Entity::Variable(t, _)) => !env.has_queues(t),
+        _ => false,
+    }
+}
+
+/// C2 or C10, C5 and C8 for the names of a designator: a type before `[`, a routine without
+/// `entry`, a variable with queues in the wrong place.
+pub fn names_fit(env: &Environment, told: &mut Told, mode: Mode, d: &Designator) -> bool
+    ensures { TellsOf told.old told.new result (n.c2_c5_c8_named env.now mode (designator d.now)) }
+{
+    if indexes_variable(env, mode, d) {
+        return true;
+    }
+    let no_type = no_indexed_type(env, told, mode, d);
+    let entry = entry_after_point(env, told, d);
+    let no_queue = queue_in_place(env, told, mode, first_name(d));
+    no_type && (entry && no_queue)
+}
+
+// ---- what isn't a routine although one is wanted
+
+fn first_part(env: &Environment, x: &Identifier) -> NamedPart
+    ensures { result ≡ n.first_part (r.c1_named env.now x.now) }
+{
+    let (is_value, of) = match find_entity(env, x) {
+        Some(Entity::Constant(_, _)) => (true, None),
+        Some(Entity::Variable(t, _)) => (true, Some(t)),
+        _ => (false, None),
+    };
+    NamedPart {
+        is_value,
+        is_indexed: false,
+        of,
+    }
+}
+
+fn field_type(env: &Environment, x: &Identifier, of: Option<usize>) -> Option<usize>
+    ensures { result ≡ n.field_type env.now x.now.name of }
+{
+    match member_of_type(env, of?, x) {
+        Some(Member::Field(t)) => Some(t),
+        _ => None,
+    }
+}
+
+fn element_type(env: &Environment, of: Option<usize>) -> Option<usize>
+    ensures { result ≡ n.element_type env.now of }
+{
+    match env.structure(of?) {
+        Structure::Array(_, element) => Some(element),
+        _ => None,
+    }
+}
+
+fn indexed_type(env: &Environment, of: Option<usize>, indices: &[Index]) -> Option<usize>
+    ensures { result ≡ n.indexed_type env.now of (indices_of (map index indices.now)) }
+{
+    let mut of = of;
+    for _ in indices {
+        of = element_type(env, of);
+    }
+    of
+}
+
+fn next_part(env: &Environment, part: NamedPart, s: &Selector) -> NamedPart
+    ensures { result ≡ n.next_part env.now part (selector s.now) }
+{
+    match s {
+        Selector::Field { name, .. } => {
+            let of = field_type(env, name, part.of);
+            NamedPart {
+                is_value: of.is_some(),
+                is_indexed: false,
+                of,
+            }
+        }
+        Selector::Indexed(indices) => NamedPart {
+            is_value: part.is_value,
+            is_indexed: true,
+            of: indexed_type(env, part.of, indices),
+        },
+    }
+}
+
+// The last name of a designator and the indices after it.
+fn last_part(env: &Environment, d: &Designator) -> NamedPart
+    ensures { result ≡ n.last_part_of env.now (designator d.now) }
+{
+    let mut part = first_part(env, &d.root);
+    for s in &d.selectors {
+        part = next_part(env, part, s);
+    }
+    part
+}
+
+/// C2 or C10: a routine is wanted, but an indexed variable, field, constant or component is named.
+pub fn no_indexed_value(env: &Environment, told: &mut Told, mode: Mode, d: &Designator) -> bool
+    ensures { TellsOf told.old told.new result (n.c2_indexed env.now mode (designator d.now)) }
+{
+    let part = last_part(env, d);
+    unless_holds(
+        told,
+        !(part.is_indexed && part.is_value),
+        sort_rule(mode, d),
+        last_name(d).at,
+    )
+}

@@ -1,0 +1,69 @@
+//! What the names of a designator stand for, whatever its indices are.
+//!
+//! If nothing is broken in a designator, it stands for the same (`proofs/Covers.antt`). So code
+//! that only needs to know whether that is a routine needn't judge the indices.
+
+ghost use Rattle.std.specs.Prelude.{◌≡◌, map, Option, None, Some};
+ghost use Rattle.cp_model.specs.View.{designator, index, indices_of, selector, selectors_of};
+ghost use Rattle.cp_rules_body.specs.EntitiesNamed as spec;
+
+use crate::environment::Environment;
+use crate::members::member;
+use crate::names::{array, find_entity};
+use crate::telling::Told;
+use cp_model::rules::Entity;
+use cp_model::tree::{Designator, Index, Selector};
+
+/// Whether an entity is a routine that can be called.
+pub fn is_routine(entity: Option<Entity>) -> bool
+    ensures { result ≡ spec.is_routine entity }
+{
+    match entity {
+        Some(Entity::Routine(_)) => true,
+        Some(Entity::Entry(_)) => true,
+        _ => false,
+    }
+}
+
+// An element of what is indexed, whatever the index is.
+fn element(env: &Environment, at: usize, entity: Option<Entity>) -> Option<Entity>
+    ensures { result ≡ spec.element env.now at entity }
+{
+    let mut told = Told::earliest();
+    let part = array(env, &mut told, at, entity?)?;
+    Some(Entity::Variable(part.element, part.access))
+}
+
+fn elements(env: &Environment, entity: Option<Entity>, indices: &[Index]) -> Option<Entity>
+    ensures { result ≡ spec.elements env.now entity (indices_of (map index indices.now)) }
+{
+    let mut entity = entity;
+    for i in indices {
+        entity = element(env, i.at, entity);
+    }
+    entity
+}
+
+// What a selector selects of what the names before it stand for.
+fn part(env: &Environment, entity: Option<Entity>, s: &Selector) -> Option<Entity>
+    ensures { result ≡ spec.part env.now entity (selector s.now) }
+{
+    match s {
+        Selector::Field { at, name } => {
+            let mut told = Told::earliest();
+            member(env, &mut told, *at, name, entity?)
+        }
+        Selector::Indexed(indices) => elements(env, entity, indices),
+    }
+}
+
+/// What the names of a designator stand for, if that is known.
+pub fn find_designated_entity(env: &Environment, d: &Designator) -> Option<Entity>
+    ensures { result ≡ spec.designated_entity env.now (designator d.now) }
+{
+    let mut entity = find_entity(env, &d.root);
+    for s in &d.selectors {
+        entity = part(env, entity, s);
+    }
+    entity
+}

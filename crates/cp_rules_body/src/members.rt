@@ -1,0 +1,49 @@
+//! Fields of records and routines of components: the names after a `.`.
+
+ghost use Rattle.std.specs.Prelude.{◌≡◌, ◌∷◌, [], map, Option, None, Some, get_or};
+ghost use Rattle.cp_model.specs.RulesEnvironment as r;
+ghost use Rattle.cp_model.specs.Names.{lookup};
+ghost use Rattle.cp_model.specs.RulesNames as n;
+ghost use Rattle.cp_rules_body.specs.Tells.{Tells, TellsOf};
+
+use crate::environment::Environment;
+use crate::names::entity_of_member;
+use crate::telling::{Told, tell_violation};
+use cp_model::rules::{Entity, Member, Rule, Structure};
+use cp_model::tree::Identifier;
+
+/// What a name after a `.` stands for. C2: the `.` comes after something that is neither a record
+/// nor a component.
+pub fn member(
+    env: &Environment,
+    told: &mut Told,
+    at: usize,
+    x: &Identifier,
+    entity: Entity,
+) -> Option<Entity>
+    ensures { Tells told.old told.new result (n.member_of env.now at x.now entity) }
+{
+    let Entity::Variable(t, access) = entity else {
+        return tell_violation(told, Rule::C2, at);
+    };
+    match env.structure(t) {
+        Structure::Record(k) => entity_of_member(told, x, access, env.member(k, x)),
+        Structure::System(y) => {
+            let k = env.system_row(y).members;
+            entity_of_member(told, x, access, env.member(k, x))
+        }
+        _ => tell_violation(told, Rule::C2, at),
+    }
+}
+
+/// The member of a type with this name, if it has one.
+pub fn member_of_type(env: &Environment, t: usize, x: &Identifier) -> Option<Member>
+    ensures { result ≡ n.member_in x.now.name
+        (r.members_in env.now (r.row_of env.now t).structure) }
+{
+    match env.structure(t) {
+        Structure::Record(k) => env.member(k, x),
+        Structure::System(y) => env.member(env.system_row(y).members, x),
+        _ => None,
+    }
+}

@@ -1,0 +1,227 @@
+//! The rules about a name: whether it is visible, and of which sort it is.
+
+ghost use Rattle.std.specs.Prelude.{◌≡◌, ◌++◌, [], ◌∷◌, map, length, Option, None, Some};
+ghost use Rattle.cp_model.specs.RulesEnvironment as r;
+ghost use Rattle.cp_model.specs.RulesNames as n;
+ghost use Rattle.cp_model.specs.RulesJudged.{meaning_of, unless};
+ghost use Rattle.cp_model.specs.View.{designator, selector, selectors_of};
+ghost use Rattle.cp_rules_body.specs.Tells.{Tells, TellsFirst, TellsOf};
+
+use crate::environment::Environment;
+use crate::places::{first_name, has_field, last_name};
+use crate::telling::{Told, fail_with_violation, tell, tell_violation, unless_holds};
+use cp_model::rules::{
+    Access, ArrayPart, Entity, Member, Mode, Part, Region, Rule, Standard, Structure, Violation,
+};
+use cp_model::tree::{Designator, Identifier, Selector, Sort};
+
+/// What a name stands for, or the violation. C1: it isn't visible. A violation in its declaration
+/// is reported again.
+pub fn resolve(env: &Environment, told: &mut Told, x: &Identifier) -> Result<Entity, Violation>
+    ensures { TellsFirst told.old told.new result (r.c1_named env.now x.now) }
+{
+    match env.find(x.name.as_bytes()) {
+        None => fail_with_violation(told, Rule::C1, x.at),
+        Some(Entity::Hidden) => fail_with_violation(told, Rule::C1, x.at),
+        Some(Entity::Broken(violation)) => {
+            tell(told, violation);
+            Err(violation)
+        }
+        Some(entity) => Ok(entity),
+    }
+}
+
+/// What a name stands for, or `None` if something is broken in it, which is reported.
+pub fn judge_name(env: &Environment, told: &mut Told, x: &Identifier) -> Option<Entity>
+    ensures { Tells told.old told.new result (r.c1_named env.now x.now) }
+{
+    resolve(env, told, x).ok()
+}
+
+/// What a name stands for, if that is known. This reports nothing.
+pub fn find_entity(env: &Environment, x: &Identifier) -> Option<Entity>
+    ensures { result ≡ meaning_of (r.c1_named env.now x.now) }
+{
+    match env.find(x.name.as_bytes()) {
+        None => None,
+        Some(Entity::Hidden) => None,
+        Some(Entity::Broken(_)) => None,
+        Some(entity) => Some(entity),
+    }
+}
+
+/// C4: a constant, type or routine is named inside its own definition.
+pub fn outside_definition(told: &mut Told, x: &Identifier, entity: Entity) -> bool
+    ensures { TellsOf told.old told.new result (r.c4_unfinished x.now entity) }
+{
+    let finished = match entity {
+        Entity::UnfinishedConstant => false,
+        Entity::UnfinishedType => false,
+        Entity::UnfinishedRoutine(_) => false,
+        _ => true,
+    };
+    unless_holds(told, finished, Rule::C4, x.at)
+}
+
+fn is_monitor(sort: Sort) -> bool
+    ensures { result ≡ r.is_monitor sort }
+{
+    match sort {
+        Sort::Monitor => true,
+        _ => false,
+    }
+}
+
+fn is_process(sort: Sort) -> bool
+    ensures { result ≡ r.is_process sort }
+{
+    match sort {
+        Sort::Process => true,
+        _ => false,
+    }
+}
+
+/// Whether the part is a routine.
+pub fn is_in_routine(part: Part) -> bool
+    ensures { result ≡ r.is_in_routine part }
+{
+    match part {
+        Part::Body => false,
+        _ => true,
+    }
+}
+
+fn is_in_entry(part: Part) -> bool
+    ensures { result ≡ r.is_in_entry part }
+{
+    match part {
+        Part::EntryRoutine => true,
+        _ => false,
+    }
+}
+
+fn is_allowed(region: Region, standard: Standard) -> bool
+    ensures { result ≡ r.is_allowed region standard }
+{
+    match standard {
+        Standard::Delay => is_monitor(region.sort) && is_in_routine(region.part),
+        Standard::Empty => is_monitor(region.sort) && is_in_routine(region.part),
+        Standard::Continue => is_monitor(region.sort) && is_in_entry(region.part),
+        Standard::Wait => is_process(region.sort),
+        _ => true,
+    }
+}
+
+/// C9: a standard name is used in the wrong place.
+pub fn in_place(env: &Environment, told: &mut Told, x: &Identifier, entity: Entity) -> bool
+    ensures { TellsOf told.old told.new result (r.c9_standard env.now x.now entity) }
+{
+    match entity {
+        Entity::Standard(standard) => {
+            unless_holds(told, is_allowed(env.region(), standard), Rule::C9, x.at)
+        }
+        _ => true,
+    }
+}
+
+/// C4 and C9: the rules that apply to a name everywhere.
+pub fn anywhere(env: &Environment, told: &mut Told, x: &Identifier, entity: Entity) -> bool
+    ensures { TellsOf told.old told.new result (r.c4_c9_named env.now x.now entity) }
+{
+    let finished = outside_definition(told, x, entity);
+    let in_place = in_place(env, told, x, entity);
+    finished && in_place
+}
+
+/// What a member of a record or a component stands for. C1: there is no member with this name.
+pub fn entity_of_member(
+    told: &mut Told,
+    x: &Identifier,
+    access: Access,
+    member: Option<Member>,
+) -> Option<Entity>
+    ensures { (env : r.Environment)
+        → Tells told.old told.new result (n.member_named env x.now access member) }
+{
+    match member {
+        None => tell_violation(told, Rule::C1, x.at),
+        Some(Member::Field(t)) => Some(Entity::Variable(t, access)),
+        Some(Member::Routine(routine)) => Some(Entity::Entry(routine)),
+    }
+}
+
+/// C2: a `[` comes after something that isn't an array.
+pub fn array(env: &Environment, told: &mut Told, at: usize, entity: Entity) -> Option<ArrayPart>
+    ensures { Tells told.old told.new result (n.c2_array env.now at entity) }
+{
+    if let Entity::Variable(t, access) = entity {
+        if let Structure::Array(index, element) = env.structure(t) {
+            return Some(ArrayPart {
+                index,
+                element,
+                access,
+            });
+        }
+    }
+    tell_violation(told, Rule::C2, at)
+}
+
+/// C2: an index doesn't agree with the array's index type. The element is a part of the same
+/// variable.
+pub fn element(
+    env: &Environment,
+    told: &mut Told,
+    at: usize,
+    part: ArrayPart,
+    t: usize,
+) -> Option<Entity>
+    ensures { Tells told.old told.new result (n.c2_index env.now at part t) }
+{
+    if env.agree(part.index, t) {
+        return Some(Entity::Variable(part.element, part.access));
+    }
+    tell_violation(told, Rule::C2, at)
+}
+
+fn is_queue_variable(env: &Environment, x: &Identifier) -> bool
+    ensures { result ≡ n.has_queues env.now (r.c1_named env.now x.now) }
+{
+    match find_entity(env, x) {
+        Some(Entity::Variable(t, _)) => env.has_queues(t),
+        _ => false,
+    }
+}
+
+/// C8: a variable with queues is named other than as the argument of `delay`, `continue` or
+/// `empty`.
+pub fn queue_in_place(env: &Environment, told: &mut Told, mode: Mode, x: &Identifier) -> bool
+    ensures { TellsOf told.old told.new result (n.c8_named env.now mode x.now) }
+{
+    match mode {
+        Mode::Queue => true,
+        _ => unless_holds(told, !is_queue_variable(env, x), Rule::C8, x.at),
+    }
+}
+
+// The rule that is broken if the last name is of another sort, where C10 applies to the first one.
+fn sort_rule_of_variable(selectors: &[Selector]) -> Rule
+    ensures { result ≡ n.sort_rule_of_variable (selectors_of (map selector selectors.now)) }
+{
+    if has_field(selectors) {
+        Rule::C2
+    } else {
+        Rule::C10
+    }
+}
+
+/// The rule that is broken if a name is of another sort than is wanted: C2, or C10 where that rule
+/// applies.
+pub fn sort_rule(mode: Mode, d: &Designator) -> Rule
+    ensures { result ≡ n.sort_rule mode (designator d.now) }
+{
+    match mode {
+        Mode::Variable => sort_rule_of_variable(&d.selectors),
+        Mode::FirstOperand => sort_rule_of_variable(&d.selectors),
+        _ => Rule::C2,
+    }
+}

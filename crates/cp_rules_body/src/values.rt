@@ -1,0 +1,195 @@
+//! The uses of a designator: as a value, or where a variable is wanted.
+
+ghost use Rattle.std.specs.Prelude.{◌≡◌, ◌++◌, [], ◌∷◌, IfSome, map, Option, None, Some};
+ghost use Rattle.cp_model.specs.RulesEnvironment as r;
+ghost use Rattle.cp_model.specs.RulesNames as n;
+ghost use Rattle.cp_model.specs.View.{designator, expression, selector, selectors_of};
+ghost use Rattle.cp_model.specs.RulesJudged.{Sound};
+ghost use Rattle.cp_rules_body.specs.ExpressionParts.{judge_use};
+ghost use Rattle.cp_rules_body.specs.Tells.{Tells, TellsOf};
+ghost use Rattle.cp_rules_body.specs.Designated.{designator_if, designator_in, is_plain};
+
+use crate::bases::INTEGER;
+use crate::callees::function;
+use crate::environment::Environment;
+use crate::names::{anywhere, find_entity, outside_definition, sort_rule};
+use crate::places::{first_name, first_token, last_name};
+use crate::telling::{Told, tell_violation, unless_holds};
+use cp_model::rules::{Access, Entity, Gives, Mode, Rule};
+use cp_model::tree::{Designator, Expression, Identifier, Selector};
+
+/// The type of what a call gives, if its first argument is of the type `argument`.
+pub fn result_type(env: &Environment, argument: usize, gives: Gives) -> usize
+    ensures { result ≡ n.given_type env.now argument gives }
+{
+    match gives {
+        Gives::Value(t) => t,
+        Gives::ArgumentBase => env.base(argument).unwrap_or(argument),
+        Gives::Nothing => argument,
+    }
+}
+
+// Judges a routine without arguments as a call of a function. C10: a variable is wanted.
+fn function_alone(
+    env: &Environment,
+    told: &mut Told,
+    mode: Mode,
+    d: &Designator,
+    entity: Entity,
+) -> Option<Gives>
+    ensures { Tells told.old told.new result
+        (n.function_alone env.now mode (designator d.now) entity) }
+{
+    match mode {
+        Mode::Variable => {
+            anywhere(env, told, first_name(d), entity);
+            tell_violation(told, Rule::C10, first_name(d).at)
+        }
+        _ => {
+            let callee = function(env, told, mode, d, 0, entity)?;
+            Some(callee.gives)
+        }
+    }
+}
+
+fn is_no_component(env: &Environment, mode: Mode, t: usize) -> bool
+    ensures { result ≡ n.is_used_as_component mode env.now t }
+{
+    match mode {
+        Mode::Variable => true,
+        _ => !env.is_component(t),
+    }
+}
+
+/// The type of a designator that is used as a value. C2 or C10: its name is of another sort, or a
+/// component is used as a value.
+pub fn value(
+    env: &Environment,
+    told: &mut Told,
+    mode: Mode,
+    d: &Designator,
+    entity: Entity,
+) -> Option<usize>
+    ensures { Tells told.old told.new result (n.value_of env.now mode (designator d.now) entity) }
+{
+    match entity {
+        Entity::Constant(base, _) => Some(base),
+        Entity::Variable(t, _) => {
+            if is_no_component(env, mode, t) {
+                return Some(t);
+            }
+            tell_violation(told, sort_rule(mode, d), last_name(d).at)
+        }
+        Entity::Type(_) => tell_violation(told, sort_rule(mode, d), last_name(d).at),
+        Entity::UnfinishedConstant => {
+            outside_definition(told, last_name(d), entity);
+            tell_violation(told, sort_rule(mode, d), last_name(d).at)
+        }
+        Entity::UnfinishedType => {
+            outside_definition(told, last_name(d), entity);
+            tell_violation(told, sort_rule(mode, d), last_name(d).at)
+        }
+        _ => {
+            let gives = function_alone(env, told, mode, d, entity)?;
+            Some(result_type(env, INTEGER, gives))
+        }
+    }
+}
+
+/// Whether a variable with this access may be changed.
+pub fn is_changeable(access: Access) -> bool
+    ensures { result ≡ n.is_changeable access }
+{
+    match access {
+        Access::Passive => false,
+        _ => true,
+    }
+}
+
+fn selects_field_first(selectors: &[Selector]) -> bool
+    ensures { result ≡ n.selects_field_first (selectors_of (map selector selectors.now)) }
+{
+    match selectors {
+        [Selector::Field { .. }, ..] => true,
+        _ => false,
+    }
+}
+
+/// Whether a name with these selectors is a variable or a part of one. An unknown name passes,
+/// since it is reported elsewhere.
+pub fn is_variable(env: &Environment, x: &Identifier, selectors: &[Selector]) -> bool
+    ensures { result ≡ n.is_variable env.now (selectors_of (map selector selectors.now))
+        (r.c1_named env.now x.now) }
+{
+    match find_entity(env, x) {
+        Some(Entity::Variable(t, access)) => {
+            is_changeable(access) && !(env.is_component(t) && selects_field_first(selectors))
+        }
+        Some(_) => false,
+        None => true,
+    }
+}
+
+/// C10: a designator isn't a variable, a `var` parameter or a part of one.
+pub fn designates_variable(env: &Environment, told: &mut Told, d: &Designator) -> bool
+    ensures { TellsOf told.old told.new result (n.c10_designator env.now (designator d.now)) }
+{
+    unless_holds(
+        told,
+        is_variable(env, &d.root, &d.selectors),
+        Rule::C10,
+        d.root.at,
+    )
+}
+
+/// Whether a variable of the type may stand for itself alone where it is used: it has no queues,
+/// and isn't a component that is used as a value.
+pub fn is_plain(env: &Environment, mode: Mode, t: usize) -> bool
+    ensures { result ≡ is_plain env.now mode t }
+{
+    !env.has_queues(t) && is_no_component(env, mode, t)
+}
+
+/// The type of a designator that is the name of a variable, if nothing is broken in its use. So the
+/// commonest designators are looked up once, and the rules about others are judged one by one.
+pub fn plain_variable(env: &Environment, mode: Mode, d: &Designator) -> Option<usize>
+    ensures { IfSome result (λ t. judge_use env.now mode (designator d.now) ≡ Sound t) }
+{
+    if !d.selectors.is_empty() {
+        return None;
+    }
+    match find_entity(env, &d.root) {
+        Some(Entity::Variable(t, _)) => {
+            if is_plain(env, mode, t) {
+                Some(t)
+            } else {
+                None
+            }
+        }
+        _ => None,
+    }
+}
+
+/// The designator, if the expression is one. A chain of one operand counts as that operand.
+pub fn designator_of(e: &Expression) -> Option<&Designator>
+    ensures { designator_if result ≡ designator_in (expression e.now) }
+{
+    match e {
+        Expression::Designated(d) => Some(d),
+        Expression::Chain { first, rest } => match rest.as_slice() {
+            [] => designator_of(first),
+            _ => None,
+        },
+        _ => None,
+    }
+}
+
+/// C10: an expression that must be a variable isn't one.
+pub fn variable(env: &Environment, told: &mut Told, e: &Expression) -> bool
+    ensures { TellsOf told.old told.new result (n.c10_variable env.now (expression e.now)) }
+{
+    match designator_of(e) {
+        Some(d) => designates_variable(env, told, d),
+        None => unless_holds(told, false, Rule::C10, first_token(e)),
+    }
+}

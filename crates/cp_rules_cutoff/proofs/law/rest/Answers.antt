@@ -1,0 +1,5 @@
+use Rattle.cp_rules_cutoff.proofs.NothingEarlier.{rest_told}
+use Rattle.cp_rules_cutoff.proofs.law.rest.Goals as goal
+
+pub returns : goal.returns
+returns c = rest_told

@@ -1,6 +1,0 @@
-use Rattle.cp_scope.specs.Systems.{routines_of}
-use Rattle.cp_scope.proofs.RoutinesNumbered.{none_named}
-use Rattle.cp_scope.proofs.layout.Layouts.routine_names.Goals as goal
-
-pub loop-i-init : goal.loop-i-init
-loop-i-init c = none_named (routines_of c.args.texts.now) c.new-names.result c.new-names.ensures

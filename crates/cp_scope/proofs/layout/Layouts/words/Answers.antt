@@ -1,6 +1,0 @@
-use Rattle.std.proofs.Common.{sym}
-use Rattle.cp_scope.proofs.Standing.{grows_not}
-use Rattle.cp_scope.proofs.layout.Layouts.words.Goals as goal
-
-pub returns : goal.returns
-returns c = λ g types t laid stands. (laid types (grows_not types) c.args.number c.in_ok-layout.field-0.now t (sym c.in_ok-layout.ensures) stands).words

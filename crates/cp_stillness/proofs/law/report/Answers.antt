@@ -1,5 +1,0 @@
-use Rattle.cp_stillness.proofs.Reports.{report_of_count}
-use Rattle.cp_stillness.proofs.law.report.Goals as goal
-
-pub returns : goal.returns
-returns c = report_of_count

@@ -1,0 +1,120 @@
+-- The answers of examples, computed. Written by worked/make_rows.py.
+use Rattle.std.proofs.Common.{refl}
+use Rattle.cp_test_definitions.specs.Examples.{buffer_1, buffer_2, buffer_3, division_1, fibonacci_1, nested_1, nested_mended_1, nested_mended_2, philosophers_1, philosophers_2, philosophers_3, readers_1, readers_2, readers_3, readers_4, scheduler_1, scheduler_2, scheduler_3, seven_1, sieve_1, sieve_2, sieve_3, squarers_1, squares_1, writers_1, writers_2, writers_3}
+use Rattle.cp_scan.specs.Pieces.{word, number, comment, coded_character, character, longer_mark, mark, piece, pieces}
+use Rattle.cp_model_grammar.specs.Declarations.{constant_definition_of, parameter_group_of, some_parameters_of, parameters_of, result_type_of, heading_from, heading_of, variable_group_of, some_variables_of, variables_of, body_of, routine_of, routines_of, system_from, system_type, enumeration_of, written_type, defined_by, defined_of, type_definition_of, section_by, section_of}
+use Rattle.cp_model_grammar.specs.Expressions.{operation_of, chain_from, term_of, signed_term, simple_of, expression_of, expressions_from, index_of, indices_from, field_of, indexed_of, selector_by, selector_of, designator_of, arguments_of, optional_arguments_of, call_or_part, named_of, parenthesized_of, not_of, factor_by, factor_of, inner_at}
+use Rattle.cp_model_grammar.specs.Kinds.{is_symbol}
+use Rattle.cp_model_grammar.specs.Names.{identifier_of, names_of, constant_of, constants_of}
+use Rattle.cp_model_grammar.specs.Reading.{expect, optional_symbol, repeat}
+use Rattle.cp_model_grammar.specs.Statements.{direction_of, statements_from, arm_of, else_part, block_of, compound_of, if_of, case_of, while_of, repeat_of, for_of, cycle_of, assign_or_perform, designated_of, init_item_of, init_of, statement_by, statement_of, deeper_at}
+use Rattle.cp_model_grammar.specs.Text.{tree_of, text_of}
+use Rattle.cp_model_grammar.specs.Types.{subrange_from, named_or_subrange, group_of, array_of, record_of, type_by, type_of, inner_type_at}
+
+pub buffer_1-holds : buffer_1
+unfolding word number comment coded_character character longer_mark mark piece pieces constant_definition_of parameter_group_of some_parameters_of parameters_of result_type_of heading_from heading_of variable_group_of some_variables_of variables_of body_of routine_of routines_of system_from system_type enumeration_of written_type defined_by defined_of type_definition_of section_by section_of operation_of chain_from term_of signed_term simple_of expression_of expressions_from index_of indices_from field_of indexed_of selector_by selector_of designator_of arguments_of optional_arguments_of call_or_part named_of parenthesized_of not_of factor_by factor_of inner_at is_symbol identifier_of names_of constant_of constants_of expect optional_symbol repeat direction_of statements_from arm_of else_part block_of compound_of if_of case_of while_of repeat_of for_of cycle_of assign_or_perform designated_of init_item_of init_of statement_by statement_of deeper_at tree_of text_of subrange_from named_or_subrange group_of array_of record_of type_by type_of inner_type_at
+buffer_1-holds = refl
+
+pub buffer_2-holds : buffer_2
+unfolding word number comment coded_character character longer_mark mark piece pieces constant_definition_of parameter_group_of some_parameters_of parameters_of result_type_of heading_from heading_of variable_group_of some_variables_of variables_of body_of routine_of routines_of system_from system_type enumeration_of written_type defined_by defined_of type_definition_of section_by section_of operation_of chain_from term_of signed_term simple_of expression_of expressions_from index_of indices_from field_of indexed_of selector_by selector_of designator_of arguments_of optional_arguments_of call_or_part named_of parenthesized_of not_of factor_by factor_of inner_at is_symbol identifier_of names_of constant_of constants_of expect optional_symbol repeat direction_of statements_from arm_of else_part block_of compound_of if_of case_of while_of repeat_of for_of cycle_of assign_or_perform designated_of init_item_of init_of statement_by statement_of deeper_at tree_of text_of subrange_from named_or_subrange group_of array_of record_of type_by type_of inner_type_at
+buffer_2-holds = refl
+
+pub buffer_3-holds : buffer_3
+unfolding word number comment coded_character character longer_mark mark piece pieces constant_definition_of parameter_group_of some_parameters_of parameters_of result_type_of heading_from heading_of variable_group_of some_variables_of variables_of body_of routine_of routines_of system_from system_type enumeration_of written_type defined_by defined_of type_definition_of section_by section_of operation_of chain_from term_of signed_term simple_of expression_of expressions_from index_of indices_from field_of indexed_of selector_by selector_of designator_of arguments_of optional_arguments_of call_or_part named_of parenthesized_of not_of factor_by factor_of inner_at is_symbol identifier_of names_of constant_of constants_of expect optional_symbol repeat direction_of statements_from arm_of else_part block_of compound_of if_of case_of while_of repeat_of for_of cycle_of assign_or_perform designated_of init_item_of init_of statement_by statement_of deeper_at tree_of text_of subrange_from named_or_subrange group_of array_of record_of type_by type_of inner_type_at
+buffer_3-holds = refl
+
+pub division_1-holds : division_1
+unfolding word number comment coded_character character longer_mark mark piece pieces constant_definition_of parameter_group_of some_parameters_of parameters_of result_type_of heading_from heading_of variable_group_of some_variables_of variables_of body_of routine_of routines_of system_from system_type enumeration_of written_type defined_by defined_of type_definition_of section_by section_of operation_of chain_from term_of signed_term simple_of expression_of expressions_from index_of indices_from field_of indexed_of selector_by selector_of designator_of arguments_of optional_arguments_of call_or_part named_of parenthesized_of not_of factor_by factor_of inner_at is_symbol identifier_of names_of constant_of constants_of expect optional_symbol repeat direction_of statements_from arm_of else_part block_of compound_of if_of case_of while_of repeat_of for_of cycle_of assign_or_perform designated_of init_item_of init_of statement_by statement_of deeper_at tree_of text_of subrange_from named_or_subrange group_of array_of record_of type_by type_of inner_type_at
+division_1-holds = refl
+
+pub fibonacci_1-holds : fibonacci_1
+unfolding word number comment coded_character character longer_mark mark piece pieces constant_definition_of parameter_group_of some_parameters_of parameters_of result_type_of heading_from heading_of variable_group_of some_variables_of variables_of body_of routine_of routines_of system_from system_type enumeration_of written_type defined_by defined_of type_definition_of section_by section_of operation_of chain_from term_of signed_term simple_of expression_of expressions_from index_of indices_from field_of indexed_of selector_by selector_of designator_of arguments_of optional_arguments_of call_or_part named_of parenthesized_of not_of factor_by factor_of inner_at is_symbol identifier_of names_of constant_of constants_of expect optional_symbol repeat direction_of statements_from arm_of else_part block_of compound_of if_of case_of while_of repeat_of for_of cycle_of assign_or_perform designated_of init_item_of init_of statement_by statement_of deeper_at tree_of text_of subrange_from named_or_subrange group_of array_of record_of type_by type_of inner_type_at
+fibonacci_1-holds = refl
+
+pub nested_1-holds : nested_1
+unfolding word number comment coded_character character longer_mark mark piece pieces constant_definition_of parameter_group_of some_parameters_of parameters_of result_type_of heading_from heading_of variable_group_of some_variables_of variables_of body_of routine_of routines_of system_from system_type enumeration_of written_type defined_by defined_of type_definition_of section_by section_of operation_of chain_from term_of signed_term simple_of expression_of expressions_from index_of indices_from field_of indexed_of selector_by selector_of designator_of arguments_of optional_arguments_of call_or_part named_of parenthesized_of not_of factor_by factor_of inner_at is_symbol identifier_of names_of constant_of constants_of expect optional_symbol repeat direction_of statements_from arm_of else_part block_of compound_of if_of case_of while_of repeat_of for_of cycle_of assign_or_perform designated_of init_item_of init_of statement_by statement_of deeper_at tree_of text_of subrange_from named_or_subrange group_of array_of record_of type_by type_of inner_type_at
+nested_1-holds = refl
+
+pub nested_mended_1-holds : nested_mended_1
+unfolding word number comment coded_character character longer_mark mark piece pieces constant_definition_of parameter_group_of some_parameters_of parameters_of result_type_of heading_from heading_of variable_group_of some_variables_of variables_of body_of routine_of routines_of system_from system_type enumeration_of written_type defined_by defined_of type_definition_of section_by section_of operation_of chain_from term_of signed_term simple_of expression_of expressions_from index_of indices_from field_of indexed_of selector_by selector_of designator_of arguments_of optional_arguments_of call_or_part named_of parenthesized_of not_of factor_by factor_of inner_at is_symbol identifier_of names_of constant_of constants_of expect optional_symbol repeat direction_of statements_from arm_of else_part block_of compound_of if_of case_of while_of repeat_of for_of cycle_of assign_or_perform designated_of init_item_of init_of statement_by statement_of deeper_at tree_of text_of subrange_from named_or_subrange group_of array_of record_of type_by type_of inner_type_at
+nested_mended_1-holds = refl
+
+pub nested_mended_2-holds : nested_mended_2
+unfolding word number comment coded_character character longer_mark mark piece pieces constant_definition_of parameter_group_of some_parameters_of parameters_of result_type_of heading_from heading_of variable_group_of some_variables_of variables_of body_of routine_of routines_of system_from system_type enumeration_of written_type defined_by defined_of type_definition_of section_by section_of operation_of chain_from term_of signed_term simple_of expression_of expressions_from index_of indices_from field_of indexed_of selector_by selector_of designator_of arguments_of optional_arguments_of call_or_part named_of parenthesized_of not_of factor_by factor_of inner_at is_symbol identifier_of names_of constant_of constants_of expect optional_symbol repeat direction_of statements_from arm_of else_part block_of compound_of if_of case_of while_of repeat_of for_of cycle_of assign_or_perform designated_of init_item_of init_of statement_by statement_of deeper_at tree_of text_of subrange_from named_or_subrange group_of array_of record_of type_by type_of inner_type_at
+nested_mended_2-holds = refl
+
+pub philosophers_1-holds : philosophers_1
+unfolding word number comment coded_character character longer_mark mark piece pieces constant_definition_of parameter_group_of some_parameters_of parameters_of result_type_of heading_from heading_of variable_group_of some_variables_of variables_of body_of routine_of routines_of system_from system_type enumeration_of written_type defined_by defined_of type_definition_of section_by section_of operation_of chain_from term_of signed_term simple_of expression_of expressions_from index_of indices_from field_of indexed_of selector_by selector_of designator_of arguments_of optional_arguments_of call_or_part named_of parenthesized_of not_of factor_by factor_of inner_at is_symbol identifier_of names_of constant_of constants_of expect optional_symbol repeat direction_of statements_from arm_of else_part block_of compound_of if_of case_of while_of repeat_of for_of cycle_of assign_or_perform designated_of init_item_of init_of statement_by statement_of deeper_at tree_of text_of subrange_from named_or_subrange group_of array_of record_of type_by type_of inner_type_at
+philosophers_1-holds = refl
+
+pub philosophers_2-holds : philosophers_2
+unfolding word number comment coded_character character longer_mark mark piece pieces constant_definition_of parameter_group_of some_parameters_of parameters_of result_type_of heading_from heading_of variable_group_of some_variables_of variables_of body_of routine_of routines_of system_from system_type enumeration_of written_type defined_by defined_of type_definition_of section_by section_of operation_of chain_from term_of signed_term simple_of expression_of expressions_from index_of indices_from field_of indexed_of selector_by selector_of designator_of arguments_of optional_arguments_of call_or_part named_of parenthesized_of not_of factor_by factor_of inner_at is_symbol identifier_of names_of constant_of constants_of expect optional_symbol repeat direction_of statements_from arm_of else_part block_of compound_of if_of case_of while_of repeat_of for_of cycle_of assign_or_perform designated_of init_item_of init_of statement_by statement_of deeper_at tree_of text_of subrange_from named_or_subrange group_of array_of record_of type_by type_of inner_type_at
+philosophers_2-holds = refl
+
+pub philosophers_3-holds : philosophers_3
+unfolding word number comment coded_character character longer_mark mark piece pieces constant_definition_of parameter_group_of some_parameters_of parameters_of result_type_of heading_from heading_of variable_group_of some_variables_of variables_of body_of routine_of routines_of system_from system_type enumeration_of written_type defined_by defined_of type_definition_of section_by section_of operation_of chain_from term_of signed_term simple_of expression_of expressions_from index_of indices_from field_of indexed_of selector_by selector_of designator_of arguments_of optional_arguments_of call_or_part named_of parenthesized_of not_of factor_by factor_of inner_at is_symbol identifier_of names_of constant_of constants_of expect optional_symbol repeat direction_of statements_from arm_of else_part block_of compound_of if_of case_of while_of repeat_of for_of cycle_of assign_or_perform designated_of init_item_of init_of statement_by statement_of deeper_at tree_of text_of subrange_from named_or_subrange group_of array_of record_of type_by type_of inner_type_at
+philosophers_3-holds = refl
+
+pub readers_1-holds : readers_1
+unfolding word number comment coded_character character longer_mark mark piece pieces constant_definition_of parameter_group_of some_parameters_of parameters_of result_type_of heading_from heading_of variable_group_of some_variables_of variables_of body_of routine_of routines_of system_from system_type enumeration_of written_type defined_by defined_of type_definition_of section_by section_of operation_of chain_from term_of signed_term simple_of expression_of expressions_from index_of indices_from field_of indexed_of selector_by selector_of designator_of arguments_of optional_arguments_of call_or_part named_of parenthesized_of not_of factor_by factor_of inner_at is_symbol identifier_of names_of constant_of constants_of expect optional_symbol repeat direction_of statements_from arm_of else_part block_of compound_of if_of case_of while_of repeat_of for_of cycle_of assign_or_perform designated_of init_item_of init_of statement_by statement_of deeper_at tree_of text_of subrange_from named_or_subrange group_of array_of record_of type_by type_of inner_type_at
+readers_1-holds = refl
+
+pub readers_2-holds : readers_2
+unfolding word number comment coded_character character longer_mark mark piece pieces constant_definition_of parameter_group_of some_parameters_of parameters_of result_type_of heading_from heading_of variable_group_of some_variables_of variables_of body_of routine_of routines_of system_from system_type enumeration_of written_type defined_by defined_of type_definition_of section_by section_of operation_of chain_from term_of signed_term simple_of expression_of expressions_from index_of indices_from field_of indexed_of selector_by selector_of designator_of arguments_of optional_arguments_of call_or_part named_of parenthesized_of not_of factor_by factor_of inner_at is_symbol identifier_of names_of constant_of constants_of expect optional_symbol repeat direction_of statements_from arm_of else_part block_of compound_of if_of case_of while_of repeat_of for_of cycle_of assign_or_perform designated_of init_item_of init_of statement_by statement_of deeper_at tree_of text_of subrange_from named_or_subrange group_of array_of record_of type_by type_of inner_type_at
+readers_2-holds = refl
+
+pub readers_3-holds : readers_3
+unfolding word number comment coded_character character longer_mark mark piece pieces constant_definition_of parameter_group_of some_parameters_of parameters_of result_type_of heading_from heading_of variable_group_of some_variables_of variables_of body_of routine_of routines_of system_from system_type enumeration_of written_type defined_by defined_of type_definition_of section_by section_of operation_of chain_from term_of signed_term simple_of expression_of expressions_from index_of indices_from field_of indexed_of selector_by selector_of designator_of arguments_of optional_arguments_of call_or_part named_of parenthesized_of not_of factor_by factor_of inner_at is_symbol identifier_of names_of constant_of constants_of expect optional_symbol repeat direction_of statements_from arm_of else_part block_of compound_of if_of case_of while_of repeat_of for_of cycle_of assign_or_perform designated_of init_item_of init_of statement_by statement_of deeper_at tree_of text_of subrange_from named_or_subrange group_of array_of record_of type_by type_of inner_type_at
+readers_3-holds = refl
+
+pub readers_4-holds : readers_4
+unfolding word number comment coded_character character longer_mark mark piece pieces constant_definition_of parameter_group_of some_parameters_of parameters_of result_type_of heading_from heading_of variable_group_of some_variables_of variables_of body_of routine_of routines_of system_from system_type enumeration_of written_type defined_by defined_of type_definition_of section_by section_of operation_of chain_from term_of signed_term simple_of expression_of expressions_from index_of indices_from field_of indexed_of selector_by selector_of designator_of arguments_of optional_arguments_of call_or_part named_of parenthesized_of not_of factor_by factor_of inner_at is_symbol identifier_of names_of constant_of constants_of expect optional_symbol repeat direction_of statements_from arm_of else_part block_of compound_of if_of case_of while_of repeat_of for_of cycle_of assign_or_perform designated_of init_item_of init_of statement_by statement_of deeper_at tree_of text_of subrange_from named_or_subrange group_of array_of record_of type_by type_of inner_type_at
+readers_4-holds = refl
+
+pub scheduler_1-holds : scheduler_1
+unfolding word number comment coded_character character longer_mark mark piece pieces constant_definition_of parameter_group_of some_parameters_of parameters_of result_type_of heading_from heading_of variable_group_of some_variables_of variables_of body_of routine_of routines_of system_from system_type enumeration_of written_type defined_by defined_of type_definition_of section_by section_of operation_of chain_from term_of signed_term simple_of expression_of expressions_from index_of indices_from field_of indexed_of selector_by selector_of designator_of arguments_of optional_arguments_of call_or_part named_of parenthesized_of not_of factor_by factor_of inner_at is_symbol identifier_of names_of constant_of constants_of expect optional_symbol repeat direction_of statements_from arm_of else_part block_of compound_of if_of case_of while_of repeat_of for_of cycle_of assign_or_perform designated_of init_item_of init_of statement_by statement_of deeper_at tree_of text_of subrange_from named_or_subrange group_of array_of record_of type_by type_of inner_type_at
+scheduler_1-holds = refl
+
+pub scheduler_2-holds : scheduler_2
+unfolding word number comment coded_character character longer_mark mark piece pieces constant_definition_of parameter_group_of some_parameters_of parameters_of result_type_of heading_from heading_of variable_group_of some_variables_of variables_of body_of routine_of routines_of system_from system_type enumeration_of written_type defined_by defined_of type_definition_of section_by section_of operation_of chain_from term_of signed_term simple_of expression_of expressions_from index_of indices_from field_of indexed_of selector_by selector_of designator_of arguments_of optional_arguments_of call_or_part named_of parenthesized_of not_of factor_by factor_of inner_at is_symbol identifier_of names_of constant_of constants_of expect optional_symbol repeat direction_of statements_from arm_of else_part block_of compound_of if_of case_of while_of repeat_of for_of cycle_of assign_or_perform designated_of init_item_of init_of statement_by statement_of deeper_at tree_of text_of subrange_from named_or_subrange group_of array_of record_of type_by type_of inner_type_at
+scheduler_2-holds = refl
+
+pub scheduler_3-holds : scheduler_3
+unfolding word number comment coded_character character longer_mark mark piece pieces constant_definition_of parameter_group_of some_parameters_of parameters_of result_type_of heading_from heading_of variable_group_of some_variables_of variables_of body_of routine_of routines_of system_from system_type enumeration_of written_type defined_by defined_of type_definition_of section_by section_of operation_of chain_from term_of signed_term simple_of expression_of expressions_from index_of indices_from field_of indexed_of selector_by selector_of designator_of arguments_of optional_arguments_of call_or_part named_of parenthesized_of not_of factor_by factor_of inner_at is_symbol identifier_of names_of constant_of constants_of expect optional_symbol repeat direction_of statements_from arm_of else_part block_of compound_of if_of case_of while_of repeat_of for_of cycle_of assign_or_perform designated_of init_item_of init_of statement_by statement_of deeper_at tree_of text_of subrange_from named_or_subrange group_of array_of record_of type_by type_of inner_type_at
+scheduler_3-holds = refl
+
+pub seven_1-holds : seven_1
+unfolding word number comment coded_character character longer_mark mark piece pieces constant_definition_of parameter_group_of some_parameters_of parameters_of result_type_of heading_from heading_of variable_group_of some_variables_of variables_of body_of routine_of routines_of system_from system_type enumeration_of written_type defined_by defined_of type_definition_of section_by section_of operation_of chain_from term_of signed_term simple_of expression_of expressions_from index_of indices_from field_of indexed_of selector_by selector_of designator_of arguments_of optional_arguments_of call_or_part named_of parenthesized_of not_of factor_by factor_of inner_at is_symbol identifier_of names_of constant_of constants_of expect optional_symbol repeat direction_of statements_from arm_of else_part block_of compound_of if_of case_of while_of repeat_of for_of cycle_of assign_or_perform designated_of init_item_of init_of statement_by statement_of deeper_at tree_of text_of subrange_from named_or_subrange group_of array_of record_of type_by type_of inner_type_at
+seven_1-holds = refl
+
+pub sieve_1-holds : sieve_1
+unfolding word number comment coded_character character longer_mark mark piece pieces constant_definition_of parameter_group_of some_parameters_of parameters_of result_type_of heading_from heading_of variable_group_of some_variables_of variables_of body_of routine_of routines_of system_from system_type enumeration_of written_type defined_by defined_of type_definition_of section_by section_of operation_of chain_from term_of signed_term simple_of expression_of expressions_from index_of indices_from field_of indexed_of selector_by selector_of designator_of arguments_of optional_arguments_of call_or_part named_of parenthesized_of not_of factor_by factor_of inner_at is_symbol identifier_of names_of constant_of constants_of expect optional_symbol repeat direction_of statements_from arm_of else_part block_of compound_of if_of case_of while_of repeat_of for_of cycle_of assign_or_perform designated_of init_item_of init_of statement_by statement_of deeper_at tree_of text_of subrange_from named_or_subrange group_of array_of record_of type_by type_of inner_type_at
+sieve_1-holds = refl
+
+pub sieve_2-holds : sieve_2
+unfolding word number comment coded_character character longer_mark mark piece pieces constant_definition_of parameter_group_of some_parameters_of parameters_of result_type_of heading_from heading_of variable_group_of some_variables_of variables_of body_of routine_of routines_of system_from system_type enumeration_of written_type defined_by defined_of type_definition_of section_by section_of operation_of chain_from term_of signed_term simple_of expression_of expressions_from index_of indices_from field_of indexed_of selector_by selector_of designator_of arguments_of optional_arguments_of call_or_part named_of parenthesized_of not_of factor_by factor_of inner_at is_symbol identifier_of names_of constant_of constants_of expect optional_symbol repeat direction_of statements_from arm_of else_part block_of compound_of if_of case_of while_of repeat_of for_of cycle_of assign_or_perform designated_of init_item_of init_of statement_by statement_of deeper_at tree_of text_of subrange_from named_or_subrange group_of array_of record_of type_by type_of inner_type_at
+sieve_2-holds = refl
+
+pub sieve_3-holds : sieve_3
+unfolding word number comment coded_character character longer_mark mark piece pieces constant_definition_of parameter_group_of some_parameters_of parameters_of result_type_of heading_from heading_of variable_group_of some_variables_of variables_of body_of routine_of routines_of system_from system_type enumeration_of written_type defined_by defined_of type_definition_of section_by section_of operation_of chain_from term_of signed_term simple_of expression_of expressions_from index_of indices_from field_of indexed_of selector_by selector_of designator_of arguments_of optional_arguments_of call_or_part named_of parenthesized_of not_of factor_by factor_of inner_at is_symbol identifier_of names_of constant_of constants_of expect optional_symbol repeat direction_of statements_from arm_of else_part block_of compound_of if_of case_of while_of repeat_of for_of cycle_of assign_or_perform designated_of init_item_of init_of statement_by statement_of deeper_at tree_of text_of subrange_from named_or_subrange group_of array_of record_of type_by type_of inner_type_at
+sieve_3-holds = refl
+
+pub squarers_1-holds : squarers_1
+unfolding word number comment coded_character character longer_mark mark piece pieces constant_definition_of parameter_group_of some_parameters_of parameters_of result_type_of heading_from heading_of variable_group_of some_variables_of variables_of body_of routine_of routines_of system_from system_type enumeration_of written_type defined_by defined_of type_definition_of section_by section_of operation_of chain_from term_of signed_term simple_of expression_of expressions_from index_of indices_from field_of indexed_of selector_by selector_of designator_of arguments_of optional_arguments_of call_or_part named_of parenthesized_of not_of factor_by factor_of inner_at is_symbol identifier_of names_of constant_of constants_of expect optional_symbol repeat direction_of statements_from arm_of else_part block_of compound_of if_of case_of while_of repeat_of for_of cycle_of assign_or_perform designated_of init_item_of init_of statement_by statement_of deeper_at tree_of text_of subrange_from named_or_subrange group_of array_of record_of type_by type_of inner_type_at
+squarers_1-holds = refl
+
+pub squares_1-holds : squares_1
+unfolding word number comment coded_character character longer_mark mark piece pieces constant_definition_of parameter_group_of some_parameters_of parameters_of result_type_of heading_from heading_of variable_group_of some_variables_of variables_of body_of routine_of routines_of system_from system_type enumeration_of written_type defined_by defined_of type_definition_of section_by section_of operation_of chain_from term_of signed_term simple_of expression_of expressions_from index_of indices_from field_of indexed_of selector_by selector_of designator_of arguments_of optional_arguments_of call_or_part named_of parenthesized_of not_of factor_by factor_of inner_at is_symbol identifier_of names_of constant_of constants_of expect optional_symbol repeat direction_of statements_from arm_of else_part block_of compound_of if_of case_of while_of repeat_of for_of cycle_of assign_or_perform designated_of init_item_of init_of statement_by statement_of deeper_at tree_of text_of subrange_from named_or_subrange group_of array_of record_of type_by type_of inner_type_at
+squares_1-holds = refl
+
+pub writers_1-holds : writers_1
+unfolding word number comment coded_character character longer_mark mark piece pieces constant_definition_of parameter_group_of some_parameters_of parameters_of result_type_of heading_from heading_of variable_group_of some_variables_of variables_of body_of routine_of routines_of system_from system_type enumeration_of written_type defined_by defined_of type_definition_of section_by section_of operation_of chain_from term_of signed_term simple_of expression_of expressions_from index_of indices_from field_of indexed_of selector_by selector_of designator_of arguments_of optional_arguments_of call_or_part named_of parenthesized_of not_of factor_by factor_of inner_at is_symbol identifier_of names_of constant_of constants_of expect optional_symbol repeat direction_of statements_from arm_of else_part block_of compound_of if_of case_of while_of repeat_of for_of cycle_of assign_or_perform designated_of init_item_of init_of statement_by statement_of deeper_at tree_of text_of subrange_from named_or_subrange group_of array_of record_of type_by type_of inner_type_at
+writers_1-holds = refl
+
+pub writers_2-holds : writers_2
+unfolding word number comment coded_character character longer_mark mark piece pieces constant_definition_of parameter_group_of some_parameters_of parameters_of result_type_of heading_from heading_of variable_group_of some_variables_of variables_of body_of routine_of routines_of system_from system_type enumeration_of written_type defined_by defined_of type_definition_of section_by section_of operation_of chain_from term_of signed_term simple_of expression_of expressions_from index_of indices_from field_of indexed_of selector_by selector_of designator_of arguments_of optional_arguments_of call_or_part named_of parenthesized_of not_of factor_by factor_of inner_at is_symbol identifier_of names_of constant_of constants_of expect optional_symbol repeat direction_of statements_from arm_of else_part block_of compound_of if_of case_of while_of repeat_of for_of cycle_of assign_or_perform designated_of init_item_of init_of statement_by statement_of deeper_at tree_of text_of subrange_from named_or_subrange group_of array_of record_of type_by type_of inner_type_at
+writers_2-holds = refl
+
+pub writers_3-holds : writers_3
+unfolding word number comment coded_character character longer_mark mark piece pieces constant_definition_of parameter_group_of some_parameters_of parameters_of result_type_of heading_from heading_of variable_group_of some_variables_of variables_of body_of routine_of routines_of system_from system_type enumeration_of written_type defined_by defined_of type_definition_of section_by section_of operation_of chain_from term_of signed_term simple_of expression_of expressions_from index_of indices_from field_of indexed_of selector_by selector_of designator_of arguments_of optional_arguments_of call_or_part named_of parenthesized_of not_of factor_by factor_of inner_at is_symbol identifier_of names_of constant_of constants_of expect optional_symbol repeat direction_of statements_from arm_of else_part block_of compound_of if_of case_of while_of repeat_of for_of cycle_of assign_or_perform designated_of init_item_of init_of statement_by statement_of deeper_at tree_of text_of subrange_from named_or_subrange group_of array_of record_of type_by type_of inner_type_at
+writers_3-holds = refl

@@ -1,8 +1,0 @@
-use Rattle.std.proofs.Common.{ℕ, Option, subst}
-use Rattle.cp_scope.specs.Places.{TypeIs}
-use Rattle.cp_translate.proofs.translator.Translator.part.Goals as goal
-
-pub returns : goal.returns
-returns c = λ s t scope typed.
-    let types = c.args.self.now.scope.tables.now.types in
-    (rw c.tables.ensures at c.part.ensures) s.globals types t scope.laid (subst (λ (o : Option ℕ). TypeIs types o t) c.in_ok-of.was typed)

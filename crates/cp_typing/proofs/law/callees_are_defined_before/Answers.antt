@@ -1,5 +1,0 @@
-use Rattle.cp_typing.proofs.Facts as proved
-use Rattle.cp_typing.proofs.law.callees_are_defined_before.Goals as goal
-
-pub returns : goal.returns
-returns c = proved.callees_before

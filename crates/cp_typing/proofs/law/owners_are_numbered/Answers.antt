@@ -1,5 +1,0 @@
-use Rattle.cp_typing.proofs.Facts as proved
-use Rattle.cp_typing.proofs.law.owners_are_numbered.Goals as goal
-
-pub returns : goal.returns
-returns c = record { processes = proved.processes_numbered; monitors = proved.monitors_numbered }

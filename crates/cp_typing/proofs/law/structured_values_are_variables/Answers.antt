@@ -1,5 +1,0 @@
-use Rattle.cp_typing.proofs.Facts as proved
-use Rattle.cp_typing.proofs.law.structured_values_are_variables.Goals as goal
-
-pub returns : goal.returns
-returns c = proved.structured_values
