@@ -1,22 +1,22 @@
 -- The ranges of the numbers of a plan and a clock.
 use Rattle.std.specs.Prelude.{◌+◌, ◌*◌, ◌-◌, ◌<◌, ◌≡◌, ◌≤◌, if◌then◌else◌, min, nat_lt, ℕ}
-use Rattle.cp_base_config.specs.declared.limits.TheConstants.{LARGEST_PART, LONGEST_TICK, LONGEST_TURN, MOST_WORKERS}
+use Rattle.cp_base_config.specs.declared.limits.TheConstants.{MAX_CHUNK_PROCESSES, MAX_TICK_ROUNDS, MAX_TURN_STEPS, MAX_WORKERS}
 use Rattle.cp_base_config.specs.declared.limits.L1.{L1}
 use Rattle.cp_base_config.specs.declared.limits.L1.TheVariants as field
 
 abbrev pub IsTurn : ℕ → Type 0
-IsTurn n = (1 ≤ n) × (n ≤ LONGEST_TURN)
+IsTurn n = (1 ≤ n) × (n ≤ MAX_TURN_STEPS)
 
 abbrev pub AreWorkers : ℕ → Type 0
-AreWorkers n = (1 ≤ n) × (n ≤ MOST_WORKERS)
+AreWorkers n = (1 ≤ n) × (n ≤ MAX_WORKERS)
 
 -- The number of processes in a chunk or a wave.
 abbrev pub ArePart : ℕ → Type 0
-ArePart n = (1 ≤ n) × (n ≤ LARGEST_PART)
+ArePart n = (1 ≤ n) × (n ≤ MAX_CHUNK_PROCESSES)
 
 -- The number of rounds between two ticks of the clock.
 abbrev pub IsTick : ℕ → Type 0
-IsTick n = (1 ≤ n) × (n ≤ LONGEST_TICK)
+IsTick n = (1 ≤ n) × (n ≤ MAX_TICK_ROUNDS)
 
 abbrev pub AreInRange : ℕ → ℕ → ℕ → ℕ → Type 0
 AreInRange turn workers chunk wave = IsTurn turn × AreWorkers workers × ArePart chunk × ArePart wave

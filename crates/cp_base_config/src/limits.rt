@@ -2,16 +2,16 @@
 //! its range.
 
 /// The most steps in a turn.
-pub const LONGEST_TURN: u32 = 10_000;
+pub const MAX_TURN_STEPS: u32 = 10_000;
 
 /// The most workers of a plan.
-pub const MOST_WORKERS: u32 = 64;
+pub const MAX_WORKERS: u32 = 64;
 
 /// The most processes in a chunk or a wave.
-pub const LARGEST_PART: u32 = 255;
+pub const MAX_CHUNK_PROCESSES: u32 = 255;
 
 /// The most rounds between two ticks of the clock.
-pub const LONGEST_TICK: u32 = 1_000_000;
+pub const MAX_TICK_ROUNDS: u32 = 1_000_000;
 
 /// Refusal L1: the field of a plan or a clock whose number is out of its range.
 #[derive(Clone, Copy, Debug)]

@@ -3,7 +3,7 @@
 ghost use Rattle.std.specs.Prelude.{◌≡◌, ◌<◌, ◌≤◌, ◌+◌, ◌*◌, ◌/◌, ◌↔◌, ℕ, IfErr, IfOk, IsOk, IsTrue};
 ghost use Rattle.cp_base_config.specs.Plans.{AreInRange, ArePart, AreParts, AreThreads, AreWorkers, IsFirstOut, wave_size};
 
-use crate::limits::{L1, LARGEST_PART, MOST_WORKERS};
+use crate::limits::{L1, MAX_CHUNK_PROCESSES, MAX_WORKERS};
 use crate::turn::Turn;
 
 /// How a round is made: a turn has at most `turn` steps, and `workers` workers draw chunks of
@@ -53,13 +53,13 @@ impl Plan {
         ensures first { IfErr result (IsFirstOut turn workers chunk wave) }
     {
         let turn = Turn::new(turn)?;
-        if !is_within(workers, MOST_WORKERS) {
+        if !is_within(workers, MAX_WORKERS) {
             return Err(L1::Workers);
         }
-        if !is_within(chunk, LARGEST_PART) {
+        if !is_within(chunk, MAX_CHUNK_PROCESSES) {
             return Err(L1::Chunk);
         }
-        if !is_within(wave, LARGEST_PART) {
+        if !is_within(wave, MAX_CHUNK_PROCESSES) {
             return Err(L1::Wave);
         }
         Ok(Plan {
@@ -82,7 +82,7 @@ impl Plan {
     pub fn chunks(&self, wave: usize, processes: usize) -> usize
         ensures parts { AreParts result self.now.chunk
             (wave_size self.now.wave wave processes) }
-        ensures most { result ≤ LARGEST_PART }
+        ensures most { result ≤ MAX_CHUNK_PROCESSES }
         ensures each { (j : ℕ) → j < self.now.wave → wave * self.now.wave + j < processes
             → j / self.now.chunk < result }
     {

@@ -4,7 +4,7 @@ ghost use Rattle.std.specs.Prelude.{◌≡◌, ◌↔◌, IfErr, IfOk, IsOk};
 ghost use Rattle.cp_base_config.specs.Plans.{IsTick};
 ghost use Rattle.cp_base_config.specs.declared.limits.L1.TheVariants as limit;
 
-use crate::limits::{L1, LONGEST_TICK};
+use crate::limits::{L1, MAX_TICK_ROUNDS};
 
 /// A number of rounds, at least 1 and at most 1,000,000.
 #[derive(Clone, Copy)]
@@ -24,7 +24,7 @@ impl Tick {
         ensures rounds { IfOk result (λ tick. tick.rounds ≡ rounds) }
         ensures field { IfErr result (λ e. e ≡ limit.Tick) }
     {
-        if 1 <= rounds && rounds <= LONGEST_TICK {
+        if 1 <= rounds && rounds <= MAX_TICK_ROUNDS {
             Ok(Tick { rounds })
         } else {
             Err(L1::Tick)

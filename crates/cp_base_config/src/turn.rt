@@ -4,7 +4,7 @@ ghost use Rattle.std.specs.Prelude.{◌≡◌, ◌↔◌, IfErr, IfOk, IsOk};
 ghost use Rattle.cp_base_config.specs.Plans.{IsTurn};
 ghost use Rattle.cp_base_config.specs.declared.limits.L1.TheVariants as limit;
 
-use crate::limits::{L1, LONGEST_TURN};
+use crate::limits::{L1, MAX_TURN_STEPS};
 
 /// A number of steps, at least 1 and at most 10,000.
 #[derive(Clone, Copy)]
@@ -24,7 +24,7 @@ impl Turn {
         ensures steps { IfOk result (λ turn. turn.steps ≡ steps) }
         ensures field { IfErr result (λ e. e ≡ limit.Turn) }
     {
-        if 1 <= steps && steps <= LONGEST_TURN {
+        if 1 <= steps && steps <= MAX_TURN_STEPS {
             Ok(Turn { steps })
         } else {
             Err(L1::Turn)

@@ -12,7 +12,7 @@ use std::alloc::{AllocError, Global};
 use std::marker::Model;
 
 // Among so few names one is found by comparing it with each, which takes less than its hash.
-const FEW: usize = 8;
+const MAX_COMPARED_NAMES: usize = 8;
 
 /// Names and what they stand for. Contracts see the list of them, in the order in which they were
 /// added. No name occurs twice.
@@ -63,7 +63,7 @@ impl<'t, A: Copy> NameTable<'t, A> {
     pub fn find(&self, name: &[u8]) -> Option<A>
         ensures { result ≡ lookup name.now self.now }
     {
-        if self.entries.len() <= FEW {
+        if self.entries.len() <= MAX_COMPARED_NAMES {
             self.first_with(name)
         } else {
             self.entries.get(Name { letters: name }).copied()

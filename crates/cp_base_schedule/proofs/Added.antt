@@ -15,14 +15,14 @@ use Rattle.cp_base_schedule.proofs.Lines.{after_rounds, line_given, line_read, l
 use Rattle.cp_base_schedule.proofs.Parts.{end_more, parts_more}
 
 -- The events and ends so far stand for what was read before `at`, and `rest` is what is left.
-pub record IsRead (n at : ℕ) (ends : List ℕ) (events : List Event) (rest : List ℕ) (told : OrderText) : Type 0 where
+pub record IsRead (n at : ℕ) (ends : List ℕ) (events : List Event) (rest : List ℕ) (reported : OrderText) : Type 0 where
   pub whole : Cover ends events
-  pub orders : after_rounds (parts_from 0 ends (events_of events)) (orders_from n at (lines_of rest)) ≡ told
+  pub orders : after_rounds (parts_from 0 ends (events_of events)) (orders_from n at (lines_of rest)) ≡ reported
 
-module _ (n at : ℕ) (told : OrderText) (line rest more : List ℕ) (first : lines_of rest ≡ line ∷ lines_of more) where
+module _ (n at : ℕ) (reported : OrderText) (line rest more : List ℕ) (first : lines_of rest ≡ line ∷ lines_of more) where
   pub line_added : (ends ends' : List ℕ) (events events' : List Event) (end : ℕ)
       → appended (events_of events) (line_events n line) ≡ Some (events_of events') → end ≡ length events' → ends' ≡ ends ++ end ∷ []
-      → IsRead n at ends events rest told → IsRead n (at + (length line + 1)) ends' events' more told
+      → IsRead n at ends events rest reported → IsRead n (at + (length line + 1)) ends' events' more reported
   line_added ends ends' events events' end found count is was =
       let before : List meaning.Event = events_of events in
       let given = line_given before (events_of events') (line_events n line) found in
@@ -40,12 +40,12 @@ module _ (n at : ℕ) (told : OrderText) (line rest more : List ℕ) (first : li
         whole = subst (λ (es : List ℕ). EndAt 0 es (length events')) (sym is)
             (subst (EndAt 0 (ends ++ end ∷ [])) count (end_more 0 ends (length events) end was.whole grows));
         orders = ap (λ (rs : List (List meaning.Event)). after_rounds rs (orders_from n (at + (length line + 1)) (lines_of more))) parts
-            ∙ line_read n (parts_from 0 ends before) at line more rest told new first given.1.0 was.orders;
+            ∙ line_read n (parts_from 0 ends before) at line more rest reported new first given.1.0 was.orders;
       }
 
 -- ---- The start, the end, and a line that isn't one
 
-nothing_before : (told : OrderText) → after_rounds [] told ≡ told
+nothing_before : (reported : OrderText) → after_rounds [] reported ≡ reported
 nothing_before (Orders rounds) = refl
 nothing_before (NotALine at) = refl
 

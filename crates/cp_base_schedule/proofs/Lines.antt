@@ -90,7 +90,7 @@ after_round done events at (Orders rounds) = ap (λ (rs : List (List Event)). Or
 after_round done events at (NotALine later) = refl
 
 -- What is read of a text, once a line more is read.
-module _ (n : ℕ) (done : List (List Event)) (at : ℕ) (line more text : List ℕ) (told : OrderText) where
+module _ (n : ℕ) (done : List (List Event)) (at : ℕ) (line more text : List ℕ) (reported : OrderText) where
   first_line : lines_of text ≡ line ∷ lines_of more
       → orders_from n at (lines_of text) ≡ round_before (line_events n line) at (orders_from n (at + (length line + 1)) (lines_of more))
   first_line first =
@@ -98,15 +98,15 @@ module _ (n : ℕ) (done : List (List Event)) (at : ℕ) (line more text : List 
       ap (orders_from n at) first ∙ ap (λ (from : ℕ). round_before (line_events n line) at (orders_from n from (lines_of more))) place
 
   pub line_read : (events : List Event) → lines_of text ≡ line ∷ lines_of more → line_events n line ≡ Some events
-      → after_rounds done (orders_from n at (lines_of text)) ≡ told
-      → after_rounds (done ++ events ∷ []) (orders_from n (at + (length line + 1)) (lines_of more)) ≡ told
+      → after_rounds done (orders_from n at (lines_of text)) ≡ reported
+      → after_rounds (done ++ events ∷ []) (orders_from n (at + (length line + 1)) (lines_of more)) ≡ reported
   line_read events first found was =
       let rest : OrderText = orders_from n (at + (length line + 1)) (lines_of more) in
       after_round done events at rest
       ∙ (ap (after_rounds done) (ap (λ (r : Option (List Event)). round_before r at rest) (sym found) ∙ sym (first_line first)) ∙ was)
 
-  pub line_refused : lines_of text ≡ line ∷ lines_of more → line_events n line ≡ None → after_rounds done (orders_from n at (lines_of text)) ≡ told
-      → told ≡ NotALine at
+  pub line_refused : lines_of text ≡ line ∷ lines_of more → line_events n line ≡ None → after_rounds done (orders_from n at (lines_of text)) ≡ reported
+      → reported ≡ NotALine at
   line_refused first none was =
       let rest : OrderText = orders_from n (at + (length line + 1)) (lines_of more) in
       sym was ∙ ap (after_rounds done) (first_line first ∙ ap (λ (r : Option (List Event)). round_before r at rest) none)
@@ -118,7 +118,7 @@ line_given before after None e = absurd (none-some after e)
 line_given before after (Some events) e = (events, (refl, same_Some (before ++ events) after e))
 
 -- The text ends.
-pub text_read : (done : List (List Event)) (n at : ℕ) (rest : List ℕ) (told : OrderText) → length rest ≡ 0
-    → after_rounds done (orders_from n at (lines_of rest)) ≡ told → told ≡ Orders done
-text_read done n at [] told none was = sym was ∙ ap (λ (rs : List (List Event)). Orders rs) (append-nil done)
-text_read done n at (b ∷ rest) told none was = absurd (omega arith)
+pub text_read : (done : List (List Event)) (n at : ℕ) (rest : List ℕ) (reported : OrderText) → length rest ≡ 0
+    → after_rounds done (orders_from n at (lines_of rest)) ≡ reported → reported ≡ Orders done
+text_read done n at [] reported none was = sym was ∙ ap (λ (rs : List (List Event)). Orders rs) (append-nil done)
+text_read done n at (b ∷ rest) reported none was = absurd (omega arith)

@@ -1,7 +1,7 @@
 //! Reading an order text.
 
 ghost use Rattle.std.specs.Prelude.{◌≡◌, ◌<◌, ◌≤◌, ◌+◌, ◌∷◌, Some, IfErr, IfOk, length};
-ghost use Rattle.cp_model.specs.OrderText.{Orders as Told, line_events, lines_of};
+ghost use Rattle.cp_model.specs.OrderText.{Orders as TextOrders, line_events, lines_of};
 ghost use Rattle.cp_base_schedule.specs.Events.{events_of};
 ghost use Rattle.cp_base_schedule.specs.Reading.{AllWithin, FailsAt, Refuses, appended, judged};
 ghost use Rattle.cp_base_schedule.specs.Rounds.{rounds_of};
@@ -14,7 +14,7 @@ use crate::words::event;
 use std::alloc::{AllocError, AllocFailed, Global};
 
 /// The largest number of bytes that an order text may have.
-pub const LONGEST_ORDER: usize = 1_048_576;
+pub const MAX_SCHEDULE_BYTES: usize = 1_048_576;
 
 /// Why an order text was not read.
 #[derive(Clone, Copy)]
@@ -103,8 +103,8 @@ fn next_line(text: &[u8]) -> (&[u8], &[u8])
 
 // Reads a text within the limit.
 fn read_lines(alloc: Global, text: &[u8], processes: usize) -> Result<Orders, OrderError>
-    requires within { length text.now ≤ LONGEST_ORDER }
-    ensures ok { IfOk result (λ orders. judged processes text.now ≡ Told (rounds_of orders)) }
+    requires within { length text.now ≤ MAX_SCHEDULE_BYTES }
+    ensures ok { IfOk result (λ orders. judged processes text.now ≡ TextOrders (rounds_of orders)) }
     ensures refused { IfErr result (Refuses processes text.now) }
 {
     let mut events = Vec::new(alloc);
@@ -125,15 +125,17 @@ fn read_lines(alloc: Global, text: &[u8], processes: usize) -> Result<Orders, Or
 ///
 /// # Errors
 ///
-/// `Line` at the first byte of the first line that isn't one, or at [`LONGEST_ORDER`] if the text
+/// `Line` at the first byte of the first line that isn't one, or at [`MAX_SCHEDULE_BYTES`] if the text
 /// is too long, whatever it contains. `Memory` only says that memory was refused.
 pub fn read_orders(alloc: Global, text: &[u8], processes: usize) -> Result<Orders, OrderError>
-    ensures ok { IfOk result (λ orders. judged processes text.now ≡ Told (rounds_of orders)) }
+    ensures ok { IfOk result (λ orders. judged processes text.now ≡ TextOrders (rounds_of orders)) }
     ensures within { IfOk result (λ orders. AllWithin processes (rounds_of orders)) }
     ensures refused { IfErr result (Refuses processes text.now) }
 {
-    if text.len() > LONGEST_ORDER {
-        return Err(OrderError::Line { at: LONGEST_ORDER });
+    if text.len() > MAX_SCHEDULE_BYTES {
+        return Err(OrderError::Line {
+            at: MAX_SCHEDULE_BYTES,
+        });
     }
     let orders = read_lines(alloc, text, processes)?;
     Ok(orders)

@@ -50,7 +50,7 @@ module _ (p : Shape) (s : BoardState) (r : KeepsRule p s) (some_stripe : 0 < p.s
 
   calls_seen : v.seen_stop ≡ true → v.called_stop ≡ true
   calls_seen seen =
-      let on = (r.each id v at).told seen in
+      let on = (r.each id v at).reported seen in
       let stop = r.stop in
       let all = alone (λ (u : View). weight u.called_stop) (λ u fits none. ap weight (fits.idle none).1) in
       weighs v.called_stop (omega arith)

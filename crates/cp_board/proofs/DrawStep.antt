@@ -7,7 +7,7 @@ use lib.ListN.{get_elem?}
 use Rattle.atomic_table.specs.Table.{step, keeps, Allows}
 use Rattle.atomic_table.proofs.Lists.{set_here}
 use Rattle.cp_board.specs.declared.view.Shape.{Shape}
-use Rattle.cp_board.specs.declared.view.TheConstants.{FULL_ALLOWANCE, MOST_NUMBERS}
+use Rattle.cp_board.specs.declared.view.TheConstants.{FULL_ALLOWANCE, MAX_TICKETS}
 use Rattle.cp_board.specs.declared.view.View.{View}
 use Rattle.cp_board.specs.Draws.{IsSound, times}
 use Rattle.cp_board.specs.Stripes.{number_of, stripe_at, stripe_of, ticket_of, word_of}
@@ -25,7 +25,7 @@ fits_grown : (p : Shape) (ws us : List ℕ) (v : View) → slice_index us (word_
 fits_grown p ws us v same more fits = record {
   of_board = fits.of_board;
   idle = fits.idle;
-  told = λ e. same ∙ fits.told e;
+  reported = λ e. same ∙ fits.reported e;
   used_up = λ j below e.
       let was = fits.used_up j below e in
       let le = number_of-le p j (slice_index ws (word_of j)) (slice_index us (word_of j)) (more j below) in
@@ -127,7 +127,7 @@ module _ (p : Shape) (s : BoardState) (r : KeepsRule p s) (id : ℕ) (v : View) 
         each = each_fits w (record {
           of_board = old_fits.of_board;
           idle = λ none. absurd (omega arith);
-          told = old_fits.told;
+          reported = old_fits.reported;
           used_up = old_fits.used_up;
         });
       }
@@ -157,7 +157,7 @@ module _ (p : Shape) (s : BoardState) (r : KeepsRule p s) (id : ℕ) (v : View) 
         each = each_fits w (record {
           of_board = old_fits.of_board;
           idle = λ none. absurd (omega arith);
-          told = old_fits.told;
+          reported = old_fits.reported;
           used_up = λ i below e. dite (ℕ_discrete i j)
               (λ is. subst (λ (k : ℕ). p.numbers ≤ number_of p k (slice_index grown (word_of k))) (sym is)
               (let le = number_of-le p j ticket (slice_index grown (word_of j)) (grown_more j in_stripes) in omega arith))
@@ -174,7 +174,7 @@ marked_allowance-le j (u ∷ us) = by_mark (is_used_up u j) (marked_allowance-le
     by_mark true rest = omega arith
     by_mark false rest = omega arith
 
-pub draws : (p : Shape) (slots id : ℕ) (me : SeatState) (j : ℕ) → p.numbers ≤ MOST_NUMBERS → 0 < p.stripes → j < p.stripes
+pub draws : (p : Shape) (slots id : ℕ) (me : SeatState) (j : ℕ) → p.numbers ≤ MAX_TICKETS → 0 < p.stripes → j < p.stripes
     → me.0.shape ≡ p → 0 < me.0.allowance → is_used_up me.0 j ≡ false → j < length me.0.used_up
     → Allows (KeepsRule p) slots id me (word_of j) (λ n. (n + 1) % 2 ^ 64) (DrawsTicket (step slots (word_of j) 1 0 none) me)
 draws p slots id me j most any_stripe in_stripes of_board live unmarked room s r homes at fits =

@@ -5,7 +5,7 @@ use Rattle.std.proofs.Common.{sym}
 use lib.ListN.{get_elem?}
 use Rattle.atomic_table.specs.Table.{opening}
 use Rattle.cp_board.specs.declared.view.Shape.{Shape}
-use Rattle.cp_board.specs.declared.view.TheConstants.{MOST_STRIPES}
+use Rattle.cp_board.specs.declared.view.TheConstants.{MAX_STRIPES}
 use Rattle.cp_board.specs.declared.view.View.{View}
 use Rattle.cp_board.specs.Stripes.{stripe_of, word_of}
 use Rattle.cp_board.specs.Views.{first_view}
@@ -24,25 +24,25 @@ unmarked_at (suc m) (suc i) = unmarked_at m i
 
 -- the words of a new board
 abbrev new_words : Shape → List ℕ
-new_words p = take (word_of (p.stripes + 1)) (replicate (word_of (MOST_STRIPES + 1)) 0)
+new_words p = take (word_of (p.stripes + 1)) (replicate (word_of (MAX_STRIPES + 1)) 0)
 
 no_word : (p : Shape) (i : ℕ) → get_or {A = ℕ} (new_words p) i 0 ≡ 0
-no_word p i = zero_at (word_of (p.stripes + 1)) (word_of (MOST_STRIPES + 1)) i
+no_word p i = zero_at (word_of (p.stripes + 1)) (word_of (MAX_STRIPES + 1)) i
 
 first_fits : (p : Shape) → FitsWords p (new_words p) (first_view p)
 first_fits p = record {
   of_board = λ _. refl;
   idle = λ none. absurd (omega arith);
-  told = λ (seen : false ≡ true). cc;
-  used_up = λ j below e. let unmarked = unmarked_at MOST_STRIPES j in cc;
+  reported = λ (seen : false ≡ true). cc;
+  used_up = λ j below e. let unmarked = unmarked_at MAX_STRIPES j in cc;
 }
 
-pub opens : (p : Shape) → p.stripes ≤ MOST_STRIPES → KeepsRule p (opening {S = Unit {0}} (new_words p) [] (first_view p))
+pub opens : (p : Shape) → p.stripes ≤ MAX_STRIPES → KeepsRule p (opening {S = Unit {0}} (new_words p) [] (first_view p))
 opens p most = record {
   width =
-      let zeros : List ℕ = replicate (word_of (MOST_STRIPES + 1)) 0 in
+      let zeros : List ℕ = replicate (word_of (MAX_STRIPES + 1)) 0 in
       let taken : length (new_words p) ≡ min (word_of (p.stripes + 1)) (length zeros) = length-take (word_of (p.stripes + 1)) zeros in
-      let all : length zeros ≡ word_of (MOST_STRIPES + 1) = refl in
+      let all : length zeros ≡ word_of (MAX_STRIPES + 1) = refl in
       omega arith;
   stop = no_word p (word_of p.stripes);
   allowance = refl;

@@ -19,7 +19,7 @@ half_fits : (p : Shape) (words : List ℕ) (v half : View) → FitsWords p words
 half_fits p words v half old of_board shape seen marks live = record {
   of_board = λ _. shape ∙ of_board;
   idle = λ none. absurd (omega arith);
-  told = λ e. old.told (sym seen ∙ e);
+  reported = λ e. old.reported (sym seen ∙ e);
   used_up = λ j below e. old.used_up j below (ap (λ (bs : List Bool). get_or bs j false) (sym marks) ∙ e);
 }
 
@@ -68,7 +68,7 @@ joined_fits : (p : Shape) (words : List ℕ) (v w : View) → v.shape ≡ p → 
 joined_fits p words v w of_board live old theirs = record {
   of_board = λ _. of_board;
   idle = λ n. absurd (omega arith);
-  told = λ e. either_true v.seen_stop w.seen_stop e old.told theirs.told;
+  reported = λ e. either_true v.seen_stop w.seen_stop e old.reported theirs.reported;
   used_up = λ j below e. either_true (is_used_up v j) (is_used_up w j) (sym (get_or-or_each v.used_up w.used_up j) ∙ e) (old.used_up j below) (theirs.used_up j below);
 }
   where
@@ -80,7 +80,7 @@ spent_fits : (p : Shape) (words : List ℕ) → FitsWords p words spent_view
 spent_fits p words = record {
   of_board = λ live. absurd (omega arith);
   idle = λ _. (refl, refl);
-  told = λ (seen : false ≡ true). cc;
+  reported = λ (seen : false ≡ true). cc;
   used_up = λ j below (marked : false ≡ true). cc;
 }
 

@@ -48,7 +48,7 @@ sight_keeps p s r id v at on =
       each = each_set (FitsWords p s.words) s.views id w (record {
         of_board = old.of_board;
         idle = old.idle;
-        told = λ _. on;
+        reported = λ _. on;
         used_up = old.used_up;
       }) r.each;
     }
@@ -76,7 +76,7 @@ reads p slots id me s r homes at fits =
     ))
   where
     not_seen : slice_index s.words (word_of p.stripes) ≡ 0 → (b : Bool) → me.0.seen_stop ≡ b → me.0.seen_stop ≡ false
-    not_seen off true e = let on = (r.each id me.0 at).told e in absurd (omega arith)
+    not_seen off true e = let on = (r.each id me.0 at).reported e in absurd (omega arith)
     not_seen off false e = e
 
 pub learns : (p : Shape) (slots id : ℕ) (me : SeatState) → me.0.shape ≡ p
@@ -117,7 +117,7 @@ module _ (p : Shape) (s : BoardState) (r : KeepsRule p s) (some_stripe : 0 < p.s
   fits_stopped z fits = record {
     of_board = fits.of_board;
     idle = fits.idle;
-    told = λ _. stop_set;
+    reported = λ _. stop_set;
     used_up = λ j below e. subst (λ (n : ℕ). p.numbers ≤ number_of p j n) (sym (ticket_same j below)) (fits.used_up j below e);
   }
 
@@ -125,7 +125,7 @@ module _ (p : Shape) (s : BoardState) (r : KeepsRule p s) (some_stripe : 0 < p.s
   caller_fits = let old = fits_stopped v (r.each id v at) in record {
     of_board = old.of_board;
     idle = λ none. absurd (omega arith);
-    told = λ _. stop_set;
+    reported = λ _. stop_set;
     used_up = old.used_up;
   }
 

@@ -30,7 +30,7 @@ marked_allowance stripe v = if is_used_up v stripe then v.allowance else 0
 pub record FitsWords (shape : Shape) (words : List ℕ) (v : View) : Type 0 where
   pub of_board : 0 < v.allowance → v.shape ≡ shape
   pub idle : v.allowance ≡ 0 → (v.draws ≡ []) × (v.called_stop ≡ false)
-  pub told : v.seen_stop ≡ true → slice_index words (word_of shape.stripes) ≡ 1
+  pub reported : v.seen_stop ≡ true → slice_index words (word_of shape.stripes) ≡ 1
   pub used_up : (j : ℕ) → j < shape.stripes → is_used_up v j ≡ true → shape.numbers ≤ number_of shape j (slice_index words (word_of j))
 
 -- What holds of all seats and words.

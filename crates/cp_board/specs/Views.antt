@@ -1,7 +1,7 @@
 -- What a seat knows at its start, how a step changes it, and how splits and joins change it.
 use Rattle.std.specs.Prelude.{◌≡◌, ℕ, ◌+◌, ◌-◌, ◌/◌, ◌<◌, Bool, true, false, ◌||◌, List, [], ◌∷◌, ◌++◌, replicate, slice_index_or, slice_set}
 use Rattle.cp_board.specs.declared.view.Shape.{Shape}
-use Rattle.cp_board.specs.declared.view.TheConstants.{FULL_ALLOWANCE, MOST_STRIPES}
+use Rattle.cp_board.specs.declared.view.TheConstants.{FULL_ALLOWANCE, MAX_STRIPES}
 use Rattle.cp_board.specs.declared.view.View.{View}
 
 -- whether the seat has found the stripe used up
@@ -22,7 +22,7 @@ first_view shape = record {
   shape = shape;
   allowance = FULL_ALLOWANCE;
   draws = [];
-  used_up = replicate MOST_STRIPES false;
+  used_up = replicate MAX_STRIPES false;
   called_stop = false;
   seen_stop = false;
 }

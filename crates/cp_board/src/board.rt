@@ -19,7 +19,7 @@ ghost use Rattle.cp_board.specs.Views.{IsDone, KeepsMarks, is_used_up, first_vie
 use crate::marks::either;
 use crate::seat::Seat;
 use crate::steps::{BoardRule, CallStop, DrawTicket, Halves, LearnDraws, ReadStop};
-use crate::view::{FULL_ALLOWANCE, MOST_NUMBERS, MOST_STRIPES, Shape, View, WORDS_APART};
+use crate::view::{FULL_ALLOWANCE, MAX_STRIPES, MAX_TICKETS, Shape, View, WORDS_APART};
 use atomic_table::Table;
 use std::alloc::{AllocError, Global};
 use std::marker::Model;
@@ -50,9 +50,9 @@ impl Board {
     /// Returns a board of the numbers below `n` over `stripes` stripes, and its first seat, which
     /// has the whole allowance, no draws and no marks. Returns `Err` if memory runs out.
     pub fn new(alloc: Global, n: usize, stripes: usize) -> Result<(Board, Seat), AllocError>
-        requires numbers { n ≤ MOST_NUMBERS }
+        requires numbers { n ≤ MAX_TICKETS }
         requires some { 0 < stripes }
-        requires most { stripes ≤ MOST_STRIPES }
+        requires most { stripes ≤ MAX_STRIPES }
         ensures of { IfOk result (λ r. IsSeatOf r.0 r.1) }
         ensures shape { IfOk result (λ r. r.0.shape ≡ record { numbers = n; stripes = stripes }) }
         ensures seat { IfOk result (λ r. r.1.view ≡ first_view r.0.shape) }
@@ -61,7 +61,7 @@ impl Board {
             numbers: n,
             stripes,
         };
-        let words = [0u64; (MOST_STRIPES + 1) * WORDS_APART];
+        let words = [0u64; (MAX_STRIPES + 1) * WORDS_APART];
         let count = (stripes + 1) * WORDS_APART;
         let (table, pass) = Table::of_words(alloc, &words[..count], &shape)?;
         let board = Board { table, shape };
@@ -70,7 +70,7 @@ impl Board {
             stripe: 0,
             allowance: FULL_ALLOWANCE,
             count: 0,
-            used_up: [false; MOST_STRIPES],
+            used_up: [false; MAX_STRIPES],
             seen_stop: false,
         };
         Ok((board, seat))
@@ -160,7 +160,7 @@ impl Board {
         requires { IsSeatOf self.now seat.old }
         ensures table { seat.new.table ≡ seat.old.table }
         ensures view { seat.new.view ≡ record seat.old.view { seen_stop = result } }
-        ensures told { IsTrue result ↔ (seat.new.view.seen_stop ≡ true) }
+        ensures reported { IsTrue result ↔ (seat.new.view.seen_stop ≡ true) }
         ensures stays { seat.old.view.seen_stop ≡ true → IsTrue result }
     {
         let stop_word = self.shape.stripes * WORDS_APART;

@@ -29,4 +29,4 @@ mod view;
 
 pub use board::Board;
 pub use seat::Seat;
-pub use view::{FULL_ALLOWANCE, MOST_NUMBERS, MOST_STRIPES, Shape, View};
+pub use view::{FULL_ALLOWANCE, MAX_STRIPES, MAX_TICKETS, Shape, View};

@@ -2,10 +2,10 @@
 use std::collections::LinkedList;
 
 /// How many numbers a board may have at most.
-pub const MOST_NUMBERS: usize = 255;
+pub const MAX_TICKETS: usize = 255;
 
 /// How many stripes a board may spread its numbers over at most.
-pub const MOST_STRIPES: usize = 64;
+pub const MAX_STRIPES: usize = 64;
 
 /// The allowance of a board's first seat, which is the number of seats that it may be split into.
 pub const FULL_ALLOWANCE: usize = 64;

@@ -7,22 +7,22 @@ use Rattle.cp_model.specs.States.{Setup}
 use Rattle.cp_model.specs.Rules.{Accepted, first_violation}
 use Rattle.cp_model.specs.View as syntax
 use Rattle.cp_model.specs.declared.tree.Tree as tree
-use Rattle.cp_model_program.specs.StandsFor.{StandsFor}
+use Rattle.cp_model_program.specs.IsProgramFor.{IsProgramFor}
 use Rattle.cp_program.specs.declared.program.Program.{Program}
 use Rattle.cp_program.specs.View as view
 use Rattle.cp_rules.specs.declared.text.RuleError.{RuleError}
 use Rattle.cp_rules.specs.declared.text.RuleError.TheVariants as refused
-use Rattle.cp_compile_symbols.specs.Texts.{TablesStand}
+use Rattle.cp_compile_symbols.specs.Texts.{TablesRepresent}
 use Rattle.cp_check.specs.declared.checking.CompiledText.{CompiledText}
 
 -- The program stands for the text.
 abbrev pub IsProgramOf : s.Tree → Program → Type 0
-IsProgramOf t program = (setup : Setup) → setup.tree ≡ erase.abstract t → StandsFor (view.program program) setup
+IsProgramOf t program = (setup : Setup) → setup.tree ≡ erase.abstract t → IsProgramFor (view.program program) setup
 
 -- The program stands for the text of this tree, and the tables are those of the text.
 pub record IsCompiled (t : tree.Tree) (text : CompiledText) : Type 0 where
   pub program : IsProgramOf (syntax.tree t) text.program
-  pub tables : TablesStand (globals (erase.abstract (syntax.tree t))) text.tables.value t
+  pub tables : TablesRepresent (globals (erase.abstract (syntax.tree t))) text.tables.value t
 
 -- If there is a compiled text, the text is accepted and was compiled. If a rule is broken, the
 -- violation is the earliest one of the text.

@@ -5,7 +5,7 @@ ghost use Rattle.cp_model.specs.Declarations.{globals};
 ghost use Rattle.cp_model.specs.Erase as erase;
 ghost use Rattle.cp_model.specs.Rules.{Accepted};
 ghost use Rattle.cp_model.specs.View as view;
-ghost use Rattle.cp_compile_symbols.specs.Texts.{TablesStand};
+ghost use Rattle.cp_compile_symbols.specs.Texts.{TablesRepresent};
 ghost use Rattle.cp_check.specs.Checked.{Checks, IsCompiled};
 
 use cp_compile::compile;
@@ -31,7 +31,7 @@ pub struct CompiledText<'t> {
 ///
 /// `AllocError` if there is no room for them.
 pub fn tables_of<'t>(alloc: Global, tree: &'t Tree) -> Result<Box<Tables<'t>>, AllocError>
-    ensures { IfOk result (λ tables. TablesStand (globals (erase.abstract (view.tree tree.now)))
+    ensures { IfOk result (λ tables. TablesRepresent (globals (erase.abstract (view.tree tree.now)))
         tables.value tree.now) }
 {
     let tables = Box::new(alloc, Tables::of_tree(alloc, tree)?)?;

@@ -4,7 +4,7 @@ use Rattle.clap.specs.Words.{kind_of}
 use Rattle.clap.specs.declared.error.Error.{Error}
 use Rattle.clap.specs.declared.error.kind.ErrorKind.TheVariants as kind
 use Rattle.cp_cli.specs.declared.defaults.TheConstants.{CHUNK, ROUNDS, TICK, TURN, WAVE, WORKERS}
-use Rattle.cp_cli.specs.declared.numbers.TheConstants.{LARGEST_NUMBER}
+use Rattle.cp_cli.specs.declared.numbers.TheConstants.{MAX_OPTION_NUMBER}
 use Rattle.cp_cli.specs.declared.command.CommandError.{CommandError}
 use Rattle.cp_cli.specs.declared.command.CommandError.TheVariants as error
 use Rattle.cp_cli.specs.declared.command.Command.{Command}
@@ -29,9 +29,9 @@ HasRounds command.Version = Unit {0}
 HasRounds (command.Check file) = Unit {0}
 HasRounds (command.Explain file what) = Unit {0}
 HasRounds (command.ExplainRule page) = Unit {0}
-HasRounds (command.Run file run input progress) = run.rounds ≤ LARGEST_NUMBER
-HasRounds (command.Outcome file how form input progress) = how.limit ≤ LARGEST_NUMBER
-HasRounds (command.Trace file how only input progress) = how.rounds ≤ LARGEST_NUMBER
+HasRounds (command.Run file run input progress) = run.rounds ≤ MAX_OPTION_NUMBER
+HasRounds (command.Outcome file how form input progress) = how.limit ≤ MAX_OPTION_NUMBER
+HasRounds (command.Trace file how only input progress) = how.rounds ≤ MAX_OPTION_NUMBER
 HasRounds (command.Replay file order replay input) = Unit {0}
 
 -- The command if there are no words after the program's name.

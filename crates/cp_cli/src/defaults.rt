@@ -1,6 +1,6 @@
 //! The numbers that stand for options that aren't given.
 
-use cp_base_config::limits::LARGEST_PART;
+use cp_base_config::limits::MAX_CHUNK_PROCESSES;
 
 /// The rounds of a run.
 pub const ROUNDS: u32 = 2;
@@ -18,7 +18,7 @@ pub const WORKERS: u32 = 2;
 pub const CHUNK: u32 = 1;
 
 /// The processes of a wave.
-pub const WAVE: u32 = LARGEST_PART;
+pub const WAVE: u32 = MAX_CHUNK_PROCESSES;
 
 /// The rounds between two ticks of the clock.
 pub const TICK: u32 = 1;

@@ -6,7 +6,7 @@ use clap::ArgMatches;
 use std::alloc::Global;
 
 // There are no more processes than this.
-const MOST_NAMED: usize = 255;
+const MAX_NAMED_INPUTS: usize = 255;
 
 fn named<'a>(word: &'a str) -> Result<NamedInput<'a>, Misuse<'a>> {
     match word.split_once('=') {
@@ -19,8 +19,10 @@ fn named<'a>(word: &'a str) -> Result<NamedInput<'a>, Misuse<'a>> {
 
 // The inputs that these words name, no process twice.
 fn all_named<'a>(alloc: Global, words: &[&'a str]) -> Result<Vec<NamedInput<'a>>, Misuse<'a>> {
-    if MOST_NAMED < words.len() {
-        return Err(Misuse::ManyNamed { most: MOST_NAMED });
+    if MAX_NAMED_INPUTS < words.len() {
+        return Err(Misuse::ManyNamed {
+            most: MAX_NAMED_INPUTS,
+        });
     }
     let mut all: Vec<NamedInput<'a>> = Vec::new(alloc);
     for word in words {

@@ -62,7 +62,7 @@ impl<'a, T: Drop> From<AllocFailed<T>> for Misuse<'a> {
     }
 }
 
-fn told(
+fn reported(
     alloc: Global,
     grammar: &mut clap::Command<'_>,
     misuse: &Misuse<'_>,
@@ -77,7 +77,7 @@ impl<'a> Misuse<'a> {
         if let Misuse::Memory = self {
             return CommandError::Memory;
         }
-        match told(alloc, grammar, self) {
+        match reported(alloc, grammar, self) {
             Ok(error) => CommandError::Usage(error),
             Err(_) => CommandError::Memory,
         }

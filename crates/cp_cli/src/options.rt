@@ -6,9 +6,9 @@ ghost use Rattle.cp_cli.specs.Commands.{Has, HasReplay};
 
 use crate::defaults;
 use crate::misuse::Misuse;
-use crate::numbers::{LARGEST_NUMBER, number};
+use crate::numbers::{MAX_OPTION_NUMBER, number};
 use clap::ArgMatches;
-use cp_base_config::limits::{LARGEST_PART, LONGEST_TICK, LONGEST_TURN, MOST_WORKERS};
+use cp_base_config::limits::{MAX_CHUNK_PROCESSES, MAX_TICK_ROUNDS, MAX_TURN_STEPS, MAX_WORKERS};
 use cp_base_config::outcome::{OutcomeForm, UntilStill};
 use cp_base_config::plan::Plan;
 use cp_base_config::run::{Replay, Run};
@@ -62,7 +62,7 @@ pub(crate) fn count<'a>(
     most: u32,
     otherwise: u32,
 ) -> Result<u32, Misuse<'a>>
-    requires small { most ≤ LARGEST_NUMBER }
+    requires small { most ≤ MAX_OPTION_NUMBER }
     requires within { (low ≤ otherwise) × (otherwise ≤ most) }
     ensures within { IfOk result (λ n. (low ≤ n) × (n ≤ most)) }
 {
@@ -83,19 +83,19 @@ pub(crate) fn read_run<'a>(
 ) -> Result<Run, Misuse<'a>>
     ensures { IfOk result (λ run. run.rounds ≡ rounds) }
 {
-    let turn = count(matches, "turn", 1, LONGEST_TURN, defaults::TURN)?;
-    let workers = count(matches, "workers", 1, MOST_WORKERS, defaults::WORKERS)?;
-    let chunk = count(matches, "chunk", 1, LARGEST_PART, defaults::CHUNK)?;
-    let wave = count(matches, "wave", 1, LARGEST_PART, defaults::WAVE)?;
-    let tick = count(matches, "tick", 1, LONGEST_TICK, defaults::TICK)?;
+    let turn = count(matches, "turn", 1, MAX_TURN_STEPS, defaults::TURN)?;
+    let workers = count(matches, "workers", 1, MAX_WORKERS, defaults::WORKERS)?;
+    let chunk = count(matches, "chunk", 1, MAX_CHUNK_PROCESSES, defaults::CHUNK)?;
+    let wave = count(matches, "wave", 1, MAX_CHUNK_PROCESSES, defaults::WAVE)?;
+    let tick = count(matches, "tick", 1, MAX_TICK_ROUNDS, defaults::TICK)?;
     Ok(run_of(rounds, turn, workers, chunk, wave, tick, chains))
 }
 
 /// The run until nothing can move that the options tell.
 pub(crate) fn read_outcome<'a>(matches: &ArgMatches<'a>) -> Result<UntilStill, Misuse<'a>>
-    ensures { IfOk result (λ how. how.limit ≤ LARGEST_NUMBER) }
+    ensures { IfOk result (λ how. how.limit ≤ MAX_OPTION_NUMBER) }
 {
-    let limit = count(matches, "limit", 0, LARGEST_NUMBER, defaults::LIMIT)?;
+    let limit = count(matches, "limit", 0, MAX_OPTION_NUMBER, defaults::LIMIT)?;
     let Run { plan, tick, .. } = read_run(matches, limit, false)?;
     Ok(UntilStill { limit, plan, tick })
 }
@@ -125,11 +125,11 @@ fn read_trace_form<'a>(matches: &ArgMatches<'a>) -> TraceForm {
 
 /// The trace that the options tell. It ends with the last round that is told.
 pub(crate) fn read_trace<'a>(matches: &ArgMatches<'a>) -> Result<Tracing, Misuse<'a>>
-    ensures { IfOk result (λ how. how.rounds ≤ LARGEST_NUMBER) }
+    ensures { IfOk result (λ how. how.rounds ≤ MAX_OPTION_NUMBER) }
 {
-    let rounds = count(matches, "rounds", 0, LARGEST_NUMBER, defaults::ROUNDS)?;
-    let from = count(matches, "from", 1, LARGEST_NUMBER, 1)?;
-    let to = count(matches, "to", 1, LARGEST_NUMBER, LARGEST_NUMBER)?;
+    let rounds = count(matches, "rounds", 0, MAX_OPTION_NUMBER, defaults::ROUNDS)?;
+    let from = count(matches, "from", 1, MAX_OPTION_NUMBER, 1)?;
+    let to = count(matches, "to", 1, MAX_OPTION_NUMBER, MAX_OPTION_NUMBER)?;
     if to < from {
         return Err(Misuse::FromAboveTo);
     }
@@ -163,7 +163,7 @@ pub(crate) fn read_only<'a>(
 
 /// The replay that the options tell.
 pub(crate) fn read_replay<'a>(matches: &ArgMatches<'a>) -> Result<Replay, Misuse<'a>> {
-    let turn = count(matches, "turn", 1, LONGEST_TURN, defaults::TURN)?;
-    let tick = count(matches, "tick", 1, LONGEST_TICK, defaults::TICK)?;
+    let turn = count(matches, "turn", 1, MAX_TURN_STEPS, defaults::TURN)?;
+    let tick = count(matches, "tick", 1, MAX_TICK_ROUNDS, defaults::TICK)?;
     Ok(replay_of(turn, tick, matches.get_flag("chains")))
 }

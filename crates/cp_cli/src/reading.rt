@@ -8,7 +8,7 @@ use crate::defaults::{CHUNK, ROUNDS, TICK, TURN, WAVE, WORKERS};
 use crate::grammar::grammar;
 use crate::inputs::read_inputs;
 use crate::misuse::Misuse;
-use crate::numbers::LARGEST_NUMBER;
+use crate::numbers::MAX_OPTION_NUMBER;
 use crate::options::{
     count, read_form, read_only, read_outcome, read_replay, read_run, read_trace, run_of,
 };
@@ -61,7 +61,7 @@ fn run<'a>(
 ) -> Result<Command<'a>, Misuse<'a>>
     ensures { IfOk result HasRounds }
 {
-    let rounds = count(matches, "rounds", 0, LARGEST_NUMBER, ROUNDS)?;
+    let rounds = count(matches, "rounds", 0, MAX_OPTION_NUMBER, ROUNDS)?;
     Ok(Command::Run {
         file: Some(file),
         run: read_run(matches, rounds, matches.get_flag("chains"))?,

@@ -7,12 +7,12 @@ ghost use Rattle.cp_cli_inputs.specs.declared.named.InputError.TheVariants as er
 use cp_check::checking::tables_of;
 use cp_compile_symbols::{Field, small_number};
 use cp_frontend::checking::tree_of;
-use cp_frontend::cutting::LONGEST_INPUT;
+use cp_frontend::cutting::MAX_INPUT_BYTES;
 use cp_frontend::joining::{join, misplaced};
 use cp_frontend::reading::{ReadError, read_text};
 use cp_frontend::refusal::Refusal;
+use cp_inspect::component_table::INITIAL;
 use cp_inspect::listing::components;
-use cp_inspect::roster::INITIAL;
 use cp_model::tree::{Sort, Tree};
 use cp_rules::text::judge;
 use std::alloc::{AllocError, AllocFailed, Global};
@@ -127,7 +127,7 @@ fn read_inputs<'a, R: Read>(
         };
         let bytes = input.read(alloc)?;
         length = length.saturating_add(bytes.len());
-        if LONGEST_INPUT < length {
+        if MAX_INPUT_BYTES < length {
             return Err(InputError::Refused(Refusal::InputSize));
         }
         *place = bytes;

@@ -23,7 +23,7 @@ use Rattle.cp_model_program.specs.Scopes.{declared_type, or_zero}
 use Rattle.cp_compile_symbols.specs.declared.systems.SystemTable.{SystemTable}
 use Rattle.cp_compile_symbols.specs.declared.types.Types.{Types}
 use Rattle.cp_compile_symbols.specs.Numbering.{system_of}
-use Rattle.cp_compile_symbols.specs.Standing.{Stands, row_at, system_at}
+use Rattle.cp_compile_symbols.specs.Standing.{Represents, row_at, system_at}
 use Rattle.cp_compile_symbols.proofs.SystemsMade.{has_table, lacks_no_table}
 use Rattle.cp_compile_symbols.specs.declared.variables.Declared.{Declared}
 use Rattle.cp_compile_symbols.specs.Components.{own_members}
@@ -38,7 +38,7 @@ use Rattle.cp_compile.specs.CompiledComponents.{AreOwners, IsInitial, IsOwner, O
 -- ---- System types
 
 -- A type whose row is that of a component type is a component type.
-pub component_there : (types : Types) (n k : ℕ) (t : ResolvedType) → Stands types n t → system_of (row_at types n) ≡ Some k
+pub component_there : (types : Types) (n k : ℕ) (t : ResolvedType) → Represents types n t → system_of (row_at types n) ≡ Some k
     → (s : a.System) × (ms : Members) × (t ≡ ComponentOf s ms) × (b : Bor tree_system.System) × (system_at types k ≡ Some b) × (erase.system (tree.system b.now) ≡ s)
 component_there types n k (Simple b low high start) h is = absurd (let no = sym (ap system_of h.1) ∙ is in cc)
 component_there types n k (ArrayOf low high t) h is = absurd (let no = sym (ap system_of h.1) ∙ is in cc)
@@ -90,7 +90,7 @@ one_owner plans g (p ∷ os) [] o x are is = absurd are
 pub record PartlyOwned (plans : List StartPlan) (g : GlobalScope) (types : Types) (firsts : List (Name × ℕ)) (groups : List Group) (s : Sort) (left : List Entry)
     (all : List code.Owner) (owners : List Owner) : Type 0 where
   pub others : List (Name × Variable)
-  pub stand : AreDeclared types left others
+  pub represent : AreDeclared types left others
   pub so_far : List code.Owner
   pub are : AreOwners plans g owners so_far
   pub rest : so_far ++ owners_of firsts groups (of_sort s others) ≡ all
@@ -111,10 +111,10 @@ waiting_counted g types s ps vs rs ds n is declared count =
 pub component_put : (of : InitialCompiler) (plans : List StartPlan) (g : GlobalScope) (firsts : List (Name × ℕ)) (groups : List Group) (vs : List (Name × Variable))
     (v : Name × Variable) → IsInitial of plans g firsts groups vs → (k : ℕ) (text : Bor tree_system.System) (table : SystemTable) (n : ℕ) (o : Owner) (body : ℕ)
     → system_at of.tables.now.types k ≡ Some text → slice_get of.tables.now.systems.items k ≡ Some table
-    → body ≡ or_zero (lookup (declared_type v.0 groups) firsts) + length text.now.routines.items → Stands of.tables.now.types n v.1.type
+    → body ≡ or_zero (lookup (declared_type v.0 groups) firsts) + length text.now.routines.items → Represents of.tables.now.types n v.1.type
     → system_of (row_at of.tables.now.types n) ≡ Some k → IsOwner table body (of.plans + k) o → PutsOwner plans g firsts groups v o
-component_put of plans g firsts groups vs v i k text table n o body text_is table_is body_is stands number is =
-    let there = component_there of.tables.now.types n k v.1.type stands number in
+component_put of plans g firsts groups vs v i k text table n o body text_is table_is body_is represents number is =
+    let there = component_there of.tables.now.types n k v.1.type represents number in
     let same : there.3 ≡ text = same_Some there.3 text (sym there.4 ∙ text_is) in
     let erased : erase.system (tree.system text.now) ≡ there.0 = subst (λ (b : Bor tree_system.System). erase.system (tree.system b.now) ≡ there.0) same there.5 in
     let ps = text.now.parameters.items in
@@ -138,16 +138,16 @@ component_put of plans g firsts groups vs v i k text table n o body text_is tabl
 
 -- A component of a sort has a system type, which has a table.
 pub owner_has_table : (of : InitialCompiler) (plans : List StartPlan) (g : GlobalScope) (firsts : List (Name × ℕ)) (groups : List Group) (vs : List (Name × Variable))
-    → IsInitial of plans g firsts groups vs → (n k : ℕ) (t : ResolvedType) → Stands of.tables.now.types n t
+    → IsInitial of plans g firsts groups vs → (n k : ℕ) (t : ResolvedType) → Represents of.tables.now.types n t
     → system_of (row_at of.tables.now.types n) ≡ Some k → slice_get of.tables.now.systems.items k ≡ None → ⊥
-owner_has_table of plans g firsts groups vs i n k t stands number none =
-    let there = component_there of.tables.now.types n k t stands number in
+owner_has_table of plans g firsts groups vs i n k t represents number none =
+    let there = component_there of.tables.now.types n k t represents number in
     lacks_no_table g of.tables.now.types of.tables.now.systems.items k there.3 i.systems there.4 none
 
-pub owner_has_type : (types : Types) (n k : ℕ) (t : ResolvedType) → Stands types n t → system_of (row_at types n) ≡ Some k → system_at types k ≡ None → ⊥
-owner_has_type types n k t stands number none = (let there = component_there types n k t stands number in let some = there.4 in cc)
+pub owner_has_type : (types : Types) (n k : ℕ) (t : ResolvedType) → Represents types n t → system_of (row_at types n) ≡ Some k → system_at types k ≡ None → ⊥
+owner_has_type types n k t represents number none = (let there = component_there types n k t represents number in let some = there.4 in cc)
 
-pub owner_has_number : (types : Types) (n : ℕ) (s : Sort) (t : ResolvedType) → Stands types n t → is_component_of s t ≡ true
+pub owner_has_number : (types : Types) (n : ℕ) (s : Sort) (t : ResolvedType) → Represents types n t → is_component_of s t ≡ true
     → system_of (row_at types n) ≡ None → ⊥
 owner_has_number types n s (Simple b low high start) h own none = (cc)
 owner_has_number types n s (ArrayOf low high t) h own none = (cc)
@@ -175,19 +175,19 @@ one_put plans g firsts groups s v os before o own are put =
 -- One variable more.
 pub one_owned : (plans : List StartPlan) (g : GlobalScope) (types : Types) (firsts : List (Name × ℕ)) (groups : List Group) (s : Sort) (d : Entry) (left : List Entry)
     (all : List code.Owner) (os ps : List Owner) → PartlyOwned plans g types firsts groups s (d ∷ left) all os
-    → ((v : Variable) (xs : List code.Owner) → Stands types d.1.1 v.type → AreOwners plans g os xs
+    → ((v : Variable) (xs : List code.Owner) → Represents types d.1.1 v.type → AreOwners plans g os xs
     → AreOwners plans g ps (xs ++ owners_of firsts groups (of_sort s ((d.0, v) ∷ []))))
     → PartlyOwned plans g types firsts groups s left all ps
-one_owned plans g types firsts groups s d left all os ps some one = go some.others some.stand some.rest
+one_owned plans g types firsts groups s d left all os ps some one = go some.others some.represent some.rest
   where
     go : (others : List (Name × Variable)) → AreDeclared types (d ∷ left) others → some.so_far ++ owners_of firsts groups (of_sort s others) ≡ all
         → PartlyOwned plans g types firsts groups s left all ps
-    go [] stand rest = absurd stand
-    go (v ∷ vs) stand rest = record {
+    go [] represent rest = absurd represent
+    go (v ∷ vs) represent rest = record {
       others = vs;
-      stand = stand.3;
+      represent = represent.3;
       so_far = some.so_far ++ owners_of firsts groups (of_sort s (v ∷ []));
-      are = subst (λ x. AreOwners plans g ps (some.so_far ++ owners_of firsts groups (of_sort s ((x, v.1) ∷ [])))) stand.0 (one v.1 some.so_far stand.2 some.are);
+      are = subst (λ x. AreOwners plans g ps (some.so_far ++ owners_of firsts groups (of_sort s ((x, v.1) ∷ [])))) represent.0 (one v.1 some.so_far represent.2 some.are);
       rest =
           append_assoc some.so_far (owners_of firsts groups (of_sort s (v ∷ []))) (owners_of firsts groups (of_sort s vs))
           ∙ ap (λ xs. some.so_far ++ xs) (sym (owners_behind firsts groups (of_sort s (v ∷ [])) (of_sort s vs)) ∙ ap (owners_of firsts groups) (sym (sort_behind s v vs)))
@@ -197,8 +197,8 @@ one_owned plans g types firsts groups s d left all os ps some one = go some.othe
 pub all_owned : (plans : List StartPlan) (g : GlobalScope) (types : Types) (firsts : List (Name × ℕ)) (groups : List Group) (s : Sort) (left : List Entry)
     (all : List code.Owner) (os : List Owner) → left ≡ [] → PartlyOwned plans g types firsts groups s left all os → AreOwners plans g os all
 all_owned plans g types firsts groups s left all os none some =
-    go some.others (subst (λ ds. AreDeclared types ds some.others) none some.stand) some.rest
+    go some.others (subst (λ ds. AreDeclared types ds some.others) none some.represent) some.rest
   where
     go : (others : List (Name × Variable)) → AreDeclared types [] others → some.so_far ++ owners_of firsts groups (of_sort s others) ≡ all → AreOwners plans g os all
-    go [] stand rest = subst (AreOwners plans g os) (sym (append-nil some.so_far) ∙ rest) some.are
-    go (v ∷ vs) stand rest = absurd stand
+    go [] represent rest = subst (AreOwners plans g os) (sym (append-nil some.so_far) ∙ rest) some.are
+    go (v ∷ vs) represent rest = absurd represent

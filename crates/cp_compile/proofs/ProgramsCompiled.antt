@@ -19,8 +19,8 @@ use Rattle.cp_compile_emit.specs.ComponentPlans.{ArePlans}
 use Rattle.cp_compile_emit.specs.Planning.{Extends, Knows, types_of}
 use Rattle.cp_compile_symbols.specs.declared.tables.Tables.{Tables}
 use Rattle.cp_compile_symbols.specs.Layouts.{AreLaid}
-use Rattle.cp_compile_symbols.specs.Standing.{ScopeStands}
-use Rattle.cp_compile_symbols.specs.Texts.{TablesStand}
+use Rattle.cp_compile_symbols.specs.Standing.{ScopeRepresents}
+use Rattle.cp_compile_symbols.specs.Texts.{TablesRepresent}
 use Rattle.cp_compile_symbols.specs.Variables.{AreDeclared, Entry}
 use Rattle.cp_compile.specs.declared.compiler.Code.{Code}
 use Rattle.cp_compile.specs.declared.compiler.Plans.{Plans}
@@ -68,26 +68,26 @@ same_program x y os us ms ps n =
 -- ---- Components
 
 pub initial_known : (of : InitialCompiler) (known : List program.StartPlan) (t : text.Tree) (c : Code) (plans : Plans) → of.firsts.now ≡ c.firsts → of.plans ≡ plans.first
-    → TablesStand (globals (text_of t)) of.tables.now t → IsCode known c (text_of t) → ArePlansOf known (globals (text_of t)) of.tables.now t plans
+    → TablesRepresent (globals (text_of t)) of.tables.now t → IsCode known c (text_of t) → ArePlansOf known (globals (text_of t)) of.tables.now t plans
     → IsInitial of known (globals (text_of t)) (text_types (text_of t)).firsts (text_of t).initial.variables
     (declarations (globals (text_of t)) (text_of t).initial.variables)
-initial_known of known t c plans same numbered stands is made = record {
-  systems = stands.systems;
-  declared = stands.initial.variables;
-  type_names = stands.initial.variable_types;
+initial_known of known t c plans same numbered represents is made = record {
+  systems = represents.systems;
+  declared = represents.initial.variables;
+  type_names = represents.initial.variable_types;
   firsts_are = λ x. ap (lookup x) same ∙ is.firsts_are x;
   planned = subst (ArePlans (globals (text_of t)) of.tables.now known) (sym numbered) made.systems;
 }
 
-pub initial_owner : (tables : Tables) (known : List program.StartPlan) (t : text.Tree) (c : Code) (plans : Plans) (body routines : ℕ) (o : Owner) → TablesStand (globals (text_of t)) tables t
+pub initial_owner : (tables : Tables) (known : List program.StartPlan) (t : text.Tree) (c : Code) (plans : Plans) (body routines : ℕ) (o : Owner) → TablesRepresent (globals (text_of t)) tables t
     → IsCode known c (text_of t) → ArePlansOf known (globals (text_of t)) tables t plans → body ≡ c.first + routines → routines ≡ length t.routines.items
     → IsOwner tables.initial body plans.initial o
     → OwnerIs known (globals (text_of t)) o
     (record { system = (text_of t).initial; body = length (text_types (text_of t)).compiled.units + length (text_of t).initial.routines })
-initial_owner tables known t c plans body routines o stands is made body_is routines_are owner =
+initial_owner tables known t c plans body routines o represents is made body_is routines_are owner =
     let s = (text_of t).initial in
     let own =
-    owner known (globals (text_of t)) tables.types s [] t.variables.items t.routines.items stands.initial
+    owner known (globals (text_of t)) tables.types s [] t.variables.items t.routines.items represents.initial
     (record { parameters = refl; variables = refl; routines = refl }) made.initial_is in
     let count : length s.routines ≡ length t.routines.items =
     length-map (map tree.routine t.routines.items) erase.routine ∙ length-map t.routines.items tree.routine in
@@ -99,6 +99,6 @@ initial_owner tables known t c plans body routines o stands is made body_is rout
     }
 
 pub planner_is : (tables : Tables) (planner : Planner) (g : GlobalScope) (t : text.Tree) → planner.tables.now ≡ tables
-    → ((h : GlobalScope) → ScopeStands tables.names tables.types h → AreLaid h tables.types tables.layouts.rows.items → Knows planner h)
-    → TablesStand g tables t → IsPlanner tables planner g
-planner_is tables planner g t over knows stands = record { over = over; knows = knows g stands.scope stands.laid.laid }
+    → ((h : GlobalScope) → ScopeRepresents tables.names tables.types h → AreLaid h tables.types tables.layouts.rows.items → Knows planner h)
+    → TablesRepresent g tables t → IsPlanner tables planner g
+planner_is tables planner g t over knows represents = record { over = over; knows = knows g represents.scope represents.laid.laid }

@@ -13,13 +13,13 @@ use Rattle.cp_model_program.specs.Compile.{Compiled, with_body, with_routine, wi
 use Rattle.cp_model_program.specs.Plans.{plan_of_routine}
 use Rattle.cp_model_program.specs.Programs.{Done, Operation, Return, StartPlan}
 use Rattle.cp_model_program.specs.Scopes as code
-use Rattle.cp_model_program.specs.StandsFor.{end_of}
+use Rattle.cp_model_program.specs.IsProgramFor.{end_of}
 use Rattle.cp_model_program.specs.StatementsFor.{is_function}
 use Rattle.cp_compile_symbols.specs.declared.routines.RoutineTable.{RoutineTable}
 use Rattle.cp_compile_symbols.specs.declared.scope.Scope.{Scope}
-use Rattle.cp_compile_symbols.specs.Routines.{RoutineStands}
+use Rattle.cp_compile_symbols.specs.Routines.{RoutineRepresents}
 use Rattle.cp_compile_symbols.specs.Systems.{AreRoutines, routines_of}
-use Rattle.cp_compile_symbols.proofs.Called.{routine_stands}
+use Rattle.cp_compile_symbols.proofs.Called.{routine_represents}
 use Rattle.cp_compile_symbols.specs.Scopes.{IsRoutine, IsScope, words_of}
 use Rattle.cp_compile_symbols.specs.declared.types.Types.{Types}
 use Rattle.cp_compile_symbols.specs.Variables.{AreDeclared, Entry}
@@ -114,9 +114,9 @@ routine_there (t ∷ ts) rest (suc i) x h = routine_there ts rest i x h
 pub routine_known : (of : SystemCompiler) (g : GlobalScope) (s : System) (firsts : List (Name × ℕ)) → IsSystem of g s firsts
     → (texts rest : List tree_routine.Routine) (i : ℕ) (x : tree_routine.Routine) (t : RoutineTable) → s.routines ≡ routines_of texts
     → drop i texts ≡ x ∷ rest → slice_get of.system.now.routines.items i ≡ Some t
-    → RoutineStands g of.tables.now.types t (erase.routine (tree.routine x))
+    → RoutineRepresents g of.tables.now.types t (erase.routine (tree.routine x))
 routine_known of g s firsts is texts rest i x t all step here =
-    routine_stands g of.tables.now.types of.system.now.routines.items (routines_of texts) i t (erase.routine (tree.routine x))
+    routine_represents g of.tables.now.types of.system.now.routines.items (routines_of texts) i t (erase.routine (tree.routine x))
     (subst (AreRoutines g of.tables.now.types of.system.now.routines.items) (sym is.written.routines ∙ all) is.system.routines) here
     (routine_there texts rest i x step)
 

@@ -15,7 +15,7 @@ use Rattle.cp_model_program.specs.Programs.{StartPlan}
 use Rattle.cp_compile_symbols.specs.declared.systems.SystemTable.{SystemTable}
 use Rattle.cp_compile_symbols.specs.declared.types.Types.{Types}
 use Rattle.cp_compile_symbols.specs.Scopes.{IsWritten}
-use Rattle.cp_compile_symbols.specs.Systems.{SystemStands}
+use Rattle.cp_compile_symbols.specs.Systems.{SystemRepresents}
 use Rattle.cp_compile_symbols.specs.Texts.{AreSystems}
 use Rattle.cp_compile_symbols.specs.TypeNames.{AreTypeNames}
 use Rattle.cp_compile_symbols.specs.Variables.{AreDeclared, declared_entry}
@@ -43,7 +43,7 @@ abbrev pub IsOwner : SystemTable → ℕ → ℕ → Owner → Type 0
 IsOwner table body plan o =
     (plans : List StartPlan) (g : GlobalScope) (types : Types) (s : System)
     (ps : List Parameters) (vs : List Fields) (rs : List tree_routine.Routine)
-    → SystemStands g types table ps vs rs → IsWritten s ps vs rs → plan_at plans plan ≡ plan_of_component g s
+    → SystemRepresents g types table ps vs rs → IsWritten s ps vs rs → plan_at plans plan ≡ plan_of_component g s
     → OwnerIs plans g o (record { system = s; body = body })
 
 -- The component that the variable `v` is, in the definition, is `o`.

@@ -11,8 +11,8 @@ use Rattle.cp_compile_emit.specs.declared.emitter.Emitter.{Emitter}
 use Rattle.cp_compile_emit.specs.Planning.{Knows, known_of}
 use Rattle.cp_compile_symbols.specs.Layouts.{EachIsLaid}
 use Rattle.cp_compile_symbols.specs.Scopes.{IsWritten}
-use Rattle.cp_compile_symbols.specs.Standing.{ScopeStands}
-use Rattle.cp_compile_symbols.specs.Systems.{SystemStands}
+use Rattle.cp_compile_symbols.specs.Standing.{ScopeRepresents}
+use Rattle.cp_compile_symbols.specs.Systems.{SystemRepresents}
 use Rattle.cp_compile_symbols.specs.Texts.{AreSystems}
 use Rattle.cp_compile.specs.Compiles.{IsCompiled}
 use Rattle.cp_compile.specs.declared.system.SystemCompiler.{SystemCompiler}
@@ -23,10 +23,10 @@ pub record IsSystem (of : SystemCompiler) (g : GlobalScope) (s : System) (firsts
   pub variables : List Fields
   pub routines : List tree.Routine
   pub written : IsWritten s parameters variables routines
-  pub names : ScopeStands of.tables.now.names of.tables.now.types g
+  pub names : ScopeRepresents of.tables.now.names of.tables.now.types g
   pub laid : EachIsLaid g of.tables.now.types of.tables.now.layouts.rows.items
   pub systems : AreSystems g of.tables.now.types of.tables.now.systems.items
-  pub system : SystemStands g of.tables.now.types of.system.now parameters variables routines
+  pub system : SystemRepresents g of.tables.now.types of.system.now parameters variables routines
   pub planned : of.planner.now.tables.now ≡ of.tables.now
   pub knows : Knows of.planner.now g
   pub firsts_are : (x : Name) → lookup x of.firsts.now ≡ lookup x firsts

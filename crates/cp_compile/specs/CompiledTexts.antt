@@ -11,7 +11,7 @@ use Rattle.cp_compile_emit.specs.declared.emitter.Emitter.{Emitter}
 use Rattle.cp_compile_emit.specs.Planning.{Knows, known_of}
 use Rattle.cp_compile_symbols.specs.Layouts.{EachIsLaid}
 use Rattle.cp_compile_symbols.specs.Numbering.{system_of}
-use Rattle.cp_compile_symbols.specs.Standing.{ScopeStands, row_at}
+use Rattle.cp_compile_symbols.specs.Standing.{ScopeRepresents, row_at}
 use Rattle.cp_compile_symbols.specs.Texts.{AreSystems}
 use Rattle.cp_compile_symbols.specs.declared.tables.Tables.{Tables}
 use Rattle.cp_compile.specs.declared.definitions.TextCompiler.{TextCompiler}
@@ -19,7 +19,7 @@ use Rattle.cp_compile.specs.Compiles.{IsCompiled}
 
 -- The tables stand for the text with the outermost scope `g`.
 pub record IsText (of : TextCompiler) (g : GlobalScope) : Type 0 where
-  pub names : ScopeStands of.tables.now.names of.tables.now.types g
+  pub names : ScopeRepresents of.tables.now.names of.tables.now.types g
   pub laid : EachIsLaid g of.tables.now.types of.tables.now.layouts.rows.items
   pub systems : AreSystems g of.tables.now.types of.tables.now.systems.items
   pub planned : of.planner.now.tables.now ≡ of.tables.now

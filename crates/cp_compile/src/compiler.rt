@@ -9,7 +9,7 @@ ghost use Rattle.cp_model.specs.declared.tree.Tree as text;
 ghost use Rattle.cp_model_program.specs.Compile as code;
 ghost use Rattle.cp_model_program.specs.Programs.{StartPlan};
 ghost use Rattle.cp_compile_emit.specs.Planning.{known_of};
-ghost use Rattle.cp_compile_symbols.specs.Texts.{TablesStand};
+ghost use Rattle.cp_compile_symbols.specs.Texts.{TablesRepresent};
 ghost use Rattle.cp_program.specs.View as view;
 ghost use Rattle.cp_program.specs.View.{origins_of};
 ghost use Rattle.cp_compile.specs.Compiles.{EndsAt};
@@ -61,11 +61,11 @@ fn compile_code<'t>(
     planner: &Planner<'_, 't>,
 ) -> Result<Code<'t>, AllocError>
     ensures code { IfOk result (λ code. Accepted (syntax.tree tree.now)
-        → TablesStand (globals (text_of tree.now)) tables.now tree.now
+        → TablesRepresent (globals (text_of tree.now)) tables.now tree.now
         → IsPlanner tables.now planner.now (globals (text_of tree.now))
         → IsCode (known_of planner.now) code (text_of tree.now)) }
     ensures origin { IfOk result (λ code.
-        TablesStand (globals (text_of tree.now)) tables.now tree.now
+        TablesRepresent (globals (text_of tree.now)) tables.now tree.now
         → IsPlanner tables.now planner.now (globals (text_of tree.now))
         → EndsAt tree.now.body.at [] code.emitter.origins.items) }
 {
@@ -97,7 +97,7 @@ fn compile_code<'t>(
 // Makes the plans of the components of all system types and of the initial process.
 fn make_plans<'t>(tables: &Tables<'t>, planner: &mut Planner<'_, 't>) -> Result<Plans, AllocError>
     ensures plans { IfOk result (λ plans. (g : GlobalScope) (t : text.Tree)
-        → TablesStand g tables.now t → IsPlanner tables.now planner.old g
+        → TablesRepresent g tables.now t → IsPlanner tables.now planner.old g
         → ArePlansOf (known_of planner.new) g tables.now t plans) }
     ensures planner { (g : GlobalScope)
         → IsPlanner tables.now planner.old g → IsPlanner tables.now planner.new g }
@@ -116,7 +116,7 @@ fn lay_components<'t>(
     plans: Plans,
 ) -> Result<Components, AllocError>
     ensures { IfOk result (λ components. (known : List StartPlan)
-        → TablesStand (globals (text_of tree.now)) tables.now tree.now
+        → TablesRepresent (globals (text_of tree.now)) tables.now tree.now
         → IsCode known code.now (text_of tree.now)
         → ArePlansOf known (globals (text_of tree.now)) tables.now tree.now plans
         → ComponentsLie known components (text_of tree.now)) }
@@ -155,7 +155,7 @@ pub fn compile<'t>(
     tables: &Tables<'t>,
 ) -> Result<Program, AllocError>
     ensures program { IfOk result (λ program. Accepted (syntax.tree tree.now)
-        → TablesStand (globals (text_of tree.now)) tables.now tree.now
+        → TablesRepresent (globals (text_of tree.now)) tables.now tree.now
         → view.program program ≡ code.compile (text_of tree.now)) }
     ensures origins { IfOk result
         (λ program. length (origins_of program) ≡ length (view.program program).operations) }

@@ -8,7 +8,7 @@ ghost use Rattle.cp_model.specs.Types.{GlobalScope};
 ghost use Rattle.cp_model_program.specs.Compile as code;
 ghost use Rattle.cp_model_program.specs.Compile.{of_sort, owners_of};
 ghost use Rattle.cp_compile_symbols.specs.Numbering.{system_of};
-ghost use Rattle.cp_compile_symbols.specs.Standing.{Stands, row_at, system_at};
+ghost use Rattle.cp_compile_symbols.specs.Standing.{Represents, row_at, system_at};
 ghost use Rattle.cp_model_program.specs.Programs.{StartPlan};
 ghost use Rattle.cp_compile.specs.CompiledComponents.{AreOwners, IsInitial, IsOwner, PutsOwner};
 
@@ -63,7 +63,7 @@ impl<'s, 't> InitialCompiler<'s, 't> {
         ensures { IfOk result (λ o. (plans : List StartPlan) (g : GlobalScope)
             (firsts : List (Name × ℕ)) (groups : List Group) (vs : List (Name × Variable))
             (v : Variable) → IsInitial self.now plans g firsts groups vs
-            → Stands self.now.tables.now.types d.now.of v.type
+            → Represents self.now.tables.now.types d.now.of v.type
             → system_of (row_at self.now.tables.now.types d.now.of) ≡ Some number
             → system_at self.now.tables.now.types number ≡ Some text.entry
             → slice_get self.now.tables.now.systems.items number ≡ Some table.now
@@ -88,7 +88,7 @@ impl<'s, 't> InitialCompiler<'s, 't> {
         ensures { OnOk result ((plans : List StartPlan) (g : GlobalScope)
             (firsts : List (Name × ℕ)) (groups : List Group) (vs : List (Name × Variable))
             (v : Variable) (before : List code.Owner) → IsInitial self.now plans g firsts groups vs
-            → Stands self.now.tables.now.types d.now.of v.type
+            → Represents self.now.tables.now.types d.now.of v.type
             → AreOwners plans g owners.old.items before → AreOwners plans g owners.new.items
             (before ++ owners_of firsts groups
             (of_sort (erase.sort_of sort) ((d.now.name.now, v) ∷ [])))) }

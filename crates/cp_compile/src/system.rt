@@ -6,8 +6,8 @@ ghost use Rattle.cp_model.specs.Erase as erase;
 ghost use Rattle.cp_model.specs.Types.{GlobalScope};
 ghost use Rattle.cp_model.specs.View as tree;
 ghost use Rattle.cp_model_program.specs.Compile.{Compiled, with_body, with_routine, with_routines, with_system};
-ghost use Rattle.cp_model_program.specs.StandsFor.{end_of};
-ghost use Rattle.cp_compile_symbols.specs.Routines.{RoutineStands};
+ghost use Rattle.cp_model_program.specs.IsProgramFor.{end_of};
+ghost use Rattle.cp_compile_symbols.specs.Routines.{RoutineRepresents};
 ghost use Rattle.cp_compile_symbols.specs.Systems.{routines_of};
 ghost use Rattle.cp_program.specs.View as view;
 ghost use Rattle.cp_compile.specs.Compiles.{AddsUnit, EndsAt, body_of};
@@ -55,11 +55,11 @@ impl<'s, 't> SystemCompiler<'s, 't> {
     ) -> Result<(), AllocError>
         ensures code { OnOk result ((g : GlobalScope) (s : System) (firsts : List (Name × ℕ))
             (c : Compiled) → IsSystem self.now g s firsts
-            → RoutineStands g self.now.tables.now.types table.now
+            → RoutineRepresents g self.now.tables.now.types table.now
             (erase.routine (tree.routine text.now)) → Makes self.now emitter.old emitter.new c
             (with_routine g s firsts self.now.first (erase.routine (tree.routine text.now)) c)) }
         ensures origin { OnOk result ((g : GlobalScope) (s : System) (firsts : List (Name × ℕ))
-            → IsSystem self.now g s firsts → RoutineStands g self.now.tables.now.types table.now
+            → IsSystem self.now g s firsts → RoutineRepresents g self.now.tables.now.types table.now
             (erase.routine (tree.routine text.now))
             → AddsUnit text.now.name.at emitter.old.origins.items emitter.new.origins.items) }
     {

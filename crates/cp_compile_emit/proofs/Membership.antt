@@ -14,7 +14,7 @@ use Rattle.cp_compile_symbols.specs.declared.types.Types.{Types}
 use Rattle.cp_compile_symbols.specs.declared.types.Field.{Field}
 use Rattle.cp_compile_symbols.specs.declared.variables.Declared.{Declared}
 use Rattle.cp_compile_symbols.specs.Numbering.{system_of}
-use Rattle.cp_compile_symbols.specs.Standing.{AreMembers, Stands, entry, row_at}
+use Rattle.cp_compile_symbols.specs.Standing.{AreMembers, Represents, entry, row_at}
 use Rattle.cp_compile_symbols.specs.Variables.{AreDeclared, declared_entry}
 use Rattle.cp_compile_emit.specs.Members.{is_own, member_of, own_of}
 
@@ -36,13 +36,13 @@ keeps_one types kept more d rest is =
 
 -- ---- Members
 
-own_is : (types : Types) (n : ℕ) (t : ResolvedType) → Stands types n t → is_none (system_of (row_at types n)) ≡ not (is_component t)
-own_is types n (Simple b l h s) stands = ap (λ r. is_none (system_of r)) stands.1
-own_is types n (ArrayOf l h t) stands = ap (λ r. is_none (system_of r)) stands.1
-own_is types n (RecordOf ms) stands = ap (λ r. is_none (system_of r)) stands.1
-own_is types n Queue stands = ap (λ r. is_none (system_of r)) stands
-own_is types n (ComponentOf s ms) stands = ap (λ r. is_none (system_of r)) stands.3
-own_is types n NoType stands = ap (λ r. is_none (system_of r)) stands
+own_is : (types : Types) (n : ℕ) (t : ResolvedType) → Represents types n t → is_none (system_of (row_at types n)) ≡ not (is_component t)
+own_is types n (Simple b l h s) represents = ap (λ r. is_none (system_of r)) represents.1
+own_is types n (ArrayOf l h t) represents = ap (λ r. is_none (system_of r)) represents.1
+own_is types n (RecordOf ms) represents = ap (λ r. is_none (system_of r)) represents.1
+own_is types n Queue represents = ap (λ r. is_none (system_of r)) represents
+own_is types n (ComponentOf s ms) represents = ap (λ r. is_none (system_of r)) represents.3
+own_is types n NoType represents = ap (λ r. is_none (system_of r)) represents
 
 pub declared_members : (types : Types) (ds : List Declared) (vs : List (Name × Variable)) (fs : List (Name × ℕ)) (ms : Members)
     → AreDeclared types (map declared_entry ds) vs → AreMembers types fs ms → AreMembers types (map member_of ds ++ fs) (members_from vs ms)
@@ -114,25 +114,25 @@ routine_planned g r b head first rest marked is head_is first_is rest_is marked_
 -- The variables that remain after those that are counted.
 pub record PartlyCounted (g : GlobalScope) (types : Types) (vs : List (Name × Variable)) (at next : ℕ) (ds : List Declared) : Type 0 where
   pub others : List (Name × Variable)
-  pub stand : AreDeclared types (map declared_entry ds) others
+  pub represent : AreDeclared types (map declared_entry ds) others
   pub counts : next + locals_words g others ≡ at + locals_words g vs
 
 pub one_counted : (g : GlobalScope) (types : Types) (vs : List (Name × Variable)) (at now next words : ℕ) (d : Declared) (ds : List Declared)
-    → next ≡ now + words → ((v : Variable) → d.by_reference ≡ v.by_reference → Stands types d.of v.type → words ≡ local_words g v)
+    → next ≡ now + words → ((v : Variable) → d.by_reference ≡ v.by_reference → Represents types d.of v.type → words ≡ local_words g v)
     → PartlyCounted g types vs at now (d ∷ ds) → PartlyCounted g types vs at next ds
-one_counted g types vs at now next words d ds is counts some = go some.others some.stand some.counts
+one_counted g types vs at now next words d ds is counts some = go some.others some.represent some.counts
   where
     go : (others : List (Name × Variable)) → AreDeclared types (map declared_entry (d ∷ ds)) others
         → now + locals_words g others ≡ at + locals_words g vs → PartlyCounted g types vs at next ds
-    go [] stand all = absurd stand
-    go (v ∷ others) stand all =
-        let one = counts v.1 stand.1 stand.2 in
-        record { others = others; stand = stand.3; counts = omega (arith, is, one, all) }
+    go [] represent all = absurd represent
+    go (v ∷ others) represent all =
+        let one = counts v.1 represent.1 represent.2 in
+        record { others = others; represent = represent.3; counts = omega (arith, is, one, all) }
 
 pub all_counted : (g : GlobalScope) (types : Types) (vs : List (Name × Variable)) (at next : ℕ) (ds : List Declared) → ds ≡ []
     → PartlyCounted g types vs at next ds → next ≡ at + locals_words g vs
-all_counted g types vs at next ds none some = go some.others (subst (λ es. AreDeclared types (map declared_entry es) some.others) none some.stand) some.counts
+all_counted g types vs at next ds none some = go some.others (subst (λ es. AreDeclared types (map declared_entry es) some.others) none some.represent) some.counts
   where
     go : (others : List (Name × Variable)) → AreDeclared types [] others → next + locals_words g others ≡ at + locals_words g vs → next ≡ at + locals_words g vs
-    go [] stand all = omega (arith, all)
-    go (v ∷ others) stand all = absurd stand
+    go [] represent all = omega (arith, all)
+    go (v ∷ others) represent all = absurd represent

@@ -15,7 +15,7 @@ use Rattle.cp_program.specs.View.{plan_at, plan_of, plan_or_none, plans_in}
 use Rattle.cp_program.proofs.PlansKnown.{pieces_counted, plans_length}
 use Rattle.cp_compile_symbols.specs.declared.types.Field.{Field}
 use Rattle.cp_compile_symbols.specs.declared.types.Types.{Types}
-use Rattle.cp_compile_symbols.specs.Standing.{AreMembers, Stands}
+use Rattle.cp_compile_symbols.specs.Standing.{AreMembers, Represents}
 use Rattle.cp_compile_emit.specs.declared.plan.Placed.{Placed}
 use Rattle.cp_compile_emit.specs.Planning.{placed_in}
 
@@ -98,13 +98,13 @@ module _ (zeros : Bool) (g : GlobalScope) (types : Types) (known : List code.Sta
   -- The first members are placed, and the others remain.
   pub record PartlyPlaced (ms : Members) (at next : ℕ) (fields : List (Name × ℕ)) (parts : List Placed) : Type 0 where
     pub others : Members
-    pub stand : AreMembers types fields others
+    pub represent : AreMembers types fields others
     pub all : map (placed_in known) parts ++ placed zeros g others next ≡ placed zeros g ms at
 
   pub none_placed : (ms : Members) (at : ℕ) (fields : List (Name × ℕ)) (parts : List Placed) → parts ≡ [] → AreMembers types fields ms → PartlyPlaced ms at at fields parts
-  none_placed ms at fields parts none stand = record {
+  none_placed ms at fields parts none represent = record {
     others = ms;
-    stand = stand;
+    represent = represent;
     all = ap (λ (ps : List Placed). map (placed_in known) ps ++ placed zeros g ms at) none;
   }
 
@@ -114,39 +114,39 @@ module _ (zeros : Bool) (g : GlobalScope) (types : Types) (known : List code.Sta
 
   pub one_placed : (ms : Members) (at now next size plan' : ℕ) (f : Name × ℕ) (fields : List (Name × ℕ)) (before after : List Placed)
       → after ≡ before ++ record { at = now; size = size; plan = plan' } ∷ [] → next ≡ now + size
-      → ((t : ResolvedType) → Stands types f.1 t → size ≡ words g t)
-      → ((t : ResolvedType) → Stands types f.1 t → plan_at known plan' ≡ plan zeros g t)
+      → ((t : ResolvedType) → Represents types f.1 t → size ≡ words g t)
+      → ((t : ResolvedType) → Represents types f.1 t → plan_at known plan' ≡ plan zeros g t)
       → PartlyPlaced ms at now (f ∷ fields) before → PartlyPlaced ms at next fields after
-  one_placed ms at now next size plan' f fields before after is lies sized planned some = go some.others some.stand some.all
+  one_placed ms at now next size plan' f fields before after is lies sized planned some = go some.others some.represent some.all
     where
       go : (others : Members) → AreMembers types (f ∷ fields) others → map (placed_in known) before ++ placed zeros g others now ≡ placed zeros g ms at
           → PartlyPlaced ms at next fields after
-      go NoMembers stand all = absurd stand
-      go (MoreMembers x t others) stand all =
+      go NoMembers represent all = absurd represent
+      go (MoreMembers x t others) represent all =
           let p : Placed = record { at = now; size = size; plan = plan' } in
           let rest = placed zeros g others next in
           let same : placed_in known p ≡ record { at = now; size = words g t; plan = plan zeros g t } =
-          λ i. record { at = now; size = sized t stand.1 i; plan = planned t stand.1 i } in
+          λ i. record { at = now; size = sized t represent.1 i; plan = planned t represent.1 i } in
           record {
             others = others;
-            stand = stand.2;
+            represent = represent.2;
             all =
                 ap (λ (ps : List Placed). map (placed_in known) ps ++ rest) is
                 ∙ added_last before p rest
                 ∙ ap (λ q. map (placed_in known) before ++ q ∷ rest) same
                 ∙ ap (λ n. map (placed_in known) before ++ record { at = now; size = words g t; plan = plan zeros g t } ∷ placed zeros g others n)
-                (lies ∙ ap (λ n. now + n) (sized t stand.1))
+                (lies ∙ ap (λ n. now + n) (sized t represent.1))
                 ∙ all;
           }
 
   pub all_placed : (ms : Members) (at next : ℕ) (fields : List (Name × ℕ)) (parts : List Placed) → fields ≡ [] → PartlyPlaced ms at next fields parts
       → map (placed_in known) parts ≡ placed zeros g ms at
-  all_placed ms at next fields parts none some = go some.others (subst (λ fs. AreMembers types fs some.others) none some.stand) some.all
+  all_placed ms at next fields parts none some = go some.others (subst (λ fs. AreMembers types fs some.others) none some.represent) some.all
     where
       go : (others : Members) → AreMembers types [] others → map (placed_in known) parts ++ placed zeros g others next ≡ placed zeros g ms at
           → map (placed_in known) parts ≡ placed zeros g ms at
-      go NoMembers stand all = sym (append-nil (map (placed_in known) parts)) ∙ all
-      go (MoreMembers x t others) stand all = absurd stand
+      go NoMembers represent all = sym (append-nil (map (placed_in known) parts)) ∙ all
+      go (MoreMembers x t others) represent all = absurd represent
 
 -- No plan has the number of the next one.
 pub no_plan_past : (ps : List StartPlan) (n : ℕ) → n ≡ length ps → plan_at (plans_in ps) n ≡ code.Done

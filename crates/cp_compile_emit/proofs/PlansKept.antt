@@ -9,7 +9,7 @@ use Rattle.cp_program.specs.declared.program.StartPlan.{StartPlan}
 use Rattle.cp_program.proofs.PlansKnown as table
 use Rattle.cp_compile_symbols.specs.declared.tables.Tables.{Tables}
 use Rattle.cp_compile_symbols.specs.Layouts.{AreLaid}
-use Rattle.cp_compile_symbols.specs.Standing.{ScopeStands, Stands}
+use Rattle.cp_compile_symbols.specs.Standing.{ScopeRepresents, Represents}
 use Rattle.cp_compile_symbols.proofs.Laying.{last_or_before}
 use Rattle.cp_compile_emit.specs.declared.plan.Planner.{Planner}
 use Rattle.cp_compile_emit.specs.declared.plan.TypePlans.{TypePlans}
@@ -51,31 +51,31 @@ planned_kept old new g p t e are = record {
   zeroed = plan_kept old new p.zeroed e are.zeroed_there ∙ are.zeroed;
 }
 
-pub stands_before : (old new : Planner) (n : ℕ) (t : ResolvedType) → Extends old new → Stands (types_of new) n t → Stands (types_of old) n t
-stands_before old new n t e stands = subst (λ (b : Bor Tables). Stands b.now.types n t) e.tables_are stands
+pub represents_before : (old new : Planner) (n : ℕ) (t : ResolvedType) → Extends old new → Represents (types_of new) n t → Represents (types_of old) n t
+represents_before old new n t e represents = subst (λ (b : Bor Tables). Represents b.now.types n t) e.tables_are represents
 
 pub knows_kept : (old new : Planner) (g : GlobalScope) → Extends old new → new.types.items ≡ old.types.items → Knows old g → Knows new g
 knows_kept old new g e same k = record {
-  scope = subst (λ (b : Bor Tables). ScopeStands b.now.names b.now.types g) (sym e.tables_are) k.scope;
+  scope = subst (λ (b : Bor Tables). ScopeRepresents b.now.names b.now.types g) (sym e.tables_are) k.scope;
   laid = subst (λ (b : Bor Tables). AreLaid g b.now.types b.now.layouts.rows.items) (sym e.tables_are) k.laid;
-  planned = λ n numbers t there stands.
+  planned = λ n numbers t there represents.
       planned_kept old new g numbers t e
-      (k.planned n numbers t (ap (λ (xs : List (Option TypePlans)). slice_get xs n) (sym same) ∙ there) (stands_before old new n t e stands));
+      (k.planned n numbers t (ap (λ (xs : List (Option TypePlans)). slice_get xs n) (sym same) ∙ there) (represents_before old new n t e represents));
 }
 
 -- ---- One more type
 
 pub type_added : (old new : Planner) (g : GlobalScope) (o : Option TypePlans) → Extends old new → new.types.items ≡ old.types.items ++ o ∷ []
-    → ((p : TypePlans) (t : ResolvedType) → o ≡ Some p → Knows old g → Stands (types_of old) (length old.types.items) t → ArePlanned (known_of new) g p t)
+    → ((p : TypePlans) (t : ResolvedType) → o ≡ Some p → Knows old g → Represents (types_of old) (length old.types.items) t → ArePlanned (known_of new) g p t)
     → Knows old g → Knows new g
 type_added old new g o e all is k = record {
-  scope = subst (λ (b : Bor Tables). ScopeStands b.now.names b.now.types g) (sym e.tables_are) k.scope;
+  scope = subst (λ (b : Bor Tables). ScopeRepresents b.now.names b.now.types g) (sym e.tables_are) k.scope;
   laid = subst (λ (b : Bor Tables). AreLaid g b.now.types b.now.layouts.rows.items) (sym e.tables_are) k.laid;
-  planned = λ n numbers t there stands.
-      let stands' = stands_before old new n t e stands in
+  planned = λ n numbers t there represents.
+      let represents' = represents_before old new n t e represents in
       ⊎_elim
-      (λ before. planned_kept old new g numbers t e (k.planned n numbers t before stands'))
-      (λ last. is numbers t last.1 k (subst (λ m. Stands (types_of old) m t) last.0 stands'))
+      (λ before. planned_kept old new g numbers t e (k.planned n numbers t before represents'))
+      (λ last. is numbers t last.1 k (subst (λ m. Represents (types_of old) m t) last.0 represents'))
       (last_or_before old.types.items o n (Some numbers) (ap (λ (xs : List (Option TypePlans)). slice_get xs n) (sym all) ∙ there));
 }
 

@@ -17,7 +17,7 @@ use Rattle.cp_compile_symbols.specs.declared.types.Simple as simple_row
 use Rattle.cp_compile_symbols.specs.declared.types.Types.{Types}
 use Rattle.cp_compile_symbols.specs.declared.types.TypeRow.{TypeRow}
 use Rattle.cp_compile_symbols.specs.declared.types.TypeRow.TheVariants as row
-use Rattle.cp_compile_symbols.specs.Standing.{AreMembers, Stands, entry, row_at, simple_of, system_at}
+use Rattle.cp_compile_symbols.specs.Standing.{AreMembers, Represents, entry, row_at, simple_of, system_at}
 
 -- ---- Elements
 
@@ -82,7 +82,7 @@ same_row types n r s p q = same_Some r s (sym p ∙ q)
 
 module _ (types : Types) (n : ℕ) (P : ResolvedType → Type 0) where
   pub as_simple : (s : simple_row.Simple) → row_at types n ≡ Some (row.Simple s)
-      → ((t : ResolvedType) → simple_of s ≡ t → P t) → (t : ResolvedType) → Stands types n t → P t
+      → ((t : ResolvedType) → simple_of s ≡ t → P t) → (t : ResolvedType) → Represents types n t → P t
   as_simple s at is (Simple b x y z) h =
       let same : row.Simple s ≡ row.Simple h.0 = same_row types n (row.Simple s) (row.Simple h.0) at h.1 in
       let one : s ≡ h.0 = cc in
@@ -94,14 +94,14 @@ module _ (types : Types) (n : ℕ) (P : ResolvedType → Type 0) where
   as_simple s at is NoType h = absurd (let same = same_row types n (row.Simple s) row.Unknown at h in cc)
 
   pub as_array : (low high : ℤ) (e : ℕ) → row_at types n ≡ Some (row.Array low high e)
-      → ((t : ResolvedType) → Stands types e t → P (ArrayOf low high t)) → (t : ResolvedType) → Stands types n t → P t
+      → ((t : ResolvedType) → Represents types e t → P (ArrayOf low high t)) → (t : ResolvedType) → Represents types n t → P t
   as_array low high e at is (Simple b x y z) h = absurd (let same = same_row types n _ _ at h.1 in cc)
   as_array low high e at is (ArrayOf x y u) h =
       let same = same_row types n _ _ at h.1 in
       let lows : low ≡ x = cc in
       let highs : high ≡ y = cc in
       let elements : e ≡ h.0 = cc in
-      let element : Stands types e u = subst (λ k. Stands types k u) (sym elements) h.2 in
+      let element : Represents types e u = subst (λ k. Represents types k u) (sym elements) h.2 in
       subst (λ l. P (ArrayOf l y u)) lows (subst (λ k. P (ArrayOf low k u)) highs (is u element))
   as_array low high e at is (RecordOf ms) h = absurd (let same = same_row types n _ _ at h.1 in cc)
   as_array low high e at is Queue h = absurd (let same = same_row types n _ _ at h in cc)
@@ -109,7 +109,7 @@ module _ (types : Types) (n : ℕ) (P : ResolvedType → Type 0) where
   as_array low high e at is NoType h = absurd (let same = same_row types n _ _ at h in cc)
 
   pub as_record : (fields : Vec Field Global) → row_at types n ≡ Some (row.Record fields)
-      → ((ms : Members) → AreMembers types (map entry fields.items) ms → P (RecordOf ms)) → (t : ResolvedType) → Stands types n t → P t
+      → ((ms : Members) → AreMembers types (map entry fields.items) ms → P (RecordOf ms)) → (t : ResolvedType) → Represents types n t → P t
   as_record fields at is (Simple b x y z) h = absurd (let same = same_row types n _ _ at h.1 in cc)
   as_record fields at is (ArrayOf x y u) h = absurd (let same = same_row types n _ _ at h.1 in cc)
   as_record fields at is (RecordOf ms) h =
@@ -120,7 +120,7 @@ module _ (types : Types) (n : ℕ) (P : ResolvedType → Type 0) where
   as_record fields at is (ComponentOf y ms) h = absurd (let same = same_row types n _ _ at h.3 in cc)
   as_record fields at is NoType h = absurd (let same = same_row types n _ _ at h in cc)
 
-  pub as_queue : row_at types n ≡ Some row.Queue → P Queue → (t : ResolvedType) → Stands types n t → P t
+  pub as_queue : row_at types n ≡ Some row.Queue → P Queue → (t : ResolvedType) → Represents types n t → P t
   as_queue at is (Simple b x y z) h = absurd (let same = same_row types n _ _ at h.1 in cc)
   as_queue at is (ArrayOf x y u) h = absurd (let same = same_row types n _ _ at h.1 in cc)
   as_queue at is (RecordOf ms) h = absurd (let same = same_row types n _ _ at h.1 in cc)
@@ -128,7 +128,7 @@ module _ (types : Types) (n : ℕ) (P : ResolvedType → Type 0) where
   as_queue at is (ComponentOf y ms) h = absurd (let same = same_row types n _ _ at h.3 in cc)
   as_queue at is NoType h = absurd (let same = same_row types n _ _ at h in cc)
 
-  pub as_unknown : row_at types n ≡ Some row.Unknown → P NoType → (t : ResolvedType) → Stands types n t → P t
+  pub as_unknown : row_at types n ≡ Some row.Unknown → P NoType → (t : ResolvedType) → Represents types n t → P t
   as_unknown at is (Simple b x y z) h = absurd (let same = same_row types n _ _ at h.1 in cc)
   as_unknown at is (ArrayOf x y u) h = absurd (let same = same_row types n _ _ at h.1 in cc)
   as_unknown at is (RecordOf ms) h = absurd (let same = same_row types n _ _ at h.1 in cc)
@@ -138,7 +138,7 @@ module _ (types : Types) (n : ℕ) (P : ResolvedType → Type 0) where
 
   pub as_component : (k : ℕ) (members : Vec Field Global) (system : Bor System) → row_at types n ≡ Some (row.Component k members) → system_at types k ≡ Some system
       → ((ms : Members) → AreMembers types (map entry members.items) ms → P (ComponentOf (erase.system (tree_view.system system.now)) ms))
-      → (t : ResolvedType) → Stands types n t → P t
+      → (t : ResolvedType) → Represents types n t → P t
   as_component k members system at there is (Simple b x y z) h = absurd (let same = same_row types n _ _ at h.1 in cc)
   as_component k members system at there is (ArrayOf x y u) h = absurd (let same = same_row types n _ _ at h.1 in cc)
   as_component k members system at there is (RecordOf ms) h = absurd (let same = same_row types n _ _ at h.1 in cc)

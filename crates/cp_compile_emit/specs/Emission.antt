@@ -30,7 +30,7 @@ abbrev pub Continues : List ℕ → List ℕ → Type 0
 Continues old new = (more : List ℕ) × (new ≡ old ++ more)
 
 -- The operations become `operations`, and the units stay as they are.
-pub record Goes (old new : Emitter) (operations : List op.Operation) : Type 0 where
+pub record IsEmitted (old new : Emitter) (operations : List op.Operation) : Type 0 where
   pub operations_are : operations_of new ≡ operations
   pub origins_continue : Continues old.origins.items new.origins.items
   pub units_are : new.units ≡ old.units
@@ -39,7 +39,7 @@ pub record Goes (old new : Emitter) (operations : List op.Operation) : Type 0 wh
 
 -- The operations `os` are added at the end.
 abbrev pub Emits : Emitter → Emitter → List op.Operation → Type 0
-Emits old new os = Goes old new (operations_of old ++ os)
+Emits old new os = IsEmitted old new (operations_of old ++ os)
 
 -- The operations of calls that lead to the place `next`, and where they are entered.
 abbrev pub calls_from : Emitter → List CodedCall → ℕ → Emitted

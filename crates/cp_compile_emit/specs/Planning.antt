@@ -8,7 +8,7 @@ use Rattle.cp_program.specs.View.{plan_at, plans_in}
 use Rattle.cp_program.specs.declared.program.StartPlan.{StartPlan}
 use Rattle.cp_compile_symbols.specs.declared.types.Types.{Types}
 use Rattle.cp_compile_symbols.specs.Layouts.{AreLaid}
-use Rattle.cp_compile_symbols.specs.Standing.{ScopeStands, Stands}
+use Rattle.cp_compile_symbols.specs.Standing.{ScopeRepresents, Represents}
 use Rattle.cp_compile_emit.specs.declared.plan.Placed.{Placed}
 use Rattle.cp_compile_emit.specs.declared.plan.Planner.{Planner}
 use Rattle.cp_compile_emit.specs.declared.plan.TypePlans.{TypePlans}
@@ -33,10 +33,10 @@ pub record ArePlanned (known : List code.StartPlan) (g : GlobalScope) (p : TypeP
 -- The tables of the planner are right for this outermost scope, and so are the plans of the types
 -- that it has numbers for.
 pub record Knows (p : Planner) (g : GlobalScope) : Type 0 where
-  pub scope : ScopeStands p.tables.now.names (types_of p) g
+  pub scope : ScopeRepresents p.tables.now.names (types_of p) g
   pub laid : AreLaid g (types_of p) p.tables.now.layouts.rows.items
   pub planned : (n : ℕ) (numbers : TypePlans) (t : ResolvedType) → slice_get p.types.items n ≡ Some (Some numbers)
-      → Stands (types_of p) n t → ArePlanned (known_of p) g numbers t
+      → Represents (types_of p) n t → ArePlanned (known_of p) g numbers t
 
 -- Plans may have been added.
 pub record Extends (old new : Planner) : Type 0 where

@@ -2,7 +2,7 @@
 //! is emitted.
 
 ghost use Rattle.std.specs.Prelude.{◌≡◌, [], ◌∷◌, ◌++◌, IfOk, OnOk, length, map};
-ghost use Rattle.cp_compile_emit.specs.Emission.{Emits, Goes, calls_from, changed_at, operation_from, operations_of, origins_of_calls, place_of, with_body, with_repeated};
+ghost use Rattle.cp_compile_emit.specs.Emission.{Emits, IsEmitted, calls_from, changed_at, operation_from, operations_of, origins_of_calls, place_of, with_body, with_repeated};
 ghost use Rattle.cp_program.specs.View as view;
 
 use crate::emitter::{CodedCall, Emitter};
@@ -82,7 +82,7 @@ impl Emitter {
     /// Completes the operation that closes a `cycle`, a `for` or a `while`, once the place where
     /// the loop's body begins is known.
     pub fn close_loop(&mut self, place: u32, body: u32)
-        ensures { Goes self.old self.new
+        ensures { IsEmitted self.old self.new
             (changed_at place (with_body body) (operations_of self.old)) }
     {
         complete_at(&mut self.operations, place, body);
@@ -91,7 +91,7 @@ impl Emitter {
     /// Completes the operation that closes a `repeat`, once the place where its body begins is
     /// known.
     pub fn close_repeat(&mut self, place: u32, body: u32)
-        ensures { Goes self.old self.new
+        ensures { IsEmitted self.old self.new
             (changed_at place (with_repeated body) (operations_of self.old)) }
     {
         complete_repeat_at(&mut self.operations, place, body);

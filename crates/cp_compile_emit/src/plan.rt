@@ -14,7 +14,7 @@ ghost use Rattle.cp_model.specs.Types.{GlobalScope, ResolvedType};
 ghost use Rattle.cp_program.specs.View as code_view;
 ghost use Rattle.cp_program.specs.View.{plan_at};
 ghost use Rattle.cp_compile_symbols.specs.Layouts.{rights_of};
-ghost use Rattle.cp_compile_symbols.specs.Standing.{Stands};
+ghost use Rattle.cp_compile_symbols.specs.Standing.{Represents};
 ghost use Rattle.cp_law_typing.specs.Words.{words};
 
 use crate::draft::Draft;
@@ -93,7 +93,7 @@ impl<'a, 't> Planner<'a, 't> {
     /// The size in words of a variable of the type `of`.
     pub(crate) fn words(&self, of: usize) -> Result<u32, AllocError>
         ensures { IfOk result (λ n. (g : GlobalScope) (t : ResolvedType) → Knows self.now g
-            → Stands (types_of self.now) of t → n ≡ words g t) }
+            → Represents (types_of self.now) of t → n ≡ words g t) }
     {
         match self.tables.layouts.words(of) {
             Some(words) => Ok(words),
@@ -104,7 +104,7 @@ impl<'a, 't> Planner<'a, 't> {
     /// The size in words of a parameter or variable in an activation.
     pub(crate) fn local_words(&self, by_reference: bool, of: usize) -> Result<u32, AllocError>
         ensures { IfOk result (λ n. (g : GlobalScope) (v : Variable) → Knows self.now g
-            → by_reference ≡ v.by_reference → Stands (types_of self.now) of v.type
+            → by_reference ≡ v.by_reference → Represents (types_of self.now) of v.type
             → n ≡ local_words g v) }
     {
         match self.tables.layouts.local_words(by_reference, of) {
@@ -154,7 +154,7 @@ impl<'a, 't> Planner<'a, 't> {
     /// The number of the plan of a type, unless its words are too many.
     pub(crate) fn plan_number(&self, zeros: bool, of: usize) -> Result<u32, AllocError>
         ensures { IfOk result (λ n. (g : GlobalScope) (t : ResolvedType) → Knows self.now g
-            → Stands (types_of self.now) of t
+            → Represents (types_of self.now) of t
             → plan_at (known_of self.now) n ≡ text_plans.plan zeros g t) }
     {
         let plans = self.numbers(of).ok_or(AllocError)?;

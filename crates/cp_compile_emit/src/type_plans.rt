@@ -11,7 +11,7 @@ ghost use Rattle.cp_model.specs.Types.{ArrayOf, ComponentOf, GlobalScope, Member
 ghost use Rattle.cp_model.specs.View as view;
 ghost use Rattle.cp_program.specs.View.{plan_at};
 ghost use Rattle.cp_compile_symbols.specs.Layouts.{AreLaid};
-ghost use Rattle.cp_compile_symbols.specs.Standing.{AreMembers, ScopeStands, Stands, entry};
+ghost use Rattle.cp_compile_symbols.specs.Standing.{AreMembers, ScopeRepresents, Represents, entry};
 
 use crate::draft::Draft;
 use crate::pieces::value_of_fill;
@@ -132,7 +132,7 @@ impl<'a, 't> Planner<'a, 't> {
         element: usize,
     ) -> Result<Draft, AllocError>
         ensures { IfOk result (λ draft. (g : GlobalScope) (t : ResolvedType) → Knows self.now g
-            → Stands (types_of self.now) element t → plan_of (known_of self.now) draft
+            → Represents (types_of self.now) element t → plan_of (known_of self.now) draft
             ≡ text_plans.plan zeros g (ArrayOf low high t)) }
     {
         let plan = self.plan_number(zeros, element)?;
@@ -142,7 +142,7 @@ impl<'a, 't> Planner<'a, 't> {
     // Plans a variable of the type `of`. Nothing is planned for a number that no type has.
     fn plan_type(&self, zeros: bool, of: usize) -> Result<Draft, AllocError>
         ensures { IfOk result (λ draft. (g : GlobalScope) (t : ResolvedType) → Knows self.now g
-            → Stands (types_of self.now) of t
+            → Represents (types_of self.now) of t
             → plan_of (known_of self.now) draft ≡ text_plans.plan zeros g t) }
     {
         let types = &self.tables.types;
@@ -168,7 +168,7 @@ impl<'a, 't> Planner<'a, 't> {
         ensures types { self.new.types ≡ self.old.types }
         ensures number { IfOk result (λ n. n < length self.new.plans.items) }
         ensures plan { IfOk result (λ n. (g : GlobalScope) (t : ResolvedType) → Knows self.old g
-            → Stands (types_of self.old) of t
+            → Represents (types_of self.old) of t
             → plan_at (known_of self.new) n ≡ text_plans.plan zeros g t) }
     {
         let draft = self.plan_type(zeros, of)?;
@@ -181,7 +181,7 @@ impl<'a, 't> Planner<'a, 't> {
         ensures extends { Extends self.old self.new }
         ensures types { self.new.types ≡ self.old.types }
         ensures plans { IfOk result (λ o. IfSome o (λ p. (g : GlobalScope) (t : ResolvedType)
-            → Knows self.old g → Stands (types_of self.old) of t
+            → Knows self.old g → Represents (types_of self.old) of t
             → ArePlanned (known_of self.new) g p t)) }
     {
         if self.tables.layouts.words(of).is_none() {
@@ -209,7 +209,7 @@ impl<'a, 't> Planner<'a, 't> {
     pub fn new(alloc: Global, tables: &'a Tables<'t>) -> Result<Planner<'a, 't>, AllocError>
         ensures tables { IfOk result (λ planner. planner.tables ≡ tables.entry) }
         ensures knows { IfOk result (λ planner. (g : GlobalScope)
-            → ScopeStands tables.now.names tables.now.types g
+            → ScopeRepresents tables.now.names tables.now.types g
             → AreLaid g tables.now.types tables.now.layouts.rows.items → Knows planner g) }
     {
         let mut planner = Planner {

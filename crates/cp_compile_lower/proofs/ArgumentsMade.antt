@@ -19,13 +19,13 @@ use Rattle.cp_compile_emit.specs.declared.emitter.CodedCall.{CodedCall}
 use Rattle.cp_compile_symbols.specs.declared.types.Types.{Types}
 use Rattle.cp_compile_symbols.specs.declared.variables.Declared.{Declared}
 use Rattle.cp_compile_symbols.specs.Expressions.{is_simple}
-use Rattle.cp_compile_symbols.specs.Standing.{Stands}
+use Rattle.cp_compile_symbols.specs.Standing.{Represents}
 use Rattle.cp_compile_symbols.specs.Variables.{AreDeclared, declared_entry}
 use Rattle.cp_program.specs.View as view
 use Rattle.cp_compile_lower.specs.declared.made.MadeArgument.{MadeArgument}
 use Rattle.cp_compile_lower.specs.declared.made.MadeArguments.{MadeArguments}
-use Rattle.cp_compile_lower.specs.declared.made.MadeSpot.{MadeSpot}
-use Rattle.cp_compile_lower.specs.Translated.{AreArguments, IsArgument, IsSpot, IsTerm}
+use Rattle.cp_compile_lower.specs.declared.made.MadePlaceExpression.{MadePlaceExpression}
+use Rattle.cp_compile_lower.specs.Translated.{AreArguments, IsArgument, IsPlaceExpression, IsTerm}
 
 -- The arguments so far and the remaining ones are all arguments.
 pub record Finishes (before : List coded.CodedCall) (after : List CodedCall) (made : MadeArguments) (rest whole : coded.CodedArguments) : Type 0 where
@@ -75,7 +75,7 @@ pub record DeclaredAt (types : Types) (d : Declared) (vs : List (Name × Variabl
   pub split : drop k vs ≡ declared ∷ drop (suc k) vs
   pub name : d.name.now ≡ declared.0
   pub reference : d.by_reference ≡ declared.1.by_reference
-  pub type : Stands types d.of declared.1.type
+  pub type : Represents types d.of declared.1.type
 
 pub declared_at : (types : Types) (ds : List Declared) (vs : List (Name × Variable)) (k : ℕ) (d : Declared)
     → AreDeclared types (map declared_entry ds) vs → slice_get ds k ≡ Some d → DeclaredAt types d vs k
@@ -87,7 +87,7 @@ declared_at types (e ∷ ds) (v ∷ vs) zero d are there =
       split = refl;
       name = ap (λ (f : Declared). f.name.now) (sym same) ∙ are.0;
       reference = ap (λ (f : Declared). f.by_reference) (sym same) ∙ are.1;
-      type = subst (λ (f : Declared). Stands types f.of v.1.type) same are.2;
+      type = subst (λ (f : Declared). Represents types f.of v.1.type) same are.2;
     }
 declared_at types (e ∷ ds) (v ∷ vs) (suc k) d are there =
     let more = declared_at types ds vs k d are.3 there in
@@ -129,12 +129,12 @@ call_made before middle after xs ys made f are more term temps =
     }
 
 -- A variable whose type isn't simple is copied.
-module _ (g : GlobalScope) (before : List coded.CodedCall) (after : List CodedCall) (at size : ℕ) (made : MadeSpot) (one : MadeArgument)
-    (t : coded.CodedTerm) (c : coded.CodedSpot) (place : IsSpot before after made c) (temps : one.temps ≡ made.temps)
-    (is : view.argument one.argument ≡ plain.Copy at size (view.spot made.spot)) where
+module _ (g : GlobalScope) (before : List coded.CodedCall) (after : List CodedCall) (at size : ℕ) (made : MadePlaceExpression) (one : MadeArgument)
+    (t : coded.CodedTerm) (c : coded.CodedPlaceExpression) (place : IsPlaceExpression before after made c) (temps : one.temps ≡ made.temps)
+    (is : view.argument one.argument ≡ plain.Copy at size (view.place_expression made.place_expression)) where
   copies : (type : ResolvedType) → size ≡ words g type
-      → IsArgument before after one (record { argument = plain.Copy at (words g type) c.spot; calls = c.calls; temps = c.temps })
-  copies type long = record { argument = is ∙ (λ i. plain.Copy at (long i) (place.spot i)); calls = place.calls; temps = temps ∙ place.temps }
+      → IsArgument before after one (record { argument = plain.Copy at (words g type) c.place_expression; calls = c.calls; temps = c.temps })
+  copies type long = record { argument = is ∙ (λ i. plain.Copy at (long i) (place.place_expression i)); calls = place.calls; temps = temps ∙ place.temps }
 
   pub copied_made : (type : ResolvedType) → is_simple type ≡ false → size ≡ words g type → IsArgument before after one (by_value g type at t c)
   copied_made (Simple b low high start) other long = absurd (cc)

@@ -12,7 +12,7 @@ use Rattle.cp_model.specs.Expressions.{name_of}
 use Rattle.cp_model.specs.Types.{GlobalScope, ResolvedType, base_of_type}
 use Rattle.cp_law_typing.specs.StaticTypes.{expression_type}
 use Rattle.cp_model_program.specs.CodedTerms as coded
-use Rattle.cp_model_program.specs.CodedTerms.{argument_of, by_value, called_term, coded_arguments, coded_spot, coded_standard, coded_term, coded_variable, function_call, function_named, parameters_of, standard_term, used_term}
+use Rattle.cp_model_program.specs.CodedTerms.{argument_of, by_value, called_term, coded_arguments, coded_place_expression, coded_standard, coded_term, coded_variable, function_call, function_named, parameters_of, standard_term, used_term}
 use Rattle.cp_model_program.specs.Scopes as code
 use Rattle.cp_model_program.specs.Scopes.{environment}
 use Rattle.cp_model_program.specs.Sites.{first_parameter}
@@ -32,11 +32,11 @@ use Rattle.cp_compile_lower.specs.Translated.{AreArguments, IsArgument}
 pub record CalledBy (scope : Scope) (s : code.Scope) (f : Callee) (o : Option model.Callee) : Type 0 where
   pub callee : model.Callee
   pub is : o ≡ Some callee
-  pub stands : IsCallee scope s f callee
+  pub represents : IsCallee scope s f callee
 
 pub called_by : (scope : Scope) (s : code.Scope) (f : Callee) (o : Option model.Callee) → CalleeIs scope s (Some f) o → CalledBy scope s f o
 called_by scope s f None h = absurd h
-called_by scope s f (Some c) h = record { callee = c; is = refl; stands = h }
+called_by scope s f (Some c) h = record { callee = c; is = refl; represents = h }
 
 pub none_called : (scope : Scope) (s : code.Scope) (o : Option model.Callee) → CalleeIs scope s None o → o ≡ None
 none_called scope s None h = refl
@@ -44,7 +44,7 @@ none_called scope s (Some c) h = absurd h
 
 pub called_as : (s : code.Scope) (d : a.Designator) (es : a.Expressions) (low : ℕ) (c : model.Callee) → callee (environment s) d ≡ Some c
     → coded_term s (erase.call_or_name d es) low ≡ function_call s c (coded_arguments s es (parameters_of s c) (first_parameter c) low) low
-called_as s d NoExpression low c is = ap (used_term s d low (coded_spot s d low)) is
+called_as s d NoExpression low c is = ap (used_term s d low (coded_place_expression s d low)) is
 called_as s d (MoreExpressions e es) low c is =
     ap
     (called_term s low (coded_standard s (name_of d) (MoreExpressions e es) low)
@@ -74,21 +74,21 @@ standard_as s d e es low none =
     (λ o. coded_arguments s (MoreExpressions e es) (parameters_of s o) (first_parameter o) low))
     none
 
-pub standard_empty : (x : Name) (b : BaseType) (t : coded.CodedTerm) (c : coded.CodedSpot) → bytes_eq x (codes "empty") ≡ true
-    → standard_term x b t c ≡ record { term = plain.Empty c.spot; calls = c.calls; temps = c.temps }
+pub standard_empty : (x : Name) (b : BaseType) (t : coded.CodedTerm) (c : coded.CodedPlaceExpression) → bytes_eq x (codes "empty") ≡ true
+    → standard_term x b t c ≡ record { term = plain.Empty c.place_expression; calls = c.calls; temps = c.temps }
 standard_empty x b t c is = rw is refl
 
-pub standard_other : (x : Name) (b : BaseType) (t : coded.CodedTerm) (c : coded.CodedSpot) → bytes_eq x (codes "empty") ≡ false
+pub standard_other : (x : Name) (b : BaseType) (t : coded.CodedTerm) (c : coded.CodedPlaceExpression) → bytes_eq x (codes "empty") ≡ false
     → standard_term x b t c ≡ record t { term = plain.Standard (function_named x b) t.term }
 standard_other x b t c is = rw is refl
 
 -- ---- Values
 
 pub valued : (before : List coded.CodedCall) (after : List CodedCall) (one : MadeArgument) (g : GlobalScope) (v : Variable) (at : ℕ) (t : coded.CodedTerm)
-    (c : coded.CodedSpot) (type : ResolvedType) → v.by_reference ≡ false → type ≡ v.type → IsArgument before after one (by_value g type at t c)
+    (c : coded.CodedPlaceExpression) (type : ResolvedType) → v.by_reference ≡ false → type ≡ v.type → IsArgument before after one (by_value g type at t c)
     → IsArgument before after one (argument_of g v at t c)
 valued before after one g v at t c type value same h =
     subst
     (λ b. IsArgument before after one
-    (if b then record { argument = plain.Reference at c.spot; calls = c.calls; temps = c.temps } else by_value g v.type at t c)) (sym value)
+    (if b then record { argument = plain.Reference at c.place_expression; calls = c.calls; temps = c.temps } else by_value g v.type at t c)) (sym value)
     (subst (λ u. IsArgument before after one (by_value g u at t c)) same h)

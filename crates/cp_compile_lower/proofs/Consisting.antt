@@ -14,13 +14,13 @@ use Rattle.cp_model.specs.declared.tree.Expression.TheVariants as written
 use Rattle.cp_model.specs.declared.tree.Operation.{Operation}
 use Rattle.cp_model.specs.declared.tree.Sign.{Sign}
 use Rattle.cp_model.specs.declared.tree.Sign.TheVariants as sign
-use Rattle.cp_model_program.specs.CodedTerms.{coded_variable, lone_spot}
+use Rattle.cp_model_program.specs.CodedTerms.{coded_variable, lone_place_expression}
 use Rattle.cp_model_program.specs.Scopes.{Scope}
 use Rattle.cp_model_program.specs.Terms.{Local, Rooted}
 use Rattle.cp_compile_emit.specs.Emission.{coded_call}
 use Rattle.cp_compile_emit.specs.declared.emitter.CodedCall.{CodedCall}
-use Rattle.cp_compile_lower.specs.declared.made.MadeSpot.{MadeSpot}
-use Rattle.cp_compile_lower.specs.Translated.{IsSpot}
+use Rattle.cp_compile_lower.specs.declared.made.MadePlaceExpression.{MadePlaceExpression}
+use Rattle.cp_compile_lower.specs.Translated.{IsPlaceExpression}
 
 abbrev pub IsNoUse : a.Expression → Type 0
 IsNoUse (a.Use d) = ⊥
@@ -82,7 +82,7 @@ no_signed s at e = subst (λ x. IsNoUse (erase.expression x)) (sym (view_signed 
 
 -- ---- What other expressions stand for
 
-pub no_variable : (s : Scope) (e : a.Expression) (low : ℕ) → IsNoUse e → coded_variable s e low ≡ lone_spot (Rooted (Local 0)) low
+pub no_variable : (s : Scope) (e : a.Expression) (low : ℕ) → IsNoUse e → coded_variable s e low ≡ lone_place_expression (Rooted (Local 0)) low
 no_variable s (a.Literal n) low bare = refl
 no_variable s (a.Letter n) low bare = refl
 no_variable s (a.Known b n) low bare = refl
@@ -94,12 +94,12 @@ no_variable s (a.Positive e) low bare = refl
 no_variable s (a.Binary o e f) low bare = refl
 
 -- The spot of any other expression.
-pub other_spot : (calls : List CodedCall) (made : MadeSpot) (s : Scope) (e x : Expression) (low : ℕ) → e ≡ x → IsNoUse (meant x)
-    → IsSpot (map coded_call calls) calls made (lone_spot (Rooted (Local 0)) low)
-    → IsSpot (map coded_call calls) calls made (coded_variable s (meant e) low)
-other_spot calls made s e x low is bare h =
-    subst (λ y. IsSpot (map coded_call calls) calls made (coded_variable s (meant y) low)) (sym is)
-    (subst (IsSpot (map coded_call calls) calls made) (sym (no_variable s (meant x) low bare)) h)
+pub other_place_expression : (calls : List CodedCall) (made : MadePlaceExpression) (s : Scope) (e x : Expression) (low : ℕ) → e ≡ x → IsNoUse (meant x)
+    → IsPlaceExpression (map coded_call calls) calls made (lone_place_expression (Rooted (Local 0)) low)
+    → IsPlaceExpression (map coded_call calls) calls made (coded_variable s (meant e) low)
+other_place_expression calls made s e x low is bare h =
+    subst (λ y. IsPlaceExpression (map coded_call calls) calls made (coded_variable s (meant y) low)) (sym is)
+    (subst (IsPlaceExpression (map coded_call calls) calls made) (sym (no_variable s (meant x) low bare)) h)
 
 no_name : (e : a.Expression) → IsNoUse e → name_of (designator_of e) ≡ []
 no_name (a.Literal n) bare = refl

@@ -29,12 +29,12 @@ pub table_found : (g : GlobalScope) (types : Types) (tables : List SystemTable) 
     → option_map (λ (t : Bor SystemTable). t.now) r ≡ slice_get tables k → IsSomeAnd r (λ t. IsTable g types t.now y)
 table_found g types tables k text y None all at is found = absurd (lacks_no_table g types tables k text all at (sym found))
 table_found g types tables k text y (Some t) all at is found =
-    record { text = text.now; stands = has_table g types tables k text t.now all at (sym found); is = is }
+    record { text = text.now; represents = has_table g types tables k text t.now all at (sym found); is = is }
 
-pub parameters_stand : (g : GlobalScope) (types : Types) (t : SystemTable) (y : System) → IsTable g types t y
+pub parameters_represent : (g : GlobalScope) (types : Types) (t : SystemTable) (y : System) → IsTable g types t y
     → AreDeclared types (map declared_entry t.parameters.items) (declarations g y.parameters)
-parameters_stand g types t y is =
-    subst (λ (z : System). AreDeclared types (map declared_entry t.parameters.items) (declarations g z.parameters)) is.is is.stands.parameters
+parameters_represent g types t y is =
+    subst (λ (z : System). AreDeclared types (map declared_entry t.parameters.items) (declarations g z.parameters)) is.is is.represents.parameters
 
 -- ---- Arguments
 

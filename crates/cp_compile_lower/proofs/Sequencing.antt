@@ -6,7 +6,7 @@ use Rattle.cp_model_program.specs.CodedStatements.{Emitted, behind, calls_at, em
 use Rattle.cp_model_program.specs.CodedTerms.{CodedCall, CodedTerm}
 use Rattle.cp_model_program.specs.Programs as op
 use Rattle.cp_model_program.specs.Scopes.{Scope}
-use Rattle.cp_compile_emit.specs.Emission.{Emits, Goes, changed_at, operations_of, place_of}
+use Rattle.cp_compile_emit.specs.Emission.{Emits, IsEmitted, changed_at, operations_of, place_of}
 use Rattle.cp_compile_emit.specs.declared.emitter.Emitter.{Emitter}
 use Rattle.cp_compile_emit.proofs.Changing.{changed_between}
 use Rattle.cp_compile_emit.proofs.Continuing.{continues_itself, continues_more}
@@ -87,7 +87,7 @@ pub record LoopClosed (f : op.Operation → op.Operation) (old new : Emitter) (c
 
 pub loop_made : (f : op.Operation → op.Operation) (old first second new : Emitter) (cs : List CodedCall) (o : op.Operation) (place entry start : ℕ)
     (body : ℕ → ℕ → Emitted) → place ≡ place_of old → Enters old first entry (with_calls cs o (place_of old))
-    → Enters first second start (body (place_of first) entry) → Goes second new (changed_at place f (operations_of second))
+    → Enters first second start (body (place_of first) entry) → IsEmitted second new (changed_at place f (operations_of second))
     → LoopClosed f old new cs o entry start body
 loop_made f old first second new cs o place entry start body here head inner closed =
     let at = place_of old in
@@ -120,7 +120,7 @@ pub record BodyClosed (f : op.Operation → op.Operation) (old new : Emitter) (o
 
 pub body_made : (f : op.Operation → op.Operation) (old first second new : Emitter) (o : op.Operation) (place start : ℕ) (body : ℕ → ℕ → Emitted)
     → place ≡ place_of old → Emits old first (o ∷ []) → Enters first second start (body (place_of first) place)
-    → Goes second new (changed_at place f (operations_of second)) → BodyClosed f old new o start body
+    → IsEmitted second new (changed_at place f (operations_of second)) → BodyClosed f old new o start body
 body_made f old first second new o place start body here head inner closed =
     let at = place_of old in
     let b = body (suc at) at in

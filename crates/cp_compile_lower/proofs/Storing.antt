@@ -4,7 +4,7 @@ use Rattle.cp_model.specs.Abstract as a
 use Rattle.cp_model.specs.Types.{ArrayOf, ComponentOf, GlobalScope, NoType, Queue, RecordOf, ResolvedType, Simple}
 use Rattle.cp_law_typing.specs.Words.{words}
 use Rattle.cp_model_program.specs.CodedStatements.{is_result, store, with_calls}
-use Rattle.cp_model_program.specs.CodedTerms.{CodedSpot, CodedTerm}
+use Rattle.cp_model_program.specs.CodedTerms.{CodedPlaceExpression, CodedTerm}
 use Rattle.cp_model_program.specs.Programs as op
 use Rattle.cp_model_program.specs.Scopes as code
 use Rattle.cp_compile_emit.specs.declared.emitter.Emitter.{Emitter}
@@ -13,8 +13,8 @@ use Rattle.cp_compile_symbols.specs.Expressions.{is_simple}
 use Rattle.cp_compile_lower.specs.Statements.{Enters}
 
 -- A variable whose type isn't simple is copied.
-pub copies : (g : GlobalScope) (t : ResolvedType) (d : CodedSpot) (e : CodedTerm) (s : CodedSpot) (at next : ℕ) → is_simple t ≡ false
-    → store g t d e s at next ≡ with_calls (d.calls ++ s.calls) (op.CopyWords d.spot s.spot (words g t) next) at
+pub copies : (g : GlobalScope) (t : ResolvedType) (d : CodedPlaceExpression) (e : CodedTerm) (s : CodedPlaceExpression) (at next : ℕ) → is_simple t ≡ false
+    → store g t d e s at next ≡ with_calls (d.calls ++ s.calls) (op.CopyWords d.place_expression s.place_expression (words g t) next) at
 copies g (Simple b low high start) d e s at next other = absurd (cc)
 copies g (ArrayOf low high t) d e s at next other = refl
 copies g (RecordOf ms) d e s at next other = refl
@@ -29,7 +29,7 @@ part_no_result s (a.Part d x) part = refl
 part_no_result s (a.At d e) part = refl
 
 -- The spot and the type that are made are those of the designator.
-pub stored : (old new : Emitter) (place : ℕ) (g : GlobalScope) (at next : ℕ) (c : CodedSpot) (e : ℕ → CodedTerm) (f : ℕ → CodedSpot) (n : ℕ)
+pub stored : (old new : Emitter) (place : ℕ) (g : GlobalScope) (at next : ℕ) (c : CodedPlaceExpression) (e : ℕ → CodedTerm) (f : ℕ → CodedPlaceExpression) (n : ℕ)
     (t u : ResolvedType) → n ≡ c.temps → u ≡ t → Enters old new place (store g u c (e n) (f n) at next)
     → Enters old new place (store g t c (e c.temps) (f c.temps) at next)
 stored old new place g at next c e f n t u temps same h =

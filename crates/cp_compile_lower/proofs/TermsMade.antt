@@ -24,8 +24,8 @@ pub seen_as : (before : List coded.CodedCall) (after : List CodedCall) (made : M
     → IsTerm before after made (coded_term s (erase.expression y) low) → IsTerm before after made (coded_term s (erase.expression x) low)
 seen_as before after made s low x y same h = subst (λ z. IsTerm before after made (coded_term s (erase.expression z) low)) (sym same) h
 
-pub part_held : (s : code.Scope) (d : a.Designator) (c : coded.CodedSpot) (low : ℕ) → is_part d ≡ true
-    → name_or_item s d c low ≡ record { term = plain.Item c.spot; calls = c.calls; temps = c.temps }
+pub part_held : (s : code.Scope) (d : a.Designator) (c : coded.CodedPlaceExpression) (low : ℕ) → is_part d ≡ true
+    → name_or_item s d c low ≡ record { term = plain.Item c.place_expression; calls = c.calls; temps = c.temps }
 part_held s (a.Plain x) c low part = absurd (cc)
 part_held s (a.Part d x) c low part = refl
 part_held s (a.At d e) c low part = refl

@@ -11,11 +11,11 @@ use Rattle.cp_model_program.specs.Scopes.{environment}
 use Rattle.cp_model_program.specs.Terms as plain
 use Rattle.cp_compile_symbols.specs.declared.systems.SystemTable.{SystemTable}
 use Rattle.cp_compile_symbols.specs.declared.types.Types.{Types}
-use Rattle.cp_compile_symbols.specs.Systems.{SystemStands}
+use Rattle.cp_compile_symbols.specs.Systems.{SystemRepresents}
 
 pub record IsTable (g : GlobalScope) (types : Types) (table : SystemTable) (y : a.System) : Type 0 where
   pub text : System
-  pub stands : SystemStands g types table text.parameters.items text.variables.items text.routines.items
+  pub represents : SystemRepresents g types table text.parameters.items text.variables.items text.routines.items
   pub is : erase.system (view.system text) ≡ y
 
 -- A right to the component that an argument names, which needs no calls.

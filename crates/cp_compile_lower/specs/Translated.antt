@@ -6,7 +6,7 @@ use Rattle.cp_model.specs.Erase as erase
 use Rattle.cp_model.specs.Syntax as syntax
 use Rattle.cp_model.specs.Syntax.{chain_of}
 use Rattle.cp_model_program.specs.CodedTerms as coded
-use Rattle.cp_model_program.specs.CodedTerms.{coded_arguments, coded_spot, coded_term, coded_variable}
+use Rattle.cp_model_program.specs.CodedTerms.{coded_arguments, coded_place_expression, coded_term, coded_variable}
 use Rattle.cp_model_program.specs.Scopes as code
 use Rattle.cp_program.specs.View as view
 use Rattle.cp_compile_symbols.specs.declared.scope.Scope.{Scope}
@@ -20,7 +20,7 @@ use Rattle.cp_compile_emit.specs.declared.call.MadeTerm.{MadeTerm}
 use Rattle.cp_compile_emit.specs.declared.emitter.CodedCall.{CodedCall}
 use Rattle.cp_compile_lower.specs.declared.made.MadeArgument.{MadeArgument}
 use Rattle.cp_compile_lower.specs.declared.made.MadeArguments.{MadeArguments}
-use Rattle.cp_compile_lower.specs.declared.made.MadeSpot.{MadeSpot}
+use Rattle.cp_compile_lower.specs.declared.made.MadePlaceExpression.{MadePlaceExpression}
 
 -- ---- What is made, with its calls after those in `before`
 
@@ -30,9 +30,9 @@ pub record IsTerm (before : List coded.CodedCall) (after : List CodedCall) (made
   pub calls : map coded_call after ≡ before ++ t.calls
   pub temps : made.temps ≡ t.temps
 
-pub record IsSpot (before : List coded.CodedCall) (after : List CodedCall) (made : MadeSpot) (t : coded.CodedSpot)
+pub record IsPlaceExpression (before : List coded.CodedCall) (after : List CodedCall) (made : MadePlaceExpression) (t : coded.CodedPlaceExpression)
     : Type 0 where
-  pub spot : view.spot made.spot ≡ t.spot
+  pub place_expression : view.place_expression made.place_expression ≡ t.place_expression
   pub calls : map coded_call after ≡ before ++ t.calls
   pub temps : made.temps ≡ t.temps
 
@@ -50,8 +50,8 @@ pub record AreArguments (before : List coded.CodedCall) (after : List CodedCall)
 
 -- The spot of a designator and the type of its place.
 pub record IsPlace (scope : Scope) (s : code.Scope) (low : ℕ) (before : List coded.CodedCall) (after : List CodedCall)
-    (d : a.Designator) (made : MadeSpot) : Type 0 where
-  pub spot : IsSpot before after made (coded_spot s d low)
+    (d : a.Designator) (made : MadePlaceExpression) : Type 0 where
+  pub place_expression : IsPlaceExpression before after made (coded_place_expression s d low)
   pub typed : PlaceIs scope s made.of d
 
 -- The elements of a value of the type with this number, if it is an array.
@@ -67,16 +67,16 @@ TermOf scope old new e low made =
     (s : code.Scope) → IsScope scope s → IsTerm (map coded_call old) new made (coded_term s e low)
 
 -- The spot of an argument that is a variable.
-abbrev pub VariableOf : Scope → List CodedCall → List CodedCall → a.Expression → ℕ → MadeSpot → Type 0
+abbrev pub VariableOf : Scope → List CodedCall → List CodedCall → a.Expression → ℕ → MadePlaceExpression → Type 0
 VariableOf scope old new e low made =
-    (s : code.Scope) → IsScope scope s → IsSpot (map coded_call old) new made (coded_variable s e low)
+    (s : code.Scope) → IsScope scope s → IsPlaceExpression (map coded_call old) new made (coded_variable s e low)
 
-abbrev pub SpotOf : Scope → List CodedCall → List CodedCall → a.Designator → ℕ → MadeSpot → Type 0
-SpotOf scope old new d low made =
+abbrev pub PlaceExpressionOf : Scope → List CodedCall → List CodedCall → a.Designator → ℕ → MadePlaceExpression → Type 0
+PlaceExpressionOf scope old new d low made =
     (s : code.Scope) → IsScope scope s → IsPlace scope s low (map coded_call old) new d made
 
 -- The spot of a part of a place, if `of` is the spot of that place.
-abbrev pub PartOf : Scope → List CodedCall → List CodedCall → MadeSpot → (a.Designator → a.Designator) → MadeSpot
+abbrev pub PartOf : Scope → List CodedCall → List CodedCall → MadePlaceExpression → (a.Designator → a.Designator) → MadePlaceExpression
     → Type 0
 PartOf scope old new of part made =
     (s : code.Scope) (low : ℕ) (before : List coded.CodedCall) (d : a.Designator) → IsScope scope s

@@ -11,10 +11,10 @@ ghost use Rattle.cp_model_program.specs.Terms as plain;
 ghost use Rattle.cp_compile_emit.specs.declared.emitter.CodedCall.{CodedCall};
 ghost use Rattle.cp_compile_symbols.specs.Expressions.{is_simple};
 ghost use Rattle.cp_compile_symbols.specs.Scopes.{IsScope};
-ghost use Rattle.cp_compile_symbols.specs.Standing.{Stands, simple_of};
-ghost use Rattle.cp_compile_lower.specs.Translated.{IsArgument, IsSpot, IsTerm};
+ghost use Rattle.cp_compile_symbols.specs.Standing.{Represents, simple_of};
+ghost use Rattle.cp_compile_lower.specs.Translated.{IsArgument, IsPlaceExpression, IsTerm};
 
-use crate::made::{MadeArgument, MadeSpot};
+use crate::made::{MadeArgument, MadePlaceExpression};
 use crate::translator::Translator;
 use crate::types::simple_bounds;
 use cp_compile_emit::call::MadeTerm;
@@ -23,13 +23,16 @@ use cp_program::operation::Argument;
 use std::alloc::AllocError;
 
 /// Passes a reference to a variable.
-pub fn reference(at: u32, made: MadeSpot) -> MadeArgument
-    ensures { (before : List coded.CodedCall) (after : List CodedCall) (c : coded.CodedSpot)
-        → IsSpot before after made c → IsArgument before after result
-        (record { argument = plain.Reference at c.spot; calls = c.calls; temps = c.temps }) }
+pub fn reference(at: u32, made: MadePlaceExpression) -> MadeArgument
+    ensures { (before : List coded.CodedCall) (after : List CodedCall) (c : coded.CodedPlaceExpression)
+        → IsPlaceExpression before after made c → IsArgument before after result
+        (record { argument = plain.Reference at c.place_expression; calls = c.calls; temps = c.temps }) }
 {
     MadeArgument {
-        argument: Argument::Reference { at, to: made.spot },
+        argument: Argument::Reference {
+            at,
+            to: made.place_expression,
+        },
         temps: made.temps,
     }
 }
@@ -37,7 +40,7 @@ pub fn reference(at: u32, made: MadeSpot) -> MadeArgument
 /// Passes a value of a simple type.
 pub fn simple_value(at: u32, simple: Simple, made: MadeTerm) -> MadeArgument
     ensures { (before : List coded.CodedCall) (after : List CodedCall) (g : GlobalScope)
-        (t : coded.CodedTerm) (c : coded.CodedSpot) → IsTerm before after made t
+        (t : coded.CodedTerm) (c : coded.CodedPlaceExpression) → IsTerm before after made t
         → IsArgument before after result (by_value g (simple_of simple.entry) at t c) }
 {
     MadeArgument {
@@ -56,19 +59,19 @@ impl<'s, 't> Translator<'s, 't> {
         &self,
         at: u32,
         of: usize,
-        made: MadeSpot,
+        made: MadePlaceExpression,
     ) -> Result<MadeArgument, AllocError>
         ensures { IfOk result (λ r. (before : List coded.CodedCall) (after : List CodedCall)
-            (s : code.Scope) (type : ResolvedType) (t : coded.CodedTerm) (c : coded.CodedSpot)
-            → IsScope self.now.scope s → Stands self.now.scope.tables.now.types of type
-            → is_simple type ≡ false → IsSpot before after made c
+            (s : code.Scope) (type : ResolvedType) (t : coded.CodedTerm) (c : coded.CodedPlaceExpression)
+            → IsScope self.now.scope s → Represents self.now.scope.tables.now.types of type
+            → is_simple type ≡ false → IsPlaceExpression before after made c
             → IsArgument before after r (by_value s.globals type at t c)) }
     {
         Ok(MadeArgument {
             argument: Argument::Copy {
                 at,
                 size: self.words(of)?,
-                from: made.spot,
+                from: made.place_expression,
             },
             temps: made.temps,
         })
@@ -78,7 +81,7 @@ impl<'s, 't> Translator<'s, 't> {
     fn local_words(&self, parameter: &Declared) -> Result<u32, AllocError>
         ensures { IfOk result (λ n. (s : code.Scope) (v : Variable) → IsScope self.now.scope s
             → parameter.now.by_reference ≡ v.by_reference
-            → Stands self.now.scope.tables.now.types parameter.now.of v.type
+            → Represents self.now.scope.tables.now.types parameter.now.of v.type
             → n ≡ local_words s.globals v) }
     {
         let layouts = &self.scope.tables().layouts;
@@ -92,7 +95,7 @@ impl<'s, 't> Translator<'s, 't> {
     pub fn next_parameter(&self, at: u32, parameter: &Declared) -> Result<u32, AllocError>
         ensures { IfOk result (λ n. (s : code.Scope) (v : Variable) → IsScope self.now.scope s
             → parameter.now.by_reference ≡ v.by_reference
-            → Stands self.now.scope.tables.now.types parameter.now.of v.type
+            → Represents self.now.scope.tables.now.types parameter.now.of v.type
             → n ≡ at + local_words s.globals v) }
     {
         let words = self.local_words(parameter)?;

@@ -7,7 +7,7 @@ ghost use Rattle.cp_model.specs.Types.{ResolvedType};
 ghost use Rattle.cp_model.specs.View as tree;
 ghost use Rattle.cp_law_typing.specs.StaticTypes.{place_type};
 ghost use Rattle.cp_model_program.specs.CodedStatements as coded;
-ghost use Rattle.cp_model_program.specs.CodedTerms.{CodedSpot, CodedTerm, coded_spot, coded_term, coded_variable};
+ghost use Rattle.cp_model_program.specs.CodedTerms.{CodedPlaceExpression, CodedTerm, coded_place_expression, coded_term, coded_variable};
 ghost use Rattle.cp_model_program.specs.Scopes as code;
 ghost use Rattle.cp_model_program.specs.Scopes.{environment};
 ghost use Rattle.cp_compile_emit.specs.Emission.{place_of};
@@ -16,9 +16,9 @@ ghost use Rattle.cp_compile_symbols.specs.Places.{TypeIs};
 ghost use Rattle.cp_compile_symbols.specs.Scopes.{IsScope};
 ghost use Rattle.cp_compile_symbols.specs.Standing.{simple_of};
 ghost use Rattle.cp_compile_lower.specs.Statements.{Enters, StatementOf};
-ghost use Rattle.cp_compile_lower.specs.Translated.{IsSpot};
+ghost use Rattle.cp_compile_lower.specs.Translated.{IsPlaceExpression};
 
-use crate::made::MadeSpot;
+use crate::made::MadePlaceExpression;
 use crate::translator::Translator;
 use crate::types::{bounds_of, simple_bounds};
 use cp_compile_emit::{CodedCall, Emitter};
@@ -84,7 +84,7 @@ impl<'s, 't> Translator<'s, 't> {
     // Emits an assignment to a variable of a simple type. `calls` has the calls of its place.
     fn set_simple(
         &self,
-        to: MadeSpot,
+        to: MadePlaceExpression,
         simple: Simple,
         e: &Expression,
         calls: Vec<CodedCall>,
@@ -92,8 +92,8 @@ impl<'s, 't> Translator<'s, 't> {
         origin: usize,
         emitter: &mut Emitter,
     ) -> Result<u32, AllocError>
-        ensures { IfOk result (λ entry. (s : code.Scope) (c : CodedSpot) (f : CodedSpot)
-            → IsScope self.now.scope s → IsSpot [] calls.items to c
+        ensures { IfOk result (λ entry. (s : code.Scope) (c : CodedPlaceExpression) (f : CodedPlaceExpression)
+            → IsScope self.now.scope s → IsPlaceExpression [] calls.items to c
             → Enters emitter.old emitter.new entry (coded.store s.globals (simple_of simple.entry) c
             (coded_term s (erase.expression (tree.expression e.now)) to.temps) f
             (place_of emitter.old) next)) }
@@ -105,34 +105,34 @@ impl<'s, 't> Translator<'s, 't> {
             bounds: simple_bounds(simple),
             next,
         };
-        let set = Operation::set(to.spot, assignment);
+        let set = Operation::set(to.place_expression, assignment);
         emitter.emit(calls, set, origin)
     }
 
     // Emits a copy to a variable whose type isn't simple. `calls` has the calls of its place.
     fn copy_words(
         &self,
-        to: MadeSpot,
+        to: MadePlaceExpression,
         e: &Expression,
         calls: Vec<CodedCall>,
         next: u32,
         origin: usize,
         emitter: &mut Emitter,
     ) -> Result<u32, AllocError>
-        ensures { IfOk result (λ entry. (s : code.Scope) (c : CodedSpot) (t : ResolvedType)
+        ensures { IfOk result (λ entry. (s : code.Scope) (c : CodedPlaceExpression) (t : ResolvedType)
             (f : CodedTerm) → IsScope self.now.scope s
             → TypeIs self.now.scope.tables.now.types to.of t → is_simple t ≡ false
-            → IsSpot [] calls.items to c
+            → IsPlaceExpression [] calls.items to c
             → Enters emitter.old emitter.new entry (coded.store s.globals t c f
             (coded_variable s (erase.expression (tree.expression e.now)) to.temps)
             (place_of emitter.old) next)) }
     {
         let mut calls = calls;
         let size = self.place_words(to.of)?;
-        let from = self.argument_spot(e, to.temps, &mut calls)?;
+        let from = self.argument_place_expression(e, to.temps, &mut calls)?;
         let copy = Operation::CopyWords {
-            to: to.spot,
-            from: from.spot,
+            to: to.place_expression,
+            from: from.place_expression,
             size,
             next,
         };
@@ -149,7 +149,7 @@ impl<'s, 't> Translator<'s, 't> {
         emitter: &mut Emitter,
     ) -> Result<u32, AllocError>
         ensures { IfOk result (λ entry. (s : code.Scope) → IsScope self.now.scope s
-            → let to = coded_spot s (erase.designator (tree.designator d.now)) low in
+            → let to = coded_place_expression s (erase.designator (tree.designator d.now)) low in
             Enters emitter.old emitter.new entry (coded.store s.globals
             (place_type (environment s) (erase.designator (tree.designator d.now))) to
             (coded_term s (erase.expression (tree.expression e.now)) to.temps)
@@ -157,7 +157,7 @@ impl<'s, 't> Translator<'s, 't> {
             (place_of emitter.old) next)) }
     {
         let mut calls = Vec::new(self.alloc);
-        let to = self.spot(d, low, &mut calls)?;
+        let to = self.place_expression(d, low, &mut calls)?;
         match self.scope.tables().types.simple(to.of) {
             Some(simple) => self.set_simple(to, simple, e, calls, next, d.root.at, emitter),
             None => self.copy_words(to, e, calls, next, d.root.at, emitter),

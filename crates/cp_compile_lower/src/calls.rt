@@ -12,7 +12,7 @@ ghost use Rattle.cp_model_program.specs.Layout as layout;
 ghost use Rattle.cp_model_program.specs.Scopes as code;
 ghost use Rattle.cp_model_program.specs.Scopes.{environment, part_start, right_start, target_of};
 ghost use Rattle.cp_compile_emit.specs.declared.emitter.CodedCall.{CodedCall};
-ghost use Rattle.cp_compile_symbols.specs.Routines.{RoutineStands};
+ghost use Rattle.cp_compile_symbols.specs.Routines.{RoutineRepresents};
 ghost use Rattle.cp_compile_symbols.specs.Scopes.{IsCallee, IsScope};
 ghost use Rattle.cp_compile_symbols.specs.Systems.{ComponentIs, IsComponent};
 ghost use Rattle.cp_compile_symbols.specs.declared.types.Types.{Types};
@@ -31,7 +31,7 @@ use std::alloc::AllocError;
 
 /// The number of words before the parameters of a routine. A function has one, for its result.
 pub fn words_before(routine: &RoutineTable) -> u32
-    ensures { (g : GlobalScope) (types : Types) (r : Routine) → RoutineStands g types routine.now r
+    ensures { (g : GlobalScope) (types : Types) (r : Routine) → RoutineRepresents g types routine.now r
         → result ≡ result_words r.result }
 {
     if routine.result.is_some() { 1 } else { 0 }

@@ -12,20 +12,20 @@ ghost use Rattle.cp_model.specs.Declarations.{Variable};
 ghost use Rattle.cp_model.specs.Erase as erase;
 ghost use Rattle.cp_model.specs.Expressions.{name_of};
 ghost use Rattle.cp_model.specs.View as tree;
-ghost use Rattle.cp_model_program.specs.CodedTerms.{argument_of, coded_arguments, coded_spot, coded_standard, coded_term, coded_variable, function_call, name_or_item, parameters_of};
+ghost use Rattle.cp_model_program.specs.CodedTerms.{argument_of, coded_arguments, coded_place_expression, coded_standard, coded_term, coded_variable, function_call, name_or_item, parameters_of};
 ghost use Rattle.cp_model_program.specs.Scopes as code;
 ghost use Rattle.cp_model_program.specs.Scopes.{environment};
 ghost use Rattle.cp_model_program.specs.Sites.{first_parameter};
 ghost use Rattle.cp_compile_emit.specs.Emission.{coded_call};
 ghost use Rattle.cp_compile_emit.specs.declared.emitter.CodedCall.{CodedCall};
 ghost use Rattle.cp_compile_symbols.specs.Scopes.{IsCallee, IsScope};
-ghost use Rattle.cp_compile_symbols.specs.Standing.{Stands};
+ghost use Rattle.cp_compile_symbols.specs.Standing.{Represents};
 ghost use Rattle.cp_compile_symbols.specs.Variables.{AreDeclared, declared_entry};
-ghost use Rattle.cp_compile_lower.specs.Translated.{AreArguments, ChainOf, IsArgument, IsTerm, PartOf, SpotOf, TermOf, VariableOf};
+ghost use Rattle.cp_compile_lower.specs.Translated.{AreArguments, ChainOf, IsArgument, IsTerm, PartOf, PlaceExpressionOf, TermOf, VariableOf};
 
 use crate::arguments::{reference, simple_value};
 use crate::calls::words_before;
-use crate::made::{MadeArgument, MadeArguments, MadeSpot, no_arguments};
+use crate::made::{MadeArgument, MadeArguments, MadePlaceExpression, no_arguments};
 use crate::standard::{is_empty_test, lone_name};
 use crate::translator::Translator;
 use cp_compile_emit::CodedCall;
@@ -125,25 +125,25 @@ impl<'s, 't> Translator<'s, 't> {
         ensures { IfOk result (λ made. (s : code.Scope) → IsScope self.now.scope s
             → IsTerm (map coded_call calls.old.items) calls.new.items made
             (name_or_item s (erase.designator (tree.designator d.now))
-            (coded_spot s (erase.designator (tree.designator d.now)) low) low)) }
+            (coded_place_expression s (erase.designator (tree.designator d.now)) low) low)) }
     {
         if !is_part(d) {
             let term = self.named_term(d.root.name.as_bytes())?;
             return Ok(MadeTerm { term, temps: low });
         }
-        let made = self.spot(d, low, calls)?;
+        let made = self.place_expression(d, low, calls)?;
         self.item(made)
     }
 
     /// Makes the spot of a designator.
     #[cycle(terms)]
-    pub fn spot(
+    pub fn place_expression(
         &self,
         d: &Designator,
         low: u32,
         calls: &mut Vec<CodedCall>,
-    ) -> Result<MadeSpot, AllocError>
-        ensures { IfOk result (SpotOf self.now.scope calls.old.items calls.new.items
+    ) -> Result<MadePlaceExpression, AllocError>
+        ensures { IfOk result (PlaceExpressionOf self.now.scope calls.old.items calls.new.items
             (erase.designator (tree.designator d.now)) low) }
     {
         let mut made = self.variable(d.root.name.as_bytes(), low)?;
@@ -157,10 +157,10 @@ impl<'s, 't> Translator<'s, 't> {
     #[cycle(terms)]
     fn select(
         &self,
-        of: MadeSpot,
+        of: MadePlaceExpression,
         selector: &Selector,
         calls: &mut Vec<CodedCall>,
-    ) -> Result<MadeSpot, AllocError>
+    ) -> Result<MadePlaceExpression, AllocError>
         ensures { IfOk result (PartOf self.now.scope calls.old.items calls.new.items of
             (λ d. erase.select d (tree.selector selector.now))) }
     {
@@ -173,10 +173,10 @@ impl<'s, 't> Translator<'s, 't> {
     #[cycle(terms)]
     fn select_elements(
         &self,
-        of: MadeSpot,
+        of: MadePlaceExpression,
         indices: &[Index],
         calls: &mut Vec<CodedCall>,
-    ) -> Result<MadeSpot, AllocError>
+    ) -> Result<MadePlaceExpression, AllocError>
         ensures { IfOk result (PartOf self.now.scope calls.old.items calls.new.items of
             (λ d. erase.with_indices d (tree.indices_of (map tree.index indices.now)))) }
     {
@@ -191,10 +191,10 @@ impl<'s, 't> Translator<'s, 't> {
     #[cycle(terms)]
     fn select_element(
         &self,
-        of: MadeSpot,
+        of: MadePlaceExpression,
         index: &Expression,
         calls: &mut Vec<CodedCall>,
-    ) -> Result<MadeSpot, AllocError>
+    ) -> Result<MadePlaceExpression, AllocError>
         ensures { IfOk result (PartOf self.now.scope calls.old.items calls.new.items of
             (λ d. a.At d (erase.expression (tree.expression index.now)))) }
     {
@@ -210,24 +210,26 @@ impl<'s, 't> Translator<'s, 't> {
     /// Makes the spot of an argument that is a variable. That of any other expression is the first
     /// word of the activation.
     #[cycle(terms)]
-    pub fn argument_spot(
+    pub fn argument_place_expression(
         &self,
         e: &Expression,
         low: u32,
         calls: &mut Vec<CodedCall>,
-    ) -> Result<MadeSpot, AllocError>
+    ) -> Result<MadePlaceExpression, AllocError>
         ensures { IfOk result (VariableOf self.now.scope calls.old.items calls.new.items
             (erase.expression (tree.expression e.now)) low) }
     {
         match e {
-            Expression::Designated(d) => self.spot(d, low, calls),
+            Expression::Designated(d) => self.place_expression(d, low, calls),
             Expression::Call(d, es) => match es.as_slice() {
-                [] => self.spot(d, low, calls),
+                [] => self.place_expression(d, low, calls),
                 [_, ..] => Ok(self.first_word(low)),
             },
-            Expression::Parenthesized { inner, .. } => self.argument_spot(inner, low, calls),
+            Expression::Parenthesized { inner, .. } => self.argument_place_expression(
+                inner, low, calls,
+            ),
             Expression::Chain { first, rest } => match rest.as_slice() {
-                [] => self.argument_spot(first, low, calls),
+                [] => self.argument_place_expression(first, low, calls),
                 [_, ..] => Ok(self.first_word(low)),
             },
             Expression::Number { .. } => Ok(self.first_word(low)),
@@ -275,7 +277,7 @@ impl<'s, 't> Translator<'s, 't> {
             (a.MoreExpressions (erase.expression (tree.expression e.now)) es) low)) }
     {
         if is_empty_test(name) {
-            let made = self.argument_spot(e, low, calls)?;
+            let made = self.argument_place_expression(e, low, calls)?;
             return self.empty(made);
         }
         let made = self.term(e, low, calls)?;
@@ -326,14 +328,14 @@ impl<'s, 't> Translator<'s, 't> {
     ) -> Result<MadeArgument, AllocError>
         ensures { IfOk result (λ made. (s : code.Scope) (v : Variable) → IsScope self.now.scope s
             → parameter.now.by_reference ≡ v.by_reference
-            → Stands self.now.scope.tables.now.types parameter.now.of v.type
+            → Represents self.now.scope.tables.now.types parameter.now.of v.type
             → IsArgument (map coded_call calls.old.items) calls.new.items made
             (argument_of s.globals v at
             (coded_term s (erase.expression (tree.expression e.now)) low)
             (coded_variable s (erase.expression (tree.expression e.now)) low))) }
     {
         if parameter.by_reference {
-            let made = self.argument_spot(e, low, calls)?;
+            let made = self.argument_place_expression(e, low, calls)?;
             return Ok(reference(at, made));
         }
         match self.scope.tables().types.simple(Some(parameter.of)) {
@@ -342,7 +344,7 @@ impl<'s, 't> Translator<'s, 't> {
                 Ok(simple_value(at, simple, made))
             }
             None => {
-                let made = self.argument_spot(e, low, calls)?;
+                let made = self.argument_place_expression(e, low, calls)?;
                 self.copy_argument(at, parameter.of, made)
             }
         }

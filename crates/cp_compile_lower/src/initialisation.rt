@@ -16,7 +16,7 @@ ghost use Rattle.cp_model_program.specs.Terms as plain;
 ghost use Rattle.cp_compile_emit.specs.Emission.{coded_call, place_of};
 ghost use Rattle.cp_compile_emit.specs.declared.emitter.CodedCall.{CodedCall};
 ghost use Rattle.cp_compile_symbols.specs.Scopes.{IsScope, Names};
-ghost use Rattle.cp_compile_symbols.specs.Standing.{Stands};
+ghost use Rattle.cp_compile_symbols.specs.Standing.{Represents};
 ghost use Rattle.cp_program.specs.View as view;
 ghost use Rattle.cp_compile_lower.specs.Initialisation.{IsTable, right_argument};
 ghost use Rattle.cp_compile_lower.specs.Statements.{Enters, StatementOf};
@@ -73,7 +73,7 @@ impl<'s, 't> Translator<'s, 't> {
             → IsScope self.now.scope s
             → IsTable s.globals self.now.scope.tables.now.types table.now y
             → parameter.now.name.now ≡ p.0
-            → Stands self.now.scope.tables.now.types parameter.now.of p.1.type
+            → Represents self.now.scope.tables.now.types parameter.now.of p.1.type
             → IsArgument (map coded_call calls.old.items) calls.new.items made
             (init_argument s y p (erase.expression (tree.expression e.now)) low)) }
     {

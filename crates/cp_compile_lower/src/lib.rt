@@ -38,5 +38,5 @@ mod statements;
 mod translator;
 mod types;
 
-pub use made::{MadeArgument, MadeArguments, MadeSpot};
+pub use made::{MadeArgument, MadeArguments, MadePlaceExpression};
 pub use translator::Translator;

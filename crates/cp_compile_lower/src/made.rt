@@ -4,14 +4,14 @@
 ghost use Rattle.std.specs.Prelude.{◌≡◌, []};
 
 use cp_program::operation::Argument;
-use cp_program::term::Spot;
+use cp_program::term::PlaceExpression;
 use std::alloc::Global;
 
 /// The spot of a designator, the first temp after the values of its calls, and the number of the
 /// type of its place, if it has one.
 #[derive(Drop)]
-pub struct MadeSpot {
-    pub(crate) spot: Spot,
+pub struct MadePlaceExpression {
+    pub(crate) place_expression: PlaceExpression,
     pub(crate) temps: u32,
     pub(crate) of: Option<usize>,
 }

@@ -3,7 +3,7 @@
 ghost use Rattle.std.specs.Prelude.{◌≡◌, ℕ, List, Option, IfOk, map, option_map};
 ghost use Rattle.cp_model.specs.Declarations.{Variable};
 ghost use Rattle.cp_model.specs.Names.{lookup};
-ghost use Rattle.cp_model_program.specs.CodedTerms.{lone_spot, ordinal_or_zero, root_or_first, term_of_name};
+ghost use Rattle.cp_model_program.specs.CodedTerms.{lone_place_expression, ordinal_or_zero, root_or_first, term_of_name};
 ghost use Rattle.cp_model_program.specs.Layout as layout;
 ghost use Rattle.cp_model_program.specs.Scopes as code;
 ghost use Rattle.cp_model_program.specs.Scopes.{root_named, root_of_local, root_or_member};
@@ -15,13 +15,13 @@ ghost use Rattle.cp_compile_symbols.specs.Locals.{LocalIs};
 ghost use Rattle.cp_compile_symbols.specs.Scopes.{IsScope};
 ghost use Rattle.cp_compile_symbols.specs.declared.types.Types.{Types};
 ghost use Rattle.cp_program.specs.View as view;
-ghost use Rattle.cp_compile_lower.specs.Translated.{IsSpot};
+ghost use Rattle.cp_compile_lower.specs.Translated.{IsPlaceExpression};
 ghost use Rattle.cp_law_typing.specs.StaticTypes.{is_clock};
 
-use crate::made::MadeSpot;
+use crate::made::MadePlaceExpression;
 use crate::translator::Translator;
 use cp_compile_symbols::{Local, Part};
-use cp_program::term::{Root, Spot, Term};
+use cp_program::term::{PlaceExpression, Root, Term};
 use std::alloc::AllocError;
 
 // Whether a name is that of the clock.
@@ -72,12 +72,12 @@ fn root_of(local: Option<Local>, part: Option<Part>) -> Result<Option<Root>, All
 
 impl<'s, 't> Translator<'s, 't> {
     /// The first word of the activation.
-    pub fn first_word(&self, low: u32) -> MadeSpot
-        ensures { (calls : List CodedCall) → IsSpot (map coded_call calls) calls result
-            (lone_spot (plain.Rooted (plain.Local 0)) low) }
+    pub fn first_word(&self, low: u32) -> MadePlaceExpression
+        ensures { (calls : List CodedCall) → IsPlaceExpression (map coded_call calls) calls result
+            (lone_place_expression (plain.Rooted (plain.Local 0)) low) }
     {
-        MadeSpot {
-            spot: Spot::variable(self.alloc, Root::Local(0)),
+        MadePlaceExpression {
+            place_expression: PlaceExpression::variable(self.alloc, Root::Local(0)),
             temps: low,
             of: None,
         }

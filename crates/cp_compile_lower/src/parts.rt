@@ -14,38 +14,38 @@ ghost use Rattle.cp_compile_emit.specs.declared.emitter.CodedCall.{CodedCall};
 ghost use Rattle.cp_compile_symbols.specs.Layouts.{PartIs};
 ghost use Rattle.cp_compile_symbols.specs.Places.{TypeIs};
 ghost use Rattle.cp_compile_symbols.specs.Scopes.{IsScope};
-ghost use Rattle.cp_compile_lower.specs.Translated.{IsPlace, IsSpot, IsTerm, PartOf, elements_at};
+ghost use Rattle.cp_compile_lower.specs.Translated.{IsPlace, IsPlaceExpression, IsTerm, PartOf, elements_at};
 
-use crate::made::MadeSpot;
+use crate::made::MadePlaceExpression;
 use crate::starts::part_start;
 use crate::translator::Translator;
 use cp_compile_emit::call::MadeTerm;
 use cp_compile_symbols::{Elements, Part};
-use cp_program::term::{Spot, Term};
+use cp_program::term::{PlaceExpression, Term};
 use std::alloc::AllocError;
 
 impl<'s, 't> Translator<'s, 't> {
     /// The spot of the variable with this name, and the type of its place.
-    pub fn variable(&self, name: &[u8], low: u32) -> Result<MadeSpot, AllocError>
+    pub fn variable(&self, name: &[u8], low: u32) -> Result<MadePlaceExpression, AllocError>
         ensures { IfOk result (λ made. (s : code.Scope) (calls : List CodedCall)
             → IsScope self.now.scope s
             → IsPlace self.now.scope s low (map coded_call calls) calls (a.Plain name.now) made) }
     {
-        Ok(MadeSpot {
-            spot: Spot::variable(self.alloc, self.variable_root(name)?),
+        Ok(MadePlaceExpression {
+            place_expression: PlaceExpression::variable(self.alloc, self.variable_root(name)?),
             temps: low,
             of: self.scope.named_place_type(name),
         })
     }
 
     /// The word at a place, as a term.
-    pub fn item(&self, made: MadeSpot) -> Result<MadeTerm, AllocError>
+    pub fn item(&self, made: MadePlaceExpression) -> Result<MadeTerm, AllocError>
         ensures { IfOk result (λ t. (before : List coded.CodedCall) (after : List CodedCall)
-            (c : coded.CodedSpot) → IsSpot before after made c → IsTerm before after t
-            (record { term = plain.Item c.spot; calls = c.calls; temps = c.temps })) }
+            (c : coded.CodedPlaceExpression) → IsPlaceExpression before after made c → IsTerm before after t
+            (record { term = plain.Item c.place_expression; calls = c.calls; temps = c.temps })) }
     {
         Ok(MadeTerm {
-            term: Term::item(self.alloc, made.spot)?,
+            term: Term::item(self.alloc, made.place_expression)?,
             temps: made.temps,
         })
     }
@@ -62,14 +62,18 @@ impl<'s, 't> Translator<'s, 't> {
 
     /// The member of a variable that has this name. A name of no member of its type stands for the
     /// variable.
-    pub fn field(&self, of: MadeSpot, name: &[u8]) -> Result<MadeSpot, AllocError>
+    pub fn field(
+        &self,
+        of: MadePlaceExpression,
+        name: &[u8],
+    ) -> Result<MadePlaceExpression, AllocError>
         ensures { IfOk result (λ made. (calls : List CodedCall)
             → PartOf self.now.scope calls calls of (λ d. a.Part d name.now) made) }
     {
         let at = part_start(self.part(of.of, name))?;
-        let spot = of.spot.advance(at).ok_or(AllocError)?;
-        Ok(MadeSpot {
-            spot,
+        let place_expression = of.place_expression.advance(at).ok_or(AllocError)?;
+        Ok(MadePlaceExpression {
+            place_expression,
             temps: of.temps,
             of: self.scope.field_type(of.of, name),
         })
@@ -83,23 +87,23 @@ impl<'s, 't> Translator<'s, 't> {
     }
 
     /// What a variable that isn't an array has at an index: the variable itself, without a type.
-    pub fn no_element(&self, of: MadeSpot) -> MadeSpot
+    pub fn no_element(&self, of: MadePlaceExpression) -> MadePlaceExpression
         ensures { (s : code.Scope) (low : ℕ) (before : List coded.CodedCall)
             (calls : List CodedCall) (d : a.Designator) (e : a.Expression)
             → elements_at self.now.scope.tables.now.types of.of ≡ None
             → IsPlace self.now.scope s low before calls d of
             → IsPlace self.now.scope s low before calls (a.At d e) result }
     {
-        MadeSpot { of: None, ..of }
+        MadePlaceExpression { of: None, ..of }
     }
 
     /// The element of an array at an index.
     pub fn element(
         &self,
-        of: MadeSpot,
+        of: MadePlaceExpression,
         elements: Elements,
         index: MadeTerm,
-    ) -> Result<MadeSpot, AllocError>
+    ) -> Result<MadePlaceExpression, AllocError>
         ensures { IfOk result (λ made. (s : code.Scope) (low : ℕ) (before : List coded.CodedCall)
             (old new : List CodedCall) (d : a.Designator) (e : a.Expression)
             → elements_at self.now.scope.tables.now.types of.of ≡ Some elements
@@ -108,11 +112,11 @@ impl<'s, 't> Translator<'s, 't> {
             → IsPlace self.now.scope s low before new (a.At d e) made) }
     {
         let size = self.words(elements.of)?;
-        let spot = of
-            .spot
+        let place_expression = of
+            .place_expression
             .element(elements.low, elements.high, size, index.term)?;
-        Ok(MadeSpot {
-            spot,
+        Ok(MadePlaceExpression {
+            place_expression,
             temps: index.temps,
             of: Some(elements.of),
         })

@@ -27,7 +27,7 @@ use cp_compile_emit::{CodedCall, Emitter};
 use cp_compile_symbols::{Base, Callee};
 use cp_model::tree::{Designator, Expression};
 use cp_program::operation::Operation;
-use cp_program::term::Spot;
+use cp_program::term::PlaceExpression;
 use std::alloc::AllocError;
 
 // Whether values of a base type are displayed as bytes.
@@ -65,14 +65,18 @@ impl<'s, 't> Translator<'s, 't> {
 
     // Makes the spot of the variable that is passed to a standard procedure, and the calls before
     // it.
-    fn passed_spot(&self, e: &Expression, low: u32) -> Result<(Spot, Vec<CodedCall>), AllocError>
+    fn passed_place_expression(
+        &self,
+        e: &Expression,
+        low: u32,
+    ) -> Result<(PlaceExpression, Vec<CodedCall>), AllocError>
         ensures { IfOk result (λ p. (s : code.Scope) → IsScope self.now.scope s
             → let c = coded_variable s (erase.expression (tree.expression e.now)) low in
-            (map coded_call p.1.items ≡ c.calls) × (view.spot p.0 ≡ c.spot)) }
+            (map coded_call p.1.items ≡ c.calls) × (view.place_expression p.0 ≡ c.place_expression)) }
     {
         let mut calls = Vec::new(self.alloc);
-        let made = self.argument_spot(e, low, &mut calls)?;
-        Ok((made.spot, calls))
+        let made = self.argument_place_expression(e, low, &mut calls)?;
+        Ok((made.place_expression, calls))
     }
 
     // Emits an `accept`, which takes a value from the input.
@@ -87,11 +91,11 @@ impl<'s, 't> Translator<'s, 't> {
         ensures { IfOk result (λ entry. (s : code.Scope) → IsScope self.now.scope s
             → let x = erase.expression (tree.expression e.now) in let c = coded_variable s x low in
             let t = expression_type (environment s) x in Enters emitter.old emitter.new entry
-            (with_calls c.calls (op.Accept c.spot (coded.low_of t) (coded.high_of t) next)
+            (with_calls c.calls (op.Accept c.place_expression (coded.low_of t) (coded.high_of t) next)
             (place_of emitter.old))) }
     {
         let bounds = bounds_of(self.scope.expression_type(e)?);
-        let (to, calls) = self.passed_spot(e, low)?;
+        let (to, calls) = self.passed_place_expression(e, low)?;
         let accept = Operation::Accept { to, bounds, next };
         emitter.emit(calls, accept, origin)
     }
@@ -108,9 +112,9 @@ impl<'s, 't> Translator<'s, 't> {
         ensures { IfOk result (λ entry. (s : code.Scope) → IsScope self.now.scope s
             → let c = coded_variable s (erase.expression (tree.expression e.now)) low in
             Enters emitter.old emitter.new entry
-            (with_calls c.calls (op.Delay c.spot next) (place_of emitter.old))) }
+            (with_calls c.calls (op.Delay c.place_expression next) (place_of emitter.old))) }
     {
-        let (queue, calls) = self.passed_spot(e, low)?;
+        let (queue, calls) = self.passed_place_expression(e, low)?;
         emitter.emit(calls, Operation::Delay { queue, next }, origin)
     }
 
@@ -136,9 +140,9 @@ impl<'s, 't> Translator<'s, 't> {
         ensures { IfOk result (λ entry. (s : code.Scope) → IsScope self.now.scope s
             → let c = coded_variable s (erase.expression (tree.expression e.now)) low in
             Enters emitter.old emitter.new entry (with_calls c.calls
-            (op.Continue c.spot (coded.runs_function s.routine)) (place_of emitter.old))) }
+            (op.Continue c.place_expression (coded.runs_function s.routine)) (place_of emitter.old))) }
     {
-        let (queue, calls) = self.passed_spot(e, low)?;
+        let (queue, calls) = self.passed_place_expression(e, low)?;
         let function = self.runs_function();
         emitter.emit(calls, Operation::Continue { queue, function }, origin)
     }

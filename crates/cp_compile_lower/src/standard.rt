@@ -17,9 +17,9 @@ ghost use Rattle.cp_compile_emit.specs.declared.emitter.CodedCall.{CodedCall};
 ghost use Rattle.cp_compile_symbols.specs.Scopes.{IsScope};
 ghost use Rattle.cp_compile_symbols.specs.Standing.{base_of};
 ghost use Rattle.cp_program.specs.View as view;
-ghost use Rattle.cp_compile_lower.specs.Translated.{IsSpot, IsTerm};
+ghost use Rattle.cp_compile_lower.specs.Translated.{IsPlaceExpression, IsTerm};
 
-use crate::made::MadeSpot;
+use crate::made::MadePlaceExpression;
 use crate::translator::Translator;
 use cp_compile_emit::call::MadeTerm;
 use cp_compile_symbols::{Base, base_type, first_ordinal, is_part, last_ordinal};
@@ -100,13 +100,13 @@ impl<'s, 't> Translator<'s, 't> {
     }
 
     /// The test whether a queue is empty.
-    pub fn empty(&self, made: MadeSpot) -> Result<MadeTerm, AllocError>
+    pub fn empty(&self, made: MadePlaceExpression) -> Result<MadeTerm, AllocError>
         ensures { IfOk result (λ n. (before : List coded.CodedCall) (after : List CodedCall)
-            (c : coded.CodedSpot) → IsSpot before after made c → IsTerm before after n
-            (record { term = plain.Empty c.spot; calls = c.calls; temps = c.temps })) }
+            (c : coded.CodedPlaceExpression) → IsPlaceExpression before after made c → IsTerm before after n
+            (record { term = plain.Empty c.place_expression; calls = c.calls; temps = c.temps })) }
     {
         Ok(MadeTerm {
-            term: Term::empty(self.alloc, made.spot)?,
+            term: Term::empty(self.alloc, made.place_expression)?,
             temps: made.temps,
         })
     }

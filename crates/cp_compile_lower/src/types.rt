@@ -8,7 +8,7 @@ ghost use Rattle.cp_model_program.specs.Scopes as code;
 ghost use Rattle.cp_compile_symbols.specs.Expressions.{SimpleIs};
 ghost use Rattle.cp_compile_symbols.specs.Places.{TypeIs};
 ghost use Rattle.cp_compile_symbols.specs.Scopes.{IsScope};
-ghost use Rattle.cp_compile_symbols.specs.Standing.{Stands};
+ghost use Rattle.cp_compile_symbols.specs.Standing.{Represents};
 
 use crate::translator::Translator;
 use cp_compile_symbols::Simple;
@@ -41,7 +41,7 @@ impl<'s, 't> Translator<'s, 't> {
     /// The size in words of a variable of the type `of`.
     pub fn words(&self, of: usize) -> Result<u32, AllocError>
         ensures { IfOk result (λ n. (s : code.Scope) (t : ResolvedType) → IsScope self.now.scope s
-            → Stands self.now.scope.tables.now.types of t → n ≡ words s.globals t) }
+            → Represents self.now.scope.tables.now.types of t → n ≡ words s.globals t) }
     {
         match self.scope.tables().layouts.words(of) {
             Some(words) => Ok(words),

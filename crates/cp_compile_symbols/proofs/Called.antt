@@ -32,7 +32,7 @@ use Rattle.cp_compile_symbols.specs.Locals.{LocalIs}
 use Rattle.cp_compile_symbols.specs.declared.routines.RoutineTable.{RoutineTable}
 use Rattle.cp_compile_symbols.specs.declared.systems.IndexedRoutine.{IndexedRoutine}
 use Rattle.cp_compile_symbols.specs.declared.types.Types.{Types}
-use Rattle.cp_compile_symbols.specs.Routines.{RoutineStands}
+use Rattle.cp_compile_symbols.specs.Routines.{RoutineRepresents}
 use Rattle.cp_compile_symbols.specs.Designators.{Selects}
 use Rattle.cp_compile_symbols.specs.Scopes.{CalleeIs, IsScope}
 use Rattle.cp_compile_symbols.specs.Systems.{AreRoutines, ComponentIs, RoutineFound, RoutineIs, component_among, routine_number}
@@ -184,14 +184,14 @@ sought x n (r ∷ rs) = go (bytes_eq x r.name) refl (sought x (suc n) rs)
     }
     go false is h = sought_later x n r rs (routine_number x (suc n) rs) is h
 
-pub routine_stands : (g : GlobalScope) (types : Types) (ts : List RoutineTable) (rs : List Routine) (k : ℕ) (t : RoutineTable) (r : Routine)
-    → AreRoutines g types ts rs → slice_get ts k ≡ Some t → slice_get rs k ≡ Some r → RoutineStands g types t r
-routine_stands g types [] [] k t r all here there = absurd (cc)
-routine_stands g types (u ∷ ts) [] k t r all here there = absurd all
-routine_stands g types [] (q ∷ rs) k t r all here there = absurd all
-routine_stands g types (u ∷ ts) (q ∷ rs) zero t r all here there =
-    subst (RoutineStands g types t) (same_Some q r there) (subst (λ (v : RoutineTable). RoutineStands g types v q) (same_Some u t here) all.0)
-routine_stands g types (u ∷ ts) (q ∷ rs) (suc k) t r all here there = routine_stands g types ts rs k t r all.1 here there
+pub routine_represents : (g : GlobalScope) (types : Types) (ts : List RoutineTable) (rs : List Routine) (k : ℕ) (t : RoutineTable) (r : Routine)
+    → AreRoutines g types ts rs → slice_get ts k ≡ Some t → slice_get rs k ≡ Some r → RoutineRepresents g types t r
+routine_represents g types [] [] k t r all here there = absurd (cc)
+routine_represents g types (u ∷ ts) [] k t r all here there = absurd all
+routine_represents g types [] (q ∷ rs) k t r all here there = absurd all
+routine_represents g types (u ∷ ts) (q ∷ rs) zero t r all here there =
+    subst (RoutineRepresents g types t) (same_Some q r there) (subst (λ (v : RoutineTable). RoutineRepresents g types v q) (same_Some u t here) all.0)
+routine_represents g types (u ∷ ts) (q ∷ rs) (suc k) t r all here there = routine_represents g types ts rs k t r all.1 here there
 
 pub routine_found : (g : GlobalScope) (types : Types) (ts : List RoutineTable) (rs : List Routine) (x : Name) (f : IndexedRoutine)
     → AreRoutines g types ts rs → routine_number x 0 rs ≡ Some f.index → slice_get ts f.index ≡ Some f.table.now
@@ -201,7 +201,7 @@ routine_found g types ts rs x f all number here =
     let place : f.index ≡ a.before = omega (arith, a.number) in
     subst (RoutineIs g types rs (Some f)) (sym a.found)
     (record {
-      table = routine_stands g types ts rs a.before f.table.now a.routine all (subst (λ k. slice_get ts k ≡ Some f.table.now) place here) a.there;
+      table = routine_represents g types ts rs a.before f.table.now a.routine all (subst (λ k. slice_get ts k ≡ Some f.table.now) place here) a.there;
       index = subst (λ y. routine_index y rs ≡ f.index) ((bytes_eq-Decides x a.routine.name).0 a.name) (a.index ∙ sym place);
     })
 
@@ -316,7 +316,7 @@ component_called scope s i x y f table r named here finds = go (component_named 
     go (Some c) h =
         let types = scope.tables.now.types in
         let text = h.text.now in
-        let stands = has_table s.globals types scope.tables.now.systems.items f.system h.text table i.systems h.there here in
-        let found = finds s.globals types text.parameters.items text.variables.items text.routines.items stands in
+        let represents = has_table s.globals types scope.tables.now.systems.items f.system h.text table i.systems h.there here in
+        let found = finds s.globals types text.parameters.items text.variables.items text.routines.items represents in
         one c h r (routine_named y c.system)
         (subst (λ (z : System). RoutineIs s.globals types z.routines r (find (λ q. bytes_eq y q.name) z.routines)) h.system found)

@@ -10,7 +10,7 @@ use Rattle.cp_compile_symbols.specs.declared.numbering.Numbered.{Numbered}
 use Rattle.cp_compile_symbols.specs.declared.systems.Component.{Component}
 use Rattle.cp_compile_symbols.specs.declared.types.Types.{Types}
 use Rattle.cp_compile_symbols.specs.Numbering.{IsNumbered, NumberedIs}
-use Rattle.cp_compile_symbols.specs.Standing.{Stands}
+use Rattle.cp_compile_symbols.specs.Standing.{Represents}
 use Rattle.cp_compile_symbols.specs.Systems.{ComponentIs, component_among, component_of_name}
 
 -- The parameters or the variables.
@@ -31,7 +31,7 @@ named_as x b v (ComponentOf s ms) is = rw is refl
 named_as x b v NoType is = rw is refl
 
 module _ (types : Types) (ps vs : List (Name × Variable)) (name : Bor Name) where
-  one_found : (b : Bool) (n : Numbered) (v : Variable) (t : ResolvedType) → v.type ≡ t → IsNumbered types (among b ps vs) name.now n v → Stands types n.of t
+  one_found : (b : Bool) (n : Numbered) (v : Variable) (t : ResolvedType) → v.type ≡ t → IsNumbered types (among b ps vs) name.now n v → Represents types n.of t
       → ComponentIs types ps vs (component_of_name types name b (Some n)) (named_in name.now b t)
   one_found b n v (Simple k l h s) is number st = rw st.1 tt
   one_found b n v (ArrayOf l h t) is number st = rw st.1 tt

@@ -10,7 +10,7 @@ use Rattle.cp_compile_symbols.specs.declared.numbering.Numbered.{Numbered}
 use Rattle.cp_compile_symbols.specs.declared.variables.Declared.{Declared}
 use Rattle.cp_compile_symbols.specs.declared.types.Types.{Types}
 use Rattle.cp_compile_symbols.specs.Numbering.{NumberedIs}
-use Rattle.cp_compile_symbols.specs.Standing.{Stands}
+use Rattle.cp_compile_symbols.specs.Standing.{Represents}
 use Rattle.cp_compile_symbols.specs.Tables.{Behind, or_last}
 use Rattle.cp_compile_symbols.specs.Variables.{AreDeclared, Entry}
 
@@ -31,14 +31,14 @@ Found types vs others x monitors processes (Some n) = NumberedIs types vs x (Som
 
 pub record PartlyNumbered (types : Types) (vs : List (Name × Variable)) (left : List Entry) (monitors processes : ℕ) (names : List (Name × Numbered)) : Type 0 where
   pub others : List (Name × Variable)
-  pub stand : AreDeclared types left others
+  pub represent : AreDeclared types left others
   pub found : (x : Name) → Found types vs others x monitors processes (lookup x names)
 
 pub none_numbered : (types : Types) (vs : List (Name × Variable)) (left : List Entry) (names : List (Name × Numbered)) → names ≡ [] → AreDeclared types left vs
     → PartlyNumbered types vs left 0 0 names
-none_numbered types vs left names none stand = record {
+none_numbered types vs left names none represent = record {
   others = vs;
-  stand = stand;
+  represent = represent;
   found = λ x. subst (λ (ns : List (Name × Numbered)). Found types vs vs x 0 0 (lookup x ns)) (sym none)
       (record { means = refl; monitors_are = omega arith; processes_are = omega arith });
 }
@@ -46,13 +46,13 @@ none_numbered types vs left names none stand = record {
 pub all_numbered : (types : Types) (vs : List (Name × Variable)) (left : List Entry) (monitors processes : ℕ) (names : List (Name × Numbered)) → left ≡ []
     → PartlyNumbered types vs left monitors processes names → (x : Name) → NumberedIs types vs x (lookup x names) (lookup x vs)
 all_numbered types vs left monitors processes names none partly x =
-    go partly.others (subst (λ ds. AreDeclared types ds partly.others) none partly.stand) (lookup x names) (partly.found x)
+    go partly.others (subst (λ ds. AreDeclared types ds partly.others) none partly.represent) (lookup x names) (partly.found x)
   where
     go : (others : List (Name × Variable)) → AreDeclared types [] others → (n : Option Numbered) → Found types vs others x monitors processes n
         → NumberedIs types vs x n (lookup x vs)
-    go (v ∷ rest) stand n found = absurd stand
-    go [] stand (Some n) found = found
-    go [] stand None found = subst (NumberedIs types vs x None) (sym found.means) tt
+    go (v ∷ rest) represent n found = absurd represent
+    go [] represent (Some n) found = found
+    go [] represent None found = subst (NumberedIs types vs x None) (sym found.means) tt
 
 -- The count of components of a sort before a name, after one more variable that doesn't have the
 -- name.
@@ -72,17 +72,17 @@ counted_on s x v rest total before one other is h = go (is_component_of s v.1.ty
 
 pub one_numbered : (types : Types) (vs : List (Name × Variable)) (d : Entry) (left : List Entry) (monitors processes m p : ℕ) (names more : List (Name × Numbered))
     (n : Numbered) → n.of ≡ d.1.1 → n.monitors ≡ monitors → n.processes ≡ processes
-    → ((t : ResolvedType) → Stands types d.1.1 t → m ≡ (if is_component_of Monitor t then 1 else 0))
-    → ((t : ResolvedType) → Stands types d.1.1 t → p ≡ (if is_component_of Process t then 1 else 0))
+    → ((t : ResolvedType) → Represents types d.1.1 t → m ≡ (if is_component_of Monitor t then 1 else 0))
+    → ((t : ResolvedType) → Represents types d.1.1 t → p ≡ (if is_component_of Process t then 1 else 0))
     → Behind d.0 n names more → PartlyNumbered types vs (d ∷ left) monitors processes names → PartlyNumbered types vs left (monitors + m) (processes + p) more
-one_numbered types vs d left monitors processes m p names more n of_is monitors_is processes_is ms ps behind partly = go partly.others partly.stand partly.found
+one_numbered types vs d left monitors processes m p names more n of_is monitors_is processes_is ms ps behind partly = go partly.others partly.represent partly.found
   where
     go : (others : List (Name × Variable)) → AreDeclared types (d ∷ left) others
         → ((x : Name) → Found types vs others x monitors processes (lookup x names)) → PartlyNumbered types vs left (monitors + m) (processes + p) more
-    go [] stand found = absurd stand
-    go (v ∷ rest) stand found = record {
+    go [] represent found = absurd represent
+    go (v ∷ rest) represent found = record {
       others = rest;
-      stand = stand.3;
+      represent = represent.3;
       found = λ z. subst (Found types vs rest z (monitors + m) (processes + p)) (sym (behind z)) (each z (lookup z names) (bytes_eq z d.0) refl (found z));
     }
       where
@@ -90,22 +90,22 @@ one_numbered types vs d left monitors processes m p names more n of_is monitors_
             → Found types vs rest z (monitors + m) (processes + p) (or_last o b n)
         each z (Some q) b is h = h
         each z None true is h =
-            let here : bytes_eq z v.0 ≡ true = ap (bytes_eq z) (sym stand.0) ∙ is in
+            let here : bytes_eq z v.0 ≡ true = ap (bytes_eq z) (sym represent.0) ∙ is in
             let found' : lookup z vs ≡ Some v.1 = h.means ∙ rw here refl in
             let no_monitor : count_before Monitor z (v ∷ rest) ≡ 0 = rw here refl in
             let no_process : count_before Process z (v ∷ rest) ≡ 0 = rw here refl in
             subst (NumberedIs types vs z (Some n)) (sym found')
             (record {
-              type = subst (λ k. Stands types k v.1.type) (sym of_is) stand.2;
+              type = subst (λ k. Represents types k v.1.type) (sym of_is) represent.2;
               monitors = omega (arith, h.monitors_are, no_monitor, monitors_is);
               processes = omega (arith, h.processes_are, no_process, processes_is);
             })
         each z None false is h =
-            let other : bytes_eq z v.0 ≡ false = ap (bytes_eq z) (sym stand.0) ∙ is in
+            let other : bytes_eq z v.0 ≡ false = ap (bytes_eq z) (sym represent.0) ∙ is in
             record {
               means = h.means ∙ rw other refl;
-              monitors_are = counted_on Monitor z v rest _ monitors m other (ms v.1.type stand.2) h.monitors_are;
-              processes_are = counted_on Process z v rest _ processes p other (ps v.1.type stand.2) h.processes_are;
+              monitors_are = counted_on Monitor z v rest _ monitors m other (ms v.1.type represent.2) h.monitors_are;
+              processes_are = counted_on Process z v rest _ processes p other (ps v.1.type represent.2) h.processes_are;
             }
 
 -- ---- Processes before a name
@@ -113,41 +113,41 @@ one_numbered types vs d left monitors processes m p names more n of_is monitors_
 -- The remaining variables are counted after those counted so far.
 pub record PartlyCounted (types : Types) (vs : List (Name × Variable)) (left : List Entry) (x : Name) (count : ℕ) : Type 0 where
   pub others : List (Name × Variable)
-  pub stand : AreDeclared types left others
+  pub represent : AreDeclared types left others
   pub counted : count_before Process x vs ≡ count + count_before Process x others
 
 pub one_counted : (types : Types) (vs : List (Name × Variable)) (d : Entry) (left : List Entry) (x : Name) (count one : ℕ) → bytes_eq x d.0 ≡ false
-    → ((t : ResolvedType) → Stands types d.1.1 t → one ≡ (if is_component_of Process t then 1 else 0)) → PartlyCounted types vs (d ∷ left) x count
+    → ((t : ResolvedType) → Represents types d.1.1 t → one ≡ (if is_component_of Process t then 1 else 0)) → PartlyCounted types vs (d ∷ left) x count
     → PartlyCounted types vs left x (count + one)
-one_counted types vs d left x count one other ones partly = go partly.others partly.stand partly.counted
+one_counted types vs d left x count one other ones partly = go partly.others partly.represent partly.counted
   where
     go : (others : List (Name × Variable)) → AreDeclared types (d ∷ left) others → count_before Process x vs ≡ count + count_before Process x others
         → PartlyCounted types vs left x (count + one)
-    go [] stand h = absurd stand
-    go (v ∷ rest) stand h = record {
+    go [] represent h = absurd represent
+    go (v ∷ rest) represent h = record {
       others = rest;
-      stand = stand.3;
-      counted = counted_on Process x v rest _ count one (ap (bytes_eq x) (sym stand.0) ∙ other) (ones v.1.type stand.2) h;
+      represent = represent.3;
+      counted = counted_on Process x v rest _ count one (ap (bytes_eq x) (sym represent.0) ∙ other) (ones v.1.type represent.2) h;
     }
 
 -- The count ends at the name, or with the last variable.
 pub counted_here : (types : Types) (vs : List (Name × Variable)) (d : Entry) (left : List Entry) (x : Name) (count : ℕ) → bytes_eq x d.0 ≡ true
     → PartlyCounted types vs (d ∷ left) x count → count ≡ count_before Process x vs
-counted_here types vs d left x count here partly = go partly.others partly.stand partly.counted
+counted_here types vs d left x count here partly = go partly.others partly.represent partly.counted
   where
     go : (others : List (Name × Variable)) → AreDeclared types (d ∷ left) others → count_before Process x vs ≡ count + count_before Process x others
         → count ≡ count_before Process x vs
-    go [] stand h = absurd stand
-    go (v ∷ rest) stand h =
-        let found : bytes_eq x v.0 ≡ true = ap (bytes_eq x) (sym stand.0) ∙ here in
+    go [] represent h = absurd represent
+    go (v ∷ rest) represent h =
+        let found : bytes_eq x v.0 ≡ true = ap (bytes_eq x) (sym represent.0) ∙ here in
         let none : count_before Process x (v ∷ rest) ≡ 0 = rw found refl in
         omega (arith, h, none)
 
 pub counted_all : (types : Types) (vs : List (Name × Variable)) (left : List Entry) (x : Name) (count : ℕ) → left ≡ [] → PartlyCounted types vs left x count
     → count ≡ count_before Process x vs
-counted_all types vs left x count none partly = go partly.others (subst (λ ds. AreDeclared types ds partly.others) none partly.stand) partly.counted
+counted_all types vs left x count none partly = go partly.others (subst (λ ds. AreDeclared types ds partly.others) none partly.represent) partly.counted
   where
     go : (others : List (Name × Variable)) → AreDeclared types [] others → count_before Process x vs ≡ count + count_before Process x others
         → count ≡ count_before Process x vs
-    go [] stand h = omega (arith, h)
-    go (v ∷ rest) stand h = absurd stand
+    go [] represent h = omega (arith, h)
+    go (v ∷ rest) represent h = absurd represent

@@ -13,10 +13,10 @@ use Rattle.cp_compile_symbols.specs.declared.names.Names.{Names}
 use Rattle.cp_compile_symbols.specs.declared.types.Types.{Types}
 use Rattle.cp_compile_symbols.specs.Variables.{AreDeclared, Declares, Entry, declared_entries, parameters_of, variables_of, with_declared_groups, with_declared_parameters}
 use Rattle.cp_compile_symbols.specs.Routines.{ResultIs}
-use Rattle.cp_compile_symbols.specs.Standing.{Grows, ScopeStands, Stands, type_from}
-use Rattle.cp_compile_symbols.proofs.Standing.{still_stands}
+use Rattle.cp_compile_symbols.specs.Standing.{Grows, ScopeRepresents, Represents, type_from}
+use Rattle.cp_compile_symbols.proofs.Standing.{still_represents}
 
-pub each_declared : (types : Types) (xs : List Identifier) (r : Bool) (n : ℕ) (t : ResolvedType) (rest : List Entry) (vs : List (Name × Variable)) → Stands types n t
+pub each_declared : (types : Types) (xs : List Identifier) (r : Bool) (n : ℕ) (t : ResolvedType) (rest : List Entry) (vs : List (Name × Variable)) → Represents types n t
     → AreDeclared types rest vs → AreDeclared types (declared_entries xs r n ++ rest) (declared_group r t (map erase.name xs) vs)
 each_declared types [] r n t rest vs s d = d
 each_declared types (x ∷ xs) r n t rest vs s d = (refl, refl, s, each_declared types xs r n t rest vs s d)
@@ -36,25 +36,25 @@ variables_declared g (f ∷ fs) vs =
 
 pub result_still : (g : GlobalScope) (old new : Types) → Grows old new → (r : Option ℕ) (x : Option Name) → ResultIs g old r x → ResultIs g new r x
 result_still g old new grows None None h = tt
-result_still g old new grows (Some n) (Some x) h = still_stands old new grows n (named_type g x) h
+result_still g old new grows (Some n) (Some x) h = still_represents old new grows n (named_type g x) h
 result_still g old new grows None (Some x) h = absurd h
 result_still g old new grows (Some n) None h = absurd h
 
 -- ---- Lists that were begun
 
 pub parameters_listed : (names : Names) (a b later : Types) (before after : List Entry) (ps : List Parameters) (g : GlobalScope)
-    → Declares names a b before after (with_declared_parameters ps) → before ≡ [] → ScopeStands names a g → Grows b later
+    → Declares names a b before after (with_declared_parameters ps) → before ≡ [] → ScopeRepresents names a g → Grows b later
     → AreDeclared later after (parameters_of g ps)
 parameters_listed names a b later before after ps g one none scope grows =
     let own : after ≡ one.added ++ [] = one.all ∙ ap (λ ds. ds ++ one.added) none ∙ sym (append-nil one.added) in
-    subst (AreDeclared later after) (parameters_declared g ps [] ∙ append-nil (parameters_of g ps)) (rw own (one.stands g later [] [] scope grows tt))
+    subst (AreDeclared later after) (parameters_declared g ps [] ∙ append-nil (parameters_of g ps)) (rw own (one.represents g later [] [] scope grows tt))
 
 pub variables_listed : (names : Names) (a b later : Types) (before after : List Entry) (fs : List Fields) (g : GlobalScope)
-    → Declares names a b before after (with_declared_groups fs) → before ≡ [] → ScopeStands names a g → Grows b later
+    → Declares names a b before after (with_declared_groups fs) → before ≡ [] → ScopeRepresents names a g → Grows b later
     → AreDeclared later after (variables_of g fs)
 variables_listed names a b later before after fs g one none scope grows =
     let own : after ≡ one.added ++ [] = one.all ∙ ap (λ ds. ds ++ one.added) none ∙ sym (append-nil one.added) in
-    subst (AreDeclared later after) (variables_declared g fs [] ∙ append-nil (variables_of g fs)) (rw own (one.stands g later [] [] scope grows tt))
+    subst (AreDeclared later after) (variables_declared g fs [] ∙ append-nil (variables_of g fs)) (rw own (one.represents g later [] [] scope grows tt))
 
 pub both_declared : (types : Types) (ds es : List Entry) (vs ws : List (Name × Variable)) → AreDeclared types ds vs → AreDeclared types es ws
     → AreDeclared types (ds ++ es) (vs ++ ws)

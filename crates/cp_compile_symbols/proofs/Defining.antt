@@ -9,7 +9,7 @@ use Rattle.cp_compile_symbols.specs.declared.types.Types.{Types}
 use Rattle.cp_compile_symbols.specs.declared.names.Names.{Names}
 use Rattle.cp_compile_symbols.specs.declared.names.Value.{Value}
 use Rattle.cp_compile_symbols.specs.Outer.{with_type, with_value}
-use Rattle.cp_compile_symbols.specs.Standing.{ScopeStands, Stands, TypeMeans, value_of}
+use Rattle.cp_compile_symbols.specs.Standing.{ScopeRepresents, Represents, TypeMeans, value_of}
 use Rattle.cp_compile_symbols.specs.Tables.{InFront, or_last}
 
 pub behind_others : {A : Type 0} (es : List (Name × A)) (x : Name) (v : A) (y : Name)
@@ -40,19 +40,19 @@ behind_itself {A} es x v w y there = go (lookup y es) (bytes_eq y x) refl refl
 
 -- ---- The scope with one more name
 
-pub type_named : (names later : Names) (types : Types) (g : GlobalScope) (x : Name) (n : ℕ) (t : ResolvedType) → ScopeStands names types g
-    → later.constants ≡ names.constants → InFront x n names.types later.types → Stands types n t → ScopeStands later types (with_type x (λ h. t) g)
-type_named names later types g x n t scope same front stands = record {
+pub type_named : (names later : Names) (types : Types) (g : GlobalScope) (x : Name) (n : ℕ) (t : ResolvedType) → ScopeRepresents names types g
+    → later.constants ≡ names.constants → InFront x n names.types later.types → Represents types n t → ScopeRepresents later types (with_type x (λ h. t) g)
+type_named names later types g x n t scope same front represents = record {
   constants = λ y. ap (λ cs. option_map value_of (lookup y cs)) same ∙ scope.constants y;
   types = λ y. subst (λ m. TypeMeans types m (lookup y ((x, t) ∷ g.types))) (sym (front y)) (means y (bytes_eq y x) refl);
 }
   where
     means : (y : Name) (b : Bool) → bytes_eq y x ≡ b → TypeMeans types (if b then Some n else lookup y names.types) (if b then Some t else lookup y g.types)
-    means y true is = stands
+    means y true is = represents
     means y false is = scope.types y
 
-pub constant_named : (names later : Names) (types : Types) (g : GlobalScope) (x : Name) (v : Value) → ScopeStands names types g
-    → later.types ≡ names.types → InFront x v names.constants later.constants → ScopeStands later types (with_value x (value_of v) g)
+pub constant_named : (names later : Names) (types : Types) (g : GlobalScope) (x : Name) (v : Value) → ScopeRepresents names types g
+    → later.types ≡ names.types → InFront x v names.constants later.constants → ScopeRepresents later types (with_value x (value_of v) g)
 constant_named names later types g x v scope same front = record {
   constants = λ y. ap (option_map value_of) (front y) ∙ means y (bytes_eq y x) refl;
   types = λ y. subst (λ ts. TypeMeans types (lookup y ts) (lookup y g.types)) (sym same) (scope.types y);

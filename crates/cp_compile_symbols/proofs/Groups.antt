@@ -7,7 +7,7 @@ use Rattle.cp_model.specs.declared.tree.Fields.{Fields}
 use Rattle.cp_model.specs.declared.tree.Parameters.{Parameters}
 use Rattle.cp_compile_symbols.specs.declared.types.Types.{Types}
 use Rattle.cp_compile_symbols.specs.declared.names.Names.{Names}
-use Rattle.cp_compile_symbols.specs.Standing.{AreMembers, Grows, MakesList, ScopeStands, with_groups, with_parameters}
+use Rattle.cp_compile_symbols.specs.Standing.{AreMembers, Grows, MakesList, ScopeRepresents, with_groups, with_parameters}
 use Rattle.cp_compile_symbols.proofs.Standing.{grows_more, grows_not, still_scope}
 
 -- For any kind of group, and anything that groups make.
@@ -16,14 +16,14 @@ module _ {A E M : Type 0} (are : Types → List E → M → Type 0) (with_all : 
   pub record Added (names : Names) (old new : Types) (before after added : List E) (all left : List A) : Type 0 where
     pub grows : Grows old new
     pub ends : after ≡ before ++ added
-    pub stands : (g : GlobalScope) (later : Types) (rest : List E) (ms : M) → ScopeStands names old g → Grows new later
+    pub represents : (g : GlobalScope) (later : Types) (rest : List E) (ms : M) → ScopeRepresents names old g → Grows new later
         → are later rest (with_all left g ms) → are later (added ++ rest) (with_all all g ms)
 
   pub none_added : (names : Names) (types : Types) (before : List E) (all : List A) → Added names types types before before [] all all
   none_added names types before all = record {
     grows = grows_not types;
     ends = sym (append-nil before);
-    stands = λ g later rest ms scope grows r. r;
+    represents = λ g later rest ms scope grows r. r;
   }
 
   pub one_added : (names : Names) (a b c : Types) (before after last added : List E) (all left : List A) (f : A) (make : GlobalScope → M → M)
@@ -33,11 +33,11 @@ module _ {A E M : Type 0} (are : Types → List E → M → Type 0) (with_all : 
   one_added names a b c before after last added all left f make is some one = record {
     grows = grows_more a b c some.grows one.grows;
     ends = one.all ∙ ap (λ fs. fs ++ one.added) some.ends ∙ append_assoc before added one.added;
-    stands = λ g later rest ms scope grows r.
+    represents = λ g later rest ms scope grows r.
         subst (λ fs. are later fs (with_all all g ms)) (sym (append_assoc added one.added rest))
-        (some.stands g later (one.added ++ rest) ms scope (grows_more b c later one.grows grows)
+        (some.represents g later (one.added ++ rest) ms scope (grows_more b c later one.grows grows)
         (subst (are later (one.added ++ rest)) (sym (is g ms))
-        (one.stands g later rest (with_all left g ms) (still_scope a b some.grows names g scope) grows r)));
+        (one.represents g later rest (with_all left g ms) (still_scope a b some.grows names g scope) grows r)));
   }
 
   pub all_added : (names : Names) (a b : Types) (before after added : List E) (all left : List A) → left ≡ []
@@ -46,8 +46,8 @@ module _ {A E M : Type 0} (are : Types → List E → M → Type 0) (with_all : 
     grows = some.grows;
     added = added;
     all = some.ends;
-    stands = λ g later rest ms scope grows r.
-        some.stands g later rest ms scope grows
+    represents = λ g later rest ms scope grows r.
+        some.represents g later rest ms scope grows
         (subst (λ (fs : List A). are later rest (with_all fs g ms)) (sym none) (subst (are later rest) (sym (is g ms)) r));
   }
 

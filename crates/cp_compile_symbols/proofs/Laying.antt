@@ -23,7 +23,7 @@ use Rattle.cp_compile_symbols.specs.declared.types.Field.{Field}
 use Rattle.cp_compile_symbols.specs.declared.types.TypeRow.{TypeRow}
 use Rattle.cp_compile_symbols.specs.declared.types.TypeRow.TheVariants as row
 use Rattle.cp_compile_symbols.specs.Layouts.{AreLaid, Counts, LaysRow, LayoutIs, MembersLie, PartIs, rights_of}
-use Rattle.cp_compile_symbols.specs.Standing.{AreMembers, Grows, ScopeStands, Stands, entry, row_at, system_at}
+use Rattle.cp_compile_symbols.specs.Standing.{AreMembers, Grows, ScopeRepresents, Represents, entry, row_at, system_at}
 use Rattle.cp_compile_symbols.specs.Tables.{Behind, or_last}
 
 -- Where a part lies: as recorded if it is laid out already, and otherwise among those that remain.
@@ -35,19 +35,19 @@ PartFound g types (Some p) wanted left = PartIs types (Some p) wanted
 pub record PartlyLaid (g : GlobalScope) (types : Types) (at : ℕ) (ms : Members) (left : List (Name × ℕ)) (l : Layout) : Type 0 where
   pub here : ℕ
   pub others : Members
-  pub stand : AreMembers types left others
+  pub represent : AreMembers types left others
   pub counts : Counts l.words here
   pub words : here + words_of_members g others ≡ at + words_of_members g ms
   pub parts : (x : Name) → PartFound g types (lookup x l.parts) (member_part g at ms x []) (member_part g here others x [])
 
 pub all_laid : (g : GlobalScope) (types : Types) (at : ℕ) (ms : Members) (left : List (Name × ℕ)) (l : Layout) → left ≡ [] → PartlyLaid g types at ms left l
     → MembersLie g types at ms l
-all_laid g types at ms left l none partly = go partly.others (subst (λ fs. AreMembers types fs partly.others) none partly.stand) partly.words partly.parts
+all_laid g types at ms left l none partly = go partly.others (subst (λ fs. AreMembers types fs partly.others) none partly.represent) partly.words partly.parts
   where
     go : (others : Members) → AreMembers types [] others → partly.here + words_of_members g others ≡ at + words_of_members g ms
         → ((x : Name) → PartFound g types (lookup x l.parts) (member_part g at ms x []) (member_part g partly.here others x [])) → MembersLie g types at ms l
-    go (MoreMembers x t rest) stand words parts = absurd stand
-    go NoMembers stand words parts = record {
+    go (MoreMembers x t rest) represent words parts = absurd represent
+    go NoMembers represent words parts = record {
       words = subst (Counts l.words) (omega (arith, words)) partly.counts;
       parts = λ x. found (lookup x l.parts) _ (parts x);
     }
@@ -58,10 +58,10 @@ all_laid g types at ms left l none partly = go partly.others (subst (λ fs. AreM
 
 pub none_laid : (g : GlobalScope) (types : Types) (at : ℕ) (ms : Members) (fs : List (Name × ℕ)) (l : Layout) → l.parts ≡ [] → Counts l.words at
     → AreMembers types fs ms → PartlyLaid g types at ms fs l
-none_laid g types at ms fs l none counts stand = record {
+none_laid g types at ms fs l none counts represent = record {
   here = at;
   others = ms;
-  stand = stand;
+  represent = represent;
   counts = counts;
   words = refl;
   parts = λ x. rw none refl;
@@ -69,28 +69,28 @@ none_laid g types at ms fs l none counts stand = record {
 
 -- One member more.
 pub one_laid : (g : GlobalScope) (types : Types) (at : ℕ) (ms : Members) (x : Name) (n : ℕ) (fs : List (Name × ℕ)) (l m : Layout) (p : Part) (size : Option ℕ)
-    → ((t : ResolvedType) → Stands types n t → Counts size (words g t)) → ((i j : ℕ) → Counts l.words i → Counts size j → Counts m.words (i + j))
+    → ((t : ResolvedType) → Represents types n t → Counts size (words g t)) → ((i j : ℕ) → Counts l.words i → Counts size j → Counts m.words (i + j))
     → p.at ≡ l.words → p.of ≡ n → Behind x p l.parts m.parts → PartlyLaid g types at ms ((x, n) ∷ fs) l → PartlyLaid g types at ms fs m
-one_laid g types at ms x n fs l m p size sized added at_is of_is behind partly = go partly.others partly.stand partly.words partly.parts
+one_laid g types at ms x n fs l m p size sized added at_is of_is behind partly = go partly.others partly.represent partly.words partly.parts
   where
     go : (others : Members) → AreMembers types ((x, n) ∷ fs) others → partly.here + words_of_members g others ≡ at + words_of_members g ms
         → ((z : Name) → PartFound g types (lookup z l.parts) (member_part g at ms z []) (member_part g partly.here others z []))
         → PartlyLaid g types at ms fs m
-    go NoMembers stand total parts = absurd stand
-    go (MoreMembers y t rest) stand total parts = record {
+    go NoMembers represent total parts = absurd represent
+    go (MoreMembers y t rest) represent total parts = record {
       here = partly.here + words g t;
       others = rest;
-      stand = stand.2;
-      counts = added partly.here (words g t) partly.counts (sized t stand.1);
+      represent = represent.2;
+      counts = added partly.here (words g t) partly.counts (sized t represent.1);
       words = omega (arith, total);
       parts = λ z.
           subst (λ o. PartFound g types o (member_part g at ms z []) (member_part g (partly.here + words g t) rest z [])) (sym (behind z))
           (found z (lookup z l.parts) (bytes_eq z x) (subst (λ w. PartFound g types (lookup z l.parts) (member_part g at ms z [])
-          (if bytes_eq z w then farther partly.here (Some (0, t)) else member_part g (partly.here + words g t) rest z [])) (sym stand.0) (parts z)));
+          (if bytes_eq z w then farther partly.here (Some (0, t)) else member_part g (partly.here + words g t) rest z [])) (sym represent.0) (parts z)));
     }
       where
-        is_part : Counts p.at (partly.here + 0) × Stands types p.of t
-        is_part = (subst (λ o. Counts o (partly.here + 0)) (sym at_is) (subst (Counts l.words) (omega arith) partly.counts), subst (λ k. Stands types k t) (sym of_is) stand.1)
+        is_part : Counts p.at (partly.here + 0) × Represents types p.of t
+        is_part = (subst (λ o. Counts o (partly.here + 0)) (sym at_is) (subst (Counts l.words) (omega arith) partly.counts), subst (λ k. Represents types k t) (sym of_is) represent.1)
 
         found : (z : Name) (o : Option Part) (b : Bool)
             → PartFound g types o (member_part g at ms z []) (if b then farther partly.here (Some (0, t)) else member_part g (partly.here + words g t) rest z [])
@@ -105,8 +105,8 @@ module _ (g : GlobalScope) (types : Types) (n : ℕ) (l : Layout) where
   same_row : (r s : TypeRow) → row_at types n ≡ Some r → row_at types n ≡ Some s → r ≡ s
   same_row r s p q = same_Some r s (sym p ∙ q)
 
-  pub array_laid : (t : ResolvedType) (low high : ℤ) (e : ℕ) → row_at types n ≡ Some (row.Array low high e) → Stands types n t → l.parts ≡ []
-      → ((u : ResolvedType) → Stands types e u → Counts l.words (count_between low high * words g u)) → LayoutIs g types l t
+  pub array_laid : (t : ResolvedType) (low high : ℤ) (e : ℕ) → row_at types n ≡ Some (row.Array low high e) → Represents types n t → l.parts ≡ []
+      → ((u : ResolvedType) → Represents types e u → Counts l.words (count_between low high * words g u)) → LayoutIs g types l t
   array_laid (Simple b x y z) low high e at s none counts = absurd (let same = same_row _ _ at s.1 in cc)
   array_laid (ArrayOf x y u) low high e at s none counts =
       let same = same_row _ _ at s.1 in
@@ -114,7 +114,7 @@ module _ (g : GlobalScope) (types : Types) (n : ℕ) (l : Layout) where
       let highs : high ≡ y = cc in
       let elements : e ≡ s.0 = cc in
       record {
-        words = rw (← lows, ← highs) (counts u (subst (λ k. Stands types k u) (sym elements) s.2));
+        words = rw (← lows, ← highs) (counts u (subst (λ k. Represents types k u) (sym elements) s.2));
         parts = λ x. rw none tt;
       }
   array_laid (RecordOf ms) low high e at s none counts = absurd (let same = same_row _ _ at s.1 in cc)
@@ -122,7 +122,7 @@ module _ (g : GlobalScope) (types : Types) (n : ℕ) (l : Layout) where
   array_laid (ComponentOf y ms) low high e at s none counts = absurd (let same = same_row _ _ at s.3 in cc)
   array_laid NoType low high e at s none counts = absurd (let same = same_row _ _ at s in cc)
 
-  pub record_laid : (t : ResolvedType) (fields : Vec Field Global) → row_at types n ≡ Some (row.Record fields) → Stands types n t
+  pub record_laid : (t : ResolvedType) (fields : Vec Field Global) → row_at types n ≡ Some (row.Record fields) → Represents types n t
       → ((ms : Members) → AreMembers types (map entry fields.items) ms → MembersLie g types 0 ms l) → LayoutIs g types l t
   record_laid (Simple b x y z) fields at s lie = absurd (let same = same_row _ _ at s.1 in cc)
   record_laid (ArrayOf x y u) fields at s lie = absurd (let same = same_row _ _ at s.1 in cc)
@@ -136,7 +136,7 @@ module _ (g : GlobalScope) (types : Types) (n : ℕ) (l : Layout) where
   record_laid NoType fields at s lie = absurd (let same = same_row _ _ at s in cc)
 
   pub component_laid : (t : ResolvedType) (k : ℕ) (members : Vec Field Global) (y : Bor System) → row_at types n ≡ Some (row.Component k members)
-      → system_at types k ≡ Some y → Stands types n t
+      → system_at types k ≡ Some y → Represents types n t
       → ((ms : Members) → AreMembers types (map entry members.items) ms → LayoutIs g types l (ComponentOf (erase.system (view.system y.now)) ms))
       → LayoutIs g types l t
   component_laid (Simple b u v z) k members y at there s lie = absurd (let same = same_row _ _ at s.1 in cc)
@@ -162,13 +162,13 @@ last_or_before [] d (suc i) x h = absurd (cc)
 last_or_before (y ∷ ys) d zero x h = inl h
 last_or_before (y ∷ ys) d (suc i) x h = ⊎_elim (λ l. inl l) (λ r. inr (ap suc r.0, r.1)) (last_or_before ys d i x h)
 
-pub one_more_laid : (names : Names) (types : Types) (ls : List Layout) (r : TypeRow) (l : Layout) (g : GlobalScope) → ScopeStands names types g
+pub one_more_laid : (names : Names) (types : Types) (ls : List Layout) (r : TypeRow) (l : Layout) (g : GlobalScope) → ScopeRepresents names types g
     → row_at types (length ls) ≡ Some r → LaysRow names types ls r l → AreLaid g types ls → AreLaid g types (ls ++ l ∷ [])
-one_more_laid names types ls r l g scope at lays laid later grows n m t there stands =
+one_more_laid names types ls r l g scope at lays laid later grows n m t there represents =
     ⊎_elim
-    (λ before. laid later grows n m t before stands)
+    (λ before. laid later grows n m t before represents)
     (λ last. subst (λ (z : Layout). LayoutIs g later z t) last.1
-    (lays g later n t scope grows laid (grows.rows n r (subst (λ k. row_at types k ≡ Some r) (sym last.0) at)) stands))
+    (lays g later n t scope grows laid (grows.rows n r (subst (λ k. row_at types k ≡ Some r) (sym last.0) at)) represents))
     (last_or_before ls l n m there)
 
 pub laid_later : (g : GlobalScope) (types later : Types) (ls : List Layout) → Grows types later → AreLaid g types ls → AreLaid g later ls
@@ -186,7 +186,7 @@ class_laid g types y l ms is lie =
     record { words = rw class' lie.words; parts = λ x. rw class' (subst (λ n. PartIs types (lookup x l.parts) (member_part g n ms x [])) (omega arith) (lie.parts x)) }
 
 pub nothing_laid : (g : GlobalScope) (types : Types) (ls : List Layout) → ls ≡ [] → AreLaid g types ls
-nothing_laid g types ls none later grows n l t there stands =
+nothing_laid g types ls none later grows n l t there represents =
     absurd (nothing n (subst (λ (xs : List Layout). slice_get xs n ≡ Some l) none there))
   where
     nothing : (i : ℕ) → slice_get {X = Layout} [] i ≡ Some l → ⊥

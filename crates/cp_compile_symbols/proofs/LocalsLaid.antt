@@ -11,7 +11,7 @@ use Rattle.cp_compile_symbols.specs.declared.locals.Locals.{Locals}
 use Rattle.cp_compile_symbols.specs.declared.types.Types.{Types}
 use Rattle.cp_compile_symbols.specs.Layouts.{Counts}
 use Rattle.cp_compile_symbols.specs.Locals.{LocalIs, LocalsLie}
-use Rattle.cp_compile_symbols.specs.Standing.{Stands}
+use Rattle.cp_compile_symbols.specs.Standing.{Represents}
 use Rattle.cp_compile_symbols.specs.Tables.{Behind, or_last}
 use Rattle.cp_compile_symbols.specs.Variables.{AreDeclared, Entry}
 
@@ -25,19 +25,19 @@ LocalFound types (Some p) wanted left = LocalIs types (Some p) wanted
 pub record PartlyLaid (g : GlobalScope) (types : Types) (at : ℕ) (vs : List (Name × Variable)) (left : List Entry) (l : Locals) : Type 0 where
   pub here : ℕ
   pub others : List (Name × Variable)
-  pub stand : AreDeclared types left others
+  pub represent : AreDeclared types left others
   pub counts : Counts l.words here
   pub words : here + locals_words g others ≡ at + locals_words g vs
   pub names : (x : Name) → LocalFound types (lookup x l.names) (local_at g at vs x) (local_at g here others x)
 
 pub all_laid : (g : GlobalScope) (types : Types) (at : ℕ) (vs : List (Name × Variable)) (left : List Entry) (l : Locals) → left ≡ []
     → PartlyLaid g types at vs left l → LocalsLie g types at vs l
-all_laid g types at vs left l none partly = go partly.others (subst (λ fs. AreDeclared types fs partly.others) none partly.stand) partly.words partly.names
+all_laid g types at vs left l none partly = go partly.others (subst (λ fs. AreDeclared types fs partly.others) none partly.represent) partly.words partly.names
   where
     go : (others : List (Name × Variable)) → AreDeclared types [] others → partly.here + locals_words g others ≡ at + locals_words g vs
         → ((x : Name) → LocalFound types (lookup x l.names) (local_at g at vs x) (local_at g partly.here others x)) → LocalsLie g types at vs l
-    go (v ∷ rest) stand words names = absurd stand
-    go [] stand words names = record {
+    go (v ∷ rest) represent words names = absurd represent
+    go [] represent words names = record {
       words = subst (Counts l.words) (omega (arith, words)) partly.counts;
       names = λ x. found (lookup x l.names) _ (names x);
     }
@@ -48,10 +48,10 @@ all_laid g types at vs left l none partly = go partly.others (subst (λ fs. AreD
 
 pub none_laid : (g : GlobalScope) (types : Types) (at : ℕ) (vs : List (Name × Variable)) (fs : List Entry) (l : Locals) → l.names ≡ [] → Counts l.words at
     → AreDeclared types fs vs → PartlyLaid g types at vs fs l
-none_laid g types at vs fs l none counts stand = record {
+none_laid g types at vs fs l none counts represent = record {
   here = at;
   others = vs;
-  stand = stand;
+  represent = represent;
   counts = counts;
   words = refl;
   names = λ x. rw none refl;
@@ -59,28 +59,28 @@ none_laid g types at vs fs l none counts stand = record {
 
 -- One variable more.
 pub one_laid : (g : GlobalScope) (types : Types) (at : ℕ) (vs : List (Name × Variable)) (d : Entry) (fs : List Entry) (l m : Locals) (p : Local) (size : Option ℕ)
-    → ((v : Variable) → d.1.0 ≡ v.by_reference → Stands types d.1.1 v.type → Counts size (local_words g v))
+    → ((v : Variable) → d.1.0 ≡ v.by_reference → Represents types d.1.1 v.type → Counts size (local_words g v))
     → ((i j : ℕ) → Counts l.words i → Counts size j → Counts m.words (i + j))
     → p.at ≡ l.words → p.by_reference ≡ d.1.0 → p.of ≡ d.1.1 → Behind d.0 p l.names m.names → PartlyLaid g types at vs (d ∷ fs) l → PartlyLaid g types at vs fs m
-one_laid g types at vs d fs l m p size sized added at_is way_is of_is behind partly = go partly.others partly.stand partly.words partly.names
+one_laid g types at vs d fs l m p size sized added at_is way_is of_is behind partly = go partly.others partly.represent partly.words partly.names
   where
     go : (others : List (Name × Variable)) → AreDeclared types (d ∷ fs) others → partly.here + locals_words g others ≡ at + locals_words g vs
         → ((z : Name) → LocalFound types (lookup z l.names) (local_at g at vs z) (local_at g partly.here others z)) → PartlyLaid g types at vs fs m
-    go [] stand total names = absurd stand
-    go (v ∷ rest) stand total names = record {
+    go [] represent total names = absurd represent
+    go (v ∷ rest) represent total names = record {
       here = partly.here + local_words g v.1;
       others = rest;
-      stand = stand.3;
-      counts = added partly.here (local_words g v.1) partly.counts (sized v.1 stand.1 stand.2);
+      represent = represent.3;
+      counts = added partly.here (local_words g v.1) partly.counts (sized v.1 represent.1 represent.2);
       words = omega (arith, total);
       names = λ z.
           subst (λ o. LocalFound types o (local_at g at vs z) (local_at g (partly.here + local_words g v.1) rest z)) (sym (behind z))
           (found z (lookup z l.names) (bytes_eq z d.0) (subst (λ w. LocalFound types (lookup z l.names) (local_at g at vs z)
-          (if bytes_eq z w then Some (partly.here, v.1) else local_at g (partly.here + local_words g v.1) rest z)) (sym stand.0) (names z)));
+          (if bytes_eq z w then Some (partly.here, v.1) else local_at g (partly.here + local_words g v.1) rest z)) (sym represent.0) (names z)));
     }
       where
-        is_local : Counts p.at partly.here × (p.by_reference ≡ v.1.by_reference) × Stands types p.of v.1.type
-        is_local = (subst (λ o. Counts o partly.here) (sym at_is) partly.counts, rw way_is stand.1, subst (λ k. Stands types k v.1.type) (sym of_is) stand.2)
+        is_local : Counts p.at partly.here × (p.by_reference ≡ v.1.by_reference) × Represents types p.of v.1.type
+        is_local = (subst (λ o. Counts o partly.here) (sym at_is) partly.counts, rw way_is represent.1, subst (λ k. Represents types k v.1.type) (sym of_is) represent.2)
 
         found : (z : Name) (o : Option Local) (b : Bool)
             → LocalFound types o (local_at g at vs z) (if b then Some (partly.here, v.1) else local_at g (partly.here + local_words g v.1) rest z)

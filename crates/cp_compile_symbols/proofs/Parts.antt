@@ -25,12 +25,12 @@ use Rattle.cp_compile_symbols.specs.declared.scope.Scope.{Scope}
 use Rattle.cp_compile_symbols.specs.declared.types.Types.{Types}
 use Rattle.cp_compile_symbols.specs.Layouts.{PartIs}
 use Rattle.cp_compile_symbols.specs.Places.{PlaceIs, TypeIs, elements_of, is_record}
-use Rattle.cp_compile_symbols.specs.Standing.{Stands, row_at}
+use Rattle.cp_compile_symbols.specs.Standing.{Represents, row_at}
 
 abbrev elements_type : Option Elements → Option ℕ
 elements_type o = option_map (λ e. e.of) o
 
-pub element_typed : (types : Types) (n : ℕ) (t : ResolvedType) → Stands types n t → TypeIs types (elements_type (elements_of (row_at types n))) (element_type t)
+pub element_typed : (types : Types) (n : ℕ) (t : ResolvedType) → Represents types n t → TypeIs types (elements_type (elements_of (row_at types n))) (element_type t)
 element_typed types n (Simple b low high start) h = rw h.1 refl
 element_typed types n (ArrayOf low high t) h = rw h.1 h.2
 element_typed types n (RecordOf ms) h = rw h.1 refl

@@ -10,7 +10,7 @@ use Rattle.cp_compile_symbols.specs.declared.types.TypeRow.{TypeRow}
 use Rattle.cp_compile_symbols.specs.declared.types.TypeRow.TheVariants as row
 use Rattle.cp_compile_symbols.specs.declared.types.Types.{Types}
 use Rattle.cp_compile_symbols.specs.declared.names.Names.{Names}
-use Rattle.cp_compile_symbols.specs.Standing.{Adds, AreMembers, Grows, Keeps, Makes, MakesArray, MakesIndexed, ScopeStands, Stands, TypeMeans, array_row, array_type_over, row_at, simple_of, system_at, type_from}
+use Rattle.cp_compile_symbols.specs.Standing.{Adds, AreMembers, Grows, Keeps, Makes, MakesArray, MakesIndexed, ScopeRepresents, Represents, TypeMeans, array_row, array_type_over, row_at, simple_of, system_at, type_from}
 
 pub grows_not : (types : Types) → Grows types types
 grows_not types = record { rows = λ n r h. h; systems = refl }
@@ -36,42 +36,42 @@ kept_more a b c one two = record {
 
 module _ (old new : Types) (keeps : Keeps old new) where
   mutual
-    pub kept_stands : (n : ℕ) (t : ResolvedType) → Stands old n t → Stands new n t
-    kept_stands n (Simple b low high start) s = (s.0, keeps.rows n (row.Simple s.0) s.1, s.2)
-    kept_stands n (ArrayOf low high t) s = (s.0, keeps.rows n (row.Array low high s.0) s.1, kept_stands s.0 t s.2)
-    kept_stands n (RecordOf ms) s = (s.0, keeps.rows n (row.Record s.0) s.1, kept_members (map _ s.0.items) ms s.2)
-    kept_stands n Queue s = keeps.rows n row.Queue s
-    kept_stands n (ComponentOf y ms) s =
+    pub kept_represents : (n : ℕ) (t : ResolvedType) → Represents old n t → Represents new n t
+    kept_represents n (Simple b low high start) s = (s.0, keeps.rows n (row.Simple s.0) s.1, s.2)
+    kept_represents n (ArrayOf low high t) s = (s.0, keeps.rows n (row.Array low high s.0) s.1, kept_represents s.0 t s.2)
+    kept_represents n (RecordOf ms) s = (s.0, keeps.rows n (row.Record s.0) s.1, kept_members (map _ s.0.items) ms s.2)
+    kept_represents n Queue s = keeps.rows n row.Queue s
+    kept_represents n (ComponentOf y ms) s =
         (s.0, s.1, s.2, keeps.rows n (row.Component s.0 s.1) s.3, keeps.systems s.0 s.2 s.4, s.5, kept_members (map _ s.1.items) ms s.6)
-    kept_stands n NoType s = keeps.rows n row.Unknown s
+    kept_represents n NoType s = keeps.rows n row.Unknown s
 
     pub kept_members : (fs : List (Name × ℕ)) (ms : Members) → AreMembers old fs ms → AreMembers new fs ms
     kept_members [] NoMembers s = tt
-    kept_members (f ∷ fs) (MoreMembers x t ms) s = (s.0, kept_stands f.1 t s.1, kept_members fs ms s.2)
+    kept_members (f ∷ fs) (MoreMembers x t ms) s = (s.0, kept_represents f.1 t s.1, kept_members fs ms s.2)
     kept_members [] (MoreMembers x t ms) s = absurd s
     kept_members (f ∷ fs) NoMembers s = absurd s
 
   kept_means : (n : Option ℕ) (t : Option ResolvedType) → TypeMeans old n t → TypeMeans new n t
   kept_means None None s = tt
-  kept_means (Some n) (Some t) s = kept_stands n t s
+  kept_means (Some n) (Some t) s = kept_represents n t s
   kept_means None (Some t) s = absurd s
   kept_means (Some n) None s = absurd s
 
-  pub kept_scope : (names : Names) (g : GlobalScope) → ScopeStands names old g → ScopeStands names new g
+  pub kept_scope : (names : Names) (g : GlobalScope) → ScopeRepresents names old g → ScopeRepresents names new g
   kept_scope names g s = record { constants = s.constants; types = λ x. kept_means _ _ (s.types x) }
 
 module _ (old new : Types) (grows : Grows old new) where
-  pub still_stands : (n : ℕ) (t : ResolvedType) → Stands old n t → Stands new n t
-  still_stands = kept_stands old new (kept old new grows)
+  pub still_represents : (n : ℕ) (t : ResolvedType) → Represents old n t → Represents new n t
+  still_represents = kept_represents old new (kept old new grows)
 
   pub still_members : (fs : List (Name × ℕ)) (ms : Members) → AreMembers old fs ms → AreMembers new fs ms
   still_members = kept_members old new (kept old new grows)
 
-  pub still_scope : (names : Names) (g : GlobalScope) → ScopeStands names old g → ScopeStands names new g
+  pub still_scope : (names : Names) (g : GlobalScope) → ScopeRepresents names old g → ScopeRepresents names new g
   still_scope = kept_scope old new (kept old new grows)
 
 -- The number of a type is that of a row.
-pub has_row : (types : Types) (n : ℕ) (t : ResolvedType) → Stands types n t → n < length types.rows.items
+pub has_row : (types : Types) (n : ℕ) (t : ResolvedType) → Represents types n t → n < length types.rows.items
 has_row types n (Simple b low high start) s = slice_get_within types.rows.items n _ s.1
 has_row types n (ArrayOf low high t) s = slice_get_within types.rows.items n _ s.1
 has_row types n (RecordOf ms) s = slice_get_within types.rows.items n _ s.1
@@ -81,7 +81,7 @@ has_row types n NoType s = slice_get_within types.rows.items n _ s
 
 -- A type of components has a system type.
 pub has_system : (types : Types) (n : ℕ) (t : ResolvedType) (k : ℕ) (members : Vec Field Global) → row_at types n ≡ Some (row.Component k members)
-    → Stands types n t → system_at types k ≡ None → ⊥
+    → Represents types n t → system_at types k ≡ None → ⊥
 has_system types n (Simple b low high start) k members at s none = (let both = sym at ∙ s.1 in cc)
 has_system types n (ArrayOf low high t) k members at s none = (let both = sym at ∙ s.1 in cc)
 has_system types n (RecordOf ms) k members at s none = (let both = sym at ∙ s.1 in cc)
@@ -107,16 +107,16 @@ same_bounds s b low high start h = (cc, cc)
 
 pub array_made : (old new : Types) (r : TypeRow) (index element n : ℕ) → r ≡ array_row (row_at old index) element → Adds old new r n
     → MakesArray old new index element n
-array_made old new r index element n is adds = record { grows = adds.grows; stands = made }
+array_made old new r index element n is adds = record { grows = adds.grows; represents = made }
   where
     row_is : (q : TypeRow) → row_at old index ≡ Some q → row_at new n ≡ Some (array_row (Some q) element)
     row_is q h = adds.added ∙ ap Some (is ∙ ap (λ o. array_row o element) h)
 
-    made : (i e : ResolvedType) → Stands old index i → Stands old element e → Stands new n (array_type i e)
+    made : (i e : ResolvedType) → Represents old index i → Represents old element e → Represents new n (array_type i e)
     made (Simple b low high start) e s t =
         let same = same_bounds s.0 b low high start s.2 in
         let at : row_at new n ≡ Some (row.Array low high element) = rw (← same.0, ← same.1) (row_is (row.Simple s.0) s.1) in
-        (element, at, still_stands old new adds.grows element e t)
+        (element, at, still_represents old new adds.grows element e t)
     made (ArrayOf low high u) e s t = row_is _ s.1
     made (RecordOf ms) e s t = row_is _ s.1
     made Queue e s t = row_is _ s
@@ -127,12 +127,12 @@ array_made old new r index element n is adds = record { grows = adds.grows; stan
 pub made_later : (names : Names) (a b c : Types) (of : GlobalScope → ResolvedType) (n : ℕ) → Grows a b → Makes names b c of n → Makes names a c of n
 made_later names a b c of n grows makes = record {
   grows = grows_more a b c grows makes.grows;
-  stands = λ g s. makes.stands g (still_scope a b grows names g s);
+  represents = λ g s. makes.represents g (still_scope a b grows names g s);
 }
 
 -- Without index types, the array of arrays is the element itself.
 pub indexed_none : (names : Names) (types : Types) (element : ℕ) → MakesIndexed names types types [] element element
-indexed_none names types element = record { grows = grows_not types; stands = λ g e scope s. s }
+indexed_none names types element = record { grows = grows_not types; represents = λ g e scope s. s }
 
 -- One index type more, before the others.
 pub indexed_more : (names : Names) (a b c d : Types) (i : TypeExpression) (is : List TypeExpression) (element of index n : ℕ)
@@ -140,6 +140,6 @@ pub indexed_more : (names : Names) (a b c d : Types) (i : TypeExpression) (is : 
     → MakesIndexed names a d (i ∷ is) element n
 indexed_more names a b c d i is element of index n one two three = record {
   grows = grows_more a b d one.grows (grows_more b c d two.grows three.grows);
-  stands = λ g e scope s. three.stands (type_from i g) (array_type_over is e g) (two.stands g (still_scope a b one.grows names g scope))
-      (still_stands b c two.grows of (array_type_over is e g) (one.stands g e scope s));
+  represents = λ g e scope s. three.represents (type_from i g) (array_type_over is e g) (two.represents g (still_scope a b one.grows names g scope))
+      (still_represents b c two.grows of (array_type_over is e g) (one.represents g e scope s));
 }

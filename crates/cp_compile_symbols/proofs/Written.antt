@@ -10,7 +10,7 @@ use Rattle.cp_model.specs.declared.tree.TypeExpression.{TypeExpression}
 use Rattle.cp_model.specs.declared.tree.TypeExpression.TheVariants as tree
 use Rattle.cp_model.proofs.TypeViews.{view_array, view_fields, view_record}
 use Rattle.cp_compile_symbols.specs.declared.types.Types.{Types}
-use Rattle.cp_compile_symbols.specs.Standing.{AreMembers, Stands, entries_of, fields_of, array_type_over, record_type, with_groups, type_from}
+use Rattle.cp_compile_symbols.specs.Standing.{AreMembers, Represents, entries_of, fields_of, array_type_over, record_type, with_groups, type_from}
 
 pub array_written : (g : GlobalScope) (at : ℕ) (indices : Box (Vec TypeExpression Global) Global) (element : Box TypeExpression Global)
     → array_type_over indices.value.items (type_from element.value g) g ≡ type_from (tree.Array at indices element) g
@@ -31,7 +31,7 @@ pub record_written : (g : GlobalScope) (at : ℕ) (groups : Box (Vec Fields Glob
 record_written g at groups = ap (λ t. resolved_type g (erase.type_expression t)) (sym (view_record at groups))
 
 -- Names of one type, before other members.
-pub names_written : (types : Types) (xs : List Identifier) (n : ℕ) (t : ResolvedType) (rest : List (Name × ℕ)) (ms : Members) → Stands types n t
+pub names_written : (types : Types) (xs : List Identifier) (n : ℕ) (t : ResolvedType) (rest : List (Name × ℕ)) (ms : Members) → Represents types n t
     → AreMembers types rest ms → AreMembers types (entries_of xs n ++ rest) (with_members (map erase.name xs) t ms)
 names_written types [] n t rest ms s r = r
 names_written types (x ∷ xs) n t rest ms s r = (refl, s, names_written types xs n t rest ms s r)

@@ -13,12 +13,12 @@ use Rattle.cp_compile_symbols.specs.declared.names.Names.{Names}
 use Rattle.cp_compile_symbols.specs.declared.types.Types.{Types}
 use Rattle.cp_compile_symbols.specs.Layouts.{AreLaid, MembersLie, rights_of}
 use Rattle.cp_compile_symbols.specs.Routines.{Builds}
-use Rattle.cp_compile_symbols.specs.Standing.{Grows, ScopeStands, Stands, with_parameters}
+use Rattle.cp_compile_symbols.specs.Standing.{Grows, ScopeRepresents, Represents, with_parameters}
 use Rattle.cp_compile_symbols.specs.Variables.{AreDeclared, Entry, variables_of}
 
 -- `after` is `before` with `d` appended if `d` is a component, and `before` itself otherwise.
 abbrev pub Picks : Types → Entry → List Entry → List Entry → Type 0
-Picks types d before after = (v : Variable) → Stands types d.1.1 v.type → after ≡ (if is_component v.type then before ++ d ∷ [] else before)
+Picks types d before after = (v : Variable) → Represents types d.1.1 v.type → after ≡ (if is_component v.type then before ++ d ∷ [] else before)
 
 -- If `list` stands for the variables `vs`, then `picked` stands for the components among them.
 abbrev pub PicksComponents : Types → List Entry → List Entry → Type 0
@@ -27,7 +27,7 @@ PicksComponents types list picked =
 
 abbrev pub RightIs : Types → Option Right → Option (ℕ × Variable) → Type 0
 RightIs types None None = Unit {0}
-RightIs types (Some r) (Some q) = (r.at ≡ q.0) × Stands types r.of q.1.type
+RightIs types (Some r) (Some q) = (r.at ≡ q.0) × Represents types r.of q.1.type
 RightIs types _ _ = ⊥
 
 -- The rights lie one after another from word 1 on, after the mark.
@@ -42,5 +42,5 @@ own_members g ps vs = with_parameters ps g (members_from (variables_of g vs) NoM
 -- the rights.
 pub record MakesComponent (names : Names) (old new : Types) (before after : List Layout) (ps : List Parameters) (vs : List Fields) (l : Layout) : Type 0 where
   pub builds : Builds names old new before after
-  pub lies : (g : GlobalScope) (later : Types) → ScopeStands names old g → AreLaid g old before → Grows new later
+  pub lies : (g : GlobalScope) (later : Types) → ScopeRepresents names old g → AreLaid g old before → Grows new later
       → MembersLie g later (suc (rights_of g ps)) (own_members g ps vs) l

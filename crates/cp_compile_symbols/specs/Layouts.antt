@@ -17,7 +17,7 @@ use Rattle.cp_model.specs.declared.tree.System.{System}
 use Rattle.cp_compile_symbols.specs.declared.names.Names.{Names}
 use Rattle.cp_compile_symbols.specs.declared.types.TypeRow.{TypeRow}
 use Rattle.cp_compile_symbols.specs.declared.types.Types.{Types}
-use Rattle.cp_compile_symbols.specs.Standing.{AreMembers, Grows, ScopeStands, Stands, name_type, row_at}
+use Rattle.cp_compile_symbols.specs.Standing.{AreMembers, Grows, ScopeRepresents, Represents, name_type, row_at}
 
 -- A count is the number `n`, or `None`, which the code uses for a number that is too large.
 abbrev pub Counts : Option ℕ → ℕ → Type 0
@@ -26,7 +26,7 @@ Counts (Some m) n = m ≡ n
 
 abbrev pub PartIs : Types → Option Part → Option code.Part → Type 0
 PartIs types None None = Unit {0}
-PartIs types (Some p) (Some q) = Counts p.at q.0 × Stands types p.of q.1
+PartIs types (Some p) (Some q) = Counts p.at q.0 × Represents types p.of q.1
 PartIs types _ _ = ⊥
 
 -- The layout is that of the type `t`.
@@ -37,7 +37,7 @@ pub record LayoutIs (g : GlobalScope) (types : Types) (l : Layout) (t : Resolved
 -- Each layout is that of the type with its number, even after types are added.
 abbrev pub AreLaid : GlobalScope → Types → List Layout → Type 0
 AreLaid g types layouts =
-    (later : Types) → Grows types later → (n : ℕ) (l : Layout) (t : ResolvedType) → slice_get layouts n ≡ Some l → Stands later n t → LayoutIs g later l t
+    (later : Types) → Grows types later → (n : ℕ) (l : Layout) (t : ResolvedType) → slice_get layouts n ≡ Some l → Represents later n t → LayoutIs g later l t
 
 -- In addition, each type has a layout.
 pub record EachIsLaid (g : GlobalScope) (types : Types) (layouts : List Layout) : Type 0 where
@@ -63,11 +63,11 @@ rights_among g p = if is_component (name_type p.of.name g) then length p.names.i
 -- `l` is the layout of a component of this system type, with these members.
 abbrev pub LaysComponent : Names → Types → List Layout → System → List (Name × ℕ) → Layout → Type 0
 LaysComponent names types layouts y members l =
-    (g : GlobalScope) (later : Types) (ms : Members) → ScopeStands names types g → Grows types later → AreLaid g types layouts → AreMembers later members ms
+    (g : GlobalScope) (later : Types) (ms : Members) → ScopeRepresents names types g → Grows types later → AreLaid g types layouts → AreMembers later members ms
     → LayoutIs g later l (ComponentOf (erase.system (view.system y)) ms)
 
 -- `l` is the layout of the type that this row stands for.
 abbrev pub LaysRow : Names → Types → List Layout → TypeRow → Layout → Type 0
 LaysRow names types layouts r l =
-    (g : GlobalScope) (later : Types) (n : ℕ) (t : ResolvedType) → ScopeStands names types g → Grows types later → AreLaid g types layouts
-    → row_at later n ≡ Some r → Stands later n t → LayoutIs g later l t
+    (g : GlobalScope) (later : Types) (n : ℕ) (t : ResolvedType) → ScopeRepresents names types g → Grows types later → AreLaid g types layouts
+    → row_at later n ≡ Some r → Represents later n t → LayoutIs g later l t

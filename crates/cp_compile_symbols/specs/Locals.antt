@@ -10,13 +10,13 @@ use Rattle.cp_compile_symbols.specs.declared.locals.Local.{Local}
 use Rattle.cp_compile_symbols.specs.declared.locals.Locals.{Locals}
 use Rattle.cp_compile_symbols.specs.declared.types.Types.{Types}
 use Rattle.cp_compile_symbols.specs.Layouts.{AreLaid, Counts}
-use Rattle.cp_compile_symbols.specs.Standing.{Stands}
+use Rattle.cp_compile_symbols.specs.Standing.{Represents}
 use Rattle.cp_compile_symbols.specs.Variables.{AreDeclared, Entry}
 
 -- The place, the kind (`var` parameter or not) and the type of a variable, if there is one.
 abbrev pub LocalIs : Types → Option Local → Option (ℕ × Variable) → Type 0
 LocalIs types None None = Unit {0}
-LocalIs types (Some l) (Some q) = Counts l.at q.0 × (l.by_reference ≡ q.1.by_reference) × Stands types l.of q.1.type
+LocalIs types (Some l) (Some q) = Counts l.at q.0 × (l.by_reference ≡ q.1.by_reference) × Represents types l.of q.1.type
 LocalIs types _ _ = ⊥
 
 -- The layout of the variables `vs`, the first of which lies `at` words from the start of the

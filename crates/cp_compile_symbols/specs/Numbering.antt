@@ -8,7 +8,7 @@ use Rattle.cp_compile_symbols.specs.declared.numbering.Numbered.{Numbered}
 use Rattle.cp_compile_symbols.specs.declared.types.TypeRow.{TypeRow}
 use Rattle.cp_compile_symbols.specs.declared.types.TypeRow.TheVariants as row
 use Rattle.cp_compile_symbols.specs.declared.types.Types.{Types}
-use Rattle.cp_compile_symbols.specs.Standing.{Stands}
+use Rattle.cp_compile_symbols.specs.Standing.{Represents}
 use Rattle.cp_compile_symbols.specs.Variables.{AreDeclared, Entry}
 
 abbrev pub system_of : Option TypeRow → Option ℕ
@@ -17,7 +17,7 @@ system_of _ = None
 
 -- The name `x` is declared as `v`, after `n.monitors` monitors and `n.processes` processes.
 pub record IsNumbered (types : Types) (vs : List (Name × Variable)) (x : Name) (n : Numbered) (v : Variable) : Type 0 where
-  pub type : Stands types n.of v.type
+  pub type : Represents types n.of v.type
   pub monitors : count_before Monitor x vs ≡ n.monitors
   pub processes : count_before Process x vs ≡ n.processes
 

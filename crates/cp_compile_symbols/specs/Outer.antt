@@ -11,14 +11,14 @@ use Rattle.cp_model.specs.declared.tree.System.{System}
 use Rattle.cp_compile_symbols.specs.declared.names.Names.{Names}
 use Rattle.cp_compile_symbols.specs.declared.outer.Outer.{Outer}
 use Rattle.cp_compile_symbols.specs.declared.types.Types.{Types}
-use Rattle.cp_compile_symbols.specs.Standing.{Keeps, ScopeStands, Stands}
+use Rattle.cp_compile_symbols.specs.Standing.{Keeps, ScopeRepresents, Represents}
 
-abbrev pub OuterStands : Outer → GlobalScope → Type 0
-OuterStands outer g = ScopeStands outer.names outer.types g
+abbrev pub OuterRepresents : Outer → GlobalScope → Type 0
+OuterRepresents outer g = ScopeRepresents outer.names outer.types g
 
 -- If the old tables stand for a scope `g`, the new ones stand for `f g`.
 abbrev pub Defines : Outer → Outer → (GlobalScope → GlobalScope) → Type 0
-Defines old new f = (g : GlobalScope) → OuterStands old g → OuterStands new (f g)
+Defines old new f = (g : GlobalScope) → OuterRepresents old g → OuterRepresents new (f g)
 
 abbrev pub with_value : Name → a.BaseType × ℤ → GlobalScope → GlobalScope
 with_value x v g = record g { constants = (x, v) ∷ g.constants }
@@ -35,7 +35,7 @@ with_standard g = record { constants = standard_scope.constants ++ g.constants; 
 -- The new tables give the name `x` to type number `n`, whatever type that number stands for.
 abbrev pub NamesType : Outer → Outer → Name → ℕ → Type 0
 NamesType old new x n =
-    (g : GlobalScope) (t : ResolvedType) → OuterStands old g → Stands old.types n t → OuterStands new (with_type x (λ h. t) g)
+    (g : GlobalScope) (t : ResolvedType) → OuterRepresents old g → Represents old.types n t → OuterRepresents new (with_type x (λ h. t) g)
 
 abbrev pub component_of : System → GlobalScope → ResolvedType
 component_of y g = let s = erase.system (view.system y) in ComponentOf s (reported_members g s)
@@ -43,7 +43,7 @@ component_of y g = let s = erase.system (view.system y) in ComponentOf s (report
 -- The type of the components of `y` is made, with the number `n`.
 pub record MakesComponents (names : Names) (old new : Types) (y : System) (n : ℕ) : Type 0 where
   pub keeps : Keeps old new
-  pub stands : (g : GlobalScope) → ScopeStands names old g → Stands new n (component_of y g)
+  pub represents : (g : GlobalScope) → ScopeRepresents names old g → Represents new n (component_of y g)
 
 abbrev pub defining : Definition → GlobalScope → GlobalScope
 defining d g = define g d

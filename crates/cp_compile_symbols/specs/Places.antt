@@ -10,7 +10,7 @@ use Rattle.cp_compile_symbols.specs.declared.scope.Scope.{Scope}
 use Rattle.cp_compile_symbols.specs.declared.types.TypeRow.{TypeRow}
 use Rattle.cp_compile_symbols.specs.declared.types.TypeRow.TheVariants as row
 use Rattle.cp_compile_symbols.specs.declared.types.Types.{Types}
-use Rattle.cp_compile_symbols.specs.Standing.{Stands}
+use Rattle.cp_compile_symbols.specs.Standing.{Represents}
 
 abbrev pub is_record : ResolvedType → Bool
 is_record (RecordOf ms) = true
@@ -23,7 +23,7 @@ elements_of r = None
 -- `Some` has the number of the type `t`, and `None` means that there is no type.
 abbrev pub TypeIs : Types → Option ℕ → ResolvedType → Type 0
 TypeIs types None t = t ≡ NoType
-TypeIs types (Some n) t = Stands types n t
+TypeIs types (Some n) t = Represents types n t
 
 -- `of` describes the type of the place of the designator `d`.
 abbrev pub PlaceIs : Scope → code.Scope → Option ℕ → a.Designator → Type 0

@@ -15,21 +15,21 @@ use Rattle.cp_compile_symbols.specs.declared.routines.RoutineTable.{RoutineTable
 use Rattle.cp_compile_symbols.specs.declared.types.Types.{Types}
 use Rattle.cp_compile_symbols.specs.Layouts.{AreLaid}
 use Rattle.cp_compile_symbols.specs.Locals.{LocalsLie}
-use Rattle.cp_compile_symbols.specs.Standing.{Grows, ScopeStands, Stands}
+use Rattle.cp_compile_symbols.specs.Standing.{Grows, ScopeRepresents, Represents}
 use Rattle.cp_compile_symbols.specs.Variables.{AreDeclared, declared_entry}
 
 -- The number of the type of the result, or `None` if there is no result.
 abbrev pub ResultIs : GlobalScope → Types → Option ℕ → Option Name → Type 0
 ResultIs g types None None = Unit {0}
-ResultIs g types (Some n) (Some x) = Stands types n (named_type g x)
+ResultIs g types (Some n) (Some x) = Represents types n (named_type g x)
 ResultIs g types _ _ = ⊥
 
 pub record MakesResult (names : Names) (old new : Types) (of : Option Identifier) (r : Option ℕ) : Type 0 where
   pub grows : Grows old new
-  pub stands : (g : GlobalScope) → ScopeStands names old g → ResultIs g new r (erase.name_if of)
+  pub represents : (g : GlobalScope) → ScopeRepresents names old g → ResultIs g new r (erase.name_if of)
 
 -- The table is that of the routine `r`, with the layout of its activations.
-pub record RoutineStands (g : GlobalScope) (types : Types) (table : RoutineTable) (r : Routine) : Type 0 where
+pub record RoutineRepresents (g : GlobalScope) (types : Types) (table : RoutineTable) (r : Routine) : Type 0 where
   pub name : table.name.now ≡ r.name
   pub parameters : AreDeclared types (map declared_entry table.parameters.items) (declarations g r.parameters)
   pub variables : AreDeclared types (map declared_entry table.variables.items) (declarations g r.variables)
@@ -39,10 +39,10 @@ pub record RoutineStands (g : GlobalScope) (types : Types) (table : RoutineTable
 -- More types and layouts are made, and the layouts are right for them.
 pub record Builds (names : Names) (old new : Types) (before after : List Layout) : Type 0 where
   pub grows : Grows old new
-  pub laid : (g : GlobalScope) → ScopeStands names old g → AreLaid g old before → AreLaid g new after
+  pub laid : (g : GlobalScope) → ScopeRepresents names old g → AreLaid g old before → AreLaid g new after
 
 -- In addition, the table of a routine is made.
 pub record MakesRoutine (names : Names) (old new : Types) (before after : List Layout) (text : tree.Routine) (table : RoutineTable) : Type 0 where
   pub builds : Builds names old new before after
-  pub stands : (g : GlobalScope) (later : Types) → ScopeStands names old g → AreLaid g old before → Grows new later
-      → RoutineStands g later table (erase.routine (view.routine text))
+  pub represents : (g : GlobalScope) (later : Types) → ScopeRepresents names old g → AreLaid g old before → Grows new later
+      → RoutineRepresents g later table (erase.routine (view.routine text))

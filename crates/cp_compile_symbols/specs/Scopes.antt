@@ -26,9 +26,9 @@ use Rattle.cp_compile_symbols.specs.declared.scope.Meaning.TheVariants as meanin
 use Rattle.cp_compile_symbols.specs.declared.scope.Scope.{Scope}
 use Rattle.cp_compile_symbols.specs.declared.types.Types.{Types}
 use Rattle.cp_compile_symbols.specs.Layouts.{EachIsLaid}
-use Rattle.cp_compile_symbols.specs.Routines.{RoutineStands}
-use Rattle.cp_compile_symbols.specs.Standing.{ScopeStands, Stands, value_of}
-use Rattle.cp_compile_symbols.specs.Systems.{ComponentIs, IsComponent, IsIndexed, SystemStands, routines_of}
+use Rattle.cp_compile_symbols.specs.Routines.{RoutineRepresents}
+use Rattle.cp_compile_symbols.specs.Standing.{ScopeRepresents, Represents, value_of}
+use Rattle.cp_compile_symbols.specs.Systems.{ComponentIs, IsComponent, IsIndexed, SystemRepresents, routines_of}
 use Rattle.cp_compile_symbols.specs.Texts.{AreSystems}
 
 -- The system type declares these parameters, variables and routines.
@@ -39,7 +39,7 @@ pub record IsWritten (s : System) (ps : List Parameters) (vs : List Fields) (rs 
 
 abbrev pub IsRoutine : GlobalScope → Types → Option (Bor RoutineTable) → Option Routine → Type 0
 IsRoutine g types None None = Unit {0}
-IsRoutine g types (Some t) (Some r) = RoutineStands g types t.now r
+IsRoutine g types (Some t) (Some r) = RoutineRepresents g types t.now r
 IsRoutine g types _ _ = ⊥
 
 -- The size of an activation in words. A body has none.
@@ -54,10 +54,10 @@ pub record IsScope (scope : Scope) (s : code.Scope) : Type 0 where
   pub variables : List Fields
   pub routines : List tree.Routine
   pub written : IsWritten s.system parameters variables routines
-  pub names : ScopeStands scope.tables.now.names scope.tables.now.types s.globals
+  pub names : ScopeRepresents scope.tables.now.names scope.tables.now.types s.globals
   pub laid : EachIsLaid s.globals scope.tables.now.types scope.tables.now.layouts.rows.items
   pub systems : AreSystems s.globals scope.tables.now.types scope.tables.now.systems.items
-  pub system : SystemStands s.globals scope.tables.now.types scope.system.now parameters variables routines
+  pub system : SystemRepresents s.globals scope.tables.now.types scope.system.now parameters variables routines
   pub routine : IsRoutine s.globals scope.tables.now.types scope.routine s.routine
   pub firsts : (x : Name) → lookup x scope.firsts.now ≡ lookup x s.firsts
   pub first : s.first ≡ scope.first
@@ -84,7 +84,7 @@ Names scope s found n =
 
 abbrev pub VariableIs : Types → Option ℕ → Option Variable → Type 0
 VariableIs types None None = Unit {0}
-VariableIs types (Some n) (Some v) = Stands types n v.type
+VariableIs types (Some n) (Some v) = Represents types n v.type
 VariableIs types _ _ = ⊥
 
 -- The variable that holds the result of the routine, if it has a result.
@@ -99,6 +99,6 @@ locals_of g (Some r) = local_variables g r
 -- A constant has this value, and a variable has the type of this number.
 abbrev pub MeaningIs : Types → Meaning → environments.Meaning → Type 0
 MeaningIs types (meaning.Constant v) (environments.IsConstant b n) = value_of v ≡ (b, n)
-MeaningIs types (meaning.Variable of) (environments.IsVariable at v) = Stands types of v.type
+MeaningIs types (meaning.Variable of) (environments.IsVariable at v) = Represents types of v.type
 MeaningIs types meaning.Unknown environments.IsUnknown = Unit {0}
 MeaningIs types _ _ = ⊥

@@ -48,19 +48,19 @@ entry f = (f.name.now, f.of)
 
 -- Type number `n` stands for this resolved type.
 abbrev mutual
-  pub Stands : Types → ℕ → ResolvedType → Type 0
-  Stands types n (Simple b low high start) = (s : plain.Simple) × (row_at types n ≡ Some (row.Simple s)) × (simple_of s ≡ Simple b low high start)
-  Stands types n (ArrayOf low high t) = (e : ℕ) × (row_at types n ≡ Some (row.Array low high e)) × Stands types e t
-  Stands types n (RecordOf ms) = (fields : Vec Field Global) × (row_at types n ≡ Some (row.Record fields)) × AreMembers types (map entry fields.items) ms
-  Stands types n Queue = row_at types n ≡ Some row.Queue
-  Stands types n (ComponentOf s ms) =
+  pub Represents : Types → ℕ → ResolvedType → Type 0
+  Represents types n (Simple b low high start) = (s : plain.Simple) × (row_at types n ≡ Some (row.Simple s)) × (simple_of s ≡ Simple b low high start)
+  Represents types n (ArrayOf low high t) = (e : ℕ) × (row_at types n ≡ Some (row.Array low high e)) × Represents types e t
+  Represents types n (RecordOf ms) = (fields : Vec Field Global) × (row_at types n ≡ Some (row.Record fields)) × AreMembers types (map entry fields.items) ms
+  Represents types n Queue = row_at types n ≡ Some row.Queue
+  Represents types n (ComponentOf s ms) =
       (k : ℕ) × (members : Vec Field Global) × (system : Bor System) × (row_at types n ≡ Some (row.Component k members))
       × (system_at types k ≡ Some system) × (erase.system (view.system system.now) ≡ s) × AreMembers types (map entry members.items) ms
-  Stands types n NoType = row_at types n ≡ Some row.Unknown
+  Represents types n NoType = row_at types n ≡ Some row.Unknown
 
   pub AreMembers : Types → List (Name × ℕ) → Members → Type 0
   AreMembers types [] NoMembers = Unit {0}
-  AreMembers types (f ∷ fs) (MoreMembers x t ms) = (f.0 ≡ x) × Stands types f.1 t × AreMembers types fs ms
+  AreMembers types (f ∷ fs) (MoreMembers x t ms) = (f.0 ≡ x) × Represents types f.1 t × AreMembers types fs ms
   AreMembers types _ _ = ⊥
 
 -- Every number that had a row or a system type still has the same one.
@@ -91,15 +91,15 @@ value_of v = (base_of v.base, v.ordinal)
 
 abbrev pub TypeMeans : Types → Option ℕ → Option ResolvedType → Type 0
 TypeMeans types None None = Unit {0}
-TypeMeans types (Some n) (Some t) = Stands types n t
+TypeMeans types (Some n) (Some t) = Represents types n t
 TypeMeans types _ _ = ⊥
 
-abbrev pub ConstantsStand : Names → GlobalScope → Type 0
-ConstantsStand names g = (x : Name) → option_map value_of (lookup x names.constants) ≡ lookup x g.constants
+abbrev pub ConstantsRepresent : Names → GlobalScope → Type 0
+ConstantsRepresent names g = (x : Name) → option_map value_of (lookup x names.constants) ≡ lookup x g.constants
 
 -- The names stand for those of the outermost scope `g`.
-pub record ScopeStands (names : Names) (table : Types) (g : GlobalScope) : Type 0 where
-  pub constants : ConstantsStand names g
+pub record ScopeRepresents (names : Names) (table : Types) (g : GlobalScope) : Type 0 where
+  pub constants : ConstantsRepresent names g
   pub types : (x : Name) → TypeMeans table (lookup x names.types) (lookup x g.types)
 
 -- ---- Making
@@ -108,13 +108,13 @@ pub record ScopeStands (names : Names) (table : Types) (g : GlobalScope) : Type 
 -- keep their meaning.
 pub record Makes (names : Names) (old new : Types) (of : GlobalScope → ResolvedType) (n : ℕ) : Type 0 where
   pub grows : Grows old new
-  pub stands : (g : GlobalScope) → ScopeStands names old g → Stands new n (of g)
+  pub represents : (g : GlobalScope) → ScopeRepresents names old g → Represents new n (of g)
 
 -- Number `n` is made and stands for the array type of any index and element types that the given
 -- numbers stand for.
 pub record MakesArray (old new : Types) (index element n : ℕ) : Type 0 where
   pub grows : Grows old new
-  pub stands : (i e : ResolvedType) → Stands old index i → Stands old element e → Stands new n (array_type i e)
+  pub represents : (i e : ResolvedType) → Represents old index i → Represents old element e → Represents new n (array_type i e)
 
 abbrev pub subrange_row : Option Value → Option Value → TypeRow
 subrange_row (Some a) (Some b) = row.Simple (record { base = a.base; low = a.ordinal; high = b.ordinal; start = a.ordinal })
@@ -141,7 +141,7 @@ array_type_over (i ∷ is) of g = array_type (type_from i g) (array_type_over is
 -- Number `n` is made and stands for that array of arrays, whatever the element number stands for.
 pub record MakesIndexed (names : Names) (old new : Types) (indices : List TypeExpression) (element n : ℕ) : Type 0 where
   pub grows : Grows old new
-  pub stands : (g : GlobalScope) (e : ResolvedType) → ScopeStands names old g → Stands old element e → Stands new n (array_type_over indices e g)
+  pub represents : (g : GlobalScope) (e : ResolvedType) → ScopeRepresents names old g → Represents old element e → Represents new n (array_type_over indices e g)
 
 -- ---- Fields
 
@@ -159,7 +159,7 @@ pub record MakesList {E M : Type 0} (are : Types → List E → M → Type 0) (n
   pub grows : Grows old new
   pub added : List E
   pub all : after ≡ before ++ added
-  pub stands : (g : GlobalScope) (later : Types) (rest : List E) (ms : M) → ScopeStands names old g → Grows new later
+  pub represents : (g : GlobalScope) (later : Types) (rest : List E) (ms : M) → ScopeRepresents names old g → Grows new later
       → are later rest ms → are later (added ++ rest) (make g ms)
 
 -- `MakesList` for fields, which stand for members.

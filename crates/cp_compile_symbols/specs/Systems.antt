@@ -27,16 +27,16 @@ use Rattle.cp_compile_symbols.specs.declared.systems.SystemTable.{SystemTable}
 use Rattle.cp_compile_symbols.specs.declared.types.Types.{Types}
 use Rattle.cp_compile_symbols.specs.Components.{RightIs, own_members}
 use Rattle.cp_compile_symbols.specs.Layouts.{AreLaid, MembersLie, rights_of}
-use Rattle.cp_compile_symbols.specs.Routines.{Builds, RoutineStands}
+use Rattle.cp_compile_symbols.specs.Routines.{Builds, RoutineRepresents}
 use Rattle.cp_compile_symbols.specs.Numbering.{NumberedIs, system_of}
 use Rattle.cp_compile_symbols.specs.TypeNames.{AreTypeNames}
-use Rattle.cp_compile_symbols.specs.Standing.{Grows, ScopeStands, row_at, system_at}
+use Rattle.cp_compile_symbols.specs.Standing.{Grows, ScopeRepresents, row_at, system_at}
 use Rattle.cp_compile_symbols.specs.Variables.{AreDeclared, declared_entry, parameters_of, variables_of}
 
 -- The tables are those of these routines, one by one.
 abbrev pub AreRoutines : GlobalScope → Types → List RoutineTable → List Routine → Type 0
 AreRoutines g types [] [] = Unit {0}
-AreRoutines g types (t ∷ ts) (r ∷ rs) = RoutineStands g types t r × AreRoutines g types ts rs
+AreRoutines g types (t ∷ ts) (r ∷ rs) = RoutineRepresents g types t r × AreRoutines g types ts rs
 AreRoutines g types _ _ = ⊥
 
 abbrev pub routines_of : List tree.Routine → List Routine
@@ -49,11 +49,11 @@ routine_number x n (r ∷ rs) = if bytes_eq x r.name then Some n else routine_nu
 
 pub record MakesRoutines (names : Names) (old new : Types) (before after : List Layout) (texts : List tree.Routine) (tables : List RoutineTable) : Type 0 where
   pub builds : Builds names old new before after
-  pub stands : (g : GlobalScope) (later : Types) → ScopeStands names old g → AreLaid g old before → Grows new later
+  pub represents : (g : GlobalScope) (later : Types) → ScopeRepresents names old g → AreLaid g old before → Grows new later
       → AreRoutines g later tables (routines_of texts)
 
 -- The table is that of a system type with these parameters, variables and routines.
-pub record SystemStands (g : GlobalScope) (types : Types) (table : SystemTable) (ps : List Parameters) (vs : List Fields) (rs : List tree.Routine) : Type 0 where
+pub record SystemRepresents (g : GlobalScope) (types : Types) (table : SystemTable) (ps : List Parameters) (vs : List Fields) (rs : List tree.Routine) : Type 0 where
   pub parameters : AreDeclared types (map declared_entry table.parameters.items) (parameters_of g ps)
   pub variables : AreDeclared types (map declared_entry table.variables.items) (variables_of g vs)
   pub members : MembersLie g types (suc (rights_of g ps)) (own_members g ps vs) table.members
@@ -68,14 +68,14 @@ pub record SystemStands (g : GlobalScope) (types : Types) (table : SystemTable) 
 pub record MakesSystem (names : Names) (old new : Types) (before after : List Layout) (ps : List Parameters) (vs : List Fields) (rs : List tree.Routine) (table : SystemTable)
     : Type 0 where
   pub builds : Builds names old new before after
-  pub stands : (g : GlobalScope) (later : Types) → ScopeStands names old g → AreLaid g old before → Grows new later
-      → SystemStands g later table ps vs rs
+  pub represents : (g : GlobalScope) (later : Types) → ScopeRepresents names old g → AreLaid g old before → Grows new later
+      → SystemRepresents g later table ps vs rs
 
 -- ---- Routines
 
 -- `found` has the table of the routine `r` and its index in `rs`.
 pub record IsIndexed (g : GlobalScope) (types : Types) (rs : List Routine) (found : IndexedRoutine) (r : Routine) : Type 0 where
-  pub table : RoutineStands g types found.table.now r
+  pub table : RoutineRepresents g types found.table.now r
   pub index : routine_index r.name rs ≡ found.index
 
 abbrev pub RoutineIs : GlobalScope → Types → List Routine → Option IndexedRoutine → Option Routine → Type 0
@@ -85,7 +85,7 @@ RoutineIs g types rs _ _ = ⊥
 
 abbrev pub RoutineFound : SystemTable → Name → Option IndexedRoutine → Type 0
 RoutineFound table x found =
-    (g : GlobalScope) (types : Types) (ps : List Parameters) (vs : List Fields) (rs : List tree.Routine) → SystemStands g types table ps vs rs
+    (g : GlobalScope) (types : Types) (ps : List Parameters) (vs : List Fields) (rs : List tree.Routine) → SystemRepresents g types table ps vs rs
     → RoutineIs g types (routines_of rs) found (find (λ r. bytes_eq x r.name) (routines_of rs))
 
 -- ---- Components
@@ -121,5 +121,5 @@ ComponentIs types ps vs _ _ = ⊥
 
 abbrev pub ComponentFound : Types → SystemTable → Name → Option Component → Type 0
 ComponentFound types table x found =
-    (g : GlobalScope) (ps : List Parameters) (vs : List Fields) (rs : List tree.Routine) → SystemStands g types table ps vs rs
+    (g : GlobalScope) (ps : List Parameters) (vs : List Fields) (rs : List tree.Routine) → SystemRepresents g types table ps vs rs
     → ComponentIs types (parameters_of g ps) (variables_of g vs) found (component_among (parameters_of g ps) (variables_of g vs) x)

@@ -11,7 +11,7 @@ use Rattle.cp_model.specs.declared.tree.Parameters.{Parameters}
 use Rattle.cp_compile_symbols.specs.declared.variables.Declared.{Declared}
 use Rattle.cp_compile_symbols.specs.declared.names.Names.{Names}
 use Rattle.cp_compile_symbols.specs.declared.types.Types.{Types}
-use Rattle.cp_compile_symbols.specs.Standing.{MakesList, Stands, name_type, type_from}
+use Rattle.cp_compile_symbols.specs.Standing.{MakesList, Represents, name_type, type_from}
 
 -- A name, whether it is a `var` parameter, and the number of its type.
 abbrev pub Entry : Type 0
@@ -26,7 +26,7 @@ declared_entries xs r n = map (λ x. (x.name, (r, n))) xs
 -- The entries stand for these variables, one by one.
 abbrev pub AreDeclared : Types → List Entry → List (Name × Variable) → Type 0
 AreDeclared types [] [] = Unit {0}
-AreDeclared types (d ∷ ds) (v ∷ vs) = (d.0 ≡ v.0) × (d.1.0 ≡ v.1.by_reference) × Stands types d.1.1 v.1.type × AreDeclared types ds vs
+AreDeclared types (d ∷ ds) (v ∷ vs) = (d.0 ≡ v.0) × (d.1.0 ≡ v.1.by_reference) × Represents types d.1.1 v.1.type × AreDeclared types ds vs
 AreDeclared types _ _ = ⊥
 
 abbrev pub Declares : Names → Types → Types → List Entry → List Entry → (GlobalScope → List (Name × Variable) → List (Name × Variable)) → Type 0

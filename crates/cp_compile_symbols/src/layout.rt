@@ -7,7 +7,7 @@ ghost use Rattle.cp_law_typing.specs.Words.{words};
 ghost use Rattle.cp_model_program.specs.Layout as code;
 ghost use Rattle.cp_model.specs.Locations.{ByName};
 ghost use Rattle.cp_compile_symbols.specs.Layouts.{AreLaid, Counts, EachIsLaid, LaysComponent, LaysOut, LaysRow, PartIs, rights_among, rights_of};
-ghost use Rattle.cp_compile_symbols.specs.Standing.{ScopeStands, Stands, entry, name_type};
+ghost use Rattle.cp_compile_symbols.specs.Standing.{ScopeRepresents, Represents, entry, name_type};
 
 use crate::counts::count_between;
 use crate::names::{Names, add_first};
@@ -65,7 +65,7 @@ fn as_count(n: usize) -> Option<u32>
 impl<'t> Types<'t> {
     /// Whether `name` names a type of components.
     pub fn names_component(&self, names: &Names<'t>, name: &[u8]) -> bool
-        ensures { (g : GlobalScope) → ScopeStands names.now self.now g → result ≡ is_component
+        ensures { (g : GlobalScope) → ScopeRepresents names.now self.now g → result ≡ is_component
             (name_type name.now g) }
     {
         match names.types.find(name) {
@@ -76,7 +76,7 @@ impl<'t> Types<'t> {
 
     // The number of parameters in a group that are rights to components.
     fn rights_among(&self, names: &Names<'t>, group: &Parameters) -> Option<u32>
-        ensures { (g : GlobalScope) → ScopeStands names.now self.now g → Counts result
+        ensures { (g : GlobalScope) → ScopeRepresents names.now self.now g → Counts result
             (rights_among g group.now) }
     {
         if self.names_component(names, group.of.name.as_bytes()) {
@@ -88,7 +88,7 @@ impl<'t> Types<'t> {
 
     /// The number of parameters in these groups that are rights to components.
     pub fn rights(&self, names: &Names<'t>, groups: &[Parameters]) -> Option<u32>
-        ensures { (g : GlobalScope) → ScopeStands names.now self.now g → Counts result
+        ensures { (g : GlobalScope) → ScopeRepresents names.now self.now g → Counts result
             (rights_of g groups.now) }
     {
         let mut count = Some(0);
@@ -121,7 +121,7 @@ impl<'t> Layouts<'t> {
     /// The size in words of a variable of the type, or `None` if it is too large.
     pub fn words(&self, number: usize) -> Option<u32>
         ensures { (g : GlobalScope) (types : Types) (t : ResolvedType)
-            → AreLaid g types self.now.rows.items → Stands types number t → Counts result
+            → AreLaid g types self.now.rows.items → Represents types number t → Counts result
             (words g t) }
     {
         self.layout(number)?.words
@@ -131,7 +131,7 @@ impl<'t> Layouts<'t> {
     /// has no member of that name.
     pub fn part(&self, number: usize, name: &[u8]) -> Option<Part>
         ensures { (g : GlobalScope) (types : Types) (t : ResolvedType)
-            → EachIsLaid g types self.now.rows.items → Stands types number t
+            → EachIsLaid g types self.now.rows.items → Represents types number t
             → PartIs types result (code.part g t (ByName name.now ∷ [])) }
     {
         self.layout(number)?.parts.find(name)
@@ -217,7 +217,7 @@ impl<'t> Layouts<'t> {
 
     /// Adds the layouts of all types that have none yet.
     pub fn extend(&mut self, names: &Names<'t>, types: &Types<'t>) -> Result<(), AllocError>
-        ensures laid { OnOk result ((g : GlobalScope) → ScopeStands names.now types.now g
+        ensures laid { OnOk result ((g : GlobalScope) → ScopeRepresents names.now types.now g
             → AreLaid g types.now self.old.rows.items → AreLaid g types.now self.new.rows.items) }
         ensures complete { OnOk result (length types.now.rows.items ≤ length self.new.rows.items) }
     {

@@ -6,7 +6,7 @@ ghost use Rattle.cp_model.specs.Types.{GlobalScope};
 ghost use Rattle.cp_model_program.specs.Layout as code;
 ghost use Rattle.cp_compile_symbols.specs.Layouts.{AreLaid, Counts};
 ghost use Rattle.cp_compile_symbols.specs.Locals.{LaysLocals};
-ghost use Rattle.cp_compile_symbols.specs.Standing.{Stands};
+ghost use Rattle.cp_compile_symbols.specs.Standing.{Represents};
 ghost use Rattle.cp_compile_symbols.specs.declared.types.Types.{Types};
 ghost use Rattle.cp_compile_symbols.specs.Variables.{declared_entry};
 
@@ -39,7 +39,7 @@ impl<'t> Layouts<'t> {
     pub fn local_words(&self, by_reference: bool, of: usize) -> Option<u32>
         ensures { (g : GlobalScope) (types : Types) (v : Variable)
             → AreLaid g types self.now.rows.items → by_reference ≡ v.by_reference
-            → Stands types of v.type → Counts result (code.local_words g v) }
+            → Represents types of v.type → Counts result (code.local_words g v) }
     {
         if by_reference {
             Some(1)

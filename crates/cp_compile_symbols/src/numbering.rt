@@ -7,7 +7,7 @@ ghost use Rattle.cp_model.specs.Declarations.{Variable};
 ghost use Rattle.cp_model.specs.Erase as erase;
 ghost use Rattle.cp_model.specs.Types.{ResolvedType};
 ghost use Rattle.cp_compile_symbols.specs.Numbering.{AreNumbered, system_of};
-ghost use Rattle.cp_compile_symbols.specs.Standing.{Stands, row_at};
+ghost use Rattle.cp_compile_symbols.specs.Standing.{Represents, row_at};
 ghost use Rattle.cp_compile_symbols.specs.Variables.{AreDeclared, declared_entry};
 
 use crate::names::add_first;
@@ -51,7 +51,7 @@ impl<'t> Types<'t> {
 
     /// Whether the variables of a type are components of this sort.
     pub fn is_component_of(&self, sort: Sort, number: usize) -> bool
-        ensures { (t : ResolvedType) → Stands self.now number t → result ≡ is_component_of
+        ensures { (t : ResolvedType) → Represents self.now number t → result ≡ is_component_of
             (erase.sort_of sort) t }
     {
         match self.system_of(number) {
@@ -66,7 +66,7 @@ impl<'t> Types<'t> {
     // Returns 1 for a component of this sort and 0 otherwise.
     fn component_count(&self, sort: Sort, number: usize) -> usize
         ensures most { result ≤ 1 }
-        ensures count { (t : ResolvedType) → Stands self.now number t → result ≡
+        ensures count { (t : ResolvedType) → Represents self.now number t → result ≡
             (if is_component_of (erase.sort_of sort) t then 1 else 0) }
     {
         if self.is_component_of(sort, number) {

@@ -7,8 +7,8 @@ ghost use Rattle.cp_model.specs.Types as t;
 ghost use Rattle.cp_model.specs.Types.{ResolvedType, standard_scope};
 ghost use Rattle.cp_model.specs.Erase as erase;
 ghost use Rattle.cp_model.specs.View as view;
-ghost use Rattle.cp_compile_symbols.specs.Outer.{Defines, MakesComponents, NamesType, OuterStands, component_of, defining, defining_all, with_standard, with_type, with_value, with_values};
-ghost use Rattle.cp_compile_symbols.specs.Standing.{MakesFields, Stands, base_of, entry, simple_of, value_of, with_parameter, with_parameters, type_from};
+ghost use Rattle.cp_compile_symbols.specs.Outer.{Defines, MakesComponents, NamesType, OuterRepresents, component_of, defining, defining_all, with_standard, with_type, with_value, with_values};
+ghost use Rattle.cp_compile_symbols.specs.Standing.{MakesFields, Represents, base_of, entry, simple_of, value_of, with_parameter, with_parameters, type_from};
 
 use crate::names::{Names, Value};
 use crate::resolving::add_fields;
@@ -76,7 +76,7 @@ fn enumeration<'t>(base: Base<'t>, last: usize) -> Result<Simple<'t>, AllocError
 impl<'t> Types<'t> {
     /// Whether the variables of a type are components.
     pub fn is_component(&self, number: usize) -> bool
-        ensures { (t : ResolvedType) → Stands self.now number t → result ≡ is_component t }
+        ensures { (t : ResolvedType) → Represents self.now number t → result ≡ is_component t }
     {
         matches!(self.row(number), Some(TypeRow::Component { .. }))
     }
@@ -172,7 +172,7 @@ impl<'t> Outer<'t> {
 
     /// The scope of the standard names.
     pub fn standard(alloc: Global, key: Key) -> Result<Outer<'t>, AllocError>
-        ensures { IfOk result (λ outer. OuterStands outer standard_scope) }
+        ensures { IfOk result (λ outer. OuterRepresents outer standard_scope) }
     {
         let mut outer = Outer {
             names: Names::new(alloc, key),
@@ -289,7 +289,7 @@ impl<'t> Outer<'t> {
 
     /// The outermost scope of a text.
     pub fn of_tree(alloc: Global, key: Key, tree: &'t Tree) -> Result<Outer<'t>, AllocError>
-        ensures { IfOk result (λ outer. OuterStands outer
+        ensures { IfOk result (λ outer. OuterRepresents outer
             (globals (erase.abstract (view.tree tree.now)))) }
     {
         let mut outer = Outer::standard(alloc, key)?;

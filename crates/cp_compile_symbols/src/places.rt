@@ -10,7 +10,7 @@ ghost use Rattle.cp_model_program.specs.Scopes as code;
 ghost use Rattle.cp_model.specs.Abstract as a;
 ghost use Rattle.cp_compile_symbols.specs.Places.{PlaceIs, TypeIs, elements_of, is_record};
 ghost use Rattle.cp_compile_symbols.specs.Scopes.{IsScope};
-ghost use Rattle.cp_compile_symbols.specs.Standing.{Stands, row_at};
+ghost use Rattle.cp_compile_symbols.specs.Standing.{Represents, row_at};
 
 use crate::layout::Part;
 use crate::scope::{Meaning, Scope};
@@ -28,7 +28,7 @@ pub struct Elements {
 impl<'t> Types<'t> {
     /// Whether a type is a record type.
     pub fn is_record(&self, number: usize) -> bool
-        ensures { (t : ResolvedType) → Stands self.now number t → result ≡ is_record t }
+        ensures { (t : ResolvedType) → Represents self.now number t → result ≡ is_record t }
     {
         matches!(self.row(number), Some(TypeRow::Record(_)))
     }

@@ -4,7 +4,7 @@ ghost use Rattle.std.specs.Prelude.{◌≡◌, ◌++◌, IfOk, OnOk, map, option
 ghost use Rattle.cp_model.specs.Abstract.{Integer};
 ghost use Rattle.cp_model.specs.Types.{GlobalScope, constant_value};
 ghost use Rattle.cp_model.specs.Erase as erase;
-ghost use Rattle.cp_compile_symbols.specs.Standing.{Adds, ConstantsStand, Makes, MakesArray, MakesFields, MakesIndexed, array_row, entries_of, entry, name_type, range_type, record_type, row_at, subrange_row, value_of, with_group, with_groups, type_from};
+ghost use Rattle.cp_compile_symbols.specs.Standing.{Adds, ConstantsRepresent, Makes, MakesArray, MakesFields, MakesIndexed, array_row, entries_of, entry, name_type, range_type, record_type, row_at, subrange_row, value_of, with_group, with_groups, type_from};
 
 use crate::names::{Names, Value};
 use crate::types::{Base, Field, Simple, TypeRow, Types};
@@ -56,7 +56,7 @@ pub fn add_fields<'t>(
 impl<'t> Names<'t> {
     /// The value of a written constant, or `None` if its name isn't that of a constant.
     pub fn value(&self, c: &Constant) -> Option<Value<'t>>
-        ensures { (g : GlobalScope) → ConstantsStand self.now g
+        ensures { (g : GlobalScope) → ConstantsRepresent self.now g
             → option_map value_of result ≡ constant_value g (erase.constant c.now) }
     {
         match c {

@@ -4,7 +4,7 @@ ghost use Rattle.std.specs.Prelude.{◌≡◌, IfOk, option_map, slice_get};
 ghost use Rattle.cp_model.specs.Declarations.{globals};
 ghost use Rattle.cp_model.specs.Erase as erase;
 ghost use Rattle.cp_model.specs.View as view;
-ghost use Rattle.cp_compile_symbols.specs.Texts.{MakesSystems, TablesStand};
+ghost use Rattle.cp_compile_symbols.specs.Texts.{MakesSystems, TablesRepresent};
 
 use crate::layout::Layouts;
 use crate::names::Names;
@@ -68,7 +68,7 @@ impl<'t> Tables<'t> {
 
     /// Makes the tables of any text. Fails only if there is no room for them.
     pub fn of_tree(alloc: Global, tree: &'t Tree) -> Result<Tables<'t>, AllocError>
-        ensures { IfOk result (λ tables. TablesStand
+        ensures { IfOk result (λ tables. TablesRepresent
             (globals (erase.abstract (view.tree tree.now))) tables tree.now) }
     {
         let key = Key::of(tree);

@@ -10,7 +10,7 @@ use Rattle.cp_frontend.specs.declared.refusal.Refusal.{Refusal}
 use Rattle.cp_frontend.specs.declared.refusal.Refusal.TheVariants as refusal
 use Rattle.cp_frontend.specs.KnownRefusals.{IsFault, RefusesInputOf, RefusesText}
 use Rattle.cp_frontend.specs.Refusals.{of_order, of_read}
-use Rattle.cp_execute.specs.Replayed.{IsFit, IsNotText, RefusesNoAccepted, RefusesOrder, RefusesOrderFor, RefusesOrderOf, RefusesReplay, rounds_told}
+use Rattle.cp_execute.specs.Replayed.{IsFit, IsNotText, RefusesNoAccepted, RefusesOrder, RefusesOrderFor, RefusesOrderOf, RefusesReplay, rounds_reported}
 use Rattle.cp_frontend.specs.Takings.{Concern, Fault, Input, IsAboutInput, IsAboutOrder, Order, Text, Writer, concern, front}
 use Rattle.cp_frontend.specs.Texts.{IsAccepted}
 use Rattle.cp_frontend.proofs.Faults.{known_fault}
@@ -52,7 +52,7 @@ refuses_order_of (Some zs) t bytes e k h = (is_about_order t bytes e h, subst (�
 
 -- What the reader of orders refuses is refused as an order of so many processes.
 pub order_refused_for : (n : ℕ) (bytes : List ℕ) (e : OrderError) → Refuses n bytes e → RefusesOrderFor n bytes (of_order e)
-order_refused_for n bytes (order.Line at) h = ap rounds_told h
+order_refused_for n bytes (order.Line at) h = ap rounds_reported h
 order_refused_for n bytes order.Memory h = tt
 
 pub order_unread : (known : Option (List ℕ)) (t : s.Tree) (e : ReadError) → RefusesOrderOf t known (of_read e)

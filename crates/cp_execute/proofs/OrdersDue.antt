@@ -7,7 +7,7 @@ use Rattle.cp_model.specs.Rounds.{Event}
 use Rattle.cp_model.specs.Syntax as s
 use Rattle.cp_base_config.specs.declared.run.Replay.{Replay}
 use Rattle.cp_frontend.specs.Cutting.{judge_input}
-use Rattle.cp_execute.specs.Replayed.{Due, IsDueAfter, IsFit, IsReplayed, judge_order, judge_order_of, processes_in, rounds_told}
+use Rattle.cp_execute.specs.Replayed.{Due, IsDueAfter, IsFit, IsReplayed, judge_order, judge_order_of, processes_in, rounds_reported}
 use Rattle.cp_frontend.specs.Takings.{front}
 use Rattle.cp_frontend.specs.Texts.{IsAccepted}
 use Rattle.cp_frontend.proofs.TextRefusals.{of_known, whole}
@@ -16,7 +16,7 @@ use Rattle.cp_frontend.proofs.TextRefusals.{of_known, whole}
 order_within : (n : ℕ) (bytes : List ℕ) (rounds : List (List Event)) → judge_order_of n bytes ≡ Ok rounds → length bytes ≤ 1048576
 order_within n bytes rounds e = by (nat_le (length bytes) 1048576) refl e
   where
-    by : (b : Bool) → nat_le (length bytes) 1048576 ≡ b → rounds_told (if b then order_text n bytes else NotALine 1048576) ≡ Ok rounds → length bytes ≤ 1048576
+    by : (b : Bool) → nat_le (length bytes) 1048576 ≡ b → rounds_reported (if b then order_text n bytes else NotALine 1048576) ≡ Ok rounds → length bytes ≤ 1048576
     by true f e = Prim.grind (arith, nat_tests, f)
     by false f e = absurd (Prim.grind (arith, e))
 

@@ -12,7 +12,7 @@ use Rattle.cp_model.specs.Start.{start}
 use Rattle.cp_model.specs.States.{Setup, State}
 use Rattle.cp_program.specs.declared.program.Program.{Program}
 use Rattle.cp_check.specs.Checked.{IsProgramOf}
-use Rattle.cp_compile_symbols.specs.Texts.{TablesStand}
+use Rattle.cp_compile_symbols.specs.Texts.{TablesRepresent}
 use Rattle.cp_compile_symbols.specs.declared.tables.Tables.{Tables}
 use Rattle.cp_execute_start.specs.Starts.{setup_of}
 use Rattle.cp_frontend.specs.declared.refusal.Refusal.{Refusal}
@@ -39,7 +39,7 @@ IsDue run t input bytes =
 
 -- The tables are those of the text of this tree.
 abbrev pub AreTablesOf : tree.Tree → Tables → Type 0
-AreTablesOf t tables = TablesStand (globals (erase.abstract (view.tree t))) tables t
+AreTablesOf t tables = TablesRepresent (globals (erase.abstract (view.tree t))) tables t
 
 -- The same of every text of which this is the program, with these tables.
 abbrev pub IsDueOf : Run → Program → Tables → List ℕ → List ℕ → Type 0

@@ -28,13 +28,13 @@ abbrev pub processes_in : s.Tree → ℕ
 processes_in t = process_count (setup_of t [] 1)
 
 -- The rounds of an order text, or why it is refused.
-abbrev pub rounds_told : OrderText → Result (List (List Event)) Refusal
-rounds_told (Orders rounds) = Ok rounds
-rounds_told (NotALine at) = Err (refusal.Order at)
+abbrev pub rounds_reported : OrderText → Result (List (List Event)) Refusal
+rounds_reported (Orders rounds) = Ok rounds
+rounds_reported (NotALine at) = Err (refusal.Order at)
 
 -- The rounds of an order for so many processes.
 abbrev pub judge_order_of : ℕ → List ℕ → Result (List (List Event)) Refusal
-judge_order_of n order = rounds_told (judged n order)
+judge_order_of n order = rounds_reported (judged n order)
 
 abbrev pub judge_order : s.Tree → List ℕ → Result (List (List Event)) Refusal
 judge_order t order = judge_order_of (processes_in t) order

@@ -1,4 +1,4 @@
 pub mod OutcomesDue
 pub mod Traced
 pub mod RoundsMade
-pub mod Told
+pub mod Reported

@@ -1,7 +1,7 @@
 -- A traced machine: why its trace ends early, and what is due.
 use Rattle.std.proofs.Common.{◌≡◌, List, ℕ, Ok, Option, None, Some, IfSome, inl, inr, sym, subst}
 use Rattle.cp_model.specs.Syntax as s
-use Rattle.cp_rounds.specs.declared.halted.Halted.{Halted}
+use Rattle.cp_rounds.specs.declared.finished_machine.FinishedMachine.{FinishedMachine}
 use Rattle.cp_frontend.specs.Cutting.{judge_input}
 use Rattle.cp_frontend.specs.KnownRefusals.{IsFault, RefusesRun, RefusesText}
 use Rattle.cp_frontend.specs.Takings.{TakesFront, TakesInputAt, concern}
@@ -32,7 +32,7 @@ fault_input old new e (inr write) taken = subst (λ (r : Refusal). TakesInputAt 
 
 -- ---- What is due
 
-pub trace_due : (how : Tracing) (machine : Halted) (text input : Option (List ℕ)) (t : s.Tree) (bytes : List ℕ)
+pub trace_due : (how : Tracing) (machine : FinishedMachine) (text input : Option (List ℕ)) (t : s.Tree) (bytes : List ℕ)
     → IfSome text (λ xs. IsAccepted xs t) → IfSome input (λ ys. bytes ≡ ys) → judge_input bytes ≡ Ok tt → IsTraced how t bytes machine → Traces how machine text input
 trace_due how machine text input t bytes accepted same fit made xs is =
     (t, of_known (λ zs. IsAccepted zs t) text xs accepted is, of_input)

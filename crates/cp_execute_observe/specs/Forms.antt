@@ -12,12 +12,12 @@ use Rattle.cp_base_config.specs.declared.outcome.OutcomeForm.{OutcomeForm}
 use Rattle.cp_base_config.specs.declared.outcome.OutcomeForm.TheVariants as form
 
 -- What is written of a state and of the verdict on it, after so many rounds.
-abbrev pub Tells : OutcomeForm ℕ → Setup → State → Verdict → ℕ → List ℕ → Type 0
-Tells form.Verdict setup s v rounds bytes = BeginsWithVerdict v rounds bytes
-Tells (form.Transcript p) setup s v rounds bytes = IsTranscript p setup s bytes
-Tells form.Dot setup s v rounds bytes = 0 < length bytes
-Tells form.Json setup s v rounds bytes = IsJsonLine bytes
+abbrev pub Reports : OutcomeForm ℕ → Setup → State → Verdict → ℕ → List ℕ → Type 0
+Reports form.Verdict setup s v rounds bytes = BeginsWithVerdict v rounds bytes
+Reports (form.Transcript p) setup s v rounds bytes = IsTranscript p setup s bytes
+Reports form.Dot setup s v rounds bytes = 0 < length bytes
+Reports form.Json setup s v rounds bytes = IsJsonLine bytes
 
 -- The same, of every state that the machine is in.
-abbrev pub IsToldOf : OutcomeForm ℕ → Machine → Verdict → List ℕ → Type 0
-IsToldOf form m v bytes = (setup : Setup) (s : State) → IsIn (machine_of m) setup s → Tells form setup s v m.rounds bytes
+abbrev pub IsOutcomeOf : OutcomeForm ℕ → Machine → Verdict → List ℕ → Type 0
+IsOutcomeOf form m v bytes = (setup : Setup) (s : State) → IsIn (machine_of m) setup s → Reports form setup s v m.rounds bytes

@@ -12,7 +12,7 @@ use Rattle.cp_base_config.specs.declared.outcome.OutcomeForm.{OutcomeForm}
 use Rattle.cp_base_config.specs.declared.outcome.UntilStill.{UntilStill}
 use Rattle.cp_frontend.specs.Cutting.{judge_input}
 use Rattle.cp_execute_start.specs.Starts.{setup_of}
-use Rattle.cp_execute_observe.specs.Forms.{Tells}
+use Rattle.cp_execute_observe.specs.Forms.{Reports}
 use Rattle.cp_frontend.specs.Takings.{AppendsSome}
 use Rattle.cp_frontend.specs.Texts.{IsAccepted}
 
@@ -31,7 +31,7 @@ pub record IsOutcome (how : UntilStill) (form : OutcomeForm ℕ) (t : s.Tree) (i
   pub still : rounds < how.limit → is_still_after how t input rounds ≡ true
   pub first : (k : ℕ) → k < rounds → is_still_after how t input k ≡ false
   pub verdict : verdict_of (setup_of t input how.tick.rounds) (state_after how t input rounds) ≡ v
-  pub told : Tells form (setup_of t input how.tick.rounds) (state_after how t input rounds) v rounds bytes
+  pub reported : Reports form (setup_of t input how.tick.rounds) (state_after how t input rounds) v rounds bytes
 
 -- If the text is known, then it is accepted. If the input is known too, it isn't refused, and
 -- `Writes` holds of an outcome with this verdict.
@@ -42,8 +42,8 @@ Due how form v text input Writes =
     × ((ys : List ℕ) → input ≡ Some ys → (judge_input ys ≡ Ok tt) × (bytes : List ℕ) × IsOutcome how form t ys v bytes × Writes bytes)
 
 -- What was written is an outcome with this verdict.
-abbrev pub TellsOutcome : UntilStill → OutcomeForm ℕ → Verdict → Option (List ℕ) → Option (List ℕ) → Option (List ℕ) → Option (List ℕ) → Type 0
-TellsOutcome how form v text input old new = Due how form v text input (Appends old new)
+abbrev pub ReportsOutcome : UntilStill → OutcomeForm ℕ → Verdict → Option (List ℕ) → Option (List ℕ) → Option (List ℕ) → Option (List ℕ) → Type 0
+ReportsOutcome how form v text input old new = Due how form v text input (Appends old new)
 
 -- After a write that failed: a prefix of an outcome was written.
 abbrev pub BeginsOutcome : UntilStill → OutcomeForm ℕ → Option (List ℕ) → Option (List ℕ) → Option (List ℕ) → Option (List ℕ) → Type 0

@@ -4,7 +4,7 @@
 ghost use Rattle.std.specs.Prelude.{◌≡◌, IfErr, IfOk, IfSome};
 ghost use Rattle.std.specs.Io.KnownBytes.{Keeps};
 ghost use Rattle.cp_frontend.specs.KnownRefusals.{IsFaultOrOfInput, RefusesRun};
-ghost use Rattle.cp_execute_observe.specs.Outcomes.{BeginsOutcome, TellsOutcome};
+ghost use Rattle.cp_execute_observe.specs.Outcomes.{BeginsOutcome, ReportsOutcome};
 ghost use Rattle.cp_frontend.specs.Takings.{TakesInput, TakesText};
 ghost use Rattle.cp_frontend.specs.declared.refusal.Refusal.TheVariants as refusal;
 
@@ -40,7 +40,7 @@ pub fn execute_outcome<H: Threads + Wait + Sync, R: Read, S: Read, W: Write, G: 
     out: &mut W,
 ) -> Result<Verdict, Refusal>
     ensures done { IfOk result
-        (λ verdict. TellsOutcome how.now form verdict (R.remaining text.old) (S.remaining input.old)
+        (λ verdict. ReportsOutcome how.now form verdict (R.remaining text.old) (S.remaining input.old)
         (W.contents out.old) (W.contents out.new)) }
     ensures unwritten { IfErr result
         (λ e. (e ≡ refusal.Write → ⊥) → Keeps (W.contents out.old) (W.contents out.new)) }

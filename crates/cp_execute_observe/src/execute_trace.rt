@@ -16,19 +16,22 @@ use cp_compile_symbols::Tables;
 use cp_frontend::checking::accept;
 use cp_frontend::refusal::Refusal;
 use cp_frontend::sources::{read_accepted, read_input};
-use cp_inspect::roster::Roster;
+use cp_inspect::component_table::ComponentTable;
 use cp_model::tree::Tree;
+use cp_rounds::finished_machine::FinishedMachine;
 use cp_rounds::gate::TurnGate;
-use cp_rounds::halted::Halted;
 use std::alloc::{AllocError, Global};
 use std::io::{Read, Write};
 use std::sync::Wait;
 use std::thread::Threads;
 
 // Returns the first of these names that no process and no monitor has, if there is one.
-fn first_unknown<'a>(roster: &Roster, names: &[&'a str]) -> Result<Option<&'a str>, AllocError> {
+fn first_unknown<'a>(
+    component_table: &ComponentTable,
+    names: &[&'a str],
+) -> Result<Option<&'a str>, AllocError> {
     for name in names {
-        if roster.member(name.as_bytes())?.is_none() {
+        if component_table.member(name.as_bytes())?.is_none() {
             return Ok(Some(*name));
         }
     }
@@ -41,8 +44,8 @@ fn unknown_in_tables<'a>(
     tables: &Tables<'_>,
     names: &[&'a str],
 ) -> Result<Option<&'a str>, AllocError> {
-    let roster = Roster::of(alloc, tables)?;
-    first_unknown(&roster, names)
+    let component_table = ComponentTable::of(alloc, tables)?;
+    first_unknown(&component_table, names)
 }
 
 // The same of those of an accepted text.
@@ -89,10 +92,10 @@ pub fn execute_trace<H: Threads + Wait + Sync, R: Read, S: Read, W: Write, G: Tu
     how: &Tracing,
     gate: &G,
     out: &mut W,
-) -> Result<Halted, Refusal>
+) -> Result<FinishedMachine, Refusal>
     ensures done { IfOk result
         (λ machine. Traces how.now machine (R.remaining text.old) (S.remaining input.old)) }
-    ensures told { OnOk result
+    ensures reported { OnOk result
         (WritesTrace how.now.form (W.contents out.old) (W.contents out.new)) }
     ensures written { Extends (W.contents out.old) (W.contents out.new) }
     ensures unwritten { IfErr result

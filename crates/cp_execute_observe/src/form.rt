@@ -2,10 +2,10 @@
 
 ghost use Rattle.std.specs.Prelude.{IfOk};
 ghost use Rattle.cp_output_formats.specs.Json.{IsJsonLine};
-ghost use Rattle.cp_execute_observe.specs.Forms.{IsToldOf};
+ghost use Rattle.cp_execute_observe.specs.Forms.{IsOutcomeOf};
 ghost use Rattle.cp_base_config.specs.declared.outcome.OutcomeForm.TheVariants as forms;
 
-use crate::standing::standing_of;
+use crate::snapshot::snapshot_of;
 use cp_base_config::outcome::OutcomeForm;
 use cp_frontend::sources::Text;
 use cp_outcome::outcome::{outcome, word_of};
@@ -25,7 +25,7 @@ fn report_with_reasons(
     machine: &Machine,
     verdict: Verdict,
 ) -> Result<Vec<u8>, AllocError>
-    ensures { IfOk result (λ bytes. IsToldOf forms.Verdict machine.now verdict bytes.items) }
+    ensures { IfOk result (λ bytes. IsOutcomeOf forms.Verdict machine.now verdict bytes.items) }
 {
     let reasons = reasons(alloc, source)?;
     outcome(alloc, machine, verdict, &reasons)
@@ -47,21 +47,21 @@ fn object_of(alloc: Global, source: Source<'_, '_>, verdict: Verdict) -> Result<
 /// # Errors
 ///
 /// `AllocError` if memory runs out.
-pub(crate) fn told<'t>(
+pub(crate) fn reported<'t>(
     alloc: Global,
     text: &'t Text,
     machine: &Machine<'_, 't>,
     verdict: Verdict,
     form: OutcomeForm<u32>,
 ) -> Result<Vec<u8>, AllocError>
-    ensures { IfOk result (λ bytes. IsToldOf form machine.now verdict bytes.items) }
+    ensures { IfOk result (λ bytes. IsOutcomeOf form machine.now verdict bytes.items) }
 {
-    let standing = standing_of(alloc, machine)?;
+    let snapshot = snapshot_of(alloc, machine)?;
     let source = Source {
         bytes: &text.bytes,
         tree: &text.tree,
         tables: machine.tables(),
-        standing: &standing,
+        snapshot: &snapshot,
     };
     match form {
         OutcomeForm::Verdict => report_with_reasons(alloc, source, machine, verdict),

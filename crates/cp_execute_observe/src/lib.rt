@@ -2,7 +2,7 @@
 //!
 //! - `execute_outcome`: runs until nothing can move. `execute_trace`: what each round changed.
 //! - `until_still`, `tracing`: builds the program of an accepted text, runs it, and makes the
-//!   outcome or the trace. `form`: what is written of an outcome. `standing`: where all stand.
+//!   outcome or the trace. `form`: what is written of an outcome. `snapshot`: where all stand.
 //! - `rounds`: makes the rounds of a machine, and writes what is told of them.
 //!
 //! Reading, judging and refusals are cp_frontend's, and the machine at its start is cp_execute's.
@@ -14,6 +14,6 @@ pub mod execute_outcome;
 pub mod execute_trace;
 pub mod form;
 mod rounds;
-mod standing;
+mod snapshot;
 pub mod tracing;
 pub mod until_still;

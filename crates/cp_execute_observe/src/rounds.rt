@@ -2,7 +2,7 @@
 
 ghost use Rattle.std.specs.Prelude.{◌≡◌, ◌<◌, ◌+◌, ◌-◌, ◌^◌, IfErr, IfOk, OnOk};
 ghost use Rattle.cp_rounds.specs.InStates.{MakesRounds};
-ghost use Rattle.cp_trace.specs.Telling.{Adds};
+ghost use Rattle.cp_trace.specs.WalkOutput.{Adds};
 ghost use Rattle.cp_trace.specs.Tracers.{IsPart, form_of};
 ghost use Rattle.cp_execute_observe.specs.Writing.{Extends, IsMemoryOrWrite, Moves, WritesTrace};
 ghost use Rattle.cp_frontend.specs.declared.refusal.Refusal.TheVariants as refusal;
@@ -11,7 +11,7 @@ use cp_base_config::plan::Plan;
 use cp_base_config::trace::{TraceForm, Tracing};
 use cp_frontend::refusal::Refusal;
 use cp_frontend::writing::write_result;
-use cp_inspect::roster::Roster;
+use cp_inspect::component_table::ComponentTable;
 use cp_model::tree::Tree;
 use cp_rounds::gate::TurnGate;
 use cp_rounds::machine::Machine;
@@ -23,7 +23,7 @@ use std::sync::Wait;
 use std::thread::Threads;
 
 // As many bytes are written at once, or those of one round if they are more.
-const LONG: usize = 65_536;
+const MAX_PENDING_BYTES: usize = 65_536;
 
 // Returns of what is told in so many rounds of a machine, whose text has this tree.
 fn topic_of<'a, 't>(
@@ -33,10 +33,10 @@ fn topic_of<'a, 't>(
     only: &'a [&'a str],
     rounds: u32,
 ) -> Result<Topic<'a, 't>, AllocError> {
-    let roster = Roster::of(alloc, machine.tables())?;
+    let component_table = ComponentTable::of(alloc, machine.tables())?;
     Ok(Topic {
         tree,
-        roster,
+        component_table,
         only,
         done: machine.rounds(),
         rounds,
@@ -68,7 +68,7 @@ fn trace_round<'t, H: Threads + Wait + Sync, G: TurnGate>(
     ensures state { OnOk result
         (MakesRounds plan.now.turn.steps 1 machine.old machine.new) }
     ensures count { OnOk result (machine.new.rounds ≡ machine.old.rounds + 1) }
-    ensures told { OnOk result
+    ensures reported { OnOk result
         (Adds (IsPart (form_of tracer.old)) buffer.old.items buffer.new.items) }
     ensures form { OnOk result (form_of tracer.new ≡ form_of tracer.old) }
 {
@@ -85,7 +85,7 @@ fn write_if_long<W: Write>(out: &mut W, buffer: &mut Vec<u8>) -> Result<(), Refu
     ensures written { Extends (W.contents out.old) (W.contents out.new) }
     ensures write { IfErr result (λ e. e ≡ refusal.Write) }
 {
-    if buffer.len() < LONG {
+    if buffer.len() < MAX_PENDING_BYTES {
         return Ok(());
     }
     write_result(out, buffer)?;
@@ -107,7 +107,7 @@ fn trace_rounds<'t, H: Threads + Wait + Sync, W: Write, G: TurnGate>(
     requires count { machine.old.rounds + rounds < 2 ^ 64 }
     ensures state { OnOk result
         (MakesRounds plan.now.turn.steps rounds machine.old machine.new) }
-    ensures told { OnOk result
+    ensures reported { OnOk result
         (WritesTrace (form_of tracer.old) (W.contents out.old) (W.contents out.new)) }
     ensures written { Extends (W.contents out.old) (W.contents out.new) }
     ensures fault { IfErr result IsMemoryOrWrite }
@@ -143,17 +143,26 @@ pub(crate) fn trace<'t, H: Threads + Wait + Sync, W: Write, G: TurnGate>(
     requires first { machine.old.rounds ≡ 0 }
     ensures state { OnOk result
         (MakesRounds how.now.plan.turn.steps how.now.rounds machine.old machine.new) }
-    ensures told { OnOk result
+    ensures reported { OnOk result
         (WritesTrace how.now.form (W.contents out.old) (W.contents out.new)) }
     ensures written { Extends (W.contents out.old) (W.contents out.new) }
     ensures fault { IfErr result IsMemoryOrWrite }
 {
-    let untold = how.from.saturating_sub(1).min(how.rounds);
-    if machine.run(rt, untold, &how.plan, gate).is_err() {
+    let unreported = how.from.saturating_sub(1).min(how.rounds);
+    if machine.run(rt, unreported, &how.plan, gate).is_err() {
         return Err(Refusal::Memory);
     }
-    let told = how.rounds - untold;
-    let topic = topic_of(alloc, tree, machine, only, told)?;
+    let reported = how.rounds - unreported;
+    let topic = topic_of(alloc, tree, machine, only, reported)?;
     let mut tracer = tracer_of(alloc, how.form, topic, machine)?;
-    trace_rounds(rt, alloc, machine, &mut tracer, told, &how.plan, gate, out)
+    trace_rounds(
+        rt,
+        alloc,
+        machine,
+        &mut tracer,
+        reported,
+        &how.plan,
+        gate,
+        out,
+    )
 }

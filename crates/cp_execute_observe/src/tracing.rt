@@ -12,8 +12,8 @@ use cp_check::checking::{CompiledText, compile_accepted};
 use cp_execute_start::starting::machine_at_start;
 use cp_frontend::refusal::Refusal;
 use cp_model::tree::Tree;
+use cp_rounds::finished_machine::FinishedMachine;
 use cp_rounds::gate::TurnGate;
-use cp_rounds::halted::Halted;
 use cp_rounds::machine::Machine;
 use std::alloc::Global;
 use std::io::Write;
@@ -31,10 +31,10 @@ fn trace_machine<'t, H: Threads + Wait + Sync, W: Write, G: TurnGate>(
     how: &Tracing,
     gate: &G,
     out: &mut W,
-) -> Result<Halted, Refusal>
+) -> Result<FinishedMachine, Refusal>
     requires first { machine.rounds ≡ 0 }
     ensures state { IfOk result (IsTracedFrom how.now machine.entry) }
-    ensures told { OnOk result
+    ensures reported { OnOk result
         (WritesTrace how.now.form (W.contents out.old) (W.contents out.new)) }
     ensures written { Extends (W.contents out.old) (W.contents out.new) }
     ensures fault { IfErr result IsMemoryOrWrite }
@@ -59,11 +59,11 @@ pub(crate) fn machine_after_trace<H: Threads + Wait + Sync, W: Write, G: TurnGat
     how: &Tracing,
     gate: &G,
     out: &mut W,
-) -> Result<Halted, Refusal>
+) -> Result<FinishedMachine, Refusal>
     requires accepted { Accepted (view.tree tree.now) }
     ensures state { IfOk result
         (λ machine. IsTraced how.now (view.tree tree.now) input.now machine) }
-    ensures told { OnOk result
+    ensures reported { OnOk result
         (WritesTrace how.now.form (W.contents out.old) (W.contents out.new)) }
     ensures written { Extends (W.contents out.old) (W.contents out.new) }
     ensures fault { IfErr result IsMemoryOrWrite }

@@ -8,7 +8,7 @@ ghost use Rattle.cp_execute_start.specs.Starts.{IsAtStart, setup_of};
 ghost use Rattle.cp_execute_observe.specs.Outcomes.{IsOutcome};
 ghost use Rattle.cp_frontend.specs.declared.refusal.Refusal.TheVariants as refusal;
 
-use crate::form::told;
+use crate::form::reported;
 use cp_base_config::outcome::{OutcomeForm, UntilStill};
 use cp_check::checking::{CompiledText, compile_accepted};
 use cp_execute_start::starting::machine_at_start;
@@ -48,7 +48,7 @@ fn outcome_of<'t, H: Threads + Wait + Sync, G: TurnGate>(
         return Err(Refusal::Memory);
     };
     let verdict = verdict_on(&machine);
-    let bytes = told(alloc, text, &machine, verdict, form)?;
+    let bytes = reported(alloc, text, &machine, verdict, form)?;
     Ok(Outcome { verdict, bytes })
 }
 

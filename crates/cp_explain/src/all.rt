@@ -11,14 +11,14 @@ use cp_rules::text::violations;
 use std::alloc::{AllocError, Global};
 
 /// The most violations that are told.
-const MOST: usize = 1_000;
+const MAX_VIOLATIONS: usize = 1_000;
 
 /// How many bytes are walked over: what stands at a place is found by a walk over the whole text.
-const WALKED: usize = 67_108_864;
+const MAX_WALKED_BYTES: usize = 67_108_864;
 
 /// How many violations of a text are told, so that a long one takes no longer than a short one.
 pub(crate) fn most(text: &[u8]) -> usize {
-    (WALKED / text.len().max(1)).min(MOST)
+    (MAX_WALKED_BYTES / text.len().max(1)).min(MAX_VIOLATIONS)
 }
 
 // Adds where more is said than in short.
@@ -37,16 +37,16 @@ fn push_hint(page: &mut Page, file: &[u8], list: &[Violation]) {
 }
 
 // Adds how many violations there are, of which so many are told.
-fn push_count(page: &mut Page, count: usize, told: usize) {
+fn push_count(page: &mut Page, count: usize, reported: usize) {
     page.number(count);
     page.text(if count == 1 {
         " violation"
     } else {
         " violations"
     });
-    if told < count {
+    if reported < count {
         page.text(", of which the first ");
-        page.number(told);
+        page.number(reported);
         page.text(" are told");
     }
     page.bytes(b"\n");
@@ -57,9 +57,9 @@ fn push_count(page: &mut Page, count: usize, told: usize) {
 pub fn of_all(alloc: Global, file: &[u8], text: &[u8], tree: &Tree) -> Result<Vec<u8>, AllocError> {
     let mut page = Page::new(alloc);
     let list = violations(alloc, tree)?;
-    let told = most(text).min(list.len());
+    let reported = most(text).min(list.len());
     let mut is_first = true;
-    for violation in list.iter().take(told) {
+    for violation in list.iter().take(reported) {
         if !is_first {
             page.bytes(&heading_of(alloc, file, text, &Refusal::from(*violation))?);
         }
@@ -67,6 +67,6 @@ pub fn of_all(alloc: Global, file: &[u8], text: &[u8], tree: &Tree) -> Result<Ve
         is_first = false;
     }
     push_hint(&mut page, file, &list);
-    push_count(&mut page, list.len(), told);
+    push_count(&mut page, list.len(), reported);
     page.finish()
 }

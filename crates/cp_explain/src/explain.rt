@@ -12,7 +12,7 @@ ghost use Rattle.cp_explain.specs.Explained.{Begins, Explains, Wrote, code_of, h
 
 use crate::all::of_all;
 use crate::lacking::push_lacking;
-use crate::told::of_no_tree;
+use crate::reported::of_no_tree;
 use cp_base_digits::decimal::push_natural;
 use cp_explain_notes::add_notes;
 use cp_explain_rights::graph::{Form, graph};
@@ -101,19 +101,19 @@ pub(crate) fn heading_of(
     Ok(page)
 }
 
-// Explains a refusal: by its heading, and then by `told`.
+// Explains a refusal: by its heading, and then by `reported`.
 fn explain_refusal(
     alloc: Global,
     file: &[u8],
     text: &[u8],
     refusal: Refusal,
-    told: &[u8],
+    reported: &[u8],
 ) -> Result<Explanation, AllocError>
     ensures refusal { IfOk result (λ e. e.refusal ≡ Some refusal) }
     ensures heading { IfOk result (λ e. Begins (heading file.now text.now refusal) e.page.items) }
 {
     let mut page = heading_of(alloc, file, text, &refusal)?;
-    page.extend_from_slice(told)?;
+    page.extend_from_slice(reported)?;
     Ok(Explanation {
         page,
         refusal: Some(refusal),
@@ -121,7 +121,7 @@ fn explain_refusal(
 }
 
 // What is told of a text that breaks a rule, after the first heading.
-fn told_of_tree(
+fn reported_of_tree(
     alloc: Global,
     file: &[u8],
     text: &[u8],
@@ -136,7 +136,7 @@ fn told_of_tree(
 }
 
 // What is told of a text that has no tree, after the heading.
-fn told_of_no_tree(
+fn reported_of_no_tree(
     alloc: Global,
     text: &[u8],
     refusal: Refusal,
@@ -172,8 +172,8 @@ fn of_tree(
             })
         }
         Err(RuleError::Broken(violation)) => {
-            let told = told_of_tree(alloc, file, text, tree, violation, extent)?;
-            explain_refusal(alloc, file, text, Refusal::from(violation), &told)
+            let reported = reported_of_tree(alloc, file, text, tree, violation, extent)?;
+            explain_refusal(alloc, file, text, Refusal::from(violation), &reported)
         }
         Err(RuleError::Memory) => Err(AllocError),
     }
@@ -194,8 +194,8 @@ pub fn explain(
         Ok(tree) => of_tree(alloc, file, text, &tree, form, extent),
         Err(Refusal::Memory) => Err(AllocError),
         Err(refusal) => {
-            let told = told_of_no_tree(alloc, text, refusal, extent)?;
-            explain_refusal(alloc, file, text, refusal, &told)
+            let reported = reported_of_no_tree(alloc, text, refusal, extent)?;
+            explain_refusal(alloc, file, text, refusal, &reported)
         }
     }
 }

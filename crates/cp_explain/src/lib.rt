@@ -1,7 +1,7 @@
 //! Explanations: the judgement of `check`, written for people.
 //!
 //! `explain::explain_text` reads a text, judges it as `check` does, and writes the explanation. For
-//! a refused text that is its heading and what cp_explain_syntax (no tokens, or no tree: `told`) or
+//! a refused text that is its heading and what cp_explain_syntax (no tokens, or no tree: `reported`) or
 //! cp_explain_rules (a broken rule) tells. For an accepted text it is the access graph (cp_explain_rights).
 //! `all` tells all violations of a text, and what it uses of the book's language that this one
 //! hasn't (`lacking`). `object` tells the same of a text as a JSON object. `rules` has the pages of
@@ -16,5 +16,5 @@ pub mod explain;
 mod lacking;
 pub mod object;
 mod pages;
+mod reported;
 pub mod rules;
-mod told;

@@ -11,8 +11,8 @@ ghost use Rattle.cp_output_formats.specs.Json.{IsJsonLine};
 
 use crate::all::most;
 use crate::explain::{Explanation, Extent, place, push_code, read};
-use crate::told::of_no_tree;
-use cp_explain_notes::{ToldNote, notes};
+use crate::reported::of_no_tree;
+use cp_explain_notes::{NoteText, notes};
 use cp_explain_rules::of_violation_in_short;
 use cp_frontend::checking::tree_of;
 use cp_frontend::refusal::Refusal;
@@ -58,7 +58,7 @@ struct RefusedObject {
     violations: Vec<ViolationObject>,
     // How many more violations there are.
     #[serde(skip_serializing_if = "Option::is_none")]
-    untold: Option<usize>,
+    unreported: Option<usize>,
 }
 
 fn first_line(bytes: &[u8]) -> &[u8] {
@@ -70,12 +70,12 @@ fn first_line(bytes: &[u8]) -> &[u8] {
     bytes
 }
 
-// Why a text is refused, where `told` says so in its first line.
+// Why a text is refused, where `reported` says so in its first line.
 fn violation_object(
     alloc: Global,
     text: &[u8],
     refusal: &Refusal,
-    told: &[u8],
+    reported: &[u8],
 ) -> Result<ViolationObject, AllocError> {
     let offset = place(refusal);
     let position = Position::of(text, offset);
@@ -86,11 +86,11 @@ fn violation_object(
         line: position.line,
         column: position.column,
         offset,
-        message: String::from_utf8_lossy(alloc, first_line(told))?,
+        message: String::from_utf8_lossy(alloc, first_line(reported))?,
     })
 }
 
-fn note_object(alloc: Global, note: &ToldNote) -> Result<NoteObject, AllocError> {
+fn note_object(alloc: Global, note: &NoteText) -> Result<NoteObject, AllocError> {
     Ok(NoteObject {
         line: note.position.line,
         column: note.position.column,
@@ -131,9 +131,9 @@ fn violation_objects(
 ) -> Result<Vec<ViolationObject>, AllocError> {
     let mut all = Vec::new(alloc);
     for violation in list.iter().take(most(text)) {
-        let told = of_violation_in_short(alloc, text, tree, *violation)?;
+        let reported = of_violation_in_short(alloc, text, tree, *violation)?;
         let refusal = Refusal::from(*violation);
-        all.push(violation_object(alloc, text, &refusal, &told)?)?;
+        all.push(violation_object(alloc, text, &refusal, &reported)?)?;
     }
     Ok(all)
 }
@@ -151,11 +151,15 @@ fn refused(
         Extent::All => violations(alloc, tree)?,
     };
     let violations = violation_objects(alloc, text, tree, &list)?;
-    let untold = list.len().saturating_sub(violations.len());
+    let unreported = list.len().saturating_sub(violations.len());
     Ok(RefusedObject {
         accepted: false,
         violations,
-        untold: if untold == 0 { None } else { Some(untold) },
+        unreported: if unreported == 0 {
+            None
+        } else {
+            Some(unreported)
+        },
     })
 }
 
@@ -189,13 +193,13 @@ fn of_refusal(alloc: Global, text: &[u8], refusal: Refusal) -> Result<Explanatio
     requires refused { Refuses text.now refusal }
     ensures { IfOk result (λ e. IsObjectOf text.now e.refusal e.page.items) }
 {
-    let told = of_no_tree(alloc, text, place(&refusal), refusal)?.finish()?;
+    let reported = of_no_tree(alloc, text, place(&refusal), refusal)?.finish()?;
     let mut violations = Vec::new(alloc);
-    violations.push(violation_object(alloc, text, &refusal, &told)?)?;
+    violations.push(violation_object(alloc, text, &refusal, &reported)?)?;
     let refused = RefusedObject {
         accepted: false,
         violations,
-        untold: None,
+        unreported: None,
     };
     page_of(alloc, &refused, Some(refusal))
 }

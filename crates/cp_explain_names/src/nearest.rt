@@ -5,7 +5,7 @@ use std::alloc::{AllocError, Global};
 use strsim::generic_levenshtein;
 
 /// The most names that are compared, so that an explanation stays quick.
-const MOST_NAMES: usize = 4_000;
+const MAX_NEARBY_NAMES: usize = 4_000;
 
 /// Of the names that were offered, the one that is spelled most like the wanted one.
 #[derive(Drop)]
@@ -49,7 +49,7 @@ impl<'t> Nearest<'t> {
     /// Offers a name. Fails only if memory runs out.
     pub fn offer(&mut self, alloc: Global, name: &'t [u8]) -> Result<(), AllocError> {
         self.offered = self.offered.saturating_add(1);
-        if MOST_NAMES < self.offered || !self.is_near(name) {
+        if MAX_NEARBY_NAMES < self.offered || !self.is_near(name) {
             return Ok(());
         }
         let edits = generic_levenshtein(alloc, self.wanted, name)?;

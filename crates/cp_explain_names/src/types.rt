@@ -8,7 +8,7 @@ use cp_model::tree::{
 };
 
 /// How many definitions of one type or constant by another are followed.
-const MOST_STEPS: usize = 200;
+const MAX_TYPE_STEPS: usize = 200;
 
 /// A type. A subrange counts as its base type.
 #[derive(Clone, Copy)]
@@ -81,7 +81,7 @@ impl<'t> Scope<'t> {
     /// The type with this name.
     pub fn type_of_name(&self, x: &'t Identifier) -> Option<Type<'t>> {
         let mut x = x;
-        for _ in 0..MOST_STEPS {
+        for _ in 0..MAX_TYPE_STEPS {
             let Some(declared) = self.find(Wanted::other_than(x)) else {
                 return Some(Type::Standard(StandardType::named(x.name.as_bytes())?));
             };
@@ -111,7 +111,7 @@ impl<'t> Scope<'t> {
     /// The type of a constant.
     pub fn type_of_constant(&self, c: &'t Constant) -> Option<Type<'t>> {
         let mut c = c;
-        for _ in 0..MOST_STEPS {
+        for _ in 0..MAX_TYPE_STEPS {
             let x = match c {
                 Constant::Number { .. } | Constant::Negative { .. } => return Some(INTEGER),
                 Constant::Character { .. } => return Some(CHARACTER),
@@ -204,7 +204,7 @@ impl<'t> Scope<'t> {
     /// The type of an expression.
     pub fn type_of_expression(&self, e: &'t Expression) -> Option<Type<'t>> {
         let mut e = e;
-        for _ in 0..MOST_STEPS {
+        for _ in 0..MAX_TYPE_STEPS {
             match e {
                 Expression::Parenthesized { inner, .. } => e = inner,
                 Expression::Call(d, list) if self.keeps_type(d) => e = list.first()?,

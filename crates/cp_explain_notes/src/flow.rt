@@ -7,7 +7,7 @@ pub enum Reach {
     /// None does.
     Closed,
     /// None does, and a note says so already.
-    Told,
+    Reported,
 }
 
 /// What is known at a place.

@@ -1,6 +1,6 @@
 //! Notes on components that are never initialised, or twice.
 
-use crate::note::Saying;
+use crate::note::NoteKind;
 use crate::walk::Walk;
 use cp_base_names::{Key, NameTable};
 use cp_explain_meanings::meaning::Shape;
@@ -69,7 +69,7 @@ impl<'t> Walk<'t> {
         let x = &item.component;
         if self.inits.add(x)? {
             self.notes
-                .add_on(x.at, Saying::InitialisedTwice, x.name.as_bytes())?;
+                .add_on(x.at, NoteKind::InitialisedTwice, x.name.as_bytes())?;
         }
         Ok(())
     }
@@ -80,7 +80,8 @@ impl<'t> Walk<'t> {
         if self.flow.is_open() {
             for number in inits..self.inits.count() {
                 if let Some((name, at)) = self.inits.done.get(number) {
-                    self.notes.add_on(at, Saying::InitialisedInEachRound, name)?;
+                    self.notes
+                        .add_on(at, NoteKind::InitialisedInEachRound, name)?;
                 }
             }
             self.inits.forget(inits);
@@ -103,7 +104,7 @@ impl<'t> Walk<'t> {
             let name = x.name.as_bytes();
             if self.inits.named.find(name).is_none() {
                 self.notes
-                    .add_on(x.at, Saying::NeverInitialised(sort), name)?;
+                    .add_on(x.at, NoteKind::NeverInitialised(sort), name)?;
             }
         }
         Ok(())

@@ -2,7 +2,7 @@
 //!
 //! `text` walks over declarations, `statements` over bodies and `expressions` over calls; `walk` is
 //! what they know on their way, and `flow` which ways lead to a place.
-//! Each kind of note stands in a module: `initialisation`, `queues`, `meetings`, `ranges` and
+//! Each kind of note stands in a module: `initialisation`, `queues`, `queue_uses`, `ranges` and
 //! `results`, but for statements that never run, which `statements` notes. `note` orders and writes
 //! them in the words of `messages`.
 //!
@@ -12,9 +12,9 @@
 mod expressions;
 mod flow;
 mod initialisation;
-mod meetings;
 mod messages;
 mod note;
+mod queue_uses;
 mod queues;
 mod ranges;
 mod results;
@@ -22,5 +22,5 @@ mod statements;
 mod text;
 mod walk;
 
-pub use note::ToldNote;
+pub use note::NoteText;
 pub use text::{add_notes, notes};

@@ -1,6 +1,6 @@
 //! The words of notes. `$` and `%` stand for the names that a note tells of.
 
-use crate::note::Saying;
+use crate::note::NoteKind;
 use cp_model::tree::Sort;
 use cp_output::message::Message;
 
@@ -80,22 +80,22 @@ const KEEPS_GATE: Message = Message {
 };
 
 /// The words of what a note says.
-pub fn message(saying: Saying) -> Message {
-    match saying {
-        Saying::NeverInitialised(Sort::Process) => NEVER_STARTED,
-        Saying::NeverInitialised(_) => NEVER_INITIALISED,
-        Saying::InitialisedTwice => INITIALISED_TWICE,
-        Saying::InitialisedInEachRound => INITIALISED_IN_EACH_ROUND,
-        Saying::NeverContinued => NEVER_CONTINUED,
-        Saying::TwoInOneQueue => TWO_IN_ONE_QUEUE,
-        Saying::NeverRuns => NEVER_RUNS,
-        Saying::OutOfRange => OUT_OF_RANGE,
-        Saying::OutOfBounds => OUT_OF_BOUNDS,
-        Saying::ZeroDivisor => ZERO_DIVISOR,
-        Saying::NoCharacter => NO_CHARACTER,
-        Saying::NoResult => NO_RESULT,
-        Saying::ResultUnderConditions => RESULT_UNDER_CONDITIONS,
-        Saying::ReturnsEarly => RETURNS_EARLY,
-        Saying::KeepsGate => KEEPS_GATE,
+pub fn message(note_kind: NoteKind) -> Message {
+    match note_kind {
+        NoteKind::NeverInitialised(Sort::Process) => NEVER_STARTED,
+        NoteKind::NeverInitialised(_) => NEVER_INITIALISED,
+        NoteKind::InitialisedTwice => INITIALISED_TWICE,
+        NoteKind::InitialisedInEachRound => INITIALISED_IN_EACH_ROUND,
+        NoteKind::NeverContinued => NEVER_CONTINUED,
+        NoteKind::TwoInOneQueue => TWO_IN_ONE_QUEUE,
+        NoteKind::NeverRuns => NEVER_RUNS,
+        NoteKind::OutOfRange => OUT_OF_RANGE,
+        NoteKind::OutOfBounds => OUT_OF_BOUNDS,
+        NoteKind::ZeroDivisor => ZERO_DIVISOR,
+        NoteKind::NoCharacter => NO_CHARACTER,
+        NoteKind::NoResult => NO_RESULT,
+        NoteKind::ResultUnderConditions => RESULT_UNDER_CONDITIONS,
+        NoteKind::ReturnsEarly => RETURNS_EARLY,
+        NoteKind::KeepsGate => KEEPS_GATE,
     }
 }

@@ -9,7 +9,7 @@ use std::alloc::{AllocError, Global};
 
 /// What a note says.
 #[derive(Clone, Copy)]
-pub enum Saying {
+pub enum NoteKind {
     /// No `init` of this component ever runs.
     NeverInitialised(Sort),
     /// Each way to this `init` has one of the same component.
@@ -44,7 +44,7 @@ pub enum Saying {
 #[derive(Clone, Copy)]
 struct Note<'t> {
     at: usize,
-    saying: Saying,
+    note_kind: NoteKind,
     about: About<'t>,
 }
 
@@ -61,30 +61,39 @@ impl<'t> Notes<'t> {
         }
     }
 
-    fn push(&mut self, at: usize, saying: Saying, about: About<'t>) -> Result<(), AllocError> {
-        self.found.push(Note { at, saying, about })?;
+    fn push(&mut self, at: usize, note_kind: NoteKind, about: About<'t>) -> Result<(), AllocError> {
+        self.found.push(Note {
+            at,
+            note_kind,
+            about,
+        })?;
         Ok(())
     }
 
     /// Adds a note that tells of no name. Fails only if memory runs out, as all that follow.
-    pub fn add(&mut self, at: usize, saying: Saying) -> Result<(), AllocError> {
-        self.push(at, saying, About::NOTHING)
+    pub fn add(&mut self, at: usize, note_kind: NoteKind) -> Result<(), AllocError> {
+        self.push(at, note_kind, About::NOTHING)
     }
 
     /// Adds a note that tells of a name.
-    pub fn add_on(&mut self, at: usize, saying: Saying, name: &'t [u8]) -> Result<(), AllocError> {
+    pub fn add_on(
+        &mut self,
+        at: usize,
+        note_kind: NoteKind,
+        name: &'t [u8],
+    ) -> Result<(), AllocError> {
         let about = About {
             name: Some(name),
             other: None,
         };
-        self.push(at, saying, about)
+        self.push(at, note_kind, about)
     }
 
     /// Adds a note that tells of two names.
     pub fn add_on_both(
         &mut self,
         at: usize,
-        saying: Saying,
+        note_kind: NoteKind,
         name: &'t [u8],
         other: &'t [u8],
     ) -> Result<(), AllocError> {
@@ -92,7 +101,7 @@ impl<'t> Notes<'t> {
             name: Some(name),
             other: Some(other),
         };
-        self.push(at, saying, about)
+        self.push(at, note_kind, about)
     }
 
     // The places of the notes with their numbers, in the order of the text.
@@ -106,27 +115,27 @@ impl<'t> Notes<'t> {
     }
 
     /// The notes in words, in the order of the text.
-    pub fn told(&self, alloc: Global, text: &[u8]) -> Result<Vec<ToldNote>, AllocError> {
+    pub fn reported(&self, alloc: Global, text: &[u8]) -> Result<Vec<NoteText>, AllocError> {
         let mut cursor = Cursor::start();
-        let mut told = Vec::new(alloc);
+        let mut reported = Vec::new(alloc);
         for (_, number) in self.order(alloc)?.as_slice() {
             if let Some(note) = self.found.get(*number) {
                 cursor.advance(text, note.at);
-                told.push(note.told(alloc, cursor.position)?)?;
+                reported.push(note.reported(alloc, cursor.position)?)?;
             }
         }
-        Ok(told)
+        Ok(reported)
     }
 }
 
 impl<'t> Note<'t> {
-    fn told(&self, alloc: Global, position: Position) -> Result<ToldNote, AllocError> {
-        let words = message(self.saying);
+    fn reported(&self, alloc: Global, position: Position) -> Result<NoteText, AllocError> {
+        let words = message(self.note_kind);
         let mut head = Page::new(alloc);
         head.template(words.head, self.about);
         let mut advice = Page::new(alloc);
         advice.template(words.advice, self.about);
-        Ok(ToldNote {
+        Ok(NoteText {
             at: self.at,
             position,
             head: head.finish()?,
@@ -137,7 +146,7 @@ impl<'t> Note<'t> {
 
 /// A note in words.
 #[derive(Drop)]
-pub struct ToldNote {
+pub struct NoteText {
     /// The offset of its place in the text.
     pub at: usize,
     /// The position of that place.
@@ -148,7 +157,7 @@ pub struct ToldNote {
     pub advice: Vec<u8>,
 }
 
-impl ToldNote {
+impl NoteText {
     /// Adds the note to a page: its place and what it says, and a line of advice.
     pub(crate) fn write(&self, page: &mut Page, file: &[u8]) {
         page.bytes(file);

@@ -1,7 +1,7 @@
 //! Notes on queues in which processes are delayed and from which nothing continues them.
 
 use crate::flow::Flow;
-use crate::note::Saying;
+use crate::note::NoteKind;
 use crate::walk::Walk;
 use cp_base_names::{Key, NameTable};
 use cp_model::tree::{Designator, Expression, Identifier};
@@ -150,7 +150,7 @@ impl<'t> Walk<'t> {
                     is_continued: false,
                     ..
                 },
-            ) => self.notes.add_on(at, Saying::NeverContinued, name),
+            ) => self.notes.add_on(at, NoteKind::NeverContinued, name),
             _ => Ok(()),
         }
     }

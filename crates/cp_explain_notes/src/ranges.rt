@@ -1,6 +1,6 @@
 //! Notes on constants beyond the range of the type that is wanted.
 
-use crate::note::Saying;
+use crate::note::NoteKind;
 use crate::walk::Walk;
 use cp_explain_meanings::meaning::{CHARACTERS, Meaning, Shape};
 use cp_explain_names::places::first_token;
@@ -31,7 +31,7 @@ impl<'t> Walk<'t> {
         match (shape, self.names.value(e)) {
             (Shape::Simple(ordinals), Some(value)) if !ordinals.contains(value) => {
                 self.notes
-                    .add_on(first_token(e), Saying::OutOfRange, x.name.as_bytes())
+                    .add_on(first_token(e), NoteKind::OutOfRange, x.name.as_bytes())
             }
             _ => Ok(()),
         }
@@ -140,8 +140,7 @@ impl<'t> Walk<'t> {
         };
         match self.names.value(index) {
             Some(value) if !ordinals.contains(value) => {
-                self.notes
-                    .add_on(first_token(index), Saying::OutOfBounds, x.name.as_bytes())?;
+                self.notes.add_on(first_token(index), NoteKind::OutOfBounds, x.name.as_bytes())?;
             }
             _ => {}
         }
@@ -152,7 +151,7 @@ impl<'t> Walk<'t> {
     pub(crate) fn divides(&mut self, operation: &'t Operation) -> Result<(), AllocError> {
         let is_division = matches!(operation.operator, Operator::Divide | Operator::Modulo);
         if is_division && self.names.value(&operation.operand) == Some(0) {
-            self.notes.add(operation.at, Saying::ZeroDivisor)?;
+            self.notes.add(operation.at, NoteKind::ZeroDivisor)?;
         }
         Ok(())
     }
@@ -164,7 +163,7 @@ impl<'t> Walk<'t> {
         };
         match self.names.value(e) {
             Some(value) if !CHARACTERS.contains(value) => {
-                self.notes.add(first_token(e), Saying::NoCharacter)
+                self.notes.add(first_token(e), NoteKind::NoCharacter)
             }
             _ => Ok(()),
         }

@@ -1,6 +1,6 @@
 //! Notes on functions that can end without a result.
 
-use crate::note::Saying;
+use crate::note::NoteKind;
 use crate::walk::Walk;
 use cp_explain_meanings::meaning::Shape;
 use cp_model::tree::Designator;
@@ -26,13 +26,13 @@ impl<'t> Walk<'t> {
         if !self.flow.is_open() || self.flow.has_result {
             return Ok(());
         }
-        let saying = if self.inside.sets_result {
-            Saying::ResultUnderConditions
+        let note_kind = if self.inside.sets_result {
+            NoteKind::ResultUnderConditions
         } else {
-            Saying::NoResult
+            NoteKind::NoResult
         };
         self.notes
-            .add_on(routine.name.at, saying, routine.name.name.as_bytes())
+            .add_on(routine.name.at, note_kind, routine.name.name.as_bytes())
     }
 
     /// Walks over a `continue` at a place, which returns from the routine.
@@ -40,7 +40,7 @@ impl<'t> Walk<'t> {
         match self.inside.function() {
             Some(routine) if !self.flow.has_result => {
                 self.notes
-                    .add_on(at, Saying::ReturnsEarly, routine.name.name.as_bytes())
+                    .add_on(at, NoteKind::ReturnsEarly, routine.name.name.as_bytes())
             }
             _ => Ok(()),
         }

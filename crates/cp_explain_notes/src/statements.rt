@@ -1,7 +1,7 @@
 //! The walk over statements: which of them run, and on which conditions.
 
 use crate::flow::{Flow, Reach, Times};
-use crate::note::Saying;
+use crate::note::NoteKind;
 use crate::walk::Walk;
 use cp_explain_names::places::statement_place;
 use cp_model::tree::{Arm, Direction, Expression, ForHeader, Statement};
@@ -48,8 +48,8 @@ impl<'t> Walk<'t> {
     fn never_runs(&mut self, s: &Statement) -> Result<(), AllocError> {
         match (self.flow.reach, statement_place(s)) {
             (Reach::Closed, Some(at)) => {
-                self.flow.reach = Reach::Told;
-                self.notes.add(at, Saying::NeverRuns)
+                self.flow.reach = Reach::Reported;
+                self.notes.add(at, NoteKind::NeverRuns)
             }
             _ => Ok(()),
         }

@@ -2,7 +2,7 @@
 //! where it is used.
 
 use crate::flow::Flow;
-use crate::note::ToldNote;
+use crate::note::NoteText;
 use crate::walk::{Behaviour, Inside, SystemType, Walk};
 use cp_base_names::Key;
 use cp_explain_meanings::meaning::{Meaning, Shape};
@@ -57,7 +57,7 @@ impl<'t> Walk<'t> {
 
     fn system(&mut self, x: &'t Identifier, system: &'t System) -> Result<(), AllocError> {
         let visible = self.names.count();
-        let first_call = self.meetings.calls();
+        let first_call = self.queue_uses.calls();
         self.names.declare_parameters(&system.parameters)?;
         self.names.declare_variables(&system.variables)?;
         self.inside = Inside::body(system.sort, false);
@@ -69,7 +69,7 @@ impl<'t> Walk<'t> {
         let defined = SystemType {
             system,
             first_call,
-            last_call: self.meetings.calls(),
+            last_call: self.queue_uses.calls(),
         };
         self.define_system(x, defined)
     }
@@ -124,10 +124,10 @@ impl<'t> Walk<'t> {
 }
 
 /// The notes on an accepted text, in the order of the text. Fails only if memory runs out.
-pub fn notes(alloc: Global, text: &[u8], tree: &Tree) -> Result<Vec<ToldNote>, AllocError> {
+pub fn notes(alloc: Global, text: &[u8], tree: &Tree) -> Result<Vec<NoteText>, AllocError> {
     let mut walk = Walk::new(alloc, Key::of(tree))?;
     walk.text(tree)?;
-    walk.notes.told(alloc, text)
+    walk.notes.reported(alloc, text)
 }
 
 /// Adds the notes on an accepted text to a page, in the order of the text. Fails only if memory

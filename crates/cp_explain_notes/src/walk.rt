@@ -2,8 +2,8 @@
 
 use crate::flow::Flow;
 use crate::initialisation::Inits;
-use crate::meetings::Meetings;
 use crate::note::Notes;
+use crate::queue_uses::QueueUses;
 use crate::queues::Queues;
 use cp_base_names::Key;
 use cp_explain_meanings::names::Names;
@@ -104,7 +104,7 @@ pub struct Walk<'t> {
     pub(crate) flow: Flow,
     pub(crate) inits: Inits<'t>,
     pub(crate) queues: Queues<'t>,
-    pub(crate) meetings: Meetings<'t>,
+    pub(crate) queue_uses: QueueUses<'t>,
 }
 
 impl<'t> Walk<'t> {
@@ -121,7 +121,7 @@ impl<'t> Walk<'t> {
             flow: Flow::START,
             inits: Inits::new(alloc, key),
             queues: Queues::new(alloc, key),
-            meetings: Meetings::new(alloc),
+            queue_uses: QueueUses::new(alloc),
         })
     }
 

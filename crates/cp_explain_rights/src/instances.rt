@@ -9,13 +9,13 @@ use std::alloc::{AllocError, Global};
 
 // How many instances are made, with all processes and monitors of a text that declares no class
 // before them.
-const MOST_INSTANCES: usize = 2_000;
+const MAX_INSTANCES: usize = 2_000;
 
 // How deep classes nest in what is made.
-const MOST_LEVELS: usize = 16;
+const MAX_LEVELS: usize = 16;
 
 // How many rights are made, and looked at.
-const MOST_RIGHTS: usize = 100_000;
+const MAX_RIGHTS: usize = 100_000;
 
 /// A component of a program.
 #[derive(Drop)]
@@ -78,11 +78,11 @@ impl<'t> Instances<'t> {
             alloc,
             all: Vec::new(alloc),
             rights: Vec::new(alloc),
-            left: MOST_RIGHTS,
+            left: MAX_RIGHTS,
             is_whole: true,
         };
         instances.add_initial(blueprints.initial())?;
-        for index in 0..MOST_INSTANCES {
+        for index in 0..MAX_INSTANCES {
             instances.expand(index, &blueprints)?;
         }
         Ok(instances)
@@ -175,7 +175,7 @@ impl<'t> Instances<'t> {
     ) -> Result<(), AllocError> {
         let first = self.all.len();
         for part in &blueprint.parts {
-            if MOST_INSTANCES <= self.all.len() || MOST_LEVELS <= level {
+            if MAX_INSTANCES <= self.all.len() || MAX_LEVELS <= level {
                 self.is_whole = false;
                 break;
             }

@@ -9,7 +9,7 @@ use cp_model::tree::{Designator, Expression, Identifier, Operator, Sort, System}
 use cp_output::message::Message;
 
 /// The largest number of processes, counting the initial one, and of monitors.
-const MOST: usize = 255;
+const MAX_LABELS: usize = 255;
 
 impl<'t> Site<'t> {
     /// The name at the place.
@@ -295,8 +295,8 @@ impl<'t> Site<'t> {
     // A process or a monitor is too large, or there are too many of them.
     fn c13_declaration(&self) -> Message {
         match self.number {
-            Some((Sort::Process, number)) if MOST < number => m::PROCESSES,
-            Some((Sort::Monitor, number)) if MOST < number => m::MONITORS,
+            Some((Sort::Process, number)) if MAX_LABELS < number => m::PROCESSES,
+            Some((Sort::Monitor, number)) if MAX_LABELS < number => m::MONITORS,
             _ => m::OWNER_SIZE,
         }
     }

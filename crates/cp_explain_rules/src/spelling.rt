@@ -100,9 +100,9 @@ fn names_for(role: NameRole<'_>) -> Fit {
 
 // What stands for a name of another language.
 fn foreign(name: &[u8]) -> Option<&'static str> {
-    for (known, told) in FOREIGN.as_slice() {
+    for (known, reported) in FOREIGN.as_slice() {
         if known.as_bytes() == name {
-            return Some(*told);
+            return Some(*reported);
         }
     }
     None
@@ -140,9 +140,9 @@ impl<'t> Site<'t> {
         };
         let is_member = matches!(role, NameRole::Member(..));
         match foreign(x.name.as_bytes()) {
-            Some(told) if !is_member => {
+            Some(reported) if !is_member => {
                 page.bytes(b"  ");
-                page.text(told);
+                page.text(reported);
                 page.bytes(b"\n");
                 Ok(())
             }

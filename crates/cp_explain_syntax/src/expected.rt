@@ -7,7 +7,7 @@ use std::alloc::{AllocError, Global};
 
 /// If more tokens than this tell the parser's state, none is tried, so that an explanation takes no
 /// longer than a check and some milliseconds.
-const MOST_TOKENS: usize = 4_000;
+const MAX_TRIED_TOKENS: usize = 4_000;
 
 /// A token that may stand at a place.
 #[derive(Clone, Copy, PartialEq, Eq)]
@@ -136,7 +136,7 @@ impl Expected {
         at: usize,
     ) -> Result<Expected, AllocError> {
         let mut candidates = Vec::new(alloc);
-        if MOST_TOKENS < tokens.len() {
+        if MAX_TRIED_TOKENS < tokens.len() {
             return Ok(Expected { candidates });
         }
         for (candidate, called) in CANDIDATES.as_slice() {

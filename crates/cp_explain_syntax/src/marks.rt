@@ -168,7 +168,11 @@ fn semicolon(expected: &Expected) -> Option<Message> {
 }
 
 /// What is meant by the mark at a place, if that is known.
-pub fn habit_of_mark(front: &Front<'_>, expected: &Expected, symbol: Symbol) -> Option<Message> {
+pub fn foreign_habit_of_mark(
+    front: &Front<'_>,
+    expected: &Expected,
+    symbol: Symbol,
+) -> Option<Message> {
     match symbol {
         Symbol::Assign => assign(front, expected),
         Symbol::Equal => equal(front, expected),

@@ -2,11 +2,11 @@
 
 use crate::expected::{Expected, begin_a_text};
 use crate::front::{Front, is_symbol, letters};
-use crate::marks::habit_of_mark;
+use crate::marks::foreign_habit_of_mark;
 use crate::messages as m;
 use crate::repair::missing;
 use crate::shorten::shorten;
-use crate::words::{habit_of_name, habit_of_word};
+use crate::words::{foreign_habit_of_name, foreign_habit_of_word};
 use cp_model::token::{Kind, Symbol, Token};
 use cp_output::message::{About, Message};
 use cp_output::page::Page;
@@ -62,11 +62,11 @@ fn habit(front: &Front<'_>, expected: &Expected) -> Option<Message> {
         return Some(m::RESULT);
     }
     match front.after(0) {
-        Some(Kind::Symbol(symbol)) => match habit_of_mark(front, expected, *symbol) {
+        Some(Kind::Symbol(symbol)) => match foreign_habit_of_mark(front, expected, *symbol) {
             Some(message) => Some(message),
-            None => habit_of_word(front, expected, *symbol),
+            None => foreign_habit_of_word(front, expected, *symbol),
         },
-        Some(Kind::Short(_) | Kind::Long(_)) => habit_of_name(front, expected),
+        Some(Kind::Short(_) | Kind::Long(_)) => foreign_habit_of_name(front, expected),
         _ => None,
     }
 }
@@ -97,12 +97,12 @@ fn push_unexpected(
         other: None,
     };
     page.template("unexpected `$`", about);
-    let told = message.unwrap_or(m::UNEXPECTED);
+    let reported = message.unwrap_or(m::UNEXPECTED);
     if message.is_some() {
         page.text(": ");
     }
-    page.template(told.head, about);
-    page.place_and_advice(front.text, at, told.advice, about);
+    page.template(reported.head, about);
+    page.place_and_advice(front.text, at, reported.advice, about);
     if message.is_none() {
         push_often(page, expected);
     }

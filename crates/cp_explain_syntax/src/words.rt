@@ -99,7 +99,11 @@ fn is_word(symbol: Symbol) -> bool {
 }
 
 /// What is meant by the reserved word at a place, if that is known.
-pub fn habit_of_word(front: &Front<'_>, expected: &Expected, symbol: Symbol) -> Option<Message> {
+pub fn foreign_habit_of_word(
+    front: &Front<'_>,
+    expected: &Expected,
+    symbol: Symbol,
+) -> Option<Message> {
     let is_entry = symbol == Symbol::Entry;
     if is_word(symbol) && !is_entry && is_declared(front, expected) {
         return Some(m::RESERVED);
@@ -132,7 +136,7 @@ fn declares(word: &[u8]) -> bool {
 }
 
 /// What is meant by the name at a place, if that is known.
-pub fn habit_of_name(front: &Front<'_>, expected: &Expected) -> Option<Message> {
+pub fn foreign_habit_of_name(front: &Front<'_>, expected: &Expected) -> Option<Message> {
     if expected.has(Symbol::Ampersand) && letters(front.after(0)) == b"and".as_slice() {
         Some(m::AND)
     } else if expected.has(Symbol::Assign) && declares(letters(front.before(1))) {

@@ -48,8 +48,8 @@ not_scanned xs tokens cause.Size at le h f = Prim.omega (arith, le, f.0)
 not_parsed : (xs : List ℕ) (t : s.Tree) (tokens : List Token) → IsTextOf xs t → Spells xs tokens → HasNoTree tokens → ⊥
 not_parsed xs t tokens is h none = none t (subst (λ (ts : List Token). Reads ts t) (one_list xs is.tokens tokens is.spelled h) is.reads)
 
-not_told : (t : s.Tree) (v : Violation) → Accepted t → first_violation t ≡ Some v → ⊥
-not_told t v accepted e = clash (sym (ap (λ (vs : List Violation). least None vs) accepted) ∙ e)
+not_reported : (t : s.Tree) (v : Violation) → Accepted t → first_violation t ≡ Some v → ⊥
+not_reported t v accepted e = clash (sym (ap (λ (vs : List Violation). least None vs) accepted) ∙ e)
   where
     clash : None ≡ Some v → ⊥
     clash e = Prim.grind (arith, e)
@@ -65,7 +65,7 @@ is_fault xs t (refusal.Unexpected at) is h = not_parsed xs t h.1 is.text h.2 h.3
 is_fault xs t (refusal.Unfinished at) is h = not_parsed xs t h.1 is.text h.2 h.3.0
 is_fault xs t (refusal.TooDeep at) is h = not_parsed xs t h.1 is.text h.2 h.3.0
 is_fault xs t (refusal.Check rule at) is h =
-    not_told t (record { rule = rule; at = at }) is.accepted (subst (λ (u : s.Tree). first_violation u ≡ Some (record { rule = rule; at = at })) (one_tree xs h.0 t h.1 is.text) h.2)
+    not_reported t (record { rule = rule; at = at }) is.accepted (subst (λ (u : s.Tree). first_violation u ≡ Some (record { rule = rule; at = at })) (one_tree xs h.0 t h.1 is.text) h.2)
 is_fault xs t (refusal.InputByte at) is h = h
 is_fault xs t (refusal.Order at) is h = h
 is_fault xs t refusal.InputSize is h = h

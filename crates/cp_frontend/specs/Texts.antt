@@ -5,7 +5,7 @@ use Rattle.cp_model.specs.Grammar.{Reads}
 use Rattle.cp_model.specs.Rules.{Accepted, first_violation}
 use Rattle.cp_model.specs.Spelling.{Spells}
 use Rattle.cp_model.specs.Tokens.{Token}
-use Rattle.cp_scan.specs.Laws.{TellsFirstCause, longest_text}
+use Rattle.cp_scan.specs.Laws.{ReportsFirstCause, longest_text}
 use Rattle.cp_scan.specs.declared.refusal.ScanError.TheVariants as scan
 use Rattle.cp_syntax.specs.Refusals.{Refused}
 use Rattle.cp_syntax.specs.declared.refusal.SyntaxError.{SyntaxError}
@@ -30,7 +30,7 @@ RefusesTokens text e = (length text ≤ longest_text) × (tokens : List Token) �
 
 -- Why a text isn't accepted. Running out of memory says nothing about the text.
 abbrev pub Refuses : List ℕ → Refusal → Type 0
-Refuses text (refusal.Scan cause at) = TellsFirstCause text (scan.Refused cause at)
+Refuses text (refusal.Scan cause at) = ReportsFirstCause text (scan.Refused cause at)
 Refuses text (refusal.Unexpected at) = RefusesTokens text (syntax.Unexpected at)
 Refuses text (refusal.Unfinished at) = RefusesTokens text (syntax.Unfinished at)
 Refuses text (refusal.TooDeep at) = RefusesTokens text (syntax.TooDeep at)

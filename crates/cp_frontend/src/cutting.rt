@@ -9,7 +9,7 @@ use cp_model::ordinals::LAST_CHARACTER;
 use std::alloc::{AllocError, Global};
 
 /// The largest number of bytes that an input may have.
-pub const LONGEST_INPUT: usize = 1_048_576;
+pub const MAX_INPUT_BYTES: usize = 1_048_576;
 
 // The byte between the inputs of two processes.
 pub(crate) const SEPARATOR: u8 = 28;
@@ -22,7 +22,7 @@ pub(crate) const SEPARATOR: u8 = 28;
 pub fn check_input(input: &[u8]) -> Result<(), Refusal>
     ensures { result ≡ judge_input input.now }
 {
-    if LONGEST_INPUT < input.len() {
+    if MAX_INPUT_BYTES < input.len() {
         return Err(Refusal::InputSize);
     }
     for (at, byte) in input.iter().enumerate() {

@@ -9,9 +9,9 @@ use std::alloc::{AllocError, Global};
 use std::io::Read;
 
 /// A text or an input has at most 1,048,576 bytes. Reading one byte more shows that it is too long.
-pub const MOST_READ: usize = 1_048_577;
+pub const MAX_READ_BYTES: usize = 1_048_577;
 
-const LONGEST_PART: usize = 4096;
+const MAX_PART_BYTES: usize = 4096;
 
 /// Why the bytes of a reader couldn't be read.
 #[derive(Clone, Copy, PartialEq, Eq)]
@@ -50,19 +50,19 @@ fn fill<R: Read>(reader: &mut R, buffer: &mut [u8]) -> Result<usize, ReadError>
 // Reads once and appends the bytes to `text`. A read of no bytes means that the reader is at its
 // end.
 fn read_part<R: Read>(reader: &mut R, text: &mut Vec<u8>) -> Result<usize, ReadError>
-    requires room { vec_len text.old < MOST_READ }
+    requires room { vec_len text.old < MAX_READ_BYTES }
     ensures count { IfOk result (λ n. vec_len text.new ≡ vec_len text.old + n) }
-    ensures most { vec_len text.new ≤ MOST_READ }
+    ensures most { vec_len text.new ≤ MAX_READ_BYTES }
     ensures appends { IfOk result (λ n. (bs : List ℕ) × (text.new.items ≡ text.old.items ++ bs)
         × Consumes (R.remaining reader.old) (R.remaining reader.new) bs) }
     ensures end { IfOk result (λ n. n ≡ 0 → IsAtEnd (R.remaining reader.new)) }
     ensures failed { IfErr result
         (λ e. e ≡ error.Read → Keeps (R.remaining reader.old) (R.remaining reader.new)) }
-    ensures taken { OnErr result ((bs : List ℕ) × (vec_len text.old + length bs ≤ MOST_READ)
+    ensures taken { OnErr result ((bs : List ℕ) × (vec_len text.old + length bs ≤ MAX_READ_BYTES)
         × Consumes (R.remaining reader.old) (R.remaining reader.new) bs) }
 {
-    let mut buffer = [0u8; LONGEST_PART];
-    let room = (MOST_READ - text.len()).min(LONGEST_PART);
+    let mut buffer = [0u8; MAX_PART_BYTES];
+    let room = (MAX_READ_BYTES - text.len()).min(MAX_PART_BYTES);
     let part = &mut buffer[..room];
     let count = fill(reader, part)?;
     text.extend_from_slice(&part[..count])?;
@@ -79,13 +79,13 @@ pub fn read_text<R: Read>(alloc: Global, reader: &mut R) -> Result<Vec<u8>, Read
     ensures bytes { IfOk result
         (λ text. IfSome (R.remaining reader.old) (λ xs. text.items ≡ front xs)) }
     ensures front { OnOk result (TakesFront (R.remaining reader.old) (R.remaining reader.new)) }
-    ensures most { IfOk result (λ text. vec_len text ≤ MOST_READ) }
-    ensures failed { IfErr result (λ e. e ≡ error.Read → (bs : List ℕ) × (length bs < MOST_READ)
+    ensures most { IfOk result (λ text. vec_len text ≤ MAX_READ_BYTES) }
+    ensures failed { IfErr result (λ e. e ≡ error.Read → (bs : List ℕ) × (length bs < MAX_READ_BYTES)
         × Consumes (R.remaining reader.old) (R.remaining reader.new) bs) }
     ensures taken { OnErr result (TakesUpTo (R.remaining reader.old) (R.remaining reader.new)) }
 {
     let mut text = Vec::new(alloc);
-    while text.len() < MOST_READ {
+    while text.len() < MAX_READ_BYTES {
         if read_part(reader, &mut text)? == 0 {
             return Ok(text);
         }

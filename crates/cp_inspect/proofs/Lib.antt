@@ -4,7 +4,7 @@ pub mod Rows
 pub mod Going
 pub mod Entering
 pub mod Visiting
-pub mod MembersTold
+pub mod MembersReported
 pub mod Listed
-pub mod QueuesTold
+pub mod QueuesReported
 pub mod ListedNames

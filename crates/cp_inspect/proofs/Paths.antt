@@ -6,7 +6,7 @@ use Rattle.cp_model.specs.Abstract.{Name}
 use Rattle.cp_model.specs.Decimal.{decimal}
 use Rattle.cp_model.specs.Locations.{ByIndex, ByName, Path, PathStep}
 use Rattle.cp_model.specs.Report.{Text, path_rest, path_text}
-use Rattle.cp_inspect.specs.Left.{IsNamed}
+use Rattle.cp_inspect.specs.Remaining.{IsNamed}
 
 rest_by_name : (p : Path) (x : Name) → path_rest (p ++ ByName x ∷ []) ≡ path_rest p ++ (codes "." ++ x)
 rest_by_name [] x = ap (λ z. codes "." ++ z) (append-nil x)

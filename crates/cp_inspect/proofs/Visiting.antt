@@ -8,20 +8,20 @@ use Rattle.cp_model.specs.Report.{Text}
 use Rattle.cp_law_typing.specs.Words.{words}
 use Rattle.cp_model_machine.specs.Reports.{Visit, visit_type}
 use Rattle.cp_model.specs.Types.{GlobalScope}
-use Rattle.cp_compile_symbols.specs.Standing.{ScopeStands}
+use Rattle.cp_compile_symbols.specs.Standing.{ScopeRepresents}
 use Rattle.cp_compile_symbols.specs.declared.tables.Tables.{Tables}
 use Rattle.cp_compile_symbols.specs.declared.types.Types.{Types}
-use Rattle.cp_inspect.specs.Left.{Left, left_text, left_words}
-use Rattle.cp_inspect.specs.Walks.{AllStand, Continues, Enters, Finishes, GoesOn, Visits}
+use Rattle.cp_inspect.specs.Remaining.{Remaining, left_text, left_words}
+use Rattle.cp_inspect.specs.Walks.{AllRepresent, Continues, Enters, Finishes, Advances, Visits}
 use Rattle.cp_inspect.specs.declared.walk.Cursor.{Cursor}
 use Rattle.cp_inspect.proofs.Paths.{reversed}
 use Rattle.cp_inspect.specs.declared.walk.Walk.{Walk}
 
 pub visited : (tables : Tables) (v : Visit) (x : Name) (n at : ℕ) (start mid end : Walk) (out between after : Text) → start.stack.items ≡ [] → start.path.items ≡ x → start.at ≡ at
     → Enters tables v n start mid out between → Finishes tables v mid end between after → Visits tables v x n at end.at out after
-visited tables v x n at start mid end out between after none named place enters finishes g t scope stands =
-    let E = enters g t (ByName x ∷ []) [] scope stands tt (append-nil x ∙ sym named) (subst (λ cs. AllStand tables.types start.path.items (reverse cs) []) (sym none) tt) in
-    let F = finishes g E.left scope E.stands in (
+visited tables v x n at start mid end out between after none named place enters finishes g t scope represents =
+    let E = enters g t (ByName x ∷ []) [] scope represents tt (append-nil x ∙ sym named) (subst (λ cs. AllRepresent tables.types start.path.items (reverse cs) []) (sym none) tt) in
+    let F = finishes g E.left scope E.represents in (
       F.0 ∙ (E.text_is ∙ (ap (λ z. out ++ z) (append-nil (visit_type g v (ByName x ∷ []) start.at t)) ∙ ap (λ k. out ++ visit_type g v (ByName x ∷ []) k t) place)),
       F.1 ∙ (E.place ∙ (no_more (start.at + words g t) ∙ ap (λ k. k + words g t) place)),
     )
@@ -30,27 +30,27 @@ visited tables v x n at start mid end out between after none named place enters 
     no_more k = omega arith
 
 -- The innermost variable, taken from the stack.
-pub record Taken (types : Types) (buffer : Text) (c : Cursor) (stack : List Cursor) (all : List Left) : Type 0 where
-  pub left : Left
-  pub rest : List Left
+pub record Taken (types : Types) (buffer : Text) (c : Cursor) (stack : List Cursor) (all : List Remaining) : Type 0 where
+  pub left : Remaining
+  pub rest : List Remaining
   pub is : all ≡ left ∷ rest
-  pub stands : AllStand types buffer (c ∷ reverse stack) (left ∷ rest)
+  pub represents : AllRepresent types buffer (c ∷ reverse stack) (left ∷ rest)
 
-taken : (types : Types) (buffer : Text) (c : Cursor) (stack : List Cursor) (all : List Left) → AllStand types buffer (c ∷ reverse stack) all → Taken types buffer c stack all
+taken : (types : Types) (buffer : Text) (c : Cursor) (stack : List Cursor) (all : List Remaining) → AllRepresent types buffer (c ∷ reverse stack) all → Taken types buffer c stack all
 taken types buffer c stack [] S = absurd S
-taken types buffer c stack (left ∷ rest) S = record { left = left; rest = rest; is = refl; stands = S }
+taken types buffer c stack (left ∷ rest) S = record { left = left; rest = rest; is = refl; represents = S }
 
 -- What goes on from a walk also goes on from the walk before the innermost variable was taken.
 pub went_on : (g : GlobalScope) (v : Visit) (tables : Tables) (c : Cursor) (w mid new : Walk) (out between after : Text) (text : Text) (end : ℕ)
-    → w.stack.items ≡ mid.stack.items ++ c ∷ [] → mid.path.items ≡ w.path.items → mid.at ≡ w.at → between ≡ out → ScopeStands tables.names tables.types g
-    → GoesOn g v tables.types w out text end → Continues tables v c mid new between after → GoesOn g v tables.types new after text end
+    → w.stack.items ≡ mid.stack.items ++ c ∷ [] → mid.path.items ≡ w.path.items → mid.at ≡ w.at → between ≡ out → ScopeRepresents tables.names tables.types g
+    → Advances g v tables.types w out text end → Continues tables v c mid new between after → Advances g v tables.types new after text end
 went_on g v tables c w mid new out between after text end split path at same scope I continues =
-    let stands = subst (λ cs. AllStand tables.types w.path.items cs I.left) (ap reverse split ∙ reversed mid.stack.items c) I.stands in
-    let T = taken tables.types w.path.items c mid.stack.items I.left stands in
-    let E = continues g T.left T.rest scope (subst (λ b. AllStand tables.types b (c ∷ reverse mid.stack.items) (T.left ∷ T.rest)) (sym path) T.stands) in
+    let represents = subst (λ cs. AllRepresent tables.types w.path.items cs I.left) (ap reverse split ∙ reversed mid.stack.items c) I.represents in
+    let T = taken tables.types w.path.items c mid.stack.items I.left represents in
+    let E = continues g T.left T.rest scope (subst (λ b. AllRepresent tables.types b (c ∷ reverse mid.stack.items) (T.left ∷ T.rest)) (sym path) T.represents) in
     record {
       left = E.left;
-      stands = E.stands;
+      represents = E.represents;
       text_is = E.text_is ∙ ((λ i. same i ++ left_text g v (sym T.is i) (at i)) ∙ I.text_is);
       place = E.place ∙ ((λ i. at i + left_words g (sym T.is i)) ∙ I.place);
     }

@@ -1,6 +1,6 @@
-pub mod Left
+pub mod Remaining
 pub mod Walks
-pub mod Tellings
+pub mod WalkOutputs
 pub mod Lists
 pub mod Statuses
 pub mod Values

@@ -12,15 +12,15 @@ use Rattle.cp_model_program.specs.Programs.{Program}
 use Rattle.cp_model_machine.specs.Reports.{queue_text, queues_text}
 use Rattle.cp_inspect.specs.declared.state.ProcState.{ProcState}
 use Rattle.cp_inspect.specs.declared.state.ProcState.TheVariants as state
-use Rattle.cp_compile_symbols.specs.Standing.{ScopeStands}
+use Rattle.cp_compile_symbols.specs.Standing.{ScopeRepresents}
 use Rattle.cp_compile_symbols.specs.declared.tables.Tables.{Tables}
 use Rattle.cp_compile_symbols.specs.declared.types.Types.{Types}
 use Rattle.cp_inspect.specs.Lists.{AreListed}
 
 -- The path of the queue that lies at address `at` of the shared words of these monitors is added.
-abbrev pub TellsQueue : Tables → Program → List (Name × ℕ) → ℕ → Text → Text → Type 0
-TellsQueue tables program es at out after =
-    (g : GlobalScope) (vs : List (Name × Variable)) → ScopeStands tables.names tables.types g → AreListed tables.types es vs
+abbrev pub ReportsQueue : Tables → Program → List (Name × ℕ) → ℕ → Text → Text → Type 0
+ReportsQueue tables program es at out after =
+    (g : GlobalScope) (vs : List (Name × Variable)) → ScopeRepresents tables.names tables.types g → AreListed tables.types es vs
     → after ≡ out ++ queues_text g program at 1 vs
 
 -- The name of the monitor with this number is added.
@@ -43,9 +43,9 @@ state_text setup program (state.Asking n) = codes "asking " ++ monitor_name setu
 state_text setup program (state.Delayed n at) = codes "delayed " ++ (monitor_name setup n ++ (codes " " ++ queue_text setup program at))
 
 -- It is added.
-abbrev pub TellsState : Tables → Program → List (Name × ℕ) → ProcState → Text → Text → Type 0
-TellsState tables program es r out after =
-    (setup : Setup) → ScopeStands tables.names tables.types (globals setup.tree) → AreListed tables.types es (components_of setup Monitor)
+abbrev pub ReportsState : Tables → Program → List (Name × ℕ) → ProcState → Text → Text → Type 0
+ReportsState tables program es r out after =
+    (setup : Setup) → ScopeRepresents tables.names tables.types (globals setup.tree) → AreListed tables.types es (components_of setup Monitor)
     → after ≡ out ++ state_text setup program r
 
 -- A process in this state asks for a gate.

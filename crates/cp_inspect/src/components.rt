@@ -3,12 +3,12 @@
 ghost use Rattle.std.specs.Prelude.{◌≡◌, OnOk, map};
 ghost use Rattle.cp_compile_symbols.specs.Standing.{entry};
 ghost use Rattle.cp_inspect.specs.Lists.{declared_member};
-ghost use Rattle.cp_inspect.specs.Tellings.{visit_of};
-ghost use Rattle.cp_inspect.specs.Walks.{TellsComponent, TellsMembers};
+ghost use Rattle.cp_inspect.specs.WalkOutputs.{visit_of};
+ghost use Rattle.cp_inspect.specs.Walks.{ReportsComponent, ReportsMembers};
 
 use crate::heads::head_words;
-use crate::telling::Telling;
 use crate::walk::Walk;
+use crate::walk_output::WalkOutput;
 use cp_compile_symbols::{Declared, Field, Tables, TypeRow};
 use std::alloc::AllocError;
 
@@ -17,15 +17,15 @@ impl Walk {
     pub(crate) fn members(
         &mut self,
         tables: &Tables,
-        telling: &Telling,
+        walk_output: &WalkOutput,
         out: &mut Vec<u8>,
         members: &[Field],
     ) -> Result<(), AllocError>
-        ensures { OnOk result (TellsMembers tables.now (visit_of telling.now)
+        ensures { OnOk result (ReportsMembers tables.now (visit_of walk_output.now)
             (map entry members.now) self.old.at out.old.items out.new.items) }
     {
         for member in members {
-            self.variable(tables, telling, out, member.name, member.of)?;
+            self.variable(tables, walk_output, out, member.name, member.of)?;
         }
         Ok(())
     }
@@ -39,12 +39,12 @@ impl Walk {
     pub fn component(
         &mut self,
         tables: &Tables,
-        telling: &Telling,
+        walk_output: &WalkOutput,
         out: &mut Vec<u8>,
         row: usize,
         start: usize,
     ) -> Result<(), AllocError>
-        ensures { OnOk result (TellsComponent tables.now (visit_of telling.now) row start
+        ensures { OnOk result (ReportsComponent tables.now (visit_of walk_output.now) row start
             out.old.items out.new.items) }
     {
         let Some(TypeRow::Component { system, members }) = tables.types.row(row) else {
@@ -52,22 +52,22 @@ impl Walk {
         };
         let head = head_words(tables, *system)?;
         self.at = start.checked_add(head).ok_or(AllocError)?;
-        self.members(tables, telling, out, members)
+        self.members(tables, walk_output, out, members)
     }
 
     // Reports variables of the initial process, one after another, from the next address on.
     fn variables(
         &mut self,
         tables: &Tables,
-        telling: &Telling,
+        walk_output: &WalkOutput,
         out: &mut Vec<u8>,
         variables: &[Declared],
     ) -> Result<(), AllocError>
-        ensures { OnOk result (TellsMembers tables.now (visit_of telling.now)
+        ensures { OnOk result (ReportsMembers tables.now (visit_of walk_output.now)
             (map declared_member variables.now) self.old.at out.old.items out.new.items) }
     {
         for declared in variables {
-            self.variable(tables, telling, out, declared.name, declared.of)?;
+            self.variable(tables, walk_output, out, declared.name, declared.of)?;
         }
         Ok(())
     }
@@ -80,14 +80,14 @@ impl Walk {
     pub fn initial(
         &mut self,
         tables: &Tables,
-        telling: &Telling,
+        walk_output: &WalkOutput,
         out: &mut Vec<u8>,
     ) -> Result<(), AllocError>
-        ensures { OnOk result (TellsMembers tables.now (visit_of telling.now)
+        ensures { OnOk result (ReportsMembers tables.now (visit_of walk_output.now)
             (map declared_member tables.now.initial.variables.items) 1
             out.old.items out.new.items) }
     {
         self.at = 1;
-        self.variables(tables, telling, out, &tables.initial.variables)
+        self.variables(tables, walk_output, out, &tables.initial.variables)
     }
 }

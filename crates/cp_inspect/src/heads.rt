@@ -7,7 +7,7 @@ ghost use Rattle.cp_model.specs.Erase as erase;
 ghost use Rattle.cp_model.specs.Types.{GlobalScope};
 ghost use Rattle.cp_model.specs.View as view;
 ghost use Rattle.cp_model.specs.declared.tree.System.{System};
-ghost use Rattle.cp_compile_symbols.specs.Standing.{ScopeStands, system_at};
+ghost use Rattle.cp_compile_symbols.specs.Standing.{ScopeRepresents, system_at};
 ghost use Rattle.cp_inspect.specs.Walks.{HeadIs};
 
 use cp_compile_symbols::Tables;
@@ -17,7 +17,7 @@ use std::alloc::AllocError;
 /// Returns how many words the mark and the rights of a component of this system type take.
 pub(crate) fn head_words(tables: &Tables, number: usize) -> Result<usize, AllocError>
     ensures { IfOk result (λ head. (g : GlobalScope) (y : Bor System)
-        → ScopeStands tables.now.names tables.now.types g
+        → ScopeRepresents tables.now.names tables.now.types g
         → system_at tables.now.types number ≡ Some y
         → head ≡ layout.head_words g (erase.system (view.system y.now))) }
 {
@@ -33,7 +33,7 @@ pub(crate) fn head_words(tables: &Tables, number: usize) -> Result<usize, AllocE
 /// Returns the same for a class, and `None` for a process or a monitor, whose words are elsewhere.
 pub(crate) fn class_head(tables: &Tables, number: usize) -> Result<Option<usize>, AllocError>
     ensures { IfOk result (λ head. (g : GlobalScope) (y : Bor System)
-        → ScopeStands tables.now.names tables.now.types g
+        → ScopeRepresents tables.now.names tables.now.types g
         → system_at tables.now.types number ≡ Some y
         → HeadIs g (erase.system (view.system y.now)) head) }
 {

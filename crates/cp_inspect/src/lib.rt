@@ -5,24 +5,24 @@
 //! machine and its rounds. What is told is that of cp_model_machine's `specs/Reports.antt`.
 //!
 //! - `state`, `place`: the state of a process; whose a variable is, where it lies and its value.
-//! - `listing`, `roster`: the processes or monitors by number, and all of them by name.
-//! - `telling`, `walk`: what is told of a part of a variable, and the walk over all parts.
+//! - `listing`, `component_table`: the processes or monitors by number, and all of them by name.
+//! - `walk_output`, `walk`: what is told of a part of a variable, and the walk over all parts.
 //! - `heads`, `components`: how many words come before members, and the parts of whole components.
 //! - `places`: the places of the variables of a component.
 //! - `status`: the state of a process in words.
-//! - `readings`: what a trace reads of a machine, which stands above.
+//! - `inspect`: what a trace reads of a machine, which stands above.
 //! - `text`: queues and bytes as text.
 #![tactic(auto)]
 
+pub mod component_table;
 mod components;
 mod heads;
+pub mod inspect;
 pub mod listing;
 pub mod place;
 pub mod places;
-pub mod readings;
-pub mod roster;
 pub mod state;
 pub mod status;
-pub mod telling;
 pub mod text;
 pub mod walk;
+pub mod walk_output;

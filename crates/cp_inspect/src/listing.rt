@@ -5,7 +5,7 @@ ghost use Rattle.std.specs.Prelude.{◌≡◌, IfOk, filter, map};
 ghost use Rattle.cp_model.specs.Components.{is_component_of, same_sort};
 ghost use Rattle.cp_model.specs.Erase as erase;
 ghost use Rattle.cp_model.specs.Types.{ResolvedType};
-ghost use Rattle.cp_compile_symbols.specs.Standing.{Stands, entry};
+ghost use Rattle.cp_compile_symbols.specs.Standing.{Represents, entry};
 ghost use Rattle.cp_compile_symbols.specs.Variables.{declared_entry};
 ghost use Rattle.cp_inspect.specs.Lists.{Lists, Picks};
 
@@ -25,7 +25,7 @@ fn is_same_sort(a: Sort, b: Sort) -> bool
 
 // Whether the type with this number is a component type of the sort.
 fn is_of_sort(tables: &Tables, row: usize, sort: Sort) -> bool
-    ensures { (t : ResolvedType) → Stands tables.now.types row t
+    ensures { (t : ResolvedType) → Represents tables.now.types row t
         → result ≡ is_component_of (erase.sort_of sort) t }
 {
     let Some(TypeRow::Component { system, .. }) = tables.types.row(row) else {

@@ -4,8 +4,8 @@ ghost use Rattle.std.specs.Prelude.{◌≡◌};
 
 use crate::place as machine;
 use crate::place::{Kind, Owner};
-use crate::telling::Telling;
 use crate::walk::Walk;
+use crate::walk_output::WalkOutput;
 use cp_compile_symbols::Tables;
 use std::alloc::{AllocError, Global};
 
@@ -44,7 +44,7 @@ impl Place {
 pub fn places(alloc: Global, tables: &Tables, row: usize) -> Result<Vec<Place>, AllocError> {
     let mut walk = Walk::new(alloc, 0);
     let mut nothing = Vec::new(alloc);
-    walk.component(tables, &Telling::Places, &mut nothing, row, 0)?;
+    walk.component(tables, &WalkOutput::Places, &mut nothing, row, 0)?;
     Ok(walk.into_places())
 }
 
@@ -56,6 +56,6 @@ pub fn places(alloc: Global, tables: &Tables, row: usize) -> Result<Vec<Place>, 
 pub fn initial_places(alloc: Global, tables: &Tables) -> Result<Vec<Place>, AllocError> {
     let mut walk = Walk::new(alloc, 0);
     let mut nothing = Vec::new(alloc);
-    walk.initial(tables, &Telling::Places, &mut nothing)?;
+    walk.initial(tables, &WalkOutput::Places, &mut nothing)?;
     Ok(walk.into_places())
 }

@@ -4,12 +4,12 @@ ghost use Rattle.std.specs.Prelude.{◌≡◌, ◌++◌, ◌-◌, OnOk, map, opt
 ghost use Rattle.cp_model.specs.StateViews as state;
 ghost use Rattle.cp_compile_symbols.specs.Standing.{entry};
 ghost use Rattle.cp_program.specs.View as view;
-ghost use Rattle.cp_inspect.specs.Statuses.{NamesMonitor, TellsQueue, TellsState, fault_text};
+ghost use Rattle.cp_inspect.specs.Statuses.{NamesMonitor, ReportsQueue, ReportsState, fault_text};
 
 use crate::place::monitor_start;
 use crate::state::ProcState;
-use crate::telling::Telling;
 use crate::walk::Walk;
+use crate::walk_output::WalkOutput;
 use cp_base_digits::decimal::push_natural;
 use cp_compile_symbols::{Field, Tables};
 use cp_model::state::Fault;
@@ -29,13 +29,13 @@ pub fn push_queue(
     place: usize,
     out: &mut Vec<u8>,
 ) -> Result<(), AllocError>
-    ensures { OnOk result (TellsQueue tables.now (view.program program.now)
+    ensures { OnOk result (ReportsQueue tables.now (view.program program.now)
         (map entry monitors.now) place out.old.items out.new.items) }
 {
-    let telling = Telling::PathOf(place);
+    let walk_output = WalkOutput::PathOf(place);
     for (index, monitor) in monitors.iter().enumerate() {
         let start = monitor_start(program, index + 1);
-        walk.component(tables, &telling, out, monitor.of, start)?;
+        walk.component(tables, &walk_output, out, monitor.of, start)?;
     }
     Ok(())
 }
@@ -99,7 +99,7 @@ pub fn push_state(
     state: ProcState,
     out: &mut Vec<u8>,
 ) -> Result<(), AllocError>
-    ensures { OnOk result (TellsState tables.now (view.program program.now)
+    ensures { OnOk result (ReportsState tables.now (view.program program.now)
         (map entry monitors.now) state out.old.items out.new.items) }
 {
     match state {

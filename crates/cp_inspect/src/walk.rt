@@ -13,21 +13,21 @@ ghost use Rattle.cp_model.specs.Report.{path_text};
 ghost use Rattle.cp_model.specs.Types.{GlobalScope};
 ghost use Rattle.cp_model.specs.View as view;
 ghost use Rattle.cp_model.specs.declared.tree.System.{System};
-ghost use Rattle.cp_compile_symbols.specs.Standing.{ScopeStands, entry, row_at, system_at};
+ghost use Rattle.cp_compile_symbols.specs.Standing.{ScopeRepresents, entry, row_at, system_at};
 ghost use Rattle.cp_compile_symbols.specs.declared.types.TypeRow.TheVariants as row_case;
-ghost use Rattle.cp_inspect.specs.Tellings.{tell_leaf, visit_of};
+ghost use Rattle.cp_inspect.specs.WalkOutputs.{report_leaf, visit_of};
 ghost use Rattle.cp_inspect.specs.Walks.{Continues, Enters, Finishes, Visits, cursor as cursor_of, members_in};
 
 use crate::heads::class_head;
 use crate::place::Kind;
 use crate::places::Place;
-use crate::telling::Telling;
+use crate::walk_output::WalkOutput;
 use cp_base_digits::decimal::push_integer;
 use cp_compile_symbols::{Field, Tables, TypeRow, count_between};
 use std::alloc::{AllocError, Global};
 
 /// More parts than any report that fits in memory can have.
-const MOST_VISITS: u64 = 1 << 48;
+const MAX_VISITS: u64 = 1 << 48;
 
 /// A record, component or array, by the number of its type, with some of its parts visited.
 #[derive(Clone, Copy)]
@@ -124,24 +124,24 @@ impl Walk {
 
     // Reports a simple part or a queue, which has one word, or keeps its place. The number of its
     // type is `row`.
-    fn tell(
+    fn report(
         &mut self,
-        telling: &Telling,
+        walk_output: &WalkOutput,
         out: &mut Vec<u8>,
         kind: Kind,
         row: usize,
     ) -> Result<(), AllocError>
-        ensures told { OnOk result ((p : Path) → path_text p ≡ self.old.path.items
+        ensures reported { OnOk result ((p : Path) → path_text p ≡ self.old.path.items
             → out.new.items
-            ≡ out.old.items ++ tell_leaf (visit_of telling.now) kind p self.old.at) }
+            ≡ out.old.items ++ report_leaf (visit_of walk_output.now) kind p self.old.at) }
         ensures place { OnOk result (self.new.at ≡ self.old.at + 1) }
         ensures stack { self.new.stack ≡ self.old.stack }
         ensures path { self.new.path ≡ self.old.path }
     {
-        if let Telling::Places = telling {
+        if let WalkOutput::Places = walk_output {
             self.keep(kind, row)?;
         }
-        telling.tell(out, kind, &self.path, self.at)?;
+        walk_output.report(out, kind, &self.path, self.at)?;
         self.pass(1)
     }
 
@@ -150,16 +150,16 @@ impl Walk {
     fn enter(
         &mut self,
         tables: &Tables,
-        telling: &Telling,
+        walk_output: &WalkOutput,
         out: &mut Vec<u8>,
         row: usize,
     ) -> Result<(), AllocError>
-        ensures { OnOk result (Enters tables.now (visit_of telling.now) row self.old self.new
+        ensures { OnOk result (Enters tables.now (visit_of walk_output.now) row self.old self.new
             out.old.items out.new.items) }
     {
         match tables.types.row(row) {
-            Some(TypeRow::Simple(_)) => self.tell(telling, out, Kind::Simple, row),
-            Some(TypeRow::Queue) => self.tell(telling, out, Kind::Queue, row),
+            Some(TypeRow::Simple(_)) => self.report(walk_output, out, Kind::Simple, row),
+            Some(TypeRow::Queue) => self.report(walk_output, out, Kind::Queue, row),
             Some(TypeRow::Array { .. }) => self.open(row),
             Some(TypeRow::Record(_)) => self.open(row),
             Some(TypeRow::Component { system, .. }) => match class_head(tables, *system)? {
@@ -218,14 +218,14 @@ impl Walk {
     fn member(
         &mut self,
         tables: &Tables,
-        telling: &Telling,
+        walk_output: &WalkOutput,
         out: &mut Vec<u8>,
         cursor: Cursor,
         members: &[Field],
     ) -> Result<(), AllocError>
         requires { members_in (row_at tables.now.types cursor.row)
             ≡ Some (map entry members.now) }
-        ensures { OnOk result (Continues tables.now (visit_of telling.now) cursor self.old self.new
+        ensures { OnOk result (Continues tables.now (visit_of walk_output.now) cursor self.old self.new
             out.old.items out.new.items) }
     {
         let Some(member) = members.get(cursor.next) else {
@@ -233,14 +233,14 @@ impl Walk {
         };
         self.name_member(cursor, member.name)?;
         self.leave_rest(cursor)?;
-        self.enter(tables, telling, out, member.of)
+        self.enter(tables, walk_output, out, member.of)
     }
 
     // Enters the next element of an array, if one is left.
     fn element(
         &mut self,
         tables: &Tables,
-        telling: &Telling,
+        walk_output: &WalkOutput,
         out: &mut Vec<u8>,
         cursor: Cursor,
         low: i32,
@@ -248,7 +248,7 @@ impl Walk {
         element: usize,
     ) -> Result<(), AllocError>
         requires { row_at tables.now.types cursor.row ≡ Some (row_case.Array low high element) }
-        ensures { OnOk result (Continues tables.now (visit_of telling.now) cursor self.old self.new
+        ensures { OnOk result (Continues tables.now (visit_of walk_output.now) cursor self.old self.new
             out.old.items out.new.items) }
     {
         if count_between(low, high) <= cursor.next {
@@ -256,27 +256,27 @@ impl Walk {
         }
         self.name_element(cursor, index_at(low, cursor.next))?;
         self.leave_rest(cursor)?;
-        self.enter(tables, telling, out, element)
+        self.enter(tables, walk_output, out, element)
     }
 
     // Enters the next part of a variable that was taken from the stack, if one is left.
     fn go_on(
         &mut self,
         tables: &Tables,
-        telling: &Telling,
+        walk_output: &WalkOutput,
         out: &mut Vec<u8>,
         cursor: Cursor,
     ) -> Result<(), AllocError>
-        ensures { OnOk result (Continues tables.now (visit_of telling.now) cursor self.old self.new
+        ensures { OnOk result (Continues tables.now (visit_of walk_output.now) cursor self.old self.new
             out.old.items out.new.items) }
     {
         match tables.types.row(cursor.row) {
-            Some(TypeRow::Record(fields)) => self.member(tables, telling, out, cursor, fields),
+            Some(TypeRow::Record(fields)) => self.member(tables, walk_output, out, cursor, fields),
             Some(TypeRow::Component { members, .. }) => {
-                self.member(tables, telling, out, cursor, members)
+                self.member(tables, walk_output, out, cursor, members)
             }
             Some(TypeRow::Array { low, high, element }) => {
-                self.element(tables, telling, out, cursor, *low, *high, *element)
+                self.element(tables, walk_output, out, cursor, *low, *high, *element)
             }
             Some(TypeRow::Simple(_)) => Ok(()),
             Some(TypeRow::Queue) => Ok(()),
@@ -289,17 +289,17 @@ impl Walk {
     fn finish(
         &mut self,
         tables: &Tables,
-        telling: &Telling,
+        walk_output: &WalkOutput,
         out: &mut Vec<u8>,
     ) -> Result<(), AllocError>
-        ensures { OnOk result (Finishes tables.now (visit_of telling.now) self.old self.new
+        ensures { OnOk result (Finishes tables.now (visit_of walk_output.now) self.old self.new
             out.old.items out.new.items) }
     {
-        for _visit in 0..MOST_VISITS {
+        for _visit in 0..MAX_VISITS {
             let Some(cursor) = self.stack.pop() else {
                 return Ok(());
             };
-            self.go_on(tables, telling, out, cursor)?;
+            self.go_on(tables, walk_output, out, cursor)?;
         }
         Err(AllocError)
     }
@@ -312,18 +312,18 @@ impl Walk {
     pub fn variable(
         &mut self,
         tables: &Tables,
-        telling: &Telling,
+        walk_output: &WalkOutput,
         out: &mut Vec<u8>,
         name: &[u8],
         row: usize,
     ) -> Result<(), AllocError>
-        ensures { OnOk result (Visits tables.now (visit_of telling.now) name.now row self.old.at
+        ensures { OnOk result (Visits tables.now (visit_of walk_output.now) name.now row self.old.at
             self.new.at out.old.items out.new.items) }
     {
         self.stack.clear();
         self.path.clear();
         self.path.extend_from_slice(name)?;
-        self.enter(tables, telling, out, row)?;
-        self.finish(tables, telling, out)
+        self.enter(tables, walk_output, out, row)?;
+        self.finish(tables, walk_output, out)
     }
 }

@@ -10,7 +10,7 @@ use Rattle.cp_model.specs.Start.{start}
 use Rattle.cp_model.specs.States.{Setup, State}
 use Rattle.cp_model.specs.Turns as meaning
 use Rattle.cp_model_program.specs.Programs as code
-use Rattle.cp_model_program.specs.StandsFor.{StandsFor}
+use Rattle.cp_model_program.specs.IsProgramFor.{IsProgramFor}
 use Rattle.cp_model_machine.specs.InState.{IsIn}
 use Rattle.cp_model_machine.specs.KernelOf.{KernelOf}
 use Rattle.cp_model_machine.specs.KernelSteps as plain
@@ -30,12 +30,12 @@ use Rattle.cp_kernel.specs.Turns.{IsTurned, parts_of}
 -- ---- Kernel turns
 
 -- A state after a turn, with the process's output moved to its transcript.
-moved : (program : code.Program) (setup : Setup) (F : StandsFor program setup) (p own : ℕ) (s : State) (before : List ℕ) (x : plain.Turning)
+moved : (program : code.Program) (setup : Setup) (F : IsProgramFor program setup) (p own : ℕ) (s : State) (before : List ℕ) (x : plain.Turning)
     → OutputMoves → TurningOf program setup F p own s before x
     → TurningOf program setup F p own s (before ++ x.own.output) (record x { own = record x.own { output = [] } })
 moved program setup F p own s before x law T = record { part = law program setup F p own s before x.own T.part; kernel = T.kernel }
 
-pub kernel_turn_made : (program : code.Program) (setup : Setup) (F : StandsFor program setup) (p own n clock : ℕ) (u : State)
+pub kernel_turn_made : (program : code.Program) (setup : Setup) (F : IsProgramFor program setup) (p own n clock : ℕ) (u : State)
     → (k after : Kernel) (x y : Private) (input : List ℕ)
     → OutputMoves → IsTurned program clock n k after x y input
     → 1 ≤ p → p ≤ length (transcripts_of k) → x.number ≡ p

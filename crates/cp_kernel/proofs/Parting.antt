@@ -5,7 +5,7 @@ use Rattle.std.proofs.Math.Seq.{take-append_seam}
 use Rattle.cp_model_machine.specs.KernelSteps as plain
 use Rattle.cp_private.specs.States as states
 use Rattle.cp_private.specs.declared.outside.Gate.{Gate}
-use Rattle.cp_private.specs.declared.outside.Stage.{Stage}
+use Rattle.cp_private.specs.declared.outside.SchedulingState.{SchedulingState}
 use Rattle.cp_private.specs.declared.private.Private.{Private}
 use Rattle.cp_kernel.specs.declared.kernel.Kernel.{Kernel}
 use Rattle.cp_kernel.specs.KernelOf.{kernel_of, turning}
@@ -36,17 +36,17 @@ set_same gs (suc m) =
     ∙ sym (ap (λ (g : model.Gate). plain.is_set g.holder)
     (gate_looked (slice_get (map states.gate gs) m) ∙ ap gate_or_unset (slice_get-map states.gate gs m)))
 
-started_by : (g : Option Stage) → plain.is_started (states.stage_or_none g) ≡ plain.is_started (stage_or_begun (option_map states.stage g))
+started_by : (g : Option SchedulingState) → plain.is_started (states.stage_or_none g) ≡ plain.is_started (stage_or_begun (option_map states.stage g))
 started_by None = refl
 started_by (Some g) = refl
 
-pub started_same : (gs : List Stage) (p : ℕ) → plain.is_started (states.stage_of gs p) ≡ plain.is_started (plain.stage_of (map states.stage gs) p)
+pub started_same : (gs : List SchedulingState) (p : ℕ) → plain.is_started (states.stage_of gs p) ≡ plain.is_started (plain.stage_of (map states.stage gs) p)
 started_same gs zero = refl
 started_same gs (suc p) =
     started_by (slice_get gs p)
     ∙ sym (ap plain.is_started (stage_looked (slice_get (map states.stage gs) p) ∙ ap stage_or_begun (slice_get-map states.stage gs p)))
 
-pub outside_same : (k : Kernel) (x : Private) (input : List ℕ) (clock : ℕ) (gs : List Gate) (ss : List Stage)
+pub outside_same : (k : Kernel) (x : Private) (input : List ℕ) (clock : ℕ) (gs : List Gate) (ss : List SchedulingState)
     → gs ≡ k.gates.items → ss ≡ k.stages.items
     → record {
       clock = clock;

@@ -7,14 +7,14 @@ use Rattle.cp_model.specs.States as model
 use Rattle.cp_model_machine.specs.KernelSteps as plain
 use Rattle.cp_private.specs.States as states
 use Rattle.cp_private.specs.declared.outside.Gate.{Gate}
-use Rattle.cp_private.specs.declared.outside.Stage.{Stage}
+use Rattle.cp_private.specs.declared.outside.SchedulingState.{SchedulingState}
 use Rattle.cp_kernel.specs.KernelOf.{unset_gate}
 
 abbrev pub gate_or_unset : Option model.Gate → model.Gate
 gate_or_unset None = unset_gate
 gate_or_unset (Some g) = g
 
-abbrev pub stage_or_begun : Option plain.Stage → plain.Stage
+abbrev pub stage_or_begun : Option plain.SchedulingState → plain.SchedulingState
 stage_or_begun None = plain.Begun
 stage_or_begun (Some g) = g
 
@@ -22,7 +22,7 @@ pub gate_looked : (x : Option model.Gate) → elim x [ None ↦ unset_gate | Som
 gate_looked None = refl
 gate_looked (Some g) = refl
 
-pub stage_looked : (x : Option plain.Stage) → elim x [ None ↦ plain.Begun | Some g ↦ g ] ≡ stage_or_begun x
+pub stage_looked : (x : Option plain.SchedulingState) → elim x [ None ↦ plain.Begun | Some g ↦ g ] ≡ stage_or_begun x
 stage_looked None = refl
 stage_looked (Some g) = refl
 
@@ -42,14 +42,14 @@ gate_missing gs (suc m) there =
     gate_looked (slice_get (map states.gate gs) m)
     ∙ ap gate_or_unset (slice_get-map states.gate gs m ∙ ap (option_map states.gate) (ap (slice_get gs) (sym (less_one m)) ∙ there))
 
-pub stage_found : (gs : List Stage) (p : ℕ) (g : Stage) → 1 ≤ p → slice_get gs (p - 1) ≡ Some g
+pub stage_found : (gs : List SchedulingState) (p : ℕ) (g : SchedulingState) → 1 ≤ p → slice_get gs (p - 1) ≡ Some g
     → plain.stage_of (map states.stage gs) p ≡ states.stage g
 stage_found gs zero g at there = absurd (omega (arith, at))
 stage_found gs (suc p) g at there =
     stage_looked (slice_get (map states.stage gs) p)
     ∙ ap stage_or_begun (slice_get-map states.stage gs p ∙ ap (option_map states.stage) (ap (slice_get gs) (sym (less_one p)) ∙ there))
 
-pub stage_missing : (gs : List Stage) (p : ℕ) → slice_get gs (p - 1) ≡ None → plain.stage_of (map states.stage gs) p ≡ plain.Begun
+pub stage_missing : (gs : List SchedulingState) (p : ℕ) → slice_get gs (p - 1) ≡ None → plain.stage_of (map states.stage gs) p ≡ plain.Begun
 stage_missing gs zero there = refl
 stage_missing gs (suc p) there =
     stage_looked (slice_get (map states.stage gs) p)
@@ -57,9 +57,9 @@ stage_missing gs (suc p) there =
 
 -- ---- What is set
 
-pub stages_set : (k : plain.Kernel) (gs : List Stage) (p : ℕ) (g : Stage)
+pub stages_set : (k : plain.Kernel) (gs : List SchedulingState) (p : ℕ) (g : SchedulingState)
     → record k { stages = map states.stage (slice_set gs (p - 1) g) } ≡ plain.set_stage p (states.stage g) (record k { stages = map states.stage gs })
-stages_set k gs p g = ap (λ (ys : List plain.Stage). record k { stages = ys }) (map-set states.stage gs (p - 1) g)
+stages_set k gs p g = ap (λ (ys : List plain.SchedulingState). record k { stages = ys }) (map-set states.stage gs (p - 1) g)
 
 pub gates_set : (k : plain.Kernel) (gs : List Gate) (m : ℕ) (g : Gate) (h : model.Holder) (askers : List ℕ)
     → states.holder g.holder ≡ h → g.askers.items ≡ askers
@@ -75,13 +75,13 @@ held_first gs zero q h = absurd (cc)
 held_first gs (suc m) q h = omega arith
 
 -- A process that asks may not make a step.
-asking_in : (gs : List plain.Stage) (i m : ℕ) → i < length gs
+asking_in : (gs : List plain.SchedulingState) (i m : ℕ) → i < length gs
     → plain.is_begun (plain.stage_of (slice_set gs i (plain.Asking m)) (suc i)) ≡ false
 asking_in [] i m below = absurd (omega (arith, below))
 asking_in (g ∷ gs) zero m below = refl
 asking_in (g ∷ gs) (suc i) m below = asking_in gs i m (omega (arith, below))
 
-pub asking_set : (gs : List plain.Stage) (p m : ℕ) → 1 ≤ p → p ≤ length gs
+pub asking_set : (gs : List plain.SchedulingState) (p m : ℕ) → 1 ≤ p → p ≤ length gs
     → plain.is_begun (plain.stage_of (slice_set gs (p - 1) (plain.Asking m)) p) ≡ false
 asking_set gs zero m first last = absurd (omega (arith, first))
 asking_set gs (suc p) m first last =
@@ -105,12 +105,12 @@ gate_at gs m g first below is =
 pub gate_past : (gs : List Gate) (m : ℕ) → length gs ≤ m - 1 → plain.gate_of (map states.gate gs) m ≡ unset_gate
 gate_past gs m past = gate_missing gs m (slice_get_past gs (m - 1) past)
 
-pub stage_at : (gs : List Stage) (p : ℕ) (g : Stage) → 1 ≤ p → p - 1 < length gs → g ≡ slice_index_or gs (p - 1) g
+pub stage_at : (gs : List SchedulingState) (p : ℕ) (g : SchedulingState) → 1 ≤ p → p - 1 < length gs → g ≡ slice_index_or gs (p - 1) g
     → plain.stage_of (map states.stage gs) p ≡ states.stage g
 stage_at gs p g first below is =
-    stage_found gs p g first (slice_get-get_or gs (p - 1) g below ∙ ap (λ (x : Stage). Some x) (sym is))
+    stage_found gs p g first (slice_get-get_or gs (p - 1) g below ∙ ap (λ (x : SchedulingState). Some x) (sym is))
 
-pub stage_past : (gs : List Stage) (p : ℕ) → length gs ≤ p - 1 → plain.stage_of (map states.stage gs) p ≡ plain.Begun
+pub stage_past : (gs : List SchedulingState) (p : ℕ) → length gs ≤ p - 1 → plain.stage_of (map states.stage gs) p ≡ plain.Begun
 stage_past gs p past = stage_missing gs p (slice_get_past gs (p - 1) past)
 
 -- Setting the same gate again changes nothing.

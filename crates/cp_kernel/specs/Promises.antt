@@ -7,7 +7,7 @@ use Rattle.cp_model.specs.Rounds.{close_round}
 use Rattle.cp_model.specs.Start.{start}
 use Rattle.cp_model.specs.States.{Setup, State, process_count, running_clock}
 use Rattle.cp_model.specs.Turns as meaning
-use Rattle.cp_model_program.specs.StandsFor.{StandsFor}
+use Rattle.cp_model_program.specs.IsProgramFor.{IsProgramFor}
 use Rattle.cp_model_machine.specs.InState.{IsIn}
 use Rattle.cp_model_machine.specs.KernelOf.{KernelOf}
 use Rattle.cp_model_machine.specs.Laws.{TurningOf}
@@ -25,7 +25,7 @@ use Rattle.cp_kernel.specs.Turns.{parts_of}
 -- references and rights holds again.
 abbrev pub MakesKernelTurn : Program → ℕ → Kernel → Private → Kernel → Private → List ℕ → ℕ → Type 0
 MakesKernelTurn program n k x after y input clock =
-    (setup : Setup) (F : StandsFor (view.program program) setup) (p own : ℕ) (s : State)
+    (setup : Setup) (F : IsProgramFor (view.program program) setup) (p own : ℕ) (s : State)
     → Invariant s → clock ≡ realtime (running_clock setup s) → 1 ≤ p → p ≤ process_count setup
     → length (transcripts_of k) ≡ process_count setup
     → TurningOf (view.program program) setup F p own s (transcript_of (transcripts_of k) p) (turning k x input)
@@ -36,7 +36,7 @@ MakesKernelTurn program n k x after y input clock =
 -- Whatever text the program stands for, the kernel is that of the start.
 abbrev pub IsAtStart : Program → Kernel → Type 0
 IsAtStart program k =
-    (setup : Setup) (F : StandsFor (view.program program) setup) → KernelOf (view.program program) F.texts setup (start setup) (kernel_of k)
+    (setup : Setup) (F : IsProgramFor (view.program program) setup) → KernelOf (view.program program) F.texts setup (start setup) (kernel_of k)
 
 -- Whatever state a machine with this kernel and these private states is in, it is then in the state
 -- after the end of the round.

@@ -8,7 +8,7 @@ ghost use Rattle.cp_kernel.specs.KernelOf.{kernel_of};
 ghost use Rattle.cp_kernel.specs.ChainOf.{processes_left};
 
 use crate::kernel::Kernel;
-use cp_private::outside::{Holder, Stage};
+use cp_private::outside::{Holder, SchedulingState};
 
 /// The processes of a chain that are still to come, in order. Nothing of it takes memory.
 #[derive(Drop)]
@@ -42,7 +42,7 @@ impl Kernel {
     pub fn waits_for(&self, p: u32) -> Option<u32>
         ensures { result ≡ plain.waits_for (kernel_of self.now) p }
     {
-        let Stage::Asking(monitor) = self.stage(p) else {
+        let SchedulingState::Asking(monitor) = self.stage(p) else {
             return None;
         };
         match self.holder(monitor) {

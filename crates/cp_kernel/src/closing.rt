@@ -12,9 +12,9 @@ ghost use Rattle.cp_kernel.specs.Turns.{parts_of};
 
 use crate::kernel::Kernel;
 use cp_model_machine::law;
-use cp_private::outside::Stage;
+use cp_private::outside::SchedulingState;
 use cp_private::private::Private;
-use cp_private::resident::Resident;
+use cp_private::private_box::PrivateBox;
 use cp_program::program::Program;
 
 // Begins the process if it is fresh.
@@ -25,12 +25,12 @@ fn begin(program: &Program, kernel: &Kernel, private: &mut Private)
     ensures output { private.new.output ≡ private.old.output }
 {
     match kernel.stage(private.number() as u32) {
-        Stage::Fresh => private.begin(program, &kernel.shared),
+        SchedulingState::Fresh => private.begin(program, &kernel.shared),
         _ => {}
     }
 }
 
-fn begin_all(program: &Program, kernel: &Kernel, privates: &mut [Resident])
+fn begin_all(program: &Program, kernel: &Kernel, privates: &mut [PrivateBox])
     ensures begun { (inputs : ℕ → List ℕ) → parts_of inputs 1 privates.new ≡ map
         (plain.begin_one (view.program program.now) (kernel_of kernel.now))
         (parts_of inputs 1 privates.old) }
@@ -44,16 +44,16 @@ fn begin_all(program: &Program, kernel: &Kernel, privates: &mut [Resident])
     }
 }
 
-fn next_stage(stage: Stage) -> Stage
+fn next_stage(stage: SchedulingState) -> SchedulingState
     ensures { stage_view result ≡ plain.next_stage (stage_view stage) }
 {
     match stage {
-        Stage::Fresh => Stage::Begun,
+        SchedulingState::Fresh => SchedulingState::Begun,
         stage => stage,
     }
 }
 
-fn close_stages(stages: &mut [Stage])
+fn close_stages(stages: &mut [SchedulingState])
     ensures stages { map stage_view stages.new ≡ map plain.next_stage (map stage_view stages.old) }
 {
     for stage in stages.iter_mut() {
@@ -62,11 +62,11 @@ fn close_stages(stages: &mut [Stage])
 }
 
 // Returns whether a process was started in the round.
-fn has_fresh(stages: &[Stage]) -> bool
+fn has_fresh(stages: &[SchedulingState]) -> bool
     ensures { result ≡ false → HasNoFresh stages.now }
 {
     for stage in stages {
-        if matches!(stage, Stage::Fresh) {
+        if matches!(stage, SchedulingState::Fresh) {
             return true;
         }
     }
@@ -74,7 +74,7 @@ fn has_fresh(stages: &[Stage]) -> bool
 }
 
 // The end of a round in which a process may have been started, as plain data.
-fn close_started(program: &Program, kernel: &mut Kernel, privates: &mut [Resident])
+fn close_started(program: &Program, kernel: &mut Kernel, privates: &mut [PrivateBox])
     ensures kernel { let k = kernel_of kernel.old in kernel_of kernel.new
         ≡ record k { stages = map plain.next_stage k.stages } }
     ensures gates { kernel.new.gates ≡ kernel.old.gates }
@@ -98,7 +98,7 @@ fn close_started(program: &Program, kernel: &mut Kernel, privates: &mut [Residen
 }
 
 // The end of a round, as plain data. Most rounds start no process, and end with one test.
-fn close(program: &Program, kernel: &mut Kernel, privates: &mut [Resident])
+fn close(program: &Program, kernel: &mut Kernel, privates: &mut [PrivateBox])
     ensures kernel { let k = kernel_of kernel.old in kernel_of kernel.new
         ≡ record k { stages = map plain.next_stage k.stages } }
     ensures gates { kernel.new.gates ≡ kernel.old.gates }
@@ -119,7 +119,7 @@ fn close(program: &Program, kernel: &mut Kernel, privates: &mut [Resident])
 
 /// Ends the round: each process that was started in it begins, with the parameters that wait for
 /// it. `privates` has the private states of all processes. It takes no memory.
-pub fn end_round(program: &Program, kernel: &mut Kernel, privates: &mut [Resident])
+pub fn end_round(program: &Program, kernel: &mut Kernel, privates: &mut [PrivateBox])
     ensures kernel { let k = kernel_of kernel.old in kernel_of kernel.new
         ≡ record k { stages = map plain.next_stage k.stages } }
     ensures gates { kernel.new.gates ≡ kernel.old.gates }

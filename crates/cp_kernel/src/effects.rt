@@ -14,7 +14,7 @@ ghost use Rattle.cp_kernel.specs.KernelOf.{HasRoomForAskers, IsAmong, IsBegun, k
 
 use crate::kernel::Kernel;
 use cp_private::effect::Effect;
-use cp_private::outside::{Holder, Stage};
+use cp_private::outside::{Holder, SchedulingState};
 
 // Returns the index of the monitor or process with this number. The number 0 is read as 1.
 fn index(number: u32) -> usize
@@ -23,23 +23,23 @@ fn index(number: u32) -> usize
     (number as usize).saturating_sub(1)
 }
 
-fn resumed_stage(stage: Stage) -> Stage
+fn resumed_stage(stage: SchedulingState) -> SchedulingState
     ensures { stage_view result ≡ plain.resume_stage (stage_view stage) }
 {
     match stage {
-        Stage::Asking(_) | Stage::Delayed { .. } => Stage::Begun,
+        SchedulingState::Asking(_) | SchedulingState::Delayed { .. } => SchedulingState::Begun,
         stage => stage,
     }
 }
 
 impl Kernel {
-    fn set_stage(&mut self, p: u32, stage: Stage)
+    fn set_stage(&mut self, p: u32, stage: SchedulingState)
         ensures step { kernel_of self.new ≡ plain.set_stage p (stage_view stage)
             (kernel_of self.old) }
         ensures gates { self.new.gates ≡ self.old.gates }
         ensures transcripts { self.new.transcripts ≡ self.old.transcripts }
     {
-        self.may_have_fresh = self.may_have_fresh || matches!(stage, Stage::Fresh);
+        self.may_have_fresh = self.may_have_fresh || matches!(stage, SchedulingState::Fresh);
         if let Some(place) = self.stages.get_mut(index(p)) {
             *place = stage;
         }
@@ -158,7 +158,7 @@ impl Kernel {
         match self.holder(m) {
             Holder::Process(q) => {
                 self.ask(p, m, q);
-                self.set_stage(p, Stage::Asking(m));
+                self.set_stage(p, SchedulingState::Asking(m));
             }
             Holder::Unset => self.hold(m, p),
             Holder::Free => self.hold(m, p),
@@ -188,8 +188,8 @@ impl Kernel {
         ensures gates { self.new.gates ≡ self.old.gates }
         ensures transcripts { self.new.transcripts ≡ self.old.transcripts }
     {
-        if matches!(self.stage(r), Stage::Unstarted) {
-            self.set_stage(r, Stage::Fresh);
+        if matches!(self.stage(r), SchedulingState::Unstarted) {
+            self.set_stage(r, SchedulingState::Fresh);
         }
     }
 
@@ -211,7 +211,7 @@ impl Kernel {
             Effect::Starts(r) => self.start(r),
             Effect::Delays { monitor, queue } => {
                 let queue = (queue as usize).saturating_sub(own) as u32;
-                self.set_stage(p, Stage::Delayed { monitor, queue });
+                self.set_stage(p, SchedulingState::Delayed { monitor, queue });
                 self.pass_on(monitor);
             }
             Effect::Continues { monitor, resumed } => self.resume(monitor, resumed),

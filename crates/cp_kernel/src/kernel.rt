@@ -3,7 +3,7 @@
 ghost use Rattle.std.specs.Prelude.{◌≡◌, ◌<◌, ◌^◌, false, length};
 ghost use Rattle.cp_kernel.specs.Fresh.{HasNoFresh};
 
-use cp_private::outside::{Gate, Stage};
+use cp_private::outside::{Gate, SchedulingState};
 
 /// What is known of all monitors and processes, and the shared words.
 pub struct Kernel {
@@ -12,7 +12,7 @@ pub struct Kernel {
     /// The gates of monitors by number, from 1.
     pub(crate) gates: Vec<Gate>,
     /// The stages of processes by number, from 1.
-    pub(crate) stages: Vec<Stage>,
+    pub(crate) stages: Vec<SchedulingState>,
     /// The output of processes by number, from 1, without what their private states still hold.
     pub(crate) transcripts: Vec<Vec<u8>>,
     /// Whether a process may be fresh. Most rounds start none, and needn't look for it.

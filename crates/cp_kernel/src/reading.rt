@@ -8,7 +8,7 @@ ghost use Rattle.cp_kernel.specs.KernelOf.{kernel_of, transcripts_of};
 ghost use Rattle.cp_model_machine.specs.Machines.{transcript_of};
 
 use crate::kernel::Kernel;
-use cp_private::outside::{Holder, Stage};
+use cp_private::outside::{Holder, SchedulingState};
 
 impl Kernel {
     /// Returns the holder of monitor m's gate. A missing monitor is unset.
@@ -38,15 +38,15 @@ impl Kernel {
     }
 
     /// Returns the stage of process p. A missing process has begun.
-    pub fn stage(&self, p: u32) -> Stage
+    pub fn stage(&self, p: u32) -> SchedulingState
         ensures { stage_view result ≡ plain.stage_of (kernel_of self.now).stages p }
     {
         if p == 0 {
-            return Stage::Begun;
+            return SchedulingState::Begun;
         }
         match self.stages.get(p as usize - 1) {
             Some(stage) => *stage,
-            None => Stage::Begun,
+            None => SchedulingState::Begun,
         }
     }
 
@@ -54,7 +54,7 @@ impl Kernel {
     pub fn is_begun(&self, p: u32) -> bool
         ensures { result ≡ plain.is_begun (plain.stage_of (kernel_of self.now).stages p) }
     {
-        matches!(self.stage(p), Stage::Begun)
+        matches!(self.stage(p), SchedulingState::Begun)
     }
 
     /// Returns all shared words.

@@ -10,13 +10,13 @@ ghost use Rattle.cp_kernel.specs.Promises.{IsAtStart};
 
 use crate::kernel::Kernel;
 use cp_model_machine::law;
-use cp_private::outside::{Gate, Holder, Stage};
+use cp_private::outside::{Gate, Holder, SchedulingState};
 use cp_private::starting::start_words;
 use cp_program::program::Program;
 use std::alloc::{AllocError, Global};
 
 /// There are fewer shared words than this.
-const TOO_MANY: usize = 1 << 30;
+const WORD_COUNT_LIMIT: usize = 1 << 30;
 
 // Makes the words of the monitor with this number start as its plan says.
 fn start_monitor(program: &Program, number: usize, words: &mut [i32])
@@ -50,7 +50,7 @@ fn first_shared_words(alloc: Global, program: &Program) -> Result<Vec<i32>, Allo
     ensures few { IfOk result (λ ws. length ws.items < 2 ^ 30) }
 {
     let count = program.shared_words() as usize;
-    if TOO_MANY <= count {
+    if WORD_COUNT_LIMIT <= count {
         return Err(AllocError);
     }
     let mut words = Vec::from_elem(alloc, 0, count)?;
@@ -73,16 +73,16 @@ fn unset_gates(alloc: Global, count: usize) -> Result<Vec<Gate>, AllocError>
 }
 
 // Returns the stages of `count` processes, of which only the first, the initial process, has begun.
-fn first_stages(alloc: Global, count: usize) -> Result<Vec<Stage>, AllocError>
+fn first_stages(alloc: Global, count: usize) -> Result<Vec<SchedulingState>, AllocError>
     ensures stages { IfOk result (λ all. (processes : List code.Process) → length processes ≡ count
         → map states.stage all.items ≡ plain.first_stages processes) }
     ensures count { IfOk result (λ all. length all.items ≡ count) }
 {
-    let mut all = Vec::from_elem(alloc, Stage::Unstarted, count)?;
+    let mut all = Vec::from_elem(alloc, SchedulingState::Unstarted, count)?;
     let Some(first) = all.get_mut(0) else {
         return Ok(all);
     };
-    *first = Stage::Begun;
+    *first = SchedulingState::Begun;
     Ok(all)
 }
 

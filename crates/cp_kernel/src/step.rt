@@ -2,11 +2,11 @@
 //! starts a process.
 
 ghost use Rattle.std.specs.Prelude.{◌≡◌, ◌≢◌, ◌≤◌, ◌+◌, ◌-◌, ◌*◌, ◌++◌, true, ℕ, List, None, IfSome, length};
-ghost use Rattle.cp_private.specs.Quick.{left_by};
+ghost use Rattle.cp_private.specs.FastStep.{left_by};
 ghost use Rattle.cp_private.specs.Rooms.{HasRoomFor, KeepsRoom};
 ghost use Rattle.cp_private.specs.States.{private_of};
 ghost use Rattle.cp_private.specs.States.{activity, effect, join};
-ghost use Rattle.cp_private.specs.declared.turns.Tried.TheVariants as tried_case;
+ghost use Rattle.cp_private.specs.declared.turns.FastKernelPath.TheVariants as fast_kernel_path_case;
 ghost use Rattle.cp_model_machine.specs.PrivateStates.{is_running};
 ghost use Rattle.cp_model_machine.specs.KernelSteps as plain;
 ghost use Rattle.cp_model_machine.specs.Steps.{step_with};
@@ -17,9 +17,9 @@ ghost use Rattle.cp_kernel.specs.KernelOf.{HasRoomForAskers, IsAmong, IsBegun, t
 use crate::kernel::Kernel;
 use cp_private::effect::Effect;
 use cp_private::kind::{Kind, next_kind};
-use cp_private::outside::Outside;
+use cp_private::outside::StepContext;
 use cp_private::private::Private;
-use cp_private::turns::{Tried, step, step_in_registers};
+use cp_private::turns::{FastKernelPath, step, step_in_registers};
 use cp_program::program::Program;
 
 fn is_kernel(kind: Kind) -> bool
@@ -61,7 +61,7 @@ fn act(
     ensures stages { kernel.new.stages ≡ kernel.old.stages }
     ensures transcripts { kernel.new.transcripts ≡ kernel.old.transcripts }
 {
-    let outside = Outside {
+    let outside = StepContext {
         clock,
         input,
         gates: &kernel.gates,
@@ -100,7 +100,7 @@ pub(crate) fn kernel_step(
 
 // Makes one step of a process that holds a gate in registers, without its effect on the kernel.
 #[inline(always)]
-fn act_in_registers(program: &Program, kernel: &mut Kernel, private: &mut Private) -> Tried
+fn act_in_registers(program: &Program, kernel: &mut Kernel, private: &mut Private) -> FastKernelPath
     requires held { private.old.gate ≢ 0 }
     ensures step { IfSome (left_by result) (λ e. (clock : ℕ) (input : List ℕ)
         → let x = turning kernel.old private.old input in
@@ -108,7 +108,7 @@ fn act_in_registers(program: &Program, kernel: &mut Kernel, private: &mut Privat
         (view.program program.now) (plain.outside clock x) (plain.join_words x)) }
     ensures same { left_by result ≡ None → (input : List ℕ)
         → turning kernel.new private.new input ≡ turning kernel.old private.old input }
-    ensures held { result ≡ tried_case.Made → private.new.gate ≡ private.old.gate }
+    ensures held { result ≡ fast_kernel_path_case.Made → private.new.gate ≡ private.old.gate }
     ensures activity { private.new.activity ≡ private.old.activity }
     ensures own { length private.new.memory.words.items ≡ length private.old.memory.words.items }
     ensures number { private.new.number ≡ private.old.number }
@@ -126,7 +126,7 @@ pub(crate) fn try_in_registers(
     program: &Program,
     kernel: &mut Kernel,
     private: &mut Private,
-) -> Tried
+) -> FastKernelPath
     requires held { private.old.gate ≢ 0 }
     requires running { is_running (activity private.old.activity) ≡ true }
     requires begun { IsBegun kernel.old private.old.number }
@@ -135,8 +135,8 @@ pub(crate) fn try_in_registers(
         clock (turning kernel.old private.old input)) }
     ensures same { left_by result ≡ None → (input : List ℕ)
         → turning kernel.new private.new input ≡ turning kernel.old private.old input }
-    ensures held { result ≡ tried_case.Made → private.new.gate ≡ private.old.gate }
-    ensures stages { result ≡ tried_case.Made → kernel.new.stages ≡ kernel.old.stages }
+    ensures held { result ≡ fast_kernel_path_case.Made → private.new.gate ≡ private.old.gate }
+    ensures stages { result ≡ fast_kernel_path_case.Made → kernel.new.stages ≡ kernel.old.stages }
     ensures asking { (n : ℕ) → HasRoomForAskers kernel.old n → HasRoomForAskers kernel.new n }
     ensures activity { private.new.activity ≡ private.old.activity }
     ensures number { private.new.number ≡ private.old.number }
@@ -144,11 +144,11 @@ pub(crate) fn try_in_registers(
     ensures transcripts { kernel.new.transcripts ≡ kernel.old.transcripts }
 {
     match act_in_registers(program, kernel, private) {
-        Tried::Made => Tried::Made,
-        Tried::Returned(gate) => {
+        FastKernelPath::Made => FastKernelPath::Made,
+        FastKernelPath::Returned(gate) => {
             kernel.leave(gate);
-            Tried::Returned(gate)
+            FastKernelPath::Returned(gate)
         }
-        Tried::NotMade => Tried::NotMade,
+        FastKernelPath::NotMade => FastKernelPath::NotMade,
     }
 }

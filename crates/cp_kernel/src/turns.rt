@@ -16,18 +16,13 @@ use cp_base_config::turn::Turn;
 use cp_model::law::invariant;
 use cp_model_machine::law;
 use cp_private::private::Private;
-use cp_private::turns::Tried;
+use cp_private::turns::FastKernelPath;
 use cp_program::program::Program;
 
 // Makes at most `count` steps that take no more than registers, of a process that holds a gate, and
 // none after one that leaves it. Returns how many are left.
 #[inline(always)]
-fn take_quick_steps(
-    program: &Program,
-    kernel: &mut Kernel,
-    private: &mut Private,
-    count: u32,
-) -> u32
+fn take_fast_steps(program: &Program, kernel: &mut Kernel, private: &mut Private, count: u32) -> u32
     requires running { is_running (activity private.old.activity) ≡ true }
     requires begun { IsBegun kernel.old private.old.number }
     ensures steps { (clock : ℕ) (input : List ℕ)
@@ -48,9 +43,9 @@ fn take_quick_steps(
     let mut left = count;
     while left > 0 {
         match try_in_registers(program, kernel, private) {
-            Tried::Made => left -= 1,
-            Tried::Returned(_) => return left - 1,
-            Tried::NotMade => return left,
+            FastKernelPath::Made => left -= 1,
+            FastKernelPath::Returned(_) => return left - 1,
+            FastKernelPath::NotMade => return left,
         }
     }
     left
@@ -85,7 +80,7 @@ fn take_some_steps(
     ensures output { KeepsRoom private.old private.new }
     ensures transcripts { kernel.new.transcripts ≡ kernel.old.transcripts }
 {
-    let left = take_quick_steps(program, kernel, private, count);
+    let left = take_fast_steps(program, kernel, private, count);
     if left < count {
         return left;
     }

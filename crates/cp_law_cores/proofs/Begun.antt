@@ -8,7 +8,7 @@ use Rattle.cp_model_program.specs.Layout.{natural}
 use Rattle.cp_model_program.specs.Programs as code
 use Rattle.cp_model_program.specs.Programs.{Operation, Program}
 use Rattle.cp_model_program.specs.Starts.{block, paste}
-use Rattle.cp_model_machine.specs.KernelSteps.{Asking, Begun, Delayed, Fresh, Kernel, Stage, Turning, Unstarted, apply_effect, enter_gate, gate_of, is_begun, is_due, join_words, kernel_step, make_ready, needs_kernel, outside, part_words, pass_to, resume, resume_stage, set_gate, set_stage, stage_of, start_process}
+use Rattle.cp_model_machine.specs.KernelSteps.{Asking, Begun, Delayed, Fresh, Kernel, SchedulingState, Turning, Unstarted, apply_effect, enter_gate, gate_of, is_begun, is_due, join_words, kernel_step, make_ready, needs_kernel, outside, part_words, pass_to, resume, resume_stage, set_gate, set_stage, stage_of, start_process}
 use Rattle.cp_model_machine.specs.Machines.{begin_if, begin_one, next_stage}
 use Rattle.cp_model_machine.specs.PrivateStates.{Continues, Delays, Effect, Enters, Leaves, NoEffect, Opens, PrivateState, Running, Starts, is_running}
 use Rattle.cp_model_machine.specs.Steps.{act_on, alone, is_private, operation_of, private_step, step_with}
@@ -20,33 +20,33 @@ use Rattle.cp_law_cores.proofs.Independent.{idle, kernel_beside, kernels, moved,
 
 -- ---- Stages
 
-abbrev pub has_begun : Stage → Bool
+abbrev pub has_begun : SchedulingState → Bool
 has_begun Unstarted = false
 has_begun Fresh = false
 has_begun _ = true
 
-abbrev pub is_fresh : Stage → Bool
+abbrev pub is_fresh : SchedulingState → Bool
 is_fresh Fresh = true
 is_fresh _ = false
 
-fresh_has_not : (g : Stage) → is_fresh g ≡ true → has_begun g ≡ false
+fresh_has_not : (g : SchedulingState) → is_fresh g ≡ true → has_begun g ≡ false
 fresh_has_not Fresh h = refl
 fresh_has_not Unstarted h = absurd (true≢false (sym h))
 fresh_has_not Begun h = absurd (true≢false (sym h))
 fresh_has_not (Asking m) h = absurd (true≢false (sym h))
 fresh_has_not (Delayed m q) h = absurd (true≢false (sym h))
 
-begun_has : (g : Stage) → is_begun g ≡ true → has_begun g ≡ true
+begun_has : (g : SchedulingState) → is_begun g ≡ true → has_begun g ≡ true
 begun_has Begun h = refl
 begun_has Fresh h = absurd (true≢false (sym h))
 begun_has Unstarted h = absurd (true≢false (sym h))
 begun_has (Asking m) h = refl
 begun_has (Delayed m q) h = refl
 
-abbrev pub at : List Stage → ℕ → Stage
+abbrev pub at : List SchedulingState → ℕ → SchedulingState
 at gs i = elim (slice_get gs i) [ None ↦ Begun | Some g ↦ g ]
 
-begun_set : (gs : List Stage) (j i : ℕ) (g : Stage) → (has_begun (at gs j) ≡ true → has_begun g ≡ true) → has_begun (at gs i) ≡ true
+begun_set : (gs : List SchedulingState) (j i : ℕ) (g : SchedulingState) → (has_begun (at gs j) ≡ true → has_begun g ≡ true) → has_begun (at gs i) ≡ true
     → has_begun (at (slice_set gs j g) i) ≡ true
 begun_set [] j i g h was = was
 begun_set (x ∷ gs) zero zero g h was = h was
@@ -58,7 +58,7 @@ module _ (n : ℕ) where
   abbrev BegunIn : Kernel → Type 0
   BegunIn k = has_begun (stage_of k.stages n) ≡ true
 
-  stage_begun : (r : ℕ) (g : Stage) (k : Kernel) → (has_begun (stage_of k.stages r) ≡ true → has_begun g ≡ true) → BegunIn k → BegunIn (set_stage r g k)
+  stage_begun : (r : ℕ) (g : SchedulingState) (k : Kernel) → (has_begun (stage_of k.stages r) ≡ true → has_begun g ≡ true) → BegunIn k → BegunIn (set_stage r g k)
   stage_begun r g k h was = by n r h was
     where
       by : (n r : ℕ) → (has_begun (stage_of k.stages r) ≡ true → has_begun g ≡ true) → has_begun (stage_of k.stages n) ≡ true
@@ -72,7 +72,7 @@ module _ (n : ℕ) where
   ready_begun : (r : ℕ) (k : Kernel) → BegunIn k → BegunIn (make_ready r k)
   ready_begun r k was = stage_begun r (resume_stage (stage_of k.stages r)) k (by (stage_of k.stages r)) was
     where
-      by : (g : Stage) → has_begun g ≡ true → has_begun (resume_stage g) ≡ true
+      by : (g : SchedulingState) → has_begun g ≡ true → has_begun (resume_stage g) ≡ true
       by Unstarted h = h
       by Fresh h = h
       by Begun h = h
@@ -95,7 +95,7 @@ module _ (n : ℕ) where
   start_begun : (r : ℕ) (k : Kernel) → BegunIn k → BegunIn (start_process r (stage_of k.stages r) k)
   start_begun r k was = by (stage_of k.stages r) refl
     where
-      by : (g : Stage) → stage_of k.stages r ≡ g → BegunIn (start_process r g k)
+      by : (g : SchedulingState) → stage_of k.stages r ≡ g → BegunIn (start_process r g k)
       by Unstarted e = stage_begun r Fresh k (λ h. absurd (true≢false (sym h ∙ ap has_begun e))) was
       by Fresh e = was
       by Begun e = was
@@ -225,7 +225,7 @@ module _ (program : Program) where
 
   -- ---- The end of a round
 
-  next_begun : (gs : List Stage) (i : ℕ) → at (map next_stage gs) i ≡ next_stage (at gs i)
+  next_begun : (gs : List SchedulingState) (i : ℕ) → at (map next_stage gs) i ≡ next_stage (at gs i)
   next_begun [] i = refl
   next_begun (g ∷ gs) zero = refl
   next_begun (g ∷ gs) (suc i) = next_begun gs i
@@ -234,14 +234,14 @@ module _ (program : Program) where
   next_stage_of k zero = refl
   next_stage_of k (suc i) = next_begun k.stages i
 
-  begin_other : (k : Kernel) (o : PrivateState) (g : Stage) → is_fresh g ≡ false → begin_if program k o g ≡ o
+  begin_other : (k : Kernel) (o : PrivateState) (g : SchedulingState) → is_fresh g ≡ false → begin_if program k o g ≡ o
   begin_other k o Fresh h = absurd (true≢false h)
   begin_other k o Unstarted h = refl
   begin_other k o Begun h = refl
   begin_other k o (Asking m) h = refl
   begin_other k o (Delayed m q) h = refl
 
-  begin_number : (k : Kernel) (o : PrivateState) (g : Stage) → (begin_if program k o g).number ≡ o.number
+  begin_number : (k : Kernel) (o : PrivateState) (g : SchedulingState) → (begin_if program k o g).number ≡ o.number
   begin_number k o Fresh = by (slice_get program.processes (o.number - 1))
     where
       by : (r : Option code.Process)
@@ -279,7 +279,7 @@ module _ (program : Program) where
         on p f.0 f.1 o f.2 (stage_of c.kernel.stages f.0.number) refl (sym (ap has_begun stage) ∙ h);
   }
     where
-      on : (p : ℕ) (y : PrivateState) → part c.parts p ≡ Some y → (o : PrivateState) → begin_one program c.kernel y ≡ o → (s : Stage)
+      on : (p : ℕ) (y : PrivateState) → part c.parts p ≡ Some y → (o : PrivateState) → begin_one program c.kernel y ≡ o → (s : SchedulingState)
           → stage_of c.kernel.stages y.number ≡ s → has_begun (next_stage s) ≡ false → is_running o.activity ≡ false
       on p y e o is Unstarted stage h =
           let same : o ≡ y = sym is ∙ ap (begin_if program c.kernel y) stage in

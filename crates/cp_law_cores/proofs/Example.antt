@@ -8,7 +8,7 @@ use Rattle.cp_model.specs.States.{is_in}
 use Rattle.cp_model_program.specs.Programs as op
 use Rattle.cp_model_program.specs.Programs.{Call, CodeUnit, Program}
 use Rattle.cp_model_program.specs.Terms as term
-use Rattle.cp_model_machine.specs.KernelSteps.{Begun, Fresh, Stage, stage_of}
+use Rattle.cp_model_machine.specs.KernelSteps.{Begun, Fresh, SchedulingState, stage_of}
 use Rattle.cp_model_machine.specs.Machines.{first_machine}
 use Rattle.cp_model_machine.specs.PrivateStates.{PrivateState, Running}
 use Rattle.cp_law_cores.specs.Wiping.{wiped}
@@ -154,11 +154,11 @@ nobody_begins : NoneFresh stuck.kernel
 nobody_begins = record { none = by }
   where
     no : Begun ≡ Fresh → ⊥
-    no e = true≢false (ap (λ (g : Stage). elim g as (λ x. Bool) [ Begun ↦ true | _ ↦ false ]) e)
+    no e = true≢false (ap (λ (g : SchedulingState). elim g as (λ x. Bool) [ Begun ↦ true | _ ↦ false ]) e)
 
     by : (p : ℕ) → stage_of stuck.kernel.stages p ≡ Fresh → ⊥
     by zero e = no e
-    by (suc zero) e = true≢false (ap (λ (g : Stage). elim g as (λ x. Bool) [ Fresh ↦ false | _ ↦ true ]) e)
+    by (suc zero) e = true≢false (ap (λ (g : SchedulingState). elim g as (λ x. Bool) [ Fresh ↦ false | _ ↦ true ]) e)
     by (suc (suc zero)) e = no e
     by (suc (suc (suc p))) e = no e
 

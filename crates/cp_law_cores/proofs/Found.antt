@@ -14,7 +14,7 @@ use Rattle.cp_model_program.specs.Programs.{Program}
 use Rattle.cp_model_machine.specs.InState.{IsIn}
 use Rattle.cp_model_machine.specs.Machines as machine
 use Rattle.cp_model_machine.specs.Machines.{Machine}
-use Rattle.cp_model_machine.proofs.MachineRounds.{spelled, wake_stands}
+use Rattle.cp_model_machine.proofs.MachineRounds.{spelled, wake_represents}
 use Rattle.cp_model_machine.proofs.MachineStarts.{as_whole, ordered, own_words, part_by_part}
 use Rattle.cp_law_stillness.specs.Stillness.{OnlyCountGrows, is_still}
 use Rattle.cp_law_stillness.proofs.Resting.{never_begins, rests}
@@ -32,7 +32,7 @@ use Rattle.cp_law_cores.proofs.Runs.{acts_of, all_ones, all_ones_within, replay_
 use Rattle.cp_law_cores.proofs.Schedules.{acts_are_of, acts_end, calm_first, cut, cut_length, cut_within, last, last_is_in, last_sees, split}
 use Rattle.cp_law_cores.proofs.Seen.{wake_seen}
 use Rattle.cp_law_cores.proofs.Twins.{as_core_of, first_in}
-use Rattle.cp_law_cores.proofs.Verdicts.{core_tells_end, core_tells_sound, core_tells_still}
+use Rattle.cp_law_cores.proofs.Verdicts.{core_reports_end, core_reports_sound, core_reports_still}
 
 -- ---- The waking changes no core
 
@@ -46,10 +46,10 @@ wake_in program setup s c h =
       awake = h.awake;
       inside =
           subst (λ (x : Machine). IsIn x setup (wake setup s)) (wake_seen m h.awake)
-          (as_whole m.program setup I.stands (own_words m) (wake setup s) (machine.wake m)
-          (spelled m.program setup I.stands (own_words m) s (wake setup s) machine.wake
-          (λ k os ts A. wake_stands m.program setup I.stands (own_words m) s k os ts A) m (part_by_part m setup s I))
-          (wakes (world setup) (ordered m.program setup I.stands) setup s I.order));
+          (as_whole m.program setup I.represents (own_words m) (wake setup s) (machine.wake m)
+          (spelled m.program setup I.represents (own_words m) s (wake setup s) machine.wake
+          (λ k os ts A. wake_represents m.program setup I.represents (own_words m) s k os ts A) m (part_by_part m setup s I))
+          (wakes (world setup) (ordered m.program setup I.represents) setup s I.order));
       is = h.is;
     }
 
@@ -57,21 +57,21 @@ module _ (program : Program) (setup : Setup) (timeless : is_timeless program ≡
   -- The state before the last closing.
   record Ends (s : State) (c : Core) (acts : List Act) : Type 0 where
     last : State
-    stands : IsCoreIn program setup last (after (core_moves program (process_count setup)) c acts)
+    represents : IsCoreIn program setup last (after (core_moves program (process_count setup)) c acts)
     leads : orders.replay setup (close_round (fold (replay_event setup 1) s (split acts).0)) (with_one (split acts).1) ≡ close_round last
 
   follows : (acts : List Act) (s : State) (c : Core) → AreOf (processes setup) acts → IsCoreIn program setup s c → Ends s c acts
-  follows [] s c within h = record { last = s; stands = h; leads = refl }
+  follows [] s c within h = record { last = s; represents = h; leads = refl }
   follows (PrivateStep p ∷ rest) s c within h =
       let r = follows rest (replay_event setup 1 s (rounds.PrivateStep p)) _ within.1 (private_in program setup timeless p within.0 s c h) in
-      record { last = r.last; stands = r.stands; leads = r.leads }
+      record { last = r.last; represents = r.represents; leads = r.leads }
   follows (KernelStep p ∷ rest) s c within h =
       let r = follows rest (replay_event setup 1 s (rounds.KernelTurn p)) _ within.1 (kernel_in program setup timeless p within.0 s c h) in
-      record { last = r.last; stands = r.stands; leads = r.leads }
+      record { last = r.last; represents = r.represents; leads = r.leads }
   follows (EndRound ∷ rest) s c within h =
       let u = wake setup (close_round s) in
       let r = follows rest u _ within.1 (wake_in program setup (close_round s) _ (closed_in program setup timeless s c h)) in
-      record { last = r.last; stands = r.stands; leads = r.leads }
+      record { last = r.last; represents = r.represents; leads = r.leads }
 
 -- ---- The last closing
 
@@ -123,14 +123,14 @@ found_is_real program setup n c F timeless h =
     let o = reduced_is_order M (IsCalm program) (core_independent program (process_count setup)) (core_closes program (process_count setup)) (first_core program setup) n c h in
     let r = follows program setup timeless o.acts (wake setup (start setup)) (first_core program setup) o.within
     (wake_in program setup (start setup) (first_core program setup) (first_in program setup F timeless)) in
-    let at = as_core_of program setup r.last c (subst (λ (z : Core). IsCoreIn program setup r.last z) o.leads r.stands) in
+    let at = as_core_of program setup r.last c (subst (λ (z : Core). IsCoreIn program setup r.last z) o.leads r.represents) in
     let flags = subst (λ (z : State).
     (core_is_still (process_count setup) c ≡ true → is_still setup z ≡ true)
     × (all_pass has_ended z (processes setup) ≡ core_has_ended (process_count setup) c)
     × (all_pass has_no_fault z (processes setup) ≡ core_is_sound (process_count setup) c)) (sym r.leads) (
-      λ still. still_closing setup r.last (sym (core_tells_still setup r.last c at) ∙ still),
-      pass_closing has_ended ended_closing r.last (processes setup) ∙ sym (core_tells_end setup r.last c at),
-      pass_closing has_no_fault sound_closing r.last (processes setup) ∙ sym (core_tells_sound setup r.last c at),
+      λ still. still_closing setup r.last (sym (core_reports_still setup r.last c at) ∙ still),
+      pass_closing has_ended ended_closing r.last (processes setup) ∙ sym (core_reports_end setup r.last c at),
+      pass_closing has_no_fault sound_closing r.last (processes setup) ∙ sym (core_reports_sound setup r.last c at),
     ) in
     (cut o.acts, cut_within setup o.acts o.within, count o.acts ∙ ap (λ k. k + 1) o.count, flags)
   where

@@ -10,23 +10,23 @@ use Rattle.cp_model.specs.Declarations as declared
 use Rattle.cp_model.specs.Types.{ArrayOf, Queue, RecordOf, ResolvedType, Simple}
 use Rattle.cp_model_program.specs.Programs as op
 use Rattle.cp_model_program.specs.Programs.{Call, Operation}
-use Rattle.cp_model_program.specs.Terms.{Argument, Binary, Copy, Element, Empty, Item, Made, Negative, Not, Number, Realtime, Reference, Rooted, Spot, Standard, Term, Value}
+use Rattle.cp_model_program.specs.Terms.{Argument, Binary, Copy, Element, Empty, Item, Made, Negative, Not, Number, Realtime, Reference, Rooted, PlaceExpression, Standard, Term, Value}
 use Rattle.cp_model_program.specs.Layout.{local_words}
-use Rattle.cp_model_program.specs.TermsFor.{move_spot}
+use Rattle.cp_model_program.specs.TermsFor.{move_place_expression}
 use Rattle.cp_model_program.specs.Sites.{Site, first_parameter, operation_at, parameters}
 use Rattle.cp_model_program.specs.StatementsFor.{AssignsBy, CodeFor, InitsBy, PerformsBy}
-use Rattle.cp_model_program.specs.TermsFor.{ArgumentsFor, Knowns, SpotFor, TermFor, nothing_known}
+use Rattle.cp_model_program.specs.TermsFor.{ArgumentsFor, Knowns, PlaceExpressionFor, TermFor, nothing_known}
 use Rattle.cp_model_machine.specs.Addresses.{Ground}
-use Rattle.cp_model_machine.specs.Left.{IsTask, Left, Loop, LoopLeft, Running, While, Repeat, site}
+use Rattle.cp_model_machine.specs.Remaining.{IsTask, Remaining, Loop, LoopRemaining, Running, While, Repeat, site}
 use Rattle.cp_model_machine.specs.PrivateStates as machine
 use Rattle.cp_model_machine.proofs.FirstCalls.{term_next}
-use Rattle.cp_model_machine.proofs.LeftKept.{SameBelow, left_kept}
+use Rattle.cp_model_machine.proofs.RemainingKept.{SameBelow, left_kept}
 use Rattle.cp_model_machine.proofs.NextCalls.{AllMade, Calling}
 use Rattle.cp_model_machine.proofs.StatementCalls.{own_place, statement_next}
-use Rattle.cp_law_cores.specs.Wiping.{arguments_are_free, spot_is_free, term_is_free}
+use Rattle.cp_law_cores.specs.Wiping.{arguments_are_free, place_expression_is_free, term_is_free}
 use Rattle.cp_law_cores.proofs.Timeless.{both}
 
-moved_free : (n : ℕ) (s : Spot) → spot_is_free (move_spot n s) ≡ spot_is_free s
+moved_free : (n : ℕ) (s : PlaceExpression) → place_expression_is_free (move_place_expression n s) ≡ place_expression_is_free s
 moved_free n (Rooted r) = refl
 moved_free n (Element s low high size plus e) = refl
 
@@ -40,14 +40,14 @@ module _ (site : Site) (K L : Knowns) where
     term_freed (a.Known base n) (Made t) b at next low high k h = absurd (true≢false (sym k))
     term_freed (a.Use d) (Made t) b at next low high k h = absurd (true≢false (sym k))
     term_freed (a.Use d) (Item s) b at next low high k h =
-        (h.0, h.1, h.2, h.3, h.4, spot_freed d s (Simple b h.0 h.1 h.2) at next low high k h.5)
+        (h.0, h.1, h.2, h.3, h.4, place_expression_freed d s (Simple b h.0 h.1 h.2) at next low high k h.5)
     term_freed (a.Use (a.Plain x)) (Number n) b at next low high k h = h
     term_freed (a.Use (a.Plain x)) Realtime b at next low high k h = h
     term_freed (a.Call d es) (Made t) b at next low high k h = absurd (true≢false (sym k))
     term_freed (a.Call (a.Plain x) (a.MoreExpressions e a.NoExpression)) (Standard f c) b at next low high k h =
         (h.0, h.1, h.2, term_freed e c h.0 at next low high k h.3)
     term_freed (a.Call (a.Plain x) (a.MoreExpressions (a.Use d) a.NoExpression)) (Empty s) b at next low high k h =
-        (h.0, h.1, h.2, h.3, h.4, spot_freed d s Queue at next low high k h.5)
+        (h.0, h.1, h.2, h.3, h.4, place_expression_freed d s Queue at next low high k h.5)
     term_freed (a.Not e) (Not c) b at next low high k h = (h.0, h.1, term_freed e c h.0 at next low high k h.2)
     term_freed (a.Negative e) (Negative c) b at next low high k h = (h.0, h.1, term_freed e c h.0 at next low high k h.2)
     term_freed (a.Positive e) c b at next low high k h = term_freed e c b at next low high k h
@@ -66,13 +66,13 @@ module _ (site : Site) (K L : Knowns) where
         )
     term_freed _ _ b at next low high k h = absurd h
 
-    spot_freed : (d : a.Designator) (s : Spot) (t : ResolvedType) (at next low high : ℕ) → spot_is_free s ≡ true
-        → SpotFor site K d s t at next low high → SpotFor site L d s t at next low high
-    spot_freed (a.Plain x) (Rooted r) t at next low high k h = h
-    spot_freed (a.Part d x) s t at next low high k h =
-        (h.0, h.1, h.2, h.3, h.4, spot_freed d h.2 (RecordOf h.0) at next low high (sym (moved_free h.1 h.2) ∙ (ap spot_is_free (sym h.4) ∙ k)) h.5)
-    spot_freed (a.At d e) (Element of lower upper words plus i) t at next low high k h =
-        let each = both (spot_is_free of) (term_is_free i) k in (
+    place_expression_freed : (d : a.Designator) (s : PlaceExpression) (t : ResolvedType) (at next low high : ℕ) → place_expression_is_free s ≡ true
+        → PlaceExpressionFor site K d s t at next low high → PlaceExpressionFor site L d s t at next low high
+    place_expression_freed (a.Plain x) (Rooted r) t at next low high k h = h
+    place_expression_freed (a.Part d x) s t at next low high k h =
+        (h.0, h.1, h.2, h.3, h.4, place_expression_freed d h.2 (RecordOf h.0) at next low high (sym (moved_free h.1 h.2) ∙ (ap place_expression_is_free (sym h.4) ∙ k)) h.5)
+    place_expression_freed (a.At d e) (Element of lower upper words plus i) t at next low high k h =
+        let each = both (place_expression_is_free of) (term_is_free i) k in (
           h.0,
           h.1,
           h.2,
@@ -80,10 +80,10 @@ module _ (site : Site) (K L : Knowns) where
           h.4,
           h.5,
           h.6,
-          spot_freed d of (ArrayOf lower upper t) at h.1 low h.2 each.0 h.7,
+          place_expression_freed d of (ArrayOf lower upper t) at h.1 low h.2 each.0 h.7,
           term_freed e i h.0 h.1 next h.2 high each.1 h.8,
         )
-    spot_freed _ _ t at next low high k h = absurd h
+    place_expression_freed _ _ t at next low high k h = absurd h
 
   arguments_freed : (ps : List (Name × declared.Variable)) (es : a.Expressions) (xs : List Argument) (to at next low high : ℕ) → arguments_are_free xs ≡ true
       → ArgumentsFor site K ps es xs to at next low high → ArgumentsFor site L ps es xs to at next low high
@@ -103,7 +103,7 @@ module _ (site : Site) (K L : Knowns) where
         arguments_freed ps es xs (to + local_words site.env.globals p.1) h.2 next h.3 high each.1 h.10,
       )
   arguments_freed (p ∷ ps) (a.MoreExpressions (a.Use d) es) (Copy place words from ∷ xs) to at next low high k h =
-      let each = both (spot_is_free from) (arguments_are_free xs) k in (
+      let each = both (place_expression_is_free from) (arguments_are_free xs) k in (
         h.0,
         h.1,
         h.2,
@@ -114,11 +114,11 @@ module _ (site : Site) (K L : Knowns) where
         h.7,
         h.8,
         h.9,
-        spot_freed d from p.1.type at h.0 low h.1 each.0 h.10,
+        place_expression_freed d from p.1.type at h.0 low h.1 each.0 h.10,
         arguments_freed ps es xs (to + local_words site.env.globals p.1) h.0 next h.1 high each.1 h.11,
       )
   arguments_freed (p ∷ ps) (a.MoreExpressions (a.Use d) es) (Reference place s ∷ xs) to at next low high k h =
-      let each = both (spot_is_free s) (arguments_are_free xs) k in (
+      let each = both (place_expression_is_free s) (arguments_are_free xs) k in (
         h.0,
         h.1,
         h.2,
@@ -126,7 +126,7 @@ module _ (site : Site) (K L : Knowns) where
         h.4,
         h.5,
         h.6,
-        spot_freed d s p.1.type at h.0 low h.1 each.0 h.7,
+        place_expression_freed d s p.1.type at h.0 low h.1 each.0 h.7,
         arguments_freed ps es xs (to + local_words site.env.globals p.1) h.0 next h.1 high each.1 h.8,
       )
   arguments_freed _ _ _ to at next low high k h = absurd h
@@ -147,13 +147,13 @@ module _ (site : Site) (K L : Knowns) (call : Call) (n place : ℕ) (there : ope
   own_code : (s : a.Statement) (next low : ℕ) → IsTask s → (h : CodeFor site K s place next low) → place ≡ own_place site K s place next low h
       → CodeFor site L s place next low × (call.temps ≡ low)
   own_code (a.Perform d es) next low t h m =
-      let stands = ap (operation_at site.program) (sym m) ∙ there in
-      let same : h.1 ≡ op.Procedure call n = same_some h.1 (op.Procedure call n) (sym h.2 ∙ stands) in
+      let represents = ap (operation_at site.program) (sym m) ∙ there in
+      let same : h.1 ≡ op.Procedure call n = same_some h.1 (op.Procedure call n) (sym h.2 ∙ represents) in
       let P = subst (λ o. PerformsBy site K d es o place h.0 next low) same h.3 in (
         (
           h.0,
           op.Procedure call n,
-          stands,
+          represents,
           (P.0, P.1, P.2, P.3, P.4, P.5, arguments_freed site K L (parameters site P.0) es call.arguments (first_parameter P.0) place h.0 low P.1 free P.6),
         ),
         P.2.runs.temps,
@@ -192,7 +192,7 @@ module _ (site : Site) (K L : Knowns) (call : Call) (n place : ℕ) (there : ope
 
 module _ (G : Ground) (ts us : List ℤ) (limit : ℕ) (same_length : length ts ≡ length us) (call : Call) (n : ℕ) (free : arguments_are_free call.arguments ≡ true) where
   loop_none : (loop : Loop) (s : Site) (K : Knowns) (now e : a.Expression) (body : a.Statement) (place next low : ℕ)
-      → operation_at s.program place ≡ Some (op.Procedure call n) → LoopLeft loop s K now e body place next low → ⊥
+      → operation_at s.program place ≡ Some (op.Procedure call n) → LoopRemaining loop s K now e body place next low → ⊥
   loop_none loop s K now e body place next low there W = elim (term_next s K now W.term W.base place W.last low s.unit.temps W.rest) [
     | Calling N ↦ subst IsProcedure (sym there ∙ N.ready.op) tt
     | AllMade m q r ↦ subst IsProcedure (sym there ∙ (ap (operation_at s.program) m ∙ W.test)) tt
@@ -200,7 +200,7 @@ module _ (G : Ground) (ts us : List ℤ) (limit : ℕ) (same_length : length ts 
 
   -- It doesn't depend on temps that the call doesn't keep.
   pub left_freed : (K L : Knowns) (R : Running) (fs : List machine.Frame) (place low : ℕ) (k : List Task) → operation_at G.program place ≡ Some (op.Procedure call n)
-      → SameBelow (R.temp + call.temps) ts us → Left G ts limit K R fs place low k → Left G us limit L R fs place low k
+      → SameBelow (R.temp + call.temps) ts us → Remaining G ts limit K R fs place low k → Remaining G us limit L R fs place low k
   left_freed K L R fs place low [] there same h = absurd h
   left_freed K L R fs place low (Do s e ∷ k) there same h =
       let c = code_freed (site G R) K L call n place there free s h.2.0 h.2.1 h.1 h.2.3 in

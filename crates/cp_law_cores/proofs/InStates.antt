@@ -20,18 +20,18 @@ use Rattle.cp_law_gates.specs.InOrder.{world}
 use Rattle.cp_law_gates.proofs.Reached.{event_keeps}
 use Rattle.cp_model_program.specs.Programs.{Operation, Program}
 use Rattle.cp_model_machine.specs.Addresses.{Ground}
-use Rattle.cp_model_machine.specs.InState.{IsIn, PartStands}
+use Rattle.cp_model_machine.specs.InState.{IsIn, PartRepresents}
 use Rattle.cp_model_machine.specs.Laws.{ground_of}
-use Rattle.cp_model_machine.specs.Left.{innermost_gate}
+use Rattle.cp_model_machine.specs.Remaining.{innermost_gate}
 use Rattle.cp_model_machine.specs.Machines.{Machine, end_round, transcript_of}
-use Rattle.cp_model_machine.specs.PartOf.{GoesOn, RunsOn, status_of}
+use Rattle.cp_model_machine.specs.PartOf.{IsActive, RunsOn, status_of}
 use Rattle.cp_model_machine.specs.PrivateStates as machine
 use Rattle.cp_model_machine.specs.PrivateStates.{Activity, PrivateState, is_running}
 use Rattle.cp_model_machine.specs.Replays.{event, process_of}
 use Rattle.cp_model_machine.specs.Steps.{alone, is_held, is_kernel_operation, is_private, operation_of}
 use Rattle.cp_model_machine.proofs.Deciding.{ready_steps}
 use Rattle.cp_model_machine.proofs.GatesHeld.{gate_is_held}
-use Rattle.cp_model_machine.proofs.MachineReplays.{event_stands}
+use Rattle.cp_model_machine.proofs.MachineReplays.{event_represents}
 use Rattle.cp_model_machine.proofs.MachineStarts.{as_whole, end_is_end, ordered, own_words, part_by_part}
 use Rattle.cp_model_machine.proofs.PrivateSteps.{IsRunning, running_is}
 use Rattle.cp_model_machine.proofs.Stepping.{clock_of}
@@ -52,9 +52,9 @@ reach_own p (OfMonitor m) h = absurd (true≢false (sym h))
 
 -- ---- One process
 
-module _ (m : Machine) (setup : Setup) (s : State) (I : IsIn m setup s) (p : ℕ) (o : PrivateState) (stands : PartStands m setup I.stands s p o) where
+module _ (m : Machine) (setup : Setup) (s : State) (I : IsIn m setup s) (p : ℕ) (o : PrivateState) (represents : PartRepresents m setup I.represents s p o) where
   abbrev G : Ground
-  G = ground_of m.program setup I.stands p (length o.words)
+  G = ground_of m.program setup I.represents p (length o.words)
 
   abbrev computed : Bool
   computed = is_private_on m.program (Some (silent o))
@@ -74,7 +74,7 @@ module _ (m : Machine) (setup : Setup) (s : State) (I : IsIn m setup s) (p : ℕ
   stopped h = ap (λ (b : Bool). if b then is_private (silent o) (operation_of m.program o) else false) h
 
   goes : o.activity ≡ machine.Running → RunsOn G s.store o (s.continuation p)
-  goes runs = stands.part.runs_on (subst GoesOn (sym runs) tt)
+  goes runs = represents.part.runs_on (subst IsActive (sym runs) tt)
 
   in_monitor : (g : ℕ) (ms : List ℕ) → marked_monitors (s.continuation p) ≡ g ∷ ms → o.activity ≡ machine.Running → computed ≡ false
   in_monitor g ms e runs = held (gate_is_held G s.store o (s.continuation p) g ms (goes runs) e)
@@ -90,8 +90,8 @@ module _ (m : Machine) (setup : Setup) (s : State) (I : IsIn m setup s) (p : ℕ
   outside ready marks runs =
       let on = goes runs in
       let gate : o.gate ≡ 0 = on.gate ∙ ap innermost_gate marks in
-      let S = ready_steps G s (alone (realtime (clock_of G s)) o) (transcript_of m.transcripts p) o I.stands refl stands.part I.order.invariant
-      (record { clock = refl; own = stands.part.count }) (λ q h. reach_own p q (ap (λ z. in_reach p z q) (sym marks) ∙ h)) (s.continuation p) refl ready on in
+      let S = ready_steps G s (alone (realtime (clock_of G s)) o) (transcript_of m.transcripts p) o I.represents refl represents.part I.order.invariant
+      (record { clock = refl; own = represents.part.count }) (λ q h. reach_own p q (ap (λ z. in_reach p z q) (sym marks) ∙ h)) (s.continuation p) refl ready on in
       let there : operation_of m.program (silent o) ≡ Some S.operation = S.there in
       let left : computed ≡ not (is_kernel_operation S.operation) =
       (λ i. if is_running (runs i) then is_private (silent o) (there i) else false)
@@ -112,13 +112,13 @@ module _ (m : Machine) (setup : Setup) (s : State) (I : IsIn m setup s) (p : ℕ
       ∙ (λ z. if (elim (marks z) as (λ x. Bool) [ [] ↦ false | n ∷ ns ↦ true ]) || is_kernel_action (action (s.continuation p)) then Kernel else Private))
 
   running_when : (x : Status) → s.status p ≡ x → private_status x ≡ parts.Running → o.activity ≡ machine.Running
-  running_when x is e = running_is o.activity (subst (λ z. IsRunning z) (sym e ∙ (ap private_status (sym is) ∙ stands.part.status)) tt)
+  running_when x is e = running_is o.activity (subst (λ z. IsRunning z) (sym e ∙ (ap private_status (sym is) ∙ represents.part.status)) tt)
 
   rests_when : (x : Status) → s.status p ≡ x → (private_status x ≡ parts.Running → ⊥) → is_running o.activity ≡ false
   rests_when x is idle = by o.activity refl
     where
       by : (a : Activity) → o.activity ≡ a → is_running a ≡ false
-      by machine.Running e = absurd (idle (ap private_status (sym is) ∙ (stands.part.status ∙ ap status_of e)))
+      by machine.Running e = absurd (idle (ap private_status (sym is) ∙ (represents.part.status ∙ ap status_of e)))
       by machine.Waiting e = refl
       by machine.NotBegun e = refl
       by machine.Ended e = refl
@@ -173,8 +173,8 @@ module _ (program : Program) (setup : Setup) where
           let count = h.inside.part_count in
           let x = got m.parts i (Prim.omega (arith, high, count)) in
           let place : i ≡ suc i - 1 = Prim.omega arith in
-          let stands = h.inside.parts (suc i) x.0 (Prim.omega arith) (subst (λ k. slice_get m.parts k ≡ Some x.0) place x.1) in
-          ap (is_private_on m.program) (map_got silent m.parts i x.0 x.1) ∙ agree m setup s h.inside (suc i) x.0 stands
+          let represents = h.inside.parts (suc i) x.0 (Prim.omega arith) (subst (λ k. slice_get m.parts k ≡ Some x.0) place x.1) in
+          ap (is_private_on m.program) (map_got silent m.parts i x.0 x.1) ∙ agree m setup s h.inside (suc i) x.0 represents
 
   -- What is settled is told by the state.
   pub settled_like : (s : State) (c d : Core) → IsCoreIn program setup s c → IsCoreIn program setup s d → IsSettled M c → IsSettled M d
@@ -206,9 +206,9 @@ module _ (program : Program) (setup : Setup) where
           program_is = after.timeless.program_is;
           awake = after.timeless.awake;
           inside =
-              as_whole m.program setup I.stands (own_words m) (replay_event setup 1 s e) (event 1 m e)
-              (event_stands m.program setup I.stands (own_words m) 1 e low high s m (part_by_part m setup s I))
-              (event_keeps (world setup) (ordered m.program setup I.stands) setup 1 s e I.order);
+              as_whole m.program setup I.represents (own_words m) (replay_event setup 1 s e) (event 1 m e)
+              (event_represents m.program setup I.represents (own_words m) 1 e low high s m (part_by_part m setup s I))
+              (event_keeps (world setup) (ordered m.program setup I.represents) setup 1 s e I.order);
           is = after.sees;
         }
 

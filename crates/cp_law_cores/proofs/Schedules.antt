@@ -16,11 +16,11 @@ use Rattle.cp_model.specs.StateViews.{fault_number}
 use Rattle.cp_model.specs.States.{Setup, State, is_in, process_count, processes}
 use Rattle.cp_model.specs.declared.state.Fault.{Fault}
 use Rattle.cp_model_program.specs.Programs.{Operation, Program}
-use Rattle.cp_model_program.specs.StandsFor.{StandsFor}
-use Rattle.cp_model_machine.specs.InState.{IsIn, PartStands}
+use Rattle.cp_model_program.specs.IsProgramFor.{IsProgramFor}
+use Rattle.cp_model_machine.specs.InState.{IsIn, PartRepresents}
 use Rattle.cp_model_machine.specs.Laws.{ground_of}
 use Rattle.cp_model_machine.specs.Machines.{Machine, first_machine}
-use Rattle.cp_model_machine.specs.PartOf.{GoesOn, status_of}
+use Rattle.cp_model_machine.specs.PartOf.{IsActive, status_of}
 use Rattle.cp_model_machine.specs.PrivateStates as machine
 use Rattle.cp_model_machine.specs.PrivateStates.{Activity, PrivateState, is_running}
 use Rattle.cp_model_machine.specs.Steps.{is_held, is_kernel_operation, is_private, operation_of}
@@ -45,7 +45,7 @@ use Rattle.cp_law_cores.proofs.Starting.{first_calm, first_sees}
 -- ---- A still state's core is settled
 
 module _ (m : Machine) (setup : Setup) (s : State) (I : IsIn m setup s) (still : is_still setup s ≡ true) where
-  module _ (p : ℕ) (there : is_in p (processes setup) ≡ true) (o : PrivateState) (stands : PartStands m setup I.stands s p o) where
+  module _ (p : ℕ) (there : is_in p (processes setup) ≡ true) (o : PrivateState) (represents : PartRepresents m setup I.represents s p o) where
     is_held_blocks : is_held o.gate ≡ true → is_private_on m.program (Some (silent o)) ≡ false
     is_held_blocks held = by (operation_of m.program o) (is_running o.activity)
       where
@@ -65,21 +65,21 @@ module _ (m : Machine) (setup : Setup) (s : State) (I : IsIn m setup s) (still :
         by [] e h = absurd (true≢false (sym h))
         by (g ∷ ms) e h =
             is_held_blocks
-            (gate_is_held (ground_of m.program setup I.stands p (length o.words)) s.store o (s.continuation p) g ms
-            (stands.part.runs_on (subst GoesOn (sym runs) tt)) e)
+            (gate_is_held (ground_of m.program setup I.represents p (length o.words)) s.store o (s.continuation p) g ms
+            (represents.part.runs_on (subst IsActive (sym runs) tt)) e)
 
     running : o.activity ≡ machine.Running → is_private_on m.program (Some (silent o)) ≡ false
-    running runs = by (s.status p) refl (rests setup s still p there) (stands.part.status ∙ ap status_of runs)
+    running runs = by (s.status p) refl (rests setup s still p there) (represents.part.status ∙ ap status_of runs)
       where
         by : (x : Status) → s.status p ≡ x → can_move x ≡ false → private_status x ≡ parts.Running → is_private_on m.program (Some (silent o)) ≡ false
-        by status.Ready is none told = absurd (true≢false none)
-        by status.Fresh is none told = absurd (true≢false none)
-        by status.Waiting is none told = absurd (true≢false none)
-        by status.Unstarted is none told = absurd (cc)
-        by status.Ended is none told = absurd (cc)
-        by (status.Asking g) is none told = blocked (I.order.invariant.blocked p (subst IsBlocked (sym is) tt)) runs
-        by (status.Delayed g q) is none told = blocked (I.order.invariant.blocked p (subst IsBlocked (sym is) tt)) runs
-        by (status.Faulted n) is none told = absurd (cc)
+        by status.Ready is none reported = absurd (true≢false none)
+        by status.Fresh is none reported = absurd (true≢false none)
+        by status.Waiting is none reported = absurd (true≢false none)
+        by status.Unstarted is none reported = absurd (cc)
+        by status.Ended is none reported = absurd (cc)
+        by (status.Asking g) is none reported = blocked (I.order.invariant.blocked p (subst IsBlocked (sym is) tt)) runs
+        by (status.Delayed g q) is none reported = blocked (I.order.invariant.blocked p (subst IsBlocked (sym is) tt)) runs
+        by (status.Faulted n) is none reported = absurd (cc)
 
     rests_there : is_private_on m.program (Some (silent o)) ≡ false
     rests_there = by o.activity refl
@@ -99,8 +99,8 @@ module _ (m : Machine) (setup : Setup) (s : State) (I : IsIn m setup s) (still :
       on i there None e = ap (is_private_on m.program) (map_none silent m.parts i e)
       on i there (Some o) e =
           let place : i ≡ suc i - 1 = Prim.omega arith in
-          let stands = I.parts (suc i) o (Prim.omega arith) (subst (λ k. slice_get m.parts k ≡ Some o) place e) in
-          ap (is_private_on m.program) (map_got silent m.parts i o e) ∙ rests_there (suc i) there o stands
+          let represents = I.parts (suc i) o (Prim.omega arith) (subst (λ k. slice_get m.parts k ≡ Some o) place e) in
+          ap (is_private_on m.program) (map_got silent m.parts i o e) ∙ rests_there (suc i) there o represents
 
       by : (p : ℕ) → is_in p (processes setup) ≡ true → is_private_on m.program (part (core m).parts p) ≡ false
       by zero there = refl
@@ -127,7 +127,7 @@ module _ (program : Program) (n : ℕ) where
 
 -- ---- All orders
 
-module _ (program : Program) (setup : Setup) (F : StandsFor program setup) (timeless : is_timeless program ≡ true) where
+module _ (program : Program) (setup : Setup) (F : IsProgramFor program setup) (timeless : is_timeless program ≡ true) where
   abbrev M : Moves Core
   M = core_moves program (process_count setup)
 
@@ -187,7 +187,7 @@ orders_stay_within program setup vs v rs F timeless closed there settles within 
       known = r.1;
       settles = record {
         core_of = core (last program setup F timeless ess ok);
-        stands = record { machine = last program setup F timeless ess ok; inside = last_is_in program setup F timeless ess ok; is = refl };
+        represents = record { machine = last program setup F timeless ess ok; inside = last_is_in program setup F timeless ess ok; is = refl };
         settles = r.2;
       };
     })
@@ -203,7 +203,7 @@ still_states_are_within program setup vs v rs F timeless closed there settles wi
     same_state program setup F timeless (IsWithin setup (Contains vs)) rs (record {
       member = r.0;
       known = r.1;
-      stands = record { machine = m; inside = last_is_in program setup F timeless ess ok; is = sym is };
+      represents = record { machine = m; inside = last_is_in program setup F timeless ess ok; is = sym is };
     })
 
 pub still_states_are_reduced : StillStatesAreReduced
@@ -219,7 +219,7 @@ still_states_are_reduced program setup rs F timeless within still =
     (subst (λ z. Settles M z (core m)) sees.sees (settles_here M (core m) calm)) in
     same_state program setup F timeless (IsReduced program setup (length rs)) rs (record {
       at = core m;
-      stands = record { machine = m; inside = last_is_in program setup F timeless ess ok; is = refl };
+      represents = record { machine = m; inside = last_is_in program setup F timeless ess ok; is = refl };
       reduced = subst (λ n. ReducedFrom M (first_core program setup) n (core m)) (acts_end program setup F timeless rs) r;
     })
 
@@ -249,8 +249,8 @@ module _ (m : Machine) (setup : Setup) (s : State) (I : IsIn m setup s) (number 
       let count = I.part_count in
       let x = got m.parts i (Prim.omega (arith, high, count)) in
       let place : i ≡ suc i - 1 = Prim.omega arith in
-      let stands = I.parts (suc i) x.0 (Prim.omega arith) (subst (λ k. slice_get m.parts k ≡ Some x.0) place x.1) in
-      let f = failed_is x.0.activity number (sym (ap private_status e) ∙ stands.part.status) in
+      let represents = I.parts (suc i) x.0 (Prim.omega arith) (subst (λ k. slice_get m.parts k ≡ Some x.0) place x.1) in
+      let f = failed_is x.0.activity number (sym (ap private_status e) ∙ represents.part.status) in
       record {
         own = silent x.0;
         there = map_got silent m.parts i x.0 x.1;

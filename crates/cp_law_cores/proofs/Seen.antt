@@ -6,10 +6,10 @@ use Rattle.std.proofs.lemmas.Bool.{true≢false}
 use Rattle.cp_model_program.specs.Programs as code
 use Rattle.cp_model_program.specs.Programs.{Operation, Program}
 use Rattle.cp_model_program.specs.Starts.{block, paste}
-use Rattle.cp_model_machine.specs.KernelSteps.{Asking, Begun, Delayed, Fresh, Kernel, Stage, Turning, Unstarted, apply_effect, is_due, join_words, kernel_step, outside, part_words, stage_of}
+use Rattle.cp_model_machine.specs.KernelSteps.{Asking, Begun, Delayed, Fresh, Kernel, SchedulingState, Turning, Unstarted, apply_effect, is_due, join_words, kernel_step, outside, part_words, stage_of}
 use Rattle.cp_model_machine.specs.Machines as machine
 use Rattle.cp_model_machine.specs.Machines.{Machine, after_kernel_turn, awake, begin_if, begin_one, clock, end_round, kernel_turn, private_turn, wake, wake_one}
-use Rattle.cp_model_machine.specs.PrivateStates.{Acting, Activity, Ended, Faulted, NotBegun, Outside, PrivateState, Running, Waiting, is_running}
+use Rattle.cp_model_machine.specs.PrivateStates.{Acting, Activity, Ended, Faulted, NotBegun, StepContext, PrivateState, Running, Waiting, is_running}
 use Rattle.cp_model_machine.specs.Steps.{act_on, alone, is_private, operation_of, private_step, step_with}
 use Rattle.cp_law_cores.specs.Clocks.{are_timeless, is_timeless, operation_is_timeless}
 use Rattle.cp_law_cores.specs.Cores.{Core, close, core, is_private_on, kernel_at, kernel_on, private_at, silent, turned, with_turning}
@@ -46,7 +46,7 @@ module _ (program : Program) (timeless : is_timeless program ≡ true) where
     same : silent z' ≡ silent z
     awake : waits z.activity ≡ false
 
-  act_same : (w : Outside) (o : PrivateState) (x : Option Operation) → operation_of program o ≡ x → waits o.activity ≡ false
+  act_same : (w : StepContext) (o : PrivateState) (x : Option Operation) → operation_of program o ≡ x → waits o.activity ≡ false
       → Alike waits (λ f. refl) refl 0 [] (act_on program (record w { clock = 0 }) (silent o) x) (act_on program w o x)
   act_same w o None e is = record { same = refl; effect = refl; awake = is }
   act_same w o (Some x) e is = act_alike waits (λ f. refl) refl 0 [] program w o x (timeless_at program.operations o.counter x timeless e) is
@@ -193,7 +193,7 @@ module _ (program : Program) (timeless : is_timeless program ≡ true) where
   abbrev begun : Kernel → PrivateState → code.Process → PrivateState
   begun k o x = record o { activity = Running; words = paste 1 (block k.shared (suc x.parameters) (x.waiting - 1)) o.words }
 
-  begin_silent : (k : Kernel) (o : PrivateState) (g : Stage) → silent (begin_if program k o g) ≡ begin_if program k (silent o) g
+  begin_silent : (k : Kernel) (o : PrivateState) (g : SchedulingState) → silent (begin_if program k o g) ≡ begin_if program k (silent o) g
   begin_silent k o Fresh = by (slice_get program.processes (o.number - 1))
     where
       by : (r : Option code.Process)
@@ -205,7 +205,7 @@ module _ (program : Program) (timeless : is_timeless program ≡ true) where
   begin_silent k o (Asking m) = refl
   begin_silent k o (Delayed m q) = refl
 
-  begin_awake : (k : Kernel) (o : PrivateState) (g : Stage) → waits o.activity ≡ false → waits (begin_if program k o g).activity ≡ false
+  begin_awake : (k : Kernel) (o : PrivateState) (g : SchedulingState) → waits o.activity ≡ false → waits (begin_if program k o g).activity ≡ false
   begin_awake k o Fresh h = by (slice_get program.processes (o.number - 1))
     where
       by : (r : Option code.Process) → waits (elim r as (λ x. PrivateState) [ None ↦ o | Some x ↦ begun k o x ]).activity ≡ false

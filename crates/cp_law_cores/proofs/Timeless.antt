@@ -16,13 +16,13 @@ use Rattle.cp_model_program.specs.Programs.{Call, CodeUnit, Counting, Operation,
 use Rattle.cp_model_program.specs.Starts.{unset, word}
 use Rattle.cp_model_program.specs.Tables.{place_in}
 use Rattle.cp_model_program.specs.Terms as target
-use Rattle.cp_model_program.specs.Terms.{Argument, Binary, Copy, Element, Empty, Item, Made, Negative, Not, Number, Realtime, Reference, Right, Rooted, Spot, Standard, Target, Term, Value}
+use Rattle.cp_model_program.specs.Terms.{Argument, Binary, Copy, Element, Empty, Item, Made, Negative, Not, Number, Realtime, Reference, Right, Rooted, PlaceExpression, Standard, Target, Term, Value}
 use Rattle.cp_model_machine.specs.Calling.{Back, call_step, class_at, enter, gate_effect, has_room, init_class, init_monitor, init_process, parameters_start, return_with, settle, start_words, with_frame, with_unit}
 use Rattle.cp_model_machine.specs.Passing.{Called, Passing, component_called, monitor_called, pass_all, pass_copy, pass_one, pass_result, pass_value, pass_word, reference_word, right_word, unless_fault, when_passed}
-use Rattle.cp_model_machine.specs.PrivateStates.{Acting, Activity, Continues, Effect, Ended, Enters, Faulted, Frame, Leaves, Opens, Outside, PrivateState, Starts, fault_in, go_to, guard, private_outcome, set_temp, set_word, view_of, with_result}
+use Rattle.cp_model_machine.specs.PrivateStates.{Acting, Activity, Continues, Effect, Ended, Enters, Faulted, Frame, Leaves, Opens, StepContext, PrivateState, Starts, fault_in, go_to, guard, private_outcome, set_temp, set_word, view_of, with_result}
 use Rattle.cp_model_machine.specs.Values.{View, apply, bind, place_of, root_place, truth, value_of}
 use Rattle.cp_model_machine.specs.Steps.{accept, act, continue, count_to, delay, first_count, go_to_arm, is_held, next_count, set_within, with_place, with_value}
-use Rattle.cp_law_cores.specs.Clocks.{argument_is_timeless, arguments_are_timeless, operation_is_timeless, spot_is_timeless, term_is_timeless}
+use Rattle.cp_law_cores.specs.Clocks.{argument_is_timeless, arguments_are_timeless, operation_is_timeless, place_expression_is_timeless, term_is_timeless}
 use Rattle.cp_law_cores.specs.Cores.{silent}
 
 -- ---- Tests
@@ -52,12 +52,12 @@ mutual
   same_value c v (Empty s) h = ap (λ r. bind r (λ a. Ok (truth (int_le (word v.words a) (pos 0))))) (same_place c v s h)
   same_value c v Realtime h = absurd (true≢false (sym h))
 
-  same_place : (c : ℕ) (v : View) (s : Spot) → spot_is_timeless s ≡ true → place_of (at_clock c v) s ≡ place_of v s
+  same_place : (c : ℕ) (v : View) (s : PlaceExpression) → place_expression_is_timeless s ≡ true → place_of (at_clock c v) s ≡ place_of v s
   same_place c v (Rooted (target.Local at)) h = refl
   same_place c v (Rooted (target.Member at)) h = refl
   same_place c v (Rooted (target.Through at plus)) h = refl
   same_place c v (Element s low high size plus e) h =
-      let each = both (spot_is_timeless s) (term_is_timeless e) h in
+      let each = both (place_expression_is_timeless s) (term_is_timeless e) h in
       let first = same_place c v s each.0 in
       let second = same_value c v e each.1 in
       λ i. bind (first i) (λ a. bind (second i) (λ n. unless (within low high n) fault.Index (a + (distance low n * size + plus))))
@@ -66,7 +66,7 @@ mutual
 
 -- `W` stands for a test of activities that neither a fault nor an end passes.
 module _ (W : Activity → Bool) (faulted : (f : Fault) → W (Faulted f) ≡ false) (ended : W Ended ≡ false) (c : ℕ) (written : List ℕ) where
-  abbrev at : Outside → Outside
+  abbrev at : StepContext → StepContext
   at w = record w { clock = c }
 
   abbrev moved : PrivateState → PrivateState
@@ -109,11 +109,11 @@ module _ (W : Activity → Bool) (faulted : (f : Fault) → W (Faulted f) ≡ fa
       choice_alike (same_integer (word o.words o.base) unset) _ _ _ _ (record { same = refl; effect = refl; awake = faulted fault.NoResult })
       (record { same = refl; effect = refl; awake = is })
 
-  value_alike : (w : Outside) (o : PrivateState) (e : Term) (go' go : ℤ → Acting) → term_is_timeless e ≡ true → ((m : ℤ) → Alike (go' m) (go m))
+  value_alike : (w : StepContext) (o : PrivateState) (e : Term) (go' go : ℤ → Acting) → term_is_timeless e ≡ true → ((m : ℤ) → Alike (go' m) (go m))
       → Alike (with_value (at w) (moved o) e go') (with_value w o e go)
   value_alike w o e go' go t h = result_alike o _ (value_of (view_of w o) e) go' go (same_value c (view_of w o) e t) h
 
-  place_alike : (w : Outside) (o : PrivateState) (s : Spot) (go' go : ℕ → Acting) → spot_is_timeless s ≡ true → ((a : ℕ) → Alike (go' a) (go a))
+  place_alike : (w : StepContext) (o : PrivateState) (s : PlaceExpression) (go' go : ℕ → Acting) → place_expression_is_timeless s ≡ true → ((a : ℕ) → Alike (go' a) (go a))
       → Alike (with_place (at w) (moved o) s go') (with_place w o s go)
   place_alike w o s go' go t h = result_alike o _ (place_of (view_of w o) s) go' go (same_place c (view_of w o) s t) h
 
@@ -150,7 +150,7 @@ module _ (W : Activity → Bool) (faulted : (f : Fault) → W (Faulted f) ≡ fa
   same_right o a (target.Monitor m) = refl
   same_right o a (target.MonitorRight n) = refl
 
-  argument_passes : (w : Outside) (to home : ℕ) (o : PrivateState) (x : Argument) → argument_is_timeless x ≡ true → IsAwake o
+  argument_passes : (w : StepContext) (to home : ℕ) (o : PrivateState) (x : Argument) → argument_is_timeless x ≡ true → IsAwake o
       → PassAlike (pass_one (at w) to home (moved o) x) (pass_one w to home o x)
   argument_passes w to home o (Value a low high e) t is =
       result_passes o _ (value_of (view_of w o) e) _ (λ m. pass_value o (to + a) low high m) is (same_value c (view_of w o) e t)
@@ -164,7 +164,7 @@ module _ (W : Activity → Bool) (faulted : (f : Fault) → W (Faulted f) ≡ fa
   argument_passes w to home o (Right a t) h is =
       record { same = ap (λ n. pass_word (moved o) (to + a) n) (same_right o (home + a) t); awake = is }
 
-  arguments_pass : (w : Outside) (to home : ℕ) (xs : List Argument) (o : PrivateState) → arguments_are_timeless xs ≡ true → IsAwake o
+  arguments_pass : (w : StepContext) (to home : ℕ) (xs : List Argument) (o : PrivateState) → arguments_are_timeless xs ≡ true → IsAwake o
       → PassAlike (pass_all (at w) to home xs (moved o)) (pass_all w to home xs o)
   arguments_pass w to home [] o t is = record { same = refl; awake = is }
   arguments_pass w to home (x ∷ xs) o t is =
@@ -195,14 +195,14 @@ module _ (W : Activity → Bool) (faulted : (f : Fault) → W (Faulted f) ≡ fa
 
   -- ---- Calls
 
-  same_called : (program : Program) (w : Outside) (o : PrivateState) (t : Target) → component_called program (at w) (moved o) t ≡ component_called program w o t
+  same_called : (program : Program) (w : StepContext) (o : PrivateState) (t : Target) → component_called program (at w) (moved o) t ≡ component_called program w o t
   same_called program w o target.Own = refl
   same_called program w o (target.Class n) = refl
   same_called program w o (target.ClassRight n) = refl
   same_called program w o (target.Monitor m) = refl
   same_called program w o (target.MonitorRight n) = refl
 
-  unit_alike : (program : Program) (w : Outside) (o : PrivateState) (call : Call) (component : ℕ) (go' go : CodeUnit → Acting) → IsAwake o
+  unit_alike : (program : Program) (w : StepContext) (o : PrivateState) (call : Call) (component : ℕ) (go' go : CodeUnit → Acting) → IsAwake o
       → ((u : CodeUnit) → Alike (go' u) (go u)) → Alike (with_unit program (at w) (moved o) call component go') (with_unit program w o call component go)
   unit_alike program w o call component go' go is h = by (slice_get program.units call.routine)
     where
@@ -212,14 +212,14 @@ module _ (W : Activity → Bool) (faulted : (f : Fault) → W (Faulted f) ≡ fa
       by None = record { same = refl; effect = refl; awake = is }
       by (Some u) = choice_alike (has_room w o call u component) _ _ _ _ (h u) (record { same = refl; effect = refl; awake = is })
 
-  abbrev call_to : Program → Outside → PrivateState → Call → Back → Called → Acting
+  abbrev call_to : Program → StepContext → PrivateState → Call → Back → Called → Acting
   call_to program w o call back z =
       with_unit program w o call z.component (λ u.
       guard z.is_set o fault.NotInitialised
       (when_passed (pass_all w (o.base + call.words) (o.base + call.words) call.arguments o) (λ p.
       (enter (start_words (o.base + call.words) u p) z u call back, gate_effect z.gate Enters))))
 
-  call_alike : (program : Program) (w : Outside) (o : PrivateState) (call : Call) (back : Back) → arguments_are_timeless call.arguments ≡ true → IsAwake o
+  call_alike : (program : Program) (w : StepContext) (o : PrivateState) (call : Call) (back : Back) → arguments_are_timeless call.arguments ≡ true → IsAwake o
       → Alike (call_step program (at w) (moved o) call back) (call_step program w o call back)
   call_alike program w o call back t is =
       let z = component_called program w o call.target in
@@ -230,7 +230,7 @@ module _ (W : Activity → Bool) (faulted : (f : Fault) → W (Faulted f) ≡ fa
       (passing_alike _ (pass_all w to to call.arguments o) (λ p. (enter (start_words to u p) z u call back, gate_effect z.gate Enters))
       (arguments_pass w to to call.arguments o t is) (λ p h. record { same = refl; effect = refl; awake = h }))))
 
-  class_alike : (program : Program) (w : Outside) (o : PrivateState) (call : Call) (a next : ℕ) → arguments_are_timeless call.arguments ≡ true → IsAwake o
+  class_alike : (program : Program) (w : StepContext) (o : PrivateState) (call : Call) (a next : ℕ) → arguments_are_timeless call.arguments ≡ true → IsAwake o
       → Alike (init_class program (at w) (moved o) call a next) (init_class program w o call a next)
   class_alike program w o call a next t is =
       let from = o.base + call.words in
@@ -240,7 +240,7 @@ module _ (W : Activity → Bool) (faulted : (f : Fault) → W (Faulted f) ≡ fa
       (λ p. private_outcome (enter (set_word (settle p from a (length call.arguments)) a (pos 1)) (class_at a) u call (record { counter = next; into = 0 })))
       (arguments_pass w from a call.arguments o t is) (λ p h. record { same = refl; effect = refl; awake = h })))
 
-  monitor_alike : (program : Program) (w : Outside) (o : PrivateState) (call : Call) (m next : ℕ) → arguments_are_timeless call.arguments ≡ true → IsAwake o
+  monitor_alike : (program : Program) (w : StepContext) (o : PrivateState) (call : Call) (m next : ℕ) → arguments_are_timeless call.arguments ≡ true → IsAwake o
       → Alike (init_monitor program (at w) (moved o) call m next) (init_monitor program w o call m next)
   monitor_alike program w o call m next t is =
       let z = monitor_called program w m in
@@ -251,7 +251,7 @@ module _ (W : Activity → Bool) (faulted : (f : Fault) → W (Faulted f) ≡ fa
       (λ p. (enter (settle p from z.component (length call.arguments)) z u call (record { counter = next; into = 0 }), Opens m))
       (arguments_pass w from z.component call.arguments o t is) (λ p h. record { same = refl; effect = refl; awake = h })))
 
-  process_alike : (program : Program) (w : Outside) (o : PrivateState) (r : ℕ) (xs : List Argument) (words next : ℕ) → arguments_are_timeless xs ≡ true → IsAwake o
+  process_alike : (program : Program) (w : StepContext) (o : PrivateState) (r : ℕ) (xs : List Argument) (words next : ℕ) → arguments_are_timeless xs ≡ true → IsAwake o
       → Alike (init_process program (at w) (moved o) r xs words next) (init_process program w o r xs words next)
   process_alike program w o r xs words next t is =
       let from = o.base + words in
@@ -262,7 +262,7 @@ module _ (W : Activity → Bool) (faulted : (f : Fault) → W (Faulted f) ≡ fa
 
   -- ---- Operations
 
-  same_root : (w : Outside) (o : PrivateState) (r : target.Root) → root_place (view_of (at w) (moved o)) r ≡ root_place (view_of w o) r
+  same_root : (w : StepContext) (o : PrivateState) (r : target.Root) → root_place (view_of (at w) (moved o)) r ≡ root_place (view_of w o) r
   same_root w o (target.Local a) = refl
   same_root w o (target.Member a) = refl
   same_root w o (target.Through a plus) = refl
@@ -272,7 +272,7 @@ module _ (W : Activity → Bool) (faulted : (f : Fault) → W (Faulted f) ≡ fa
       guard (within k.low k.high n) o fault.Range
       (private_outcome (go_to k.body (set_temp (set_temp (set_word o a n) (o.temp + k.temp) n) (o.temp + k.temp + 1) last)))
 
-  count_alike : (w : Outside) (o : PrivateState) (k : Counting) (m last : ℤ) → IsAwake o → Alike (count_to (at w) (moved o) k m last) (count_to w o k m last)
+  count_alike : (w : StepContext) (o : PrivateState) (k : Counting) (m last : ℤ) → IsAwake o → Alike (count_to (at w) (moved o) k m last) (count_to w o k m last)
   count_alike w o k m last is =
       subst (λ a. Alike (count_at (moved o) k a m last) (count_to w o k m last)) (sym (same_root w o k.variable))
       (guard_alike (within k.low k.high m) o fault.Range _ _ (record { same = refl; effect = refl; awake = is }))
@@ -284,11 +284,11 @@ module _ (W : Activity → Bool) (faulted : (f : Fault) → W (Faulted f) ≡ fa
   set_alike : (o : PrivateState) (low high : ℤ) (a : ℕ) (m : ℤ) (next : ℕ) → IsAwake o → Alike (set_within (moved o) low high a m next) (set_within o low high a m next)
   set_alike o low high a m next is = guard_alike (within low high m) o fault.Range _ _ (record { same = refl; effect = refl; awake = is })
 
-  first_count_alike : (w : Outside) (o : PrivateState) (k : Counting) (m n : ℤ) → IsAwake o → Alike (first_count (at w) (moved o) k m n) (first_count w o k m n)
+  first_count_alike : (w : StepContext) (o : PrivateState) (k : Counting) (m n : ℤ) → IsAwake o → Alike (first_count (at w) (moved o) k m n) (first_count w o k m n)
   first_count_alike w o k m n is =
       choice_alike (is_past k.down m n) _ _ _ _ (record { same = refl; effect = refl; awake = is }) (count_alike w o k m n is)
 
-  next_count_alike : (w : Outside) (o : PrivateState) (k : Counting) (m n : ℤ) → IsAwake o → Alike (next_count (at w) (moved o) k m n) (next_count w o k m n)
+  next_count_alike : (w : StepContext) (o : PrivateState) (k : Counting) (m n : ℤ) → IsAwake o → Alike (next_count (at w) (moved o) k m n) (next_count w o k m n)
   next_count_alike w o k m n is =
       choice_alike (same_integer m n) _ _ _ _ (record { same = refl; effect = refl; awake = is }) (count_alike w o k (next_counter k.down m) n is)
 
@@ -310,14 +310,14 @@ module _ (W : Activity → Bool) (faulted : (f : Fault) → W (Faulted f) ≡ fa
       choice_alike (is_held f.gate) _ _ _ _
       (return_alike o (set_word o a (pos 0)) f fs function (Continues f.gate (word o.words a)) is) (record { same = refl; effect = refl; awake = is }))
 
-  pub act_alike : (program : Program) (w : Outside) (o : PrivateState) (x : Operation) → operation_is_timeless x ≡ true → IsAwake o
+  pub act_alike : (program : Program) (w : StepContext) (o : PrivateState) (x : Operation) → operation_is_timeless x ≡ true → IsAwake o
       → Alike (act program (at w) (moved o) x) (act program w o x)
   act_alike program w o (op.Set to low high value next) t is =
-      let each = both (spot_is_timeless to) (term_is_timeless value) t in
+      let each = both (place_expression_is_timeless to) (term_is_timeless value) t in
       place_alike w o to _ _ each.0 (λ a. value_alike w o value _ _ each.1 (λ m. set_alike o low high a m next is))
   act_alike program w o (op.SetResult low high value next) t is = value_alike w o value _ _ t (λ m. set_alike o low high o.base m next is)
   act_alike program w o (op.CopyWords to from size next) t is =
-      let each = both (spot_is_timeless to) (spot_is_timeless from) t in
+      let each = both (place_expression_is_timeless to) (place_expression_is_timeless from) t in
       place_alike w o to _ _ each.0 (λ a. place_alike w o from _ _ each.1 (λ b. record { same = refl; effect = refl; awake = is }))
   act_alike program w o (op.Test value yes' no') t is = value_alike w o value _ _ t (λ m. record { same = refl; effect = refl; awake = is })
   act_alike program w o (op.Case value table) t is = value_alike w o value _ _ t (λ m. arm_alike o (place_in table m) is)

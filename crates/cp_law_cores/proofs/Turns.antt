@@ -6,9 +6,9 @@ use Rattle.cp_model.proofs.Options.{same_some}
 use Rattle.cp_model.specs.States.{is_in, numbers_from}
 use Rattle.cp_model.proofs.Lists.{in_head, in_more}
 use Rattle.cp_model_program.specs.Programs.{Operation, Program}
-use Rattle.cp_model_machine.specs.KernelSteps.{Asking, Begun, Delayed, Fresh, Kernel, Stage, Unstarted, stage_of}
+use Rattle.cp_model_machine.specs.KernelSteps.{Asking, Begun, Delayed, Fresh, Kernel, SchedulingState, Unstarted, stage_of}
 use Rattle.cp_model_machine.specs.Machines.{begin_if, begin_one, next_stage}
-use Rattle.cp_model_machine.specs.PrivateStates.{Outside, PrivateState, is_running}
+use Rattle.cp_model_machine.specs.PrivateStates.{StepContext, PrivateState, is_running}
 use Rattle.cp_model_machine.specs.Steps.{act_on, alone, is_private, operation_of, private_step, private_steps}
 use Rattle.cp_law_cores.specs.Clocks.{is_timeless}
 use Rattle.cp_law_cores.specs.Cores.{Core, close, core_moves, is_private_on, part, private_at, put, silent, turned}
@@ -23,7 +23,7 @@ use Rattle.cp_law_cores.proofs.Settling.{steps_on, within_on}
 module _ (program : Program) (timeless : is_timeless program ≡ true) where
   -- ---- What was written doesn't matter
 
-  act_quiet : (w : Outside) (o : PrivateState) (x : Option Operation) → operation_of program o ≡ x
+  act_quiet : (w : StepContext) (o : PrivateState) (x : Option Operation) → operation_of program o ≡ x
       → silent (act_on program w (silent o) x).0 ≡ silent (act_on program w o x).0
   act_quiet w o None e = refl
   act_quiet w o (Some x) e = (act_alike (λ a. false) (λ f. refl) refl w.clock [] program w o x (timeless_at program.operations o.counter x timeless e) refl).same
@@ -148,14 +148,14 @@ module _ (program : Program) (timeless : is_timeless program ≡ true) where
 
 -- ---- Nobody begins
 
-none_next : (gs : List Stage) → ((i : ℕ) → at gs i ≡ Fresh → ⊥) → map next_stage gs ≡ gs
+none_next : (gs : List SchedulingState) → ((i : ℕ) → at gs i ≡ Fresh → ⊥) → map next_stage gs ≡ gs
 none_next [] h = refl
 none_next (g ∷ gs) h =
     let first = by g (h 0) in
     let rest = none_next gs (λ i. h (suc i)) in
     λ j. first j ∷ rest j
   where
-    by : (g : Stage) → (g ≡ Fresh → ⊥) → next_stage g ≡ g
+    by : (g : SchedulingState) → (g ≡ Fresh → ⊥) → next_stage g ≡ g
     by Fresh h = absurd (h refl)
     by Unstarted h = refl
     by Begun h = refl
@@ -169,7 +169,7 @@ none_begin program k (o ∷ os) h =
     let rest = none_begin program k os h in
     λ j. first j ∷ rest j
   where
-    by : (g : Stage) → (g ≡ Fresh → ⊥) → begin_if program k o g ≡ o
+    by : (g : SchedulingState) → (g ≡ Fresh → ⊥) → begin_if program k o g ≡ o
     by Fresh h = absurd (h refl)
     by Unstarted h = refl
     by Begun h = refl

@@ -9,7 +9,7 @@ use Rattle.cp_model.specs.Rounds.{close_round}
 use Rattle.cp_model.specs.Start.{start}
 use Rattle.cp_model.specs.States.{Setup, State, is_in, process_count, processes}
 use Rattle.cp_model_program.specs.Programs.{Program}
-use Rattle.cp_model_program.specs.StandsFor.{StandsFor}
+use Rattle.cp_model_program.specs.IsProgramFor.{IsProgramFor}
 use Rattle.cp_law_stillness.specs.Stillness.{is_still}
 use Rattle.cp_law_cores.specs.Clocks.{is_timeless}
 use Rattle.cp_law_cores.specs.Cores.{Core, core, core_moves, is_kernel_on, part}
@@ -26,7 +26,7 @@ use Rattle.cp_law_cores.proofs.Runs.{acts_of, all_ones, all_ones_within, replay_
 use Rattle.cp_law_cores.proofs.Schedules.{acts_are_of, calm_first, first, inside_first, last, last_is_in, last_sees, last_settled}
 use Rattle.cp_law_cores.proofs.Settling.{settled_is, settles_here, still_settles}
 use Rattle.cp_law_cores.proofs.Starting.{first_sees}
-use Rattle.cp_law_cores.proofs.Verdicts.{core_tells_end, core_tells_sound, core_tells_still, settled_sound}
+use Rattle.cp_law_cores.proofs.Verdicts.{core_reports_end, core_reports_sound, core_reports_still, settled_sound}
 
 module _ (program : Program) (setup : Setup) (timeless : is_timeless program ≡ true) where
   abbrev M : Moves Core
@@ -78,14 +78,14 @@ module _ (program : Program) (setup : Setup) (timeless : is_timeless program ≡
           at = s.at;
           member = h.member;
           settles = s.settles;
-          twins = record { state = s.twins.state; one = s.twins.one; other = h.stands s.twins.state s.twins.other };
+          twins = record { state = s.twins.state; one = s.twins.one; other = h.represents s.twins.state s.twins.other };
           known = h.known;
         }
 
     itself : (v x : Core) → V v → x ≡ v → LeadsTo program setup V x
     itself v x known e =
         subst (LeadsTo program setup V) (sym e)
-        (record { at = v; member = v; settles = settles_here M v (closed.settled v known); stands = λ s h. h; known = known })
+        (record { at = v; member = v; settles = settles_here M v (closed.settled v known); represents = λ s h. h; known = known })
 
     kernel_leads : (v : Core) (p : ℕ) → V v → is_in p (processes setup) ≡ true → LeadsTo program setup V (M.kernel v p)
     kernel_leads v p known there = by (is_kernel_on program v.kernel (part v.parts p)) refl
@@ -156,7 +156,7 @@ module _ (program : Program) (setup : Setup) (timeless : is_timeless program ≡
 pub as_core_of : (program : Program) (setup : Setup) (s : State) (c : Core) → IsCoreIn program setup s c → IsCoreOf setup s c
 as_core_of program setup s c h = record { machine = h.machine; inside = h.inside; is = h.is }
 
-pub first_in : (program : Program) (setup : Setup) → StandsFor program setup → is_timeless program ≡ true → IsCoreIn program setup (start setup) (first_core program setup)
+pub first_in : (program : Program) (setup : Setup) → IsProgramFor program setup → is_timeless program ≡ true → IsCoreIn program setup (start setup) (first_core program setup)
 first_in program setup F timeless = record {
   machine = first program setup F timeless;
   program_is = refl;
@@ -182,18 +182,18 @@ no_order_is_stuck_up_to program setup vs rs F timeless closed begins fine within
     let one = as_core_of program setup u h.at h.twins.one in
     let other = as_core_of program setup u h.member h.twins.other in
     let sound : core_is_sound n h.at ≡ true =
-    core_tells_sound setup u h.at one ∙ (sym (core_tells_sound setup u h.member other) ∙ fine.sound h.member h.known) in
+    core_reports_sound setup u h.at one ∙ (sym (core_reports_sound setup u h.member other) ∙ fine.sound h.member h.known) in
     subst (λ (z : State).
     (all_pass has_no_fault z (processes setup) ≡ true) × (is_still setup z ≡ true → all_pass has_ended z (processes setup) ≡ true))
     (replay_ones setup rs (start setup)) (
-      sym (core_tells_sound setup s (core m) at_last) ∙ settled_sound n (core m) h.at (processes setup) program h.settles sound,
+      sym (core_reports_sound setup s (core m) at_last) ∙ settled_sound n (core m) h.at (processes setup) program h.settles sound,
       λ still.
           let calm = last_settled program setup F timeless ess ok still in
           let is : h.at ≡ core m = settled_is (core_moves program n) (IsCalm program) (core_independent program n) (core m) h.at calm h.settles in
           let still_there : core_is_still n h.member ≡ true =
-          core_tells_still setup u h.member other
-          ∙ (sym (core_tells_still setup u h.at one) ∙ (ap (core_is_still n) is ∙ (core_tells_still setup s (core m) at_last ∙ still))) in
+          core_reports_still setup u h.member other
+          ∙ (sym (core_reports_still setup u h.at one) ∙ (ap (core_is_still n) is ∙ (core_reports_still setup s (core m) at_last ∙ still))) in
           let ended : core_has_ended n h.at ≡ true =
-          core_tells_end setup u h.at one ∙ (sym (core_tells_end setup u h.member other) ∙ fine.ended h.member h.known still_there) in
-          sym (core_tells_end setup s (core m) at_last) ∙ (ap (core_has_ended n) (sym is) ∙ ended),
+          core_reports_end setup u h.at one ∙ (sym (core_reports_end setup u h.member other) ∙ fine.ended h.member h.known still_there) in
+          sym (core_reports_end setup s (core m) at_last) ∙ (ap (core_has_ended n) (sym is) ∙ ended),
     )

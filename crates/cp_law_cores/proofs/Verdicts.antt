@@ -15,16 +15,16 @@ use Rattle.cp_model_machine.specs.Addresses.{Ground}
 use Rattle.cp_model_machine.specs.InState.{IsIn}
 use Rattle.cp_model_machine.specs.KernelOf.{StageMeans, kernel_ground}
 use Rattle.cp_model_machine.specs.KernelSteps as kernel
-use Rattle.cp_model_machine.specs.KernelSteps.{Stage, stage_of}
+use Rattle.cp_model_machine.specs.KernelSteps.{SchedulingState, stage_of}
 use Rattle.cp_model_machine.specs.Machines.{Machine}
 use Rattle.cp_model_machine.specs.PartOf.{status_of}
 use Rattle.cp_model_machine.specs.PrivateStates as machine
 use Rattle.cp_model_machine.specs.PrivateStates.{Activity, PrivateState, is_running}
 use Rattle.cp_law_stillness.specs.Stillness.{can_move, is_still, none_can_move}
 use Rattle.cp_law_cores.specs.Cores.{Core, core, core_moves, part, silent}
-use Rattle.cp_law_cores.specs.Laws.{CoreTellsEnd, CoreTellsSound, CoreTellsStill, NoOrderIsStuck}
+use Rattle.cp_law_cores.specs.Laws.{CoreReportsEnd, CoreReportsSound, CoreReportsStill, NoOrderIsStuck}
 use Rattle.cp_law_cores.specs.Schedules as seen
-use Rattle.cp_law_cores.specs.Schedules.{IsCoreOf, all_parts, all_pass, core_has_ended, core_is_sound, core_is_still, goes_on, has_ended, has_no_fault, is_end, is_sound, moves, none_moves, part_passes}
+use Rattle.cp_law_cores.specs.Schedules.{IsCoreOf, all_parts, all_pass, core_has_ended, core_is_sound, core_is_still, is_active, has_ended, has_no_fault, is_end, is_sound, moves, none_moves, part_passes}
 use Rattle.cp_law_cores.specs.Moves.{Settles}
 use Rattle.cp_law_cores.proofs.Parts.{map_got}
 use Rattle.cp_law_cores.proofs.Runs.{in_range}
@@ -32,14 +32,14 @@ use Rattle.cp_law_cores.proofs.Schedules.{got, orders_stay_within, still_states_
 
 -- ---- One process
 
-status_moves : (G : Ground) (x : Status) (y : Stage) (a : Activity) → StageMeans G x y → private_status x ≡ status_of a → can_move x ≡ moves y a
+status_moves : (G : Ground) (x : Status) (y : SchedulingState) (a : Activity) → StageMeans G x y → private_status x ≡ status_of a → can_move x ≡ moves y a
 status_moves G status.Unstarted kernel.Unstarted a h e = refl
 status_moves G status.Fresh kernel.Fresh a h e = refl
 status_moves G (status.Asking m) (kernel.Asking k) a h e = refl
 status_moves G (status.Delayed m q) (kernel.Delayed k n) a h e = refl
 status_moves G status.Ready kernel.Begun a h e = by a e
   where
-    by : (z : Activity) → ◌≡◌ {A = PrivateStatus} parts.Running (status_of z) → true ≡ goes_on z
+    by : (z : Activity) → ◌≡◌ {A = PrivateStatus} parts.Running (status_of z) → true ≡ is_active z
     by machine.Running e = refl
     by machine.Waiting e = refl
     by machine.NotBegun e = absurd (cc)
@@ -47,7 +47,7 @@ status_moves G status.Ready kernel.Begun a h e = by a e
     by (machine.Faulted f) e = absurd (cc)
 status_moves G status.Waiting kernel.Begun a h e = by a e
   where
-    by : (z : Activity) → ◌≡◌ {A = PrivateStatus} parts.Sleeping (status_of z) → true ≡ goes_on z
+    by : (z : Activity) → ◌≡◌ {A = PrivateStatus} parts.Sleeping (status_of z) → true ≡ is_active z
     by machine.Running e = refl
     by machine.Waiting e = refl
     by machine.NotBegun e = absurd (cc)
@@ -55,7 +55,7 @@ status_moves G status.Waiting kernel.Begun a h e = by a e
     by (machine.Faulted f) e = absurd (cc)
 status_moves G status.Ended kernel.Begun a h e = by a e
   where
-    by : (z : Activity) → ◌≡◌ {A = PrivateStatus} parts.Finished (status_of z) → false ≡ goes_on z
+    by : (z : Activity) → ◌≡◌ {A = PrivateStatus} parts.Finished (status_of z) → false ≡ is_active z
     by machine.Running e = absurd (cc)
     by machine.Waiting e = absurd (cc)
     by machine.NotBegun e = refl
@@ -63,7 +63,7 @@ status_moves G status.Ended kernel.Begun a h e = by a e
     by (machine.Faulted f) e = refl
 status_moves G (status.Faulted n) kernel.Begun a h e = by a e
   where
-    by : (z : Activity) → ◌≡◌ {A = PrivateStatus} (parts.Failed n) (status_of z) → false ≡ goes_on z
+    by : (z : Activity) → ◌≡◌ {A = PrivateStatus} (parts.Failed n) (status_of z) → false ≡ is_active z
     by machine.Running e = absurd (cc)
     by machine.Waiting e = absurd (cc)
     by machine.NotBegun e = refl
@@ -132,54 +132,54 @@ same_tests f g s c (p ∷ ps) same =
     λ i. if here i then rest i else false
 
 module _ (m : Machine) (setup : Setup) (s : State) (I : IsIn m setup s) where
-  pub record Told (p : ℕ) : Type 0 where
+  pub record Reported (p : ℕ) : Type 0 where
     pub own : PrivateState
     pub there : part (core m).parts p ≡ Some own
     pub moving : can_move (s.status p) ≡ moves (stage_of m.kernel.stages own.number) own.activity
     pub private : private_status (s.status p) ≡ status_of own.activity
 
-  pub told : (p : ℕ) → (1 ≤ p) × (p ≤ process_count setup) → Told p
-  told zero range = absurd (let low = range.0 in Prim.omega (arith, low))
-  told (suc i) range =
+  pub reported : (p : ℕ) → (1 ≤ p) × (p ≤ process_count setup) → Reported p
+  reported zero range = absurd (let low = range.0 in Prim.omega (arith, low))
+  reported (suc i) range =
       let high = range.1 in
       let count = I.part_count in
-      let stages = I.kernel.gates_stand.stage_count in
+      let stages = I.kernel.gates_represent.stage_count in
       let x = got m.parts i (Prim.omega (arith, high, count)) in
       let place : i ≡ suc i - 1 = Prim.omega arith in
-      let stands = I.parts (suc i) x.0 (Prim.omega arith) (subst (λ k. slice_get m.parts k ≡ Some x.0) place x.1) in
+      let represents = I.parts (suc i) x.0 (Prim.omega arith) (subst (λ k. slice_get m.parts k ≡ Some x.0) place x.1) in
       record {
         own = silent x.0;
         there = map_got silent m.parts i x.0 x.1;
         moving =
-            status_moves (kernel_ground m.program I.stands.texts setup) (s.status (suc i)) (stage_of m.kernel.stages (suc i)) x.0.activity
-            (I.kernel.gates_stand.stages (suc i) (Prim.omega arith) (Prim.omega (arith, high, stages))) stands.part.status
-            ∙ ap (λ n. moves (stage_of m.kernel.stages n) x.0.activity) (sym stands.part.number);
-        private = stands.part.status;
+            status_moves (kernel_ground m.program I.represents.texts setup) (s.status (suc i)) (stage_of m.kernel.stages (suc i)) x.0.activity
+            (I.kernel.gates_represent.stages (suc i) (Prim.omega arith) (Prim.omega (arith, high, stages))) represents.part.status
+            ∙ ap (λ n. moves (stage_of m.kernel.stages n) x.0.activity) (sym represents.part.number);
+        private = represents.part.status;
       }
 
-  tells_still : core_is_still (process_count setup) (core m) ≡ is_still setup s
-  tells_still = same_moves s (core m) (processes setup) (λ p h.
-      let t = told p (in_range setup p h) in
+  reports_still : core_is_still (process_count setup) (core m) ≡ is_still setup s
+  reports_still = same_moves s (core m) (processes setup) (λ p h.
+      let t = reported p (in_range setup p h) in
       ap (seen.can_move m.kernel) t.there ∙ sym t.moving)
 
-  tells_end : core_has_ended (process_count setup) (core m) ≡ all_pass has_ended s (processes setup)
-  tells_end = same_tests is_end has_ended s (core m) (processes setup) (λ p h.
-      let t = told p (in_range setup p h) in
+  reports_end : core_has_ended (process_count setup) (core m) ≡ all_pass has_ended s (processes setup)
+  reports_end = same_tests is_end has_ended s (core m) (processes setup) (λ p h.
+      let t = reported p (in_range setup p h) in
       ap (part_passes is_end) t.there ∙ (end_by t.own.activity ∙ (ap private_ended (sym t.private) ∙ sym (ended_by (s.status p)))))
 
-  tells_sound : core_is_sound (process_count setup) (core m) ≡ all_pass has_no_fault s (processes setup)
-  tells_sound = same_tests is_sound has_no_fault s (core m) (processes setup) (λ p h.
-      let t = told p (in_range setup p h) in
+  reports_sound : core_is_sound (process_count setup) (core m) ≡ all_pass has_no_fault s (processes setup)
+  reports_sound = same_tests is_sound has_no_fault s (core m) (processes setup) (λ p h.
+      let t = reported p (in_range setup p h) in
       ap (part_passes is_sound) t.there ∙ (sound_by t.own.activity ∙ (ap private_sound (sym t.private) ∙ sym (no_fault_by (s.status p)))))
 
-pub core_tells_still : CoreTellsStill
-core_tells_still setup s c h = subst (λ z. core_is_still (process_count setup) z ≡ is_still setup s) h.is (tells_still h.machine setup s h.inside)
+pub core_reports_still : CoreReportsStill
+core_reports_still setup s c h = subst (λ z. core_is_still (process_count setup) z ≡ is_still setup s) h.is (reports_still h.machine setup s h.inside)
 
-pub core_tells_end : CoreTellsEnd
-core_tells_end setup s c h = subst (λ z. core_has_ended (process_count setup) z ≡ all_pass has_ended s (processes setup)) h.is (tells_end h.machine setup s h.inside)
+pub core_reports_end : CoreReportsEnd
+core_reports_end setup s c h = subst (λ z. core_has_ended (process_count setup) z ≡ all_pass has_ended s (processes setup)) h.is (reports_end h.machine setup s h.inside)
 
-pub core_tells_sound : CoreTellsSound
-core_tells_sound setup s c h = subst (λ z. core_is_sound (process_count setup) z ≡ all_pass has_no_fault s (processes setup)) h.is (tells_sound h.machine setup s h.inside)
+pub core_reports_sound : CoreReportsSound
+core_reports_sound setup s c h = subst (λ z. core_is_sound (process_count setup) z ≡ all_pass has_no_fault s (processes setup)) h.is (reports_sound h.machine setup s h.inside)
 
 -- ---- The verdict
 
@@ -237,8 +237,8 @@ no_order_is_stuck program setup vs v rs F timeless closed known settles fine wit
     let n = process_count setup in
     let r = orders_stay_within program setup vs v rs F timeless closed known settles within in
     let sound = settled_sound n r.settles.core_of r.member (processes setup) program r.settles.settles (fine.sound r.member r.known) in (
-      sym (core_tells_sound setup s r.settles.core_of r.settles.stands) ∙ sound,
+      sym (core_reports_sound setup s r.settles.core_of r.settles.represents) ∙ sound,
       λ still.
           let c = still_states_are_within program setup vs v rs F timeless closed known settles within still in
-          sym (core_tells_end setup s c.member c.stands) ∙ fine.ended c.member c.known (core_tells_still setup s c.member c.stands ∙ still),
+          sym (core_reports_end setup s c.member c.represents) ∙ fine.ended c.member c.known (core_reports_still setup s c.member c.represents ∙ still),
     )

@@ -16,12 +16,12 @@ use Rattle.cp_model_program.specs.Programs.{Call, Operation, Program}
 use Rattle.cp_model_program.specs.Starts.{word}
 use Rattle.cp_model_program.specs.TermsFor.{Knowns, nothing_known}
 use Rattle.cp_model_machine.specs.Addresses.{Activation, ComponentLies, Ground, OwnWords, RightMeans, activation_at, activations, component_type, in_sight, lies, scope, whole, words_seen}
-use Rattle.cp_model_machine.specs.InState.{IsIn, PartStands}
+use Rattle.cp_model_machine.specs.InState.{IsIn, PartRepresents}
 use Rattle.cp_model_machine.specs.Laws.{ground_of}
-use Rattle.cp_model_machine.specs.Left.{Left, Running, Runs, held_below}
+use Rattle.cp_model_machine.specs.Remaining.{Remaining, Running, Runs, held_below}
 use Rattle.cp_model_machine.specs.Machines.{Machine, transcript_of}
 use Rattle.cp_model_machine.specs.Means.{CellMeans}
-use Rattle.cp_model_machine.specs.PartOf.{DataMeans, GoesOn, PartOf, RunsOn}
+use Rattle.cp_model_machine.specs.PartOf.{DataMeans, IsActive, PartOf, RunsOn}
 use Rattle.cp_model_machine.specs.PrivateStates as machine
 use Rattle.cp_model_machine.specs.PrivateStates.{Activity, PrivateState}
 use Rattle.cp_model_machine.specs.Steps.{operation_of}
@@ -29,14 +29,14 @@ use Rattle.cp_model_machine.proofs.Apart.{InHead, cell_head}
 use Rattle.cp_model_machine.proofs.Owned.{OwnRight}
 use Rattle.cp_model_machine.proofs.Finding.{some_is_not_none}
 use Rattle.cp_model_machine.proofs.Keeping.{each_kept, right_place}
-use Rattle.cp_model_machine.proofs.LeftKept.{SameBelow}
+use Rattle.cp_model_machine.proofs.RemainingKept.{SameBelow}
 use Rattle.cp_model_machine.proofs.RunningOn.{runs_kept}
 use Rattle.cp_model_machine.proofs.Separate.{cell_below, cell_inside, own_right_below, own_right_inside}
 use Rattle.cp_model_machine.proofs.Stacks.{Stack, Stacked}
 use Rattle.cp_model_machine.proofs.Writing.{is_cell}
 use Rattle.cp_model_machine.specs.Beginning.{Begins}
 use Rattle.cp_law_cores.specs.Cores.{silent}
-use Rattle.cp_law_cores.specs.Laws.{WipedStands}
+use Rattle.cp_law_cores.specs.Laws.{WipedRepresents}
 use Rattle.cp_law_cores.specs.Schedules.{AreAwake, waits}
 use Rattle.cp_law_cores.specs.Wiping.{arguments_are_free, cleared, temps_at, wiped, wiped_body, wiped_core, wiped_in}
 use Rattle.cp_law_cores.proofs.FreeArguments.{left_freed}
@@ -67,7 +67,7 @@ no_activations b (EndBody gate ∷ k) = refl
 no_activations b (EndProcess ∷ k) = no_activations b k
 
 -- The component lies below the words of the body.
-bottom : (G : Ground) (ts : List ℤ) (limit : ℕ) (K : Knowns) (R : Running) (place low : ℕ) (k : List Task) → Left G ts limit K R [] place low k → Stack G R.base []
+bottom : (G : Ground) (ts : List ℤ) (limit : ℕ) (K : Knowns) (R : Running) (place low : ℕ) (k : List Task) → Remaining G ts limit K R [] place low k → Stack G R.base []
 bottom G ts limit K R place low [] h = absurd h
 bottom G ts limit K R place low (Do s e ∷ k) h = bottom G ts limit nothing_known R h.2.0 h.2.1 k h.2.4
 bottom G ts limit K R place low (WhileTest now e s env ∷ k) h = bottom G ts limit nothing_known R h.1.0 h.1.1 k h.1.4
@@ -96,7 +96,7 @@ module _ (G : Ground) (sight : G.sight ≡ OwnWords) (store : Store) (o : Privat
         subst (Stack G o.base) (sym none_left)
         (subst (λ b. Stack G b []) (sym R.base)
         (bottom G o.temps o.limit (held_below R.live o.temps R.running.temp) R.running o.counter R.running.unit.temps k
-        (subst (λ fs. Left G o.temps o.limit (held_below R.live o.temps R.running.temp) R.running fs o.counter R.running.unit.temps k) bare R.left)));
+        (subst (λ fs. Remaining G o.temps o.limit (held_below R.live o.temps R.running.temp) R.running fs o.counter R.running.unit.temps k) bare R.left)));
     fits = omega (arith, R.base, R.runs.words_fit);
   }
 
@@ -172,7 +172,7 @@ module _ (G : Ground) (sight : G.sight ≡ OwnWords) (store : Store) (o : Privat
 
 module _ (program : Program) (setup : Setup) (G : Ground) (sight : G.sight ≡ OwnWords) (s : State) (before : List ℕ) (o : PrivateState) (part : PartOf G s before o) (runs : o.activity ≡ machine.Running) where
   running_on : RunsOn G s.store o (s.continuation G.p)
-  running_on = part.runs_on (subst GoesOn (sym runs) tt)
+  running_on = part.runs_on (subst IsActive (sym runs) tt)
 
   -- The words alone.
   words_part : o.frames ≡ [] → PartOf G s before (record o { words = cleared o.base o.words })
@@ -296,32 +296,32 @@ wiped_machine m = record m { parts = map (wiped m.program) m.parts }
 
 wiped_is_in : (m : Machine) (setup : Setup) (s : State) → IsIn m setup s → IsIn (wiped_machine m) setup s
 wiped_is_in m setup s I = record {
-  stands = I.stands;
+  represents = I.represents;
   tick = I.tick;
   rounds = I.rounds;
   part_count = length-map m.parts (wiped m.program) ∙ I.part_count;
   transcript_count = I.transcript_count;
   parts = λ p z low there.
       let f = mapped (wiped m.program) m.parts (p - 1) z there in
-      subst (PartStands (wiped_machine m) setup I.stands s p) f.2 (stands p f.0 (I.parts p f.0 low f.1));
+      subst (PartRepresents (wiped_machine m) setup I.represents s p) f.2 (represents p f.0 (I.parts p f.0 low f.1));
   kernel = I.kernel;
   order = I.order;
 }
   where
-    stands : (p : ℕ) (o : PrivateState) → PartStands m setup I.stands s p o → PartStands (wiped_machine m) setup I.stands s p (wiped m.program o)
-    stands p o P = record {
+    represents : (p : ℕ) (o : PrivateState) → PartRepresents m setup I.represents s p o → PartRepresents (wiped_machine m) setup I.represents s p (wiped m.program o)
+    represents p o P = record {
       part =
-          subst (λ n. PartOf (ground_of m.program setup I.stands p n) s (transcript_of m.transcripts p) (wiped m.program o)) (sym (wiped_length m.program o))
-          (part_wiped (ground_of m.program setup I.stands p (length o.words)) refl s (transcript_of m.transcripts p) o P.part);
+          subst (λ n. PartOf (ground_of m.program setup I.represents p n) s (transcript_of m.transcripts p) (wiped m.program o)) (sym (wiped_length m.program o))
+          (part_wiped (ground_of m.program setup I.represents p (length o.words)) refl s (transcript_of m.transcripts p) o P.part);
       begins = λ h.
           let B = P.begins h in
           let same : o ≡ wiped m.program o = sym (ap (wiped_in m.program o) B.activity_is) in
-          subst (λ (z : PrivateState). Begins (ground_of m.program setup I.stands p (length z.words)) s m.kernel z) same B;
+          subst (λ (z : PrivateState). Begins (ground_of m.program setup I.represents p (length z.words)) s m.kernel z) same B;
     }
 
 -- The wiped core stands for whatever states the core does.
-pub wiped_stands : WipedStands
-wiped_stands program setup c s h = record {
+pub wiped_represents : WipedRepresents
+wiped_represents program setup c s h = record {
   machine = wiped_machine h.machine;
   program_is = h.program_is;
   awake = parts_awake h.machine.program h.machine.parts h.awake;

@@ -9,13 +9,13 @@ use Rattle.cp_model.specs.States.{Setup, State, is_in, process_count, processes}
 use Rattle.cp_model.specs.Turns.{private_step}
 use Rattle.cp_law_stillness.specs.Stillness.{AreAllOfProcesses, AreOfProcesses, is_still}
 use Rattle.cp_model_program.specs.Programs.{Program}
-use Rattle.cp_model_program.specs.StandsFor.{StandsFor}
+use Rattle.cp_model_program.specs.IsProgramFor.{IsProgramFor}
 use Rattle.cp_model_machine.specs.Machines.{first_machine}
 use Rattle.cp_law_cores.specs.Clocks.{is_timeless}
 use Rattle.cp_law_cores.specs.Cores.{Core, close, core, core_moves}
 use Rattle.cp_law_cores.specs.Moves.{IsClosed, IsSettled, ReducedFrom, Settles}
 use Rattle.cp_law_cores.specs.Turns.{AreSilent, NoneFresh, private_turns}
-use Rattle.cp_law_cores.specs.Schedules.{HasFault, IsClosedUpTo, LeadsTo, IsCoreIn, IsCoreOf, IsReduced, IsWithin, SettlesWithin, StandsIn, all_pass, core_has_ended, core_is_sound, core_is_still, has_ended, has_no_fault, with_one}
+use Rattle.cp_law_cores.specs.Schedules.{HasFault, IsClosedUpTo, LeadsTo, IsCoreIn, IsCoreOf, IsReduced, IsWithin, SettlesWithin, IsCoveredBy, all_pass, core_has_ended, core_is_sound, core_is_still, has_ended, has_no_fault, with_one}
 use Rattle.cp_law_cores.specs.Wiping.{wiped_core}
 use Rattle.cp_law_cores.specs.States.{AreReducedRounds, EndSettled, IsReducedRound, Settled, settles}
 
@@ -65,7 +65,7 @@ first_core program setup = core (first_machine program setup.tick setup.inputs)
 abbrev pub OrdersStayWithin : Type 0
 OrdersStayWithin =
     (program : Program) (setup : Setup) (vs : List Core) (v : Core) (rounds : List (ℕ × List Event))
-    → StandsFor program setup → is_timeless program ≡ true → IsClosed (core_moves program (process_count setup)) (Contains vs)
+    → IsProgramFor program setup → is_timeless program ≡ true → IsClosed (core_moves program (process_count setup)) (Contains vs)
     → Contains vs v → Settles (core_moves program (process_count setup)) (first_core program setup) v
     → AreAllOfProcesses setup rounds → SettlesWithin program setup (Contains vs) (replay setup (start setup) rounds)
 
@@ -73,7 +73,7 @@ OrdersStayWithin =
 abbrev pub StillStatesAreWithin : Type 0
 StillStatesAreWithin =
     (program : Program) (setup : Setup) (vs : List Core) (v : Core) (rounds : List (ℕ × List Event))
-    → StandsFor program setup → is_timeless program ≡ true → IsClosed (core_moves program (process_count setup)) (Contains vs)
+    → IsProgramFor program setup → is_timeless program ≡ true → IsClosed (core_moves program (process_count setup)) (Contains vs)
     → Contains vs v → Settles (core_moves program (process_count setup)) (first_core program setup) v
     → AreAllOfProcesses setup rounds
     → let s = replay setup (start setup) rounds in
@@ -84,7 +84,7 @@ StillStatesAreWithin =
 abbrev pub StillStatesAreReduced : Type 0
 StillStatesAreReduced =
     (program : Program) (setup : Setup) (rounds : List (ℕ × List Event))
-    → StandsFor program setup → is_timeless program ≡ true → AreAllOfProcesses setup rounds
+    → IsProgramFor program setup → is_timeless program ≡ true → AreAllOfProcesses setup rounds
     → let s = replay setup (start setup) rounds in
     is_still setup s ≡ true → IsReduced program setup (length rounds) s
 
@@ -93,7 +93,7 @@ StillStatesAreReduced =
 abbrev pub ReducedIsOrder : Type 0
 ReducedIsOrder =
     (program : Program) (setup : Setup) (n : ℕ) (c : Core)
-    → StandsFor program setup → is_timeless program ≡ true
+    → IsProgramFor program setup → is_timeless program ≡ true
     → ReducedFrom (core_moves program (process_count setup)) (first_core program setup) n c
     → (rounds : List (ℕ × List Event)) × AreAllOfProcesses setup rounds × (length rounds ≡ n + 1)
     × IsCoreOf setup (replay setup (start setup) rounds) (close program c)
@@ -102,7 +102,7 @@ ReducedIsOrder =
 abbrev pub FaultsAreWithin : Type 0
 FaultsAreWithin =
     (program : Program) (setup : Setup) (vs : List Core) (v : Core) (rounds : List (ℕ × List Event)) (p number : ℕ)
-    → StandsFor program setup → is_timeless program ≡ true → IsClosed (core_moves program (process_count setup)) (Contains vs)
+    → IsProgramFor program setup → is_timeless program ≡ true → IsClosed (core_moves program (process_count setup)) (Contains vs)
     → Contains vs v → Settles (core_moves program (process_count setup)) (first_core program setup) v
     → AreAllOfProcesses setup rounds → is_in p (processes setup) ≡ true
     → (replay setup (start setup) rounds).status p ≡ Faulted number
@@ -111,14 +111,14 @@ FaultsAreWithin =
 -- ---- What cores tell
 
 -- Whether the state is still, all processes have ended, or none has faulted, is read off its core.
-abbrev pub CoreTellsStill : Type 0
-CoreTellsStill = (setup : Setup) (s : State) (c : Core) → IsCoreOf setup s c → core_is_still (process_count setup) c ≡ is_still setup s
+abbrev pub CoreReportsStill : Type 0
+CoreReportsStill = (setup : Setup) (s : State) (c : Core) → IsCoreOf setup s c → core_is_still (process_count setup) c ≡ is_still setup s
 
-abbrev pub CoreTellsEnd : Type 0
-CoreTellsEnd = (setup : Setup) (s : State) (c : Core) → IsCoreOf setup s c → core_has_ended (process_count setup) c ≡ all_pass has_ended s (processes setup)
+abbrev pub CoreReportsEnd : Type 0
+CoreReportsEnd = (setup : Setup) (s : State) (c : Core) → IsCoreOf setup s c → core_has_ended (process_count setup) c ≡ all_pass has_ended s (processes setup)
 
-abbrev pub CoreTellsSound : Type 0
-CoreTellsSound = (setup : Setup) (s : State) (c : Core) → IsCoreOf setup s c → core_is_sound (process_count setup) c ≡ all_pass has_no_fault s (processes setup)
+abbrev pub CoreReportsSound : Type 0
+CoreReportsSound = (setup : Setup) (s : State) (c : Core) → IsCoreOf setup s c → core_is_sound (process_count setup) c ≡ all_pass has_no_fault s (processes setup)
 
 -- ---- The verdict on all orders
 
@@ -132,7 +132,7 @@ pub record AreFine (n : ℕ) (vs : List Core) : Type 0 where
 abbrev pub NoOrderIsStuck : Type 0
 NoOrderIsStuck =
     (program : Program) (setup : Setup) (vs : List Core) (v : Core) (rounds : List (ℕ × List Event))
-    → StandsFor program setup → is_timeless program ≡ true → IsClosed (core_moves program (process_count setup)) (Contains vs)
+    → IsProgramFor program setup → is_timeless program ≡ true → IsClosed (core_moves program (process_count setup)) (Contains vs)
     → Contains vs v → Settles (core_moves program (process_count setup)) (first_core program setup) v → AreFine (process_count setup) vs
     → AreAllOfProcesses setup rounds
     → let s = replay setup (start setup) rounds in
@@ -156,7 +156,7 @@ NobodyBegins = (program : Program) (c : Core) → NoneFresh c.kernel → close p
 abbrev pub NoOrderIsStuckUpTo : Type 0
 NoOrderIsStuckUpTo =
     (program : Program) (setup : Setup) (vs : List Core) (rounds : List (ℕ × List Event))
-    → StandsFor program setup → is_timeless program ≡ true → IsClosedUpTo program setup (Contains vs)
+    → IsProgramFor program setup → is_timeless program ≡ true → IsClosedUpTo program setup (Contains vs)
     → LeadsTo program setup (Contains vs) (first_core program setup) → AreFine (process_count setup) vs
     → AreAllOfProcesses setup rounds
     → let s = replay setup (start setup) rounds in
@@ -167,7 +167,7 @@ NoOrderIsStuckUpTo =
 abbrev pub FoundIsReal : Type 0
 FoundIsReal =
     (program : Program) (setup : Setup) (n : ℕ) (c : Core)
-    → StandsFor program setup → is_timeless program ≡ true
+    → IsProgramFor program setup → is_timeless program ≡ true
     → ReducedFrom (core_moves program (process_count setup)) (first_core program setup) n c
     → (rounds : List (List Event)) × AreAllOfProcesses setup (with_one rounds) × (length rounds ≡ n + 1)
     × (let s = replay setup (start setup) (with_one rounds) in
@@ -179,11 +179,11 @@ FoundIsReal =
 abbrev pub StatesAreReduced : Type 0
 StatesAreReduced =
     (program : Program) (setup : Setup) (rounds : List (ℕ × List Event)) (u : State)
-    → StandsFor program setup → is_timeless program ≡ true → AreAllOfProcesses setup rounds
+    → IsProgramFor program setup → is_timeless program ≡ true → AreAllOfProcesses setup rounds
     → settles setup (replay setup (start setup) rounds) u
     → (c : Core) × IsCoreIn program setup u c
     × ReducedFrom (core_moves program (process_count setup)) (first_core program setup) (length rounds) c
 
 -- A core whose dead words are wiped stands for whatever states the core does, so a search may keep it instead.
-abbrev pub WipedStands : Type 0
-WipedStands = (program : Program) (setup : Setup) (c : Core) → StandsIn program setup c (wiped_core program c)
+abbrev pub WipedRepresents : Type 0
+WipedRepresents = (program : Program) (setup : Setup) (c : Core) → IsCoveredBy program setup c (wiped_core program c)

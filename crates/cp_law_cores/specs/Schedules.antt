@@ -8,7 +8,7 @@ use Rattle.cp_model.specs.declared.state.Fault.{Fault}
 use Rattle.cp_model.specs.StateViews.{fault_number}
 use Rattle.cp_model_program.specs.Programs.{Program}
 use Rattle.cp_model_machine.specs.InState.{IsIn}
-use Rattle.cp_model_machine.specs.KernelSteps.{Begun, Fresh, Kernel, Stage, stage_of}
+use Rattle.cp_model_machine.specs.KernelSteps.{Begun, Fresh, Kernel, SchedulingState, stage_of}
 use Rattle.cp_model_machine.specs.Machines.{Machine, first_machine}
 use Rattle.cp_model_machine.specs.PrivateStates.{Activity, Ended, Faulted, PrivateState, Running, Waiting}
 use Rattle.cp_law_cores.specs.Cores.{Core, close, core, core_moves, is_kernel_on, kernel_at, part}
@@ -25,7 +25,7 @@ pub record IsCoreOf (setup : Setup) (s : State) (c : Core) : Type 0 where
 -- A core of the state settles as `w`.
 pub record SettlesAs (program : Program) (setup : Setup) (s : State) (w : Core) : Type 0 where
   pub core_of : Core
-  pub stands : IsCoreOf setup s core_of
+  pub represents : IsCoreOf setup s core_of
   pub settles : Settles (core_moves program (process_count setup)) core_of w
 
 -- A member that a core of the state settles as.
@@ -38,24 +38,24 @@ pub record SettlesWithin (program : Program) (setup : Setup) (V : Core → Type 
 pub record IsWithin (setup : Setup) (V : Core → Type 0) (s : State) : Type 0 where
   pub member : Core
   pub known : V member
-  pub stands : IsCoreOf setup s member
+  pub represents : IsCoreOf setup s member
 
 -- A core of the state to which a reduced order from the first core leads.
 pub record IsReduced (program : Program) (setup : Setup) (n : ℕ) (s : State) : Type 0 where
   pub at : Core
-  pub stands : IsCoreOf setup s at
+  pub represents : IsCoreOf setup s at
   pub reduced : ReducedFrom (core_moves program (process_count setup)) (core (first_machine program setup.tick setup.inputs)) n at
 
 -- ---- What is read off a core
 
-abbrev pub goes_on : Activity → Bool
-goes_on Running = true
-goes_on Waiting = true
-goes_on _ = false
+abbrev pub is_active : Activity → Bool
+is_active Running = true
+is_active Waiting = true
+is_active _ = false
 
-abbrev pub moves : Stage → Activity → Bool
+abbrev pub moves : SchedulingState → Activity → Bool
 moves Fresh a = true
-moves Begun a = goes_on a
+moves Begun a = is_active a
 moves _ a = false
 
 abbrev pub can_move : Kernel → Option PrivateState → Bool
@@ -140,15 +140,15 @@ pub record IsCoreIn (program : Program) (setup : Setup) (s : State) (c : Core) :
   pub is : core machine ≡ c
 
 -- Whatever state `w` is a core of, so is `v`. They may differ in words that nothing reads again.
-abbrev pub StandsIn : Program → Setup → Core → Core → Type 0
-StandsIn program setup w v = (s : State) → IsCoreIn program setup s w → IsCoreIn program setup s v
+abbrev pub IsCoveredBy : Program → Setup → Core → Core → Type 0
+IsCoveredBy program setup w v = (s : State) → IsCoreIn program setup s w → IsCoreIn program setup s v
 
 -- `x` settles as a core for which a member stands.
 pub record LeadsTo (program : Program) (setup : Setup) (V : Core → Type 0) (x : Core) : Type 0 where
   pub at : Core
   pub member : Core
   pub settles : Settles (core_moves program (process_count setup)) x at
-  pub stands : StandsIn program setup at member
+  pub represents : IsCoveredBy program setup at member
   pub known : V member
 
 -- Of a set of settled cores, each choice leads to a member again.

@@ -5,7 +5,7 @@
 use Rattle.std.specs.Prelude.{Bool, List, Option, Some, [], false, if◌then◌else◌, map, pos, suc, true, zero, ℕ, ℤ, ◌+◌, ◌∷◌}
 use Rattle.cp_model_program.specs.Programs as op
 use Rattle.cp_model_program.specs.Programs.{Operation, Program}
-use Rattle.cp_model_program.specs.Terms.{Argument, Binary, Copy, Element, Empty, Item, Made, Negative, Not, Number, Realtime, Reference, Right, Rooted, Spot, Standard, Term, Value}
+use Rattle.cp_model_program.specs.Terms.{Argument, Binary, Copy, Element, Empty, Item, Made, Negative, Not, Number, Realtime, Reference, Right, Rooted, PlaceExpression, Standard, Term, Value}
 use Rattle.cp_model_machine.specs.PrivateStates.{Activity, PrivateState, Running}
 use Rattle.cp_model_machine.specs.Steps.{operation_of}
 use Rattle.cp_law_cores.specs.Cores.{Core}
@@ -16,22 +16,22 @@ abbrev mutual
   pub term_is_free : Term → Bool
   term_is_free (Number n) = true
   term_is_free (Made t) = false
-  term_is_free (Item s) = spot_is_free s
+  term_is_free (Item s) = place_expression_is_free s
   term_is_free (Not e) = term_is_free e
   term_is_free (Negative e) = term_is_free e
   term_is_free (Binary o a b) = if term_is_free a then term_is_free b else false
   term_is_free (Standard f e) = term_is_free e
-  term_is_free (Empty s) = spot_is_free s
+  term_is_free (Empty s) = place_expression_is_free s
   term_is_free Realtime = true
 
-  pub spot_is_free : Spot → Bool
-  spot_is_free (Rooted r) = true
-  spot_is_free (Element s low high size plus e) = if spot_is_free s then term_is_free e else false
+  pub place_expression_is_free : PlaceExpression → Bool
+  place_expression_is_free (Rooted r) = true
+  place_expression_is_free (Element s low high size plus e) = if place_expression_is_free s then term_is_free e else false
 
 abbrev pub argument_is_free : Argument → Bool
 argument_is_free (Value at low high e) = term_is_free e
-argument_is_free (Copy at size from) = spot_is_free from
-argument_is_free (Reference at to) = spot_is_free to
+argument_is_free (Copy at size from) = place_expression_is_free from
+argument_is_free (Reference at to) = place_expression_is_free to
 argument_is_free (Right at t) = true
 
 abbrev pub arguments_are_free : List Argument → Bool

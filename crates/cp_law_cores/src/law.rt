@@ -1,7 +1,7 @@
 //! The laws of settled states and reduced orders, as functions with empty bodies.
 
 ghost use Rattle.cp_law_cores.specs.Laws.{FaultsAreWithin, OrdersStayWithin, ReducedIsOrder, StatesAreReduced, StillStatesAreReduced, StillStatesAreWithin};
-ghost use Rattle.cp_law_cores.specs.Laws.{CoreTellsEnd, CoreTellsSound, CoreTellsStill, FoundIsReal, NobodyBegins, NoOrderIsStuck, NoOrderIsStuckUpTo, TurnsSettle, WipedStands};
+ghost use Rattle.cp_law_cores.specs.Laws.{CoreReportsEnd, CoreReportsSound, CoreReportsStill, FoundIsReal, NobodyBegins, NoOrderIsStuck, NoOrderIsStuckUpTo, TurnsSettle, WipedRepresents};
 ghost use Rattle.cp_law_cores.specs.Laws.{SettlesOnce, StillSettles, StillIsSettled, RoundIsReduced, ReducedRoundIsRound, SettledRoundsAreReduced};
 
 /// Private steps lead to one settled state at most, in whatever order they are made.
@@ -39,9 +39,9 @@ pub fn reduced_orders()
 /// What a core tells of its state. So if nobody has faulted in a member of the closed set, and all have
 /// ended in each still member, no order gets stuck or faults.
 pub fn verdicts()
-    ensures still { CoreTellsStill }
-    ensures end { CoreTellsEnd }
-    ensures sound { CoreTellsSound }
+    ensures still { CoreReportsStill }
+    ensures end { CoreReportsEnd }
+    ensures sound { CoreReportsSound }
     ensures none_stuck { NoOrderIsStuck }
     ensures none_stuck_up_to { NoOrderIsStuckUpTo }
 {}
@@ -50,5 +50,5 @@ pub fn verdicts()
 pub fn searching()
     ensures settle { TurnsSettle }
     ensures nobody { NobodyBegins }
-    ensures wiped { WipedStands }
+    ensures wiped { WipedRepresents }
 {}

@@ -10,7 +10,7 @@ use Rattle.cp_model.specs.States.{Gate, HeldBy, Holder, State, is_in, is_set, se
 use Rattle.cp_model.specs.Gates.{set_gate}
 use Rattle.cp_model.proofs.Lists.{in_head, in_more}
 use Rattle.cp_law_gates.specs.Hierarchy.{Descends, IsHeld, NoneTwice}
-use Rattle.cp_law_gates.specs.Gates.{Gates, GatesBut, IsInnermost, IsStoppedAt, StandsIn}
+use Rattle.cp_law_gates.specs.Gates.{Gates, GatesBut, IsInnermost, IsStoppedAt, IsQueuedIn}
 use Rattle.cp_law_gates.specs.Effects.{NoNewQueue, OneNewQueue}
 use Rattle.cp_law_gates.proofs.Lists.{in_append, in_appended, in_last, in_rest, not_in, once_more}
 use Rattle.cp_law_gates.proofs.Passing.{differs}
@@ -21,7 +21,7 @@ pub record IsPlain (x : Status) : Type 0 where
   pub held : (k : List Task) → held_gates x k ≡ marked_monitors k
   pub unasked : (m : ℕ) → x ≡ Asking m → ⊥
   pub unstopped : (m : ℕ) → IsStoppedAt m x → ⊥
-  pub standless : (m : ℕ) (l : Location) → x ≡ Delayed m l → ⊥
+  pub unqueued : (m : ℕ) (l : Location) → x ≡ Delayed m l → ⊥
   pub started : x ≡ Unstarted → ⊥
 
 pub ready_plain : IsPlain Ready
@@ -29,7 +29,7 @@ ready_plain = record {
   held = λ k. refl;
   unasked = λ m e. grind arith;
   unstopped = λ m h. h;
-  standless = λ m l e. grind arith;
+  unqueued = λ m l e. grind arith;
   started = λ e. grind arith;
 }
 
@@ -38,7 +38,7 @@ ended_plain = record {
   held = λ k. refl;
   unasked = λ m e. grind arith;
   unstopped = λ m h. h;
-  standless = λ m l e. grind arith;
+  unqueued = λ m l e. grind arith;
   started = λ e. grind arith;
 }
 
@@ -47,7 +47,7 @@ waiting_plain = record {
   held = λ k. refl;
   unasked = λ m e. grind arith;
   unstopped = λ m h. h;
-  standless = λ m l e. grind arith;
+  unqueued = λ m l e. grind arith;
   started = λ e. grind arith;
 }
 
@@ -56,7 +56,7 @@ faulted_plain n = record {
   held = λ k. refl;
   unasked = λ m e. grind arith;
   unstopped = λ m h. h;
-  standless = λ m l e. grind arith;
+  unqueued = λ m l e. grind arith;
   started = λ e. grind arith;
 }
 
@@ -68,7 +68,7 @@ module _ (place : ℕ → ℕ) (monitors : ℕ) (s : State) (p : ℕ) (G : Gates
   not_asking m e = ready_plain.unasked m (sym ready ∙ e)
 
   not_delayed : (m : ℕ) (l : Location) → s.status p ≡ Delayed m l → ⊥
-  not_delayed m l e = ready_plain.standless m l (sym ready ∙ e)
+  not_delayed m l e = ready_plain.unqueued m l (sym ready ∙ e)
 
   module _ (r : Configuration) (D : Descends place (marked_monitors r.continuation))
       (W : (m : ℕ) → is_in m (marked_monitors r.continuation) ≡ true → (1 ≤ m) × (m ≤ monitors)) where
@@ -91,7 +91,7 @@ module _ (place : ℕ → ℕ) (monitors : ℕ) (s : State) (p : ℕ) (G : Gates
         listed = λ m q e. lists m q (nat_eq p q) e;
         once = G.once;
         stopped = λ q m h. stops q m (nat_eq p q) h;
-        queues = λ l q e. stands l q (nat_eq p q) refl (G.queues l q (N l q e));
+        queues = λ l q e. represents l q (nat_eq p q) refl (G.queues l q (N l q e));
         known = G.known;
         unstarted = λ q e. fresh q (nat_eq p q) e;
         waiting = λ q e. sleep q (nat_eq p q) e;
@@ -118,9 +118,9 @@ module _ (place : ℕ → ℕ) (monitors : ℕ) (s : State) (p : ℕ) (G : Gates
           stops q m true h = absurd (plain.unstopped m h)
           stops q m false h = G.stopped q m h
 
-          stands : (l : Location) (q : ℕ) (b : Bool) → nat_eq p q ≡ b → StandsIn s l q → StandsIn (set_status p x (with_configuration s p r)) l q
-          stands l q true e S = absurd (not_delayed S.monitor l (ap s.status (eqb-true p q e) ∙ S.delayed))
-          stands l q false e S = record { monitor = S.monitor; owner = S.owner; delayed = rw e S.delayed }
+          represents : (l : Location) (q : ℕ) (b : Bool) → nat_eq p q ≡ b → IsQueuedIn s l q → IsQueuedIn (set_status p x (with_configuration s p r)) l q
+          represents l q true e S = absurd (not_delayed S.monitor l (ap s.status (eqb-true p q e) ∙ S.delayed))
+          represents l q false e S = record { monitor = S.monitor; owner = S.owner; delayed = rw e S.delayed }
 
           fresh : (q : ℕ) (b : Bool) → (if b then x else s.status q) ≡ Unstarted → marked_monitors (if b then r.continuation else s.continuation q) ≡ []
           fresh q true e = absurd (plain.started e)
@@ -141,7 +141,7 @@ module _ (place : ℕ → ℕ) (monitors : ℕ) (s : State) (p : ℕ) (G : Gates
         listed = λ n q e. lists n q (nat_eq p q) e;
         once = G.once;
         stopped = λ q n h. stops q n (nat_eq p q) h;
-        queues = λ k q e. stands k q e;
+        queues = λ k q e. represents k q e;
         known = G.known;
         unstarted = λ q e. fresh q (nat_eq p q) e;
         waiting = λ q e. sleep q (nat_eq p q) e;
@@ -172,19 +172,19 @@ module _ (place : ℕ → ℕ) (monitors : ℕ) (s : State) (p : ℕ) (G : Gates
           stops q n true h = subst (IsInnermost n) (sym same) (subst (λ x. IsInnermost x (marked_monitors (s.continuation p))) h inner)
           stops q n false h = G.stopped q n h
 
-          old : (k : Location) (q : ℕ) (b : Bool) → nat_eq p q ≡ b → StandsIn s k q → StandsIn (set_status p (Delayed m l) (with_configuration s p r)) k q
+          old : (k : Location) (q : ℕ) (b : Bool) → nat_eq p q ≡ b → IsQueuedIn s k q → IsQueuedIn (set_status p (Delayed m l) (with_configuration s p r)) k q
           old k q true e S = absurd (not_delayed S.monitor k (ap s.status (eqb-true p q e) ∙ S.delayed))
           old k q false e S = record { monitor = S.monitor; owner = S.owner; delayed = rw e S.delayed }
 
-          new : (k : Location) (q : ℕ) → k ≡ l → q ≡ p → StandsIn (set_status p (Delayed m l) (with_configuration s p r)) k q
+          new : (k : Location) (q : ℕ) → k ≡ l → q ≡ p → IsQueuedIn (set_status p (Delayed m l) (with_configuration s p r)) k q
           new k q x y = record {
             monitor = m;
             owner = ap (λ (z : Location). z.owner) x ∙ own;
             delayed = rw (ap (nat_eq p) y ∙ eq-eqb p p refl) (ap (Delayed m) (sym x));
           }
 
-          stands : (k : Location) (q : ℕ) → r.store k ≡ QueueHolds (Some q) → StandsIn (set_status p (Delayed m l) (with_configuration s p r)) k q
-          stands k q e = elim (one k q e) [ inl x ↦ old k q (nat_eq p q) refl (G.queues k q x) | inr x ↦ new k q x.0 x.1 ]
+          represents : (k : Location) (q : ℕ) → r.store k ≡ QueueHolds (Some q) → IsQueuedIn (set_status p (Delayed m l) (with_configuration s p r)) k q
+          represents k q e = elim (one k q e) [ inl x ↦ old k q (nat_eq p q) refl (G.queues k q x) | inr x ↦ new k q x.0 x.1 ]
 
           fresh : (q : ℕ) (b : Bool) → (if b then Delayed m l else s.status q) ≡ Unstarted → marked_monitors (if b then r.continuation else s.continuation q) ≡ []
           fresh q true e = absurd (grind arith)
@@ -208,7 +208,7 @@ module _ (place : ℕ → ℕ) (monitors : ℕ) (s : State) (p : ℕ) (G : Gates
         listed = λ n q e. lists n q (nat_eq p q) refl e;
         once = λ n. single n (nat_eq m n);
         stopped = λ q n x. stops q n (nat_eq p q) x;
-        queues = λ l q e. stands l q (nat_eq p q) refl (G.queues l q (N l q e));
+        queues = λ l q e. represents l q (nat_eq p q) refl (G.queues l q (N l q e));
         known = λ n x. knows n (nat_eq m n) refl x;
         unstarted = λ q e. fresh q (nat_eq p q) e;
         waiting = λ q e. sleep q (nat_eq p q) e;
@@ -232,9 +232,9 @@ module _ (place : ℕ → ℕ) (monitors : ℕ) (s : State) (p : ℕ) (G : Gates
           takes n q true x = tt
           takes n q false x = G.taken n q refl x
 
-          told : (n q : ℕ) (b : Bool) → nat_eq p q ≡ b → s.status q ≡ Asking n → (if b then Asking m else s.status q) ≡ Asking n
-          told n q true e x = absurd (not_asking n (ap s.status (eqb-true p q e) ∙ x))
-          told n q false e x = x
+          reported : (n q : ℕ) (b : Bool) → nat_eq p q ≡ b → s.status q ≡ Asking n → (if b then Asking m else s.status q) ≡ Asking n
+          reported n q true e x = absurd (not_asking n (ap s.status (eqb-true p q e) ∙ x))
+          reported n q false e x = x
 
           last : (n q : ℕ) (b : Bool) → nat_eq p q ≡ b → m ≡ n → is_in q ((s.gates m).askers ++ p ∷ []) ≡ true → (if b then Asking m else s.status q) ≡ Asking n
           last n q true e g x = ap Asking g
@@ -243,7 +243,7 @@ module _ (place : ℕ → ℕ) (monitors : ℕ) (s : State) (p : ℕ) (G : Gates
           asking : (n q : ℕ) (b : Bool) → nat_eq m n ≡ b → is_in q (if b then record { holder = HeldBy h; askers = (s.gates m).askers ++ p ∷ [] } else s.gates n).askers ≡ true
               → (if nat_eq p q then Asking m else s.status q) ≡ Asking n
           asking n q true e x = last n q (nat_eq p q) refl (eqb-true m n e) x
-          asking n q false e x = told n q (nat_eq p q) refl (G.asks n q x)
+          asking n q false e x = reported n q (nat_eq p q) refl (G.asks n q x)
 
           askings : (n : ℕ) → Asking m ≡ Asking n → m ≡ n
           askings n e = ap asked_of e
@@ -271,10 +271,10 @@ module _ (place : ℕ → ℕ) (monitors : ℕ) (s : State) (p : ℕ) (G : Gates
           stops q n true x = subst (IsInnermost n) (sym pushed) x
           stops q n false x = G.stopped q n x
 
-          stands : (l : Location) (q : ℕ) (b : Bool) → nat_eq p q ≡ b → StandsIn s l q
-              → StandsIn (set_status p (Asking m) (set_gate m (HeldBy h) ((s.gates m).askers ++ p ∷ []) (with_configuration s p r))) l q
-          stands l q true e S = absurd (not_delayed S.monitor l (ap s.status (eqb-true p q e) ∙ S.delayed))
-          stands l q false e S = record { monitor = S.monitor; owner = S.owner; delayed = rw e S.delayed }
+          represents : (l : Location) (q : ℕ) (b : Bool) → nat_eq p q ≡ b → IsQueuedIn s l q
+              → IsQueuedIn (set_status p (Asking m) (set_gate m (HeldBy h) ((s.gates m).askers ++ p ∷ []) (with_configuration s p r))) l q
+          represents l q true e S = absurd (not_delayed S.monitor l (ap s.status (eqb-true p q e) ∙ S.delayed))
+          represents l q false e S = record { monitor = S.monitor; owner = S.owner; delayed = rw e S.delayed }
 
           knows : (n : ℕ) (b : Bool) → nat_eq m n ≡ b → is_set (if b then record { holder = HeldBy h; askers = (s.gates m).askers ++ p ∷ [] } else s.gates n).holder ≡ true → (1 ≤ n) × (n ≤ monitors)
           knows n true e x = subst (λ y. (1 ≤ y) × (y ≤ monitors)) (eqb-true m n e) (G.known m (ap is_set held))

@@ -11,7 +11,7 @@ use Rattle.cp_model.specs.Rounds.{after_closing, close_round, wake, wake_status}
 use Rattle.cp_model.proofs.StateMaps.{with_at_same}
 use Rattle.cp_model.proofs.Lists.{in_head, in_more}
 use Rattle.cp_law_gates.specs.Hierarchy.{Descends, IsHeld}
-use Rattle.cp_law_gates.specs.Gates.{Gates, GatesBut, IsInnermost, IsStoppedAt, StandsIn, none}
+use Rattle.cp_law_gates.specs.Gates.{Gates, GatesBut, IsInnermost, IsStoppedAt, IsQueuedIn, none}
 use Rattle.cp_law_gates.specs.Effects.{EffectFits, NoNewQueue, Resumes}
 use Rattle.cp_law_gates.proofs.Lists.{in_rest}
 use Rattle.cp_law_gates.proofs.Passing.{passed, resumed}
@@ -31,7 +31,7 @@ module _ (place : ℕ → ℕ) (monitors r : ℕ) (k : List Task) (v : State) (G
     listed = λ m q e. lists m q (nat_eq r q) e;
     once = G.once;
     stopped = λ q m h. stops q m (nat_eq r q) h;
-    queues = λ l q e. stands l q (nat_eq r q) refl (G.queues l q e);
+    queues = λ l q e. represents l q (nat_eq r q) refl (G.queues l q e);
     known = G.known;
     within = λ q m h. inside q m (nat_eq r q) h;
     unstarted = λ q e. fresh q (nat_eq r q) e;
@@ -59,9 +59,9 @@ module _ (place : ℕ → ℕ) (monitors r : ℕ) (k : List Task) (v : State) (G
       stops q m true h = absurd h
       stops q m false h = G.stopped q m h
 
-      stands : (l : Location) (q : ℕ) (b : Bool) → nat_eq r q ≡ b → StandsIn v l q → StandsIn (set_status r Fresh (record v { continuation = with_at r k v.continuation })) l q
-      stands l q true e S = absurd (grind (arith, sym is ∙ (ap v.status (eqb-true r q e) ∙ S.delayed)))
-      stands l q false e S = record { monitor = S.monitor; owner = S.owner; delayed = rw e S.delayed }
+      represents : (l : Location) (q : ℕ) (b : Bool) → nat_eq r q ≡ b → IsQueuedIn v l q → IsQueuedIn (set_status r Fresh (record v { continuation = with_at r k v.continuation })) l q
+      represents l q true e S = absurd (grind (arith, sym is ∙ (ap v.status (eqb-true r q e) ∙ S.delayed)))
+      represents l q false e S = record { monitor = S.monitor; owner = S.owner; delayed = rw e S.delayed }
 
       inside : (q m : ℕ) (b : Bool) → is_in m (marked_monitors (if b then k else v.continuation q)) ≡ true → (1 ≤ m) × (m ≤ monitors)
       inside q m true h = absurd (nothing_in m (ap (is_in m) (sym no_gate) ∙ h))

@@ -10,7 +10,7 @@ use Rattle.cp_model.specs.States.{Free, HeldBy, Holder, State, is_in, is_set}
 use Rattle.cp_model.specs.Gates.{made_ready, make_ready, pass_to, set_gate}
 use Rattle.cp_model.proofs.Lists.{in_head, in_more}
 use Rattle.cp_law_gates.specs.Hierarchy.{IsHeld, NoneTwice}
-use Rattle.cp_law_gates.specs.Gates.{Gates, GatesBut, IsInnermost, IsStoppedAt, StandsIn}
+use Rattle.cp_law_gates.specs.Gates.{Gates, GatesBut, IsInnermost, IsStoppedAt, IsQueuedIn}
 use Rattle.cp_law_gates.proofs.Lists.{in_rest, not_in}
 
 pub differs : (p q : ℕ) → nat_eq p q ≡ false → p ≢ q
@@ -55,8 +55,8 @@ asked m n x h e = sym (subst (λ y. IsStoppedAt m y) e h)
 ready_asks : (m : ℕ) → Ready ≡ Asking m → ⊥
 ready_asks m e = grind arith
 
-ready_stands : (m : ℕ) (l : Location) → Ready ≡ Delayed m l → ⊥
-ready_stands m l e = grind arith
+ready_represents : (m : ℕ) (l : Location) → Ready ≡ Delayed m l → ⊥
+ready_represents m l e = grind arith
 
 ready_unstarted : Ready ≡ Unstarted → ⊥
 ready_unstarted e = grind arith
@@ -93,7 +93,7 @@ module _ (place : ℕ → ℕ) (monitors m r : ℕ) (rs : List ℕ) (v : State) 
     listed = λ n q e. lists n q (nat_eq r q) refl e;
     once = λ n. single n (nat_eq m n);
     stopped = λ q n h. stops q n (nat_eq r q) refl h;
-    queues = λ l q e. stands l q (nat_eq r q) refl (G.queues l q e) e;
+    queues = λ l q e. represents l q (nat_eq r q) refl (G.queues l q e) e;
     known = λ n h. knows n (nat_eq m n) refl h;
     unstarted = λ q e. fresh q (nat_eq r q) e;
     waiting = λ q e. sleeps q (nat_eq r q) e;
@@ -149,10 +149,10 @@ module _ (place : ℕ → ℕ) (monitors m r : ℕ) (rs : List ℕ) (v : State) 
       stops q n true e h = absurd (subst (λ x. IsStoppedAt n x) is_ready h)
       stops q n false e h = G.stopped q n h
 
-      stands : (l : Location) (q : ℕ) (b : Bool) → nat_eq r q ≡ b → StandsIn v l q → v.store l ≡ QueueHolds (Some q)
-          → StandsIn (make_ready r (set_gate m (HeldBy r) rs v)) l q
-      stands l q true e S x = absurd (unqueued l (x ∙ ap (λ y. QueueHolds (Some y)) (sym (eqb-true r q e))))
-      stands l q false e S x = record { monitor = S.monitor; owner = S.owner; delayed = rw e S.delayed }
+      represents : (l : Location) (q : ℕ) (b : Bool) → nat_eq r q ≡ b → IsQueuedIn v l q → v.store l ≡ QueueHolds (Some q)
+          → IsQueuedIn (make_ready r (set_gate m (HeldBy r) rs v)) l q
+      represents l q true e S x = absurd (unqueued l (x ∙ ap (λ y. QueueHolds (Some y)) (sym (eqb-true r q e))))
+      represents l q false e S x = record { monitor = S.monitor; owner = S.owner; delayed = rw e S.delayed }
 
       knows : (n : ℕ) (b : Bool) → nat_eq m n ≡ b → is_set (if b then record { holder = HeldBy r; askers = rs } else v.gates n).holder ≡ true
           → (1 ≤ n) × (n ≤ monitors)

@@ -29,7 +29,7 @@ use Rattle.cp_law_gates.proofs.Writes.{forget_queues, forget_rights, puts_queues
 use Rattle.cp_law_gates.proofs.Pushing.{answer_put}
 use Rattle.cp_law_gates.proofs.Found.{own_place}
 use Rattle.cp_law_gates.proofs.Stepping.{IsBefore}
-use Rattle.cp_law_gates.proofs.Stepping.{StepFits, either, goes_on, stays, then_fits, then_writes}
+use Rattle.cp_law_gates.proofs.Stepping.{StepFits, either, proceeds, stays, then_fits, then_writes}
 
 module _ (w : World) (c : Context) (config : Configuration) (S : IsBefore w c config) where
   -- ---- Queues
@@ -229,10 +229,10 @@ module _ (w : World) (c : Context) (config : Configuration) (S : IsBefore w c co
       by (OfActivation p n) s x = absurd s
   standard env k d (MoreExpressions e es) F o same h =
       either w c config S (bytes_eq (name_of d) (codes "display")) _ _
-      (λ x. then_fits w c config S (value c.clock env config.store e) _ (λ v. goes_on w c config S k (config.transcript ++ display_text v) config.consumed [] tt o same))
+      (λ x. then_fits w c config S (value c.clock env config.store e) _ (λ v. proceeds w c config S k (config.transcript ++ display_text v) config.consumed [] tt o same))
       (λ display. either w c config S (bytes_eq (name_of d) (codes "accept")) _ _
       (λ x. then_fits w c config S (place c.clock env config.store (designator_of e)) _
-      (λ at. then_writes w c config S at.at at.type (simple_value Char (next_input c.input config.consumed)) _ (λ ws t. goes_on w c config S k config.transcript (next_place c.input config.consumed) ws t o same)))
+      (λ at. then_writes w c config S at.at at.type (simple_value Char (next_input c.input config.consumed)) _ (λ ws t. proceeds w c config S k config.transcript (next_place c.input config.consumed) ws t o same)))
       (λ accept.
       let q = h (of_queues (bytes_eq (name_of d) (codes "display")) (bytes_eq (name_of d) (codes "accept")) display accept) in
       either w c config S (bytes_eq (name_of d) (codes "delay")) _ _

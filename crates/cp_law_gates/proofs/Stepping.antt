@@ -54,9 +54,9 @@ module _ (w : World) (c : Context) (config : Configuration) (S : IsBefore w c co
   either false x y h k = k refl
 
   -- The process goes on by itself, with these writes.
-  pub goes_on : (k : List Task) (transcript : List ℕ) (n : ℕ) (ws : Writes) → AllTame w.place ws → AllFit w k → marked_monitors k ≡ marked_monitors config.continuation
+  pub proceeds : (k : List Task) (transcript : List ℕ) (n : ℕ) (ws : Writes) → AllTame w.place ws → AllFit w k → marked_monitors k ≡ marked_monitors config.continuation
       → StepFits (record { store = put_all ws config.store; continuation = k; transcript = transcript; consumed = n }, Own)
-  goes_on k transcript n ws t o e = record {
+  proceeds k transcript n ws t o e = record {
     rights = puts_rights w.place ws config.store t S.rights;
     fits = o;
     descends = subst (Descends w.place) (sym e) S.descends;
@@ -71,4 +71,4 @@ module _ (w : World) (c : Context) (config : Configuration) (S : IsBefore w c co
       → marked_monitors k ≡ marked_monitors config.continuation → StepFits (record { store = put_all ws config.store; continuation = push x env k; transcript = transcript; consumed = n }, Own)
   pushed x env k transcript n ws t F h o e =
       let P = push_fits w x env k F h o in
-      goes_on (push x env k) transcript n ws t P.fits (P.marks ∙ e)
+      proceeds (push x env k) transcript n ws t P.fits (P.marks ∙ e)

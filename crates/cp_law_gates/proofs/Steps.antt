@@ -26,7 +26,7 @@ use Rattle.cp_law_gates.specs.InOrder.{AllFit, ArmsKeep, CallEndsNext, Fits, Fra
 use Rattle.cp_law_gates.proofs.Lists.{descends_rest}
 use Rattle.cp_law_gates.proofs.Found.{FoundIs, IsCallable, callee_is, do_is, repeat_is, while_is}
 use Rattle.cp_law_gates.proofs.Stepping.{IsBefore}
-use Rattle.cp_law_gates.proofs.Stepping.{StepFits, either, goes_on, pushed, stays, then_fits, then_writes}
+use Rattle.cp_law_gates.proofs.Stepping.{StepFits, either, proceeds, pushed, stays, then_fits, then_writes}
 use Rattle.cp_law_gates.proofs.QueueSteps.{Returned, returned, standard}
 use Rattle.cp_law_gates.proofs.CallSteps.{call_step}
 use Rattle.cp_law_gates.proofs.InitSteps.{init_step}
@@ -53,17 +53,17 @@ module _ (w : World) (c : Context) (config : Configuration) (S : IsBefore w c co
       by false y more = more y
 
   pub execute_fits : (x : Statement) (env : Environment) (k : List Task) → Fits w env k → Keeps w env x → AllFit w k → marked_monitors k ≡ marked_monitors config.continuation → procedure_call (Do x env) ≡ None → IfGives (StepFits w c config S) (execute c config env k x)
-  execute_fits Nothing env k F h o e p = goes_on w c config S k config.transcript config.consumed [] tt o e
-  execute_fits (Seq a b) env k F h o e p = goes_on w c config S k config.transcript config.consumed [] tt o e
-  execute_fits (While t s) env k F h o e p = goes_on w c config S k config.transcript config.consumed [] tt o e
-  execute_fits (Repeat s t) env k F h o e p = goes_on w c config S k config.transcript config.consumed [] tt o e
+  execute_fits Nothing env k F h o e p = proceeds w c config S k config.transcript config.consumed [] tt o e
+  execute_fits (Seq a b) env k F h o e p = proceeds w c config S k config.transcript config.consumed [] tt o e
+  execute_fits (While t s) env k F h o e p = proceeds w c config S k config.transcript config.consumed [] tt o e
+  execute_fits (Repeat s t) env k F h o e p = proceeds w c config S k config.transcript config.consumed [] tt o e
   execute_fits (Cycle s) env k F h o e p = pushed w c config S s env (Do (Cycle s) env ∷ k) config.transcript config.consumed [] tt (record { here = F.here; owner = F.owner; frame = later env.frame F.frame }) h ((F, h), o) e
     where
       later : (f : Option Frame) → FrameFits f k → FrameFits f (Do (Cycle s) env ∷ k)
       later None z = tt
       later (Some f) z = z
   execute_fits (Assign d t) env k F h o e p =
-      then_fits w c config S (place c.clock env config.store d) _ (λ at. then_fits w c config S (value c.clock env config.store t) _ (λ v. then_writes w c config S at.at at.type v _ (λ ws z. goes_on w c config S k config.transcript config.consumed ws z o e)))
+      then_fits w c config S (place c.clock env config.store d) _ (λ at. then_fits w c config S (value c.clock env config.store t) _ (λ v. then_writes w c config S at.at at.type v _ (λ ws z. proceeds w c config S k config.transcript config.consumed ws z o e)))
   execute_fits (Perform d es) env k F h o e p = standard w c config S env k d es F o e (h (no_callee (callee env d) p))
     where
       no_callee : (f : Option Callee) → (elim f as (λ x. Option UserCall) [ None ↦ None | Some z ↦ Some (record { callee = z; arguments = es; environment = env }) ]) ≡ None → f ≡ None
@@ -81,12 +81,12 @@ module _ (w : World) (c : Context) (config : Configuration) (S : IsBefore w c co
       by (Some x) y = pushed w c config S x env k config.transcript config.consumed [] tt F (y x refl) o e
   execute_fits (For v down a b s) env k F h o e p =
       then_fits w c config S (value c.clock env config.store a) _ (λ y. then_fits w c config S (value c.clock env config.store b) _ (λ z.
-      either w c config S (is_past down (ordinal_of y) (ordinal_of z)) _ _ (λ q. goes_on w c config S k config.transcript config.consumed [] tt o e) (λ q. for_fits env k v down (ordinal_of y) (ordinal_of z) s F h o e)))
+      either w c config S (is_past down (ordinal_of y) (ordinal_of z)) _ _ (λ q. proceeds w c config S k config.transcript config.consumed [] tt o e) (λ q. for_fits env k v down (ordinal_of y) (ordinal_of z) s F h o e)))
   execute_fits (Init x es) env k F h o e p = by (component_named env x) refl h.1
     where
       by : (z : Option Component) → component_named env x ≡ z → InitOf w env z es
           → IfGives (StepFits w c config S) (elim z as (λ y. StepResult) [ None ↦ own_step (record config { continuation = k }) | Some n ↦ init_component n.system.sort c config env k es n ])
-      by None y q = goes_on w c config S k config.transcript config.consumed [] tt o e
+      by None y q = proceeds w c config S k config.transcript config.consumed [] tt o e
       by (Some n) y q = init_step w c config S n.system.sort env k x n es refl F o e y q.0 q.1
 
   pub run_fits : (i : Task) (k : List Task) → AllFit w (i ∷ k) → marked_monitors (i ∷ k) ≡ marked_monitors config.continuation → procedure_call i ≡ None → IfGives (StepFits w c config S) (run_task c config i k)
@@ -99,7 +99,7 @@ module _ (w : World) (c : Context) (config : Configuration) (S : IsBefore w c co
 
       by : (b : Bool) → StepFits w c config S (record config { continuation = if b then push x env (WhileTest t t x env ∷ k) else k }, Own)
       by true = pushed w c config S x env (WhileTest t t x env ∷ k) config.transcript config.consumed [] tt (record { here = o.0.0.here; owner = o.0.0.owner; frame = later env.frame o.0.0.frame }) o.0.1 (o.0, o.1) e
-      by false = goes_on w c config S k config.transcript config.consumed [] tt o.1 e
+      by false = proceeds w c config S k config.transcript config.consumed [] tt o.1 e
   run_fits (RepeatTest now x t env) k o e p = then_fits w c config S (value c.clock env config.store now) _ (λ v. by (is_true v))
     where
       later : (f : Option Frame) → FrameFits f k → FrameFits f (RepeatTest t x t env ∷ k)
@@ -107,10 +107,10 @@ module _ (w : World) (c : Context) (config : Configuration) (S : IsBefore w c co
       later (Some f) z = z
 
       by : (b : Bool) → StepFits w c config S (record config { continuation = if b then k else push x env (RepeatTest t x t env ∷ k) }, Own)
-      by true = goes_on w c config S k config.transcript config.consumed [] tt o.1 e
+      by true = proceeds w c config S k config.transcript config.consumed [] tt o.1 e
       by false = pushed w c config S x env (RepeatTest t x t env ∷ k) config.transcript config.consumed [] tt (record { here = o.0.0.here; owner = o.0.0.owner; frame = later env.frame o.0.0.frame }) o.0.1 (o.0, o.1) e
   run_fits (ForNext v down n last x env) k o e p =
-      either w c config S (same_integer n last) _ _ (λ q. goes_on w c config S k config.transcript config.consumed [] tt o.1 e) (λ q. for_fits env k v down (next_counter down n) last x o.0.0 o.0.1 o.1 e)
+      either w c config S (same_integer n last) _ _ (λ q. proceeds w c config S k config.transcript config.consumed [] tt o.1 e) (λ q. for_fits env k v down (next_counter down n) last x o.0.0 o.0.1 o.1 e)
   run_fits (EndCall env gate) k o e p =
       then_gives (Returned w c config S k config.store) (StepFits w c config S) (returns config env k) _ (returned w c config S config env k o.0 o.1 S.rights) (λ after z. by gate e after z)
     where

@@ -19,7 +19,7 @@ IsStoppedAt m (Delayed n q) = n ≡ m
 IsStoppedAt m _ = ⊥
 
 -- The process that stands in a queue is delayed there, and the queue is the monitor's.
-pub record StandsIn (s : State) (l : Location) (p : ℕ) : Type 0 where
+pub record IsQueuedIn (s : State) (l : Location) (p : ℕ) : Type 0 where
   pub monitor : ℕ
   pub owner : l.owner ≡ OfMonitor monitor
   pub delayed : s.status p ≡ Delayed monitor l
@@ -33,7 +33,7 @@ pub record GatesBut (place : ℕ → ℕ) (monitors : ℕ) (but : ℕ → Bool) 
   pub listed : (m p : ℕ) → s.status p ≡ Asking m → is_in p (s.gates m).askers ≡ true
   pub once : (m : ℕ) → NoneTwice (s.gates m).askers
   pub stopped : (p m : ℕ) → IsStoppedAt m (s.status p) → IsInnermost m (marked_monitors (s.continuation p))
-  pub queues : (l : Location) (p : ℕ) → s.store l ≡ QueueHolds (Some p) → StandsIn s l p
+  pub queues : (l : Location) (p : ℕ) → s.store l ≡ QueueHolds (Some p) → IsQueuedIn s l p
   pub known : (m : ℕ) → is_set (s.gates m).holder ≡ true → (1 ≤ m) × (m ≤ monitors)
   pub within : (p m : ℕ) → is_in m (marked_monitors (s.continuation p)) ≡ true → (1 ≤ m) × (m ≤ monitors)
   pub unstarted : (p : ℕ) → s.status p ≡ Unstarted → marked_monitors (s.continuation p) ≡ []

@@ -2,7 +2,7 @@
 use Rattle.std.specs.Prelude.{refl, ℕ}
 use Rattle.cp_model.specs.States.{Setup, State}
 use Rattle.cp_model_program.specs.Programs.{Program}
-use Rattle.cp_model_machine.specs.InState.{IsIn, PartStands}
+use Rattle.cp_model_machine.specs.InState.{IsIn, PartRepresents}
 use Rattle.cp_model_machine.specs.Machines.{Machine}
 use Rattle.cp_model_machine.specs.PrivateStates.{PrivateState}
 use Rattle.cp_law_calls.specs.Ways.{IsGood}
@@ -11,7 +11,7 @@ use Rattle.cp_law_cores.specs.Cores.{Core}
 use Rattle.cp_law_cores.specs.Schedules.{IsCoreIn}
 
 module _ (m : Machine) (setup : Setup) (s : State) (n : ℕ) (I : IsIn m setup s) where
-  part_again : (p : ℕ) (o : PrivateState) → PartStands m setup I.stands s p o → PartStands (record m { rounds = n }) setup I.stands (record s { rounds = n }) p o
+  part_again : (p : ℕ) (o : PrivateState) → PartRepresents m setup I.represents s p o → PartRepresents (record m { rounds = n }) setup I.represents (record s { rounds = n }) p o
   part_again p o h = record {
     part = record {
       number = h.part.number;
@@ -28,7 +28,7 @@ module _ (m : Machine) (setup : Setup) (s : State) (n : ℕ) (I : IsIn m setup s
 
   recounted : IsGood setup s → IsIn (record m { rounds = n }) setup (record s { rounds = n })
   recounted g = record {
-    stands = I.stands;
+    represents = I.represents;
     tick = I.tick;
     rounds = refl;
     part_count = I.part_count;
@@ -36,12 +36,12 @@ module _ (m : Machine) (setup : Setup) (s : State) (n : ℕ) (I : IsIn m setup s
     parts = λ p o one there. part_again p o (I.parts p o one there);
     kernel = record {
       word_count = I.kernel.word_count;
-      gates_stand = record {
-        gate_count = I.kernel.gates_stand.gate_count;
-        stage_count = I.kernel.gates_stand.stage_count;
-        gates = I.kernel.gates_stand.gates;
-        stages = I.kernel.gates_stand.stages;
-        askers = I.kernel.gates_stand.askers;
+      gates_represent = record {
+        gate_count = I.kernel.gates_represent.gate_count;
+        stage_count = I.kernel.gates_represent.stage_count;
+        gates = I.kernel.gates_represent.gates;
+        stages = I.kernel.gates_represent.stages;
+        askers = I.kernel.gates_represent.askers;
       };
       data_means = I.kernel.data_means;
     };

@@ -31,7 +31,7 @@ use Rattle.cp_law_search.specs.Calls.{IsClosedByCalls, LeadsAs, LeadsByCalls, co
 use Rattle.cp_law_search.specs.Laws.{IsClockless}
 use Rattle.cp_law_search.proofs.Counts.{recount}
 use Rattle.cp_law_search.proofs.Standing.{Sound, closed_again, move_sound, movers, step_closed}
-use Rattle.cp_law_search.proofs.Ways.{core_tells_way}
+use Rattle.cp_law_search.proofs.Ways.{core_reports_way}
 
 eager_no_late : Eager ≡ Late → ⊥
 eager_no_late e = grind arith
@@ -83,16 +83,16 @@ module _ (program : Program) (setup : Setup) (C : IsClockless program setup) whe
   K = core_machine program (process_count setup)
 
   abbrev pub IsFine : State → Type 0
-  IsFine s = Sound setup C.stands.typed s
+  IsFine s = Sound setup C.represents.typed s
 
   abbrev pub A : AreMovers M IsFine
-  A = movers setup C.stands.typed
+  A = movers setup C.represents.typed
 
   abbrev pub At : State → Core → Type 0
   At s c = IsCoreIn program setup s c
 
   pub ways : (s : State) (c : Core) (p : ℕ) → At s c → is_in p (processes setup) ≡ true → way_at program c p ≡ way s p
-  ways s c p h there = core_tells_way program setup s c p h there
+  ways s c p h there = core_reports_way program setup s c p h there
 
   stepped : (x : State) (c : Core) (p : ℕ) → is_in p (processes setup) ≡ true → IsCoreIn program setup x c → Which setup x p → IsCoreIn program setup (step setup x p) (step_at program c p)
   stepped x c p there h (OfItself e f) =
@@ -107,14 +107,14 @@ module _ (program : Program) (setup : Setup) (C : IsClockless program setup) whe
       (kernel_in program setup C.free p there x c h))
 
   pub shuts : (s : State) (c : Core) → IsGood setup s → IsCoreIn program setup s c → IsCoreIn program setup (closed s) (close program c)
-  shuts s c g h = recount program setup (close_round s) (close program c) 0 (close_good setup s C.stands.typed g) (closed_in program setup C.free s c h)
+  shuts s c g h = recount program setup (close_round s) (close program c) 0 (close_good setup s C.represents.typed g) (closed_in program setup C.free s c h)
 
   pub moved : (s : State) (c : Core) (p : ℕ) → IsFine s → is_in p (processes setup) ≡ true → s.status p ≡ Ready → At s c → At (M.move s p) (K.move c p)
   moved s c p fine there ready h =
-      shuts (step setup s p) (step_at program c p) (step_good setup s p C.stands.typed fine.good ready) (stepped s c p there h (which setup s p ready))
+      shuts (step setup s p) (step_at program c p) (step_good setup s p C.represents.typed fine.good ready) (stepped s c p there h (which setup s p ready))
 
   pub move_fine_here : (s : State) (p : ℕ) → IsFine s → is_in p (processes setup) ≡ true → s.status p ≡ Ready → IsFine (M.move s p)
-  move_fine_here s p fine there ready = move_sound setup C.stands.typed s p fine ready
+  move_fine_here s p fine there ready = move_sound setup C.represents.typed s p fine ready
 
   -- ---- States follow cores
 
@@ -149,7 +149,7 @@ module _ (program : Program) (setup : Setup) (C : IsClockless program setup) whe
         end = r.end;
         settles = record { made = leads.settles.made; run = r.run; settled = settled_like r.end leads.at r.at leads.settles.settled };
         fine = r.fine;
-        at = leads.stands r.end r.at;
+        at = leads.represents r.end r.at;
       }
 
   -- ---- Cores follow states
@@ -189,27 +189,27 @@ module _ (program : Program) (setup : Setup) (C : IsClockless program setup) whe
       pub fine : IsFine at
       pub member : Core
       pub known : V member
-      pub stands : At at member
+      pub represents : At at member
 
     pub near : (s : State) (c : Core) → IsFine s → At s c → LeadsByCalls program setup V c → Near s
     near s c fine h leads =
         let r = arrives s c leads.member fine h leads.leads in
-        record { at = r.end; settles = r.settles; fine = r.fine; member = leads.member; known = leads.known; stands = r.at }
+        record { at = r.end; settles = r.settles; fine = r.fine; member = leads.member; known = leads.known; represents = r.at }
 
     module _ (closed_set : IsClosedByCalls program setup V) where
       after_late : (s : State) (p : ℕ) → IsFine s → is_in p (processes setup) ≡ true → way s p ≡ Late → Near s → Near (M.move s p)
       after_late s p fine there late h =
           let past = late_past M IsFine A h.settles.made s h.at p fine there late h.settles.run in
           let here = late_ready h.at p past.0 in
-          let w = near (M.move h.at p) (K.move h.member p) (move_fine_here h.at p h.fine there here) (moved h.at h.member p h.fine there here h.stands)
-          (closed_set.late h.member p h.known there (ways h.at h.member p h.stands there ∙ past.0)) in
+          let w = near (M.move h.at p) (K.move h.member p) (move_fine_here h.at p h.fine there here) (moved h.at h.member p h.fine there here h.represents)
+          (closed_set.late h.member p h.known there (ways h.at h.member p h.represents there ∙ past.0)) in
           record {
             at = w.at;
             settles = settles_on M IsFine A h.settles.made (M.move s p) (M.move h.at p) w.at past.1 w.settles;
             fine = w.fine;
             member = w.member;
             known = w.known;
-            stands = w.stands;
+            represents = w.represents;
           }
 
       after_eager : (s : State) (p : ℕ) → IsFine s → is_in p (processes setup) ≡ true → way s p ≡ Eager → Near s → Near (M.move s p)
@@ -219,7 +219,7 @@ module _ (program : Program) (setup : Setup) (C : IsClockless program setup) whe
         fine = h.fine;
         member = h.member;
         known = h.known;
-        stands = h.stands;
+        represents = h.represents;
       }
 
       pub stays_near : (ps : List ℕ) (s u : State) → IsFine s → Runs M s ps u → Near s → Near u
@@ -238,12 +238,12 @@ module _ (program : Program) (setup : Setup) (C : IsClockless program setup) whe
   pub record Acted (v : State) (c : Core) : Type 0 where
     pub end : State
     pub fine : IsFine end
-    pub stands : IsCoreIn program setup end c
+    pub represents : IsCoreIn program setup end c
     pub made : List ℕ
     pub run : Runs M (closed v) made (closed end)
 
   private_fine : (v : State) (p : ℕ) → IsFine v → IsFine (private_step setup v p)
-  private_fine v p fine = record { good = private_good setup v p C.stands.typed fine.good; count = by (kind v p) }
+  private_fine v p fine = record { good = private_good setup v p C.represents.typed fine.good; count = by (kind v p) }
     where
       by : (k : Kind) → (if_private k (step setup v p) v).rounds ≡ 0
       by Private = step_count setup v p ∙ fine.count
@@ -251,7 +251,7 @@ module _ (program : Program) (setup : Setup) (C : IsClockless program setup) whe
       by NoStep = fine.count
 
   kernel_fine : (v : State) (p : ℕ) → IsFine v → IsFine (kernel_step setup v p)
-  kernel_fine v p fine = record { good = kernel_good setup v p C.stands.typed fine.good; count = by (kind v p) }
+  kernel_fine v p fine = record { good = kernel_good setup v p C.represents.typed fine.good; count = by (kind v p) }
     where
       by : (k : Kind) → (if_kernel k (step setup v p) v).rounds ≡ 0
       by Kernel = step_count setup v p ∙ fine.count
@@ -272,7 +272,7 @@ module _ (program : Program) (setup : Setup) (C : IsClockless program setup) whe
 
   pub follows_acts : (acts : List Act) (v : State) (c : Core) → IsFine v → AreOf (processes setup) acts → IsCoreIn program setup v c
       → Acted v (after (core_moves program (process_count setup)) c acts)
-  follows_acts [] v c fine within h = record { end = v; fine = fine; stands = h; made = []; run = refl }
+  follows_acts [] v c fine within h = record { end = v; fine = fine; represents = h; made = []; run = refl }
   follows_acts (PrivateStep p ∷ rest) v c fine within h =
       by (kind v p) refl (follows_acts rest (private_step setup v p) (private_at program c p) (private_fine v p fine) within.1 (private_in program setup C.free p within.0 v c h))
     where
@@ -280,7 +280,7 @@ module _ (program : Program) (setup : Setup) (C : IsClockless program setup) whe
           → Acted v (after (core_moves program (process_count setup)) (private_at program c p) rest)
       by Private e r =
           let ready = (kind_private (v.status p) (v.continuation p) e).0 in
-          record { end = r.end; fine = r.fine; stands = r.stands; made = p ∷ r.made; run = one_step v p r.made (closed r.end) fine within.0 ready r.run }
+          record { end = r.end; fine = r.fine; represents = r.represents; made = p ∷ r.made; run = one_step v p r.made (closed r.end) fine within.0 ready r.run }
       by Kernel e r = r
       by NoStep e r = r
   follows_acts (KernelStep p ∷ rest) v c fine within h =
@@ -290,12 +290,12 @@ module _ (program : Program) (setup : Setup) (C : IsClockless program setup) whe
           → Acted v (after (core_moves program (process_count setup)) (kernel_at program c p) rest)
       by Kernel e r =
           let ready = kind_kernel setup (v.status p) (v.continuation p) e in
-          record { end = r.end; fine = r.fine; stands = r.stands; made = p ∷ r.made; run = one_step v p r.made (closed r.end) fine within.0 ready r.run }
+          record { end = r.end; fine = r.fine; represents = r.represents; made = p ∷ r.made; run = one_step v p r.made (closed r.end) fine within.0 ready r.run }
       by Private e r = r
       by NoStep e r = r
   follows_acts (EndRound ∷ rest) v c fine within h =
-      let r = follows_acts rest (closed v) (close program c) (record { good = closed_good setup v C.stands.typed fine.good; count = refl }) within.1 (shuts v c fine.good h) in
-      record { end = r.end; fine = r.fine; stands = r.stands; made = r.made; run = subst (λ z. Runs M z r.made (closed r.end)) (closed_again v) r.run }
+      let r = follows_acts rest (closed v) (close program c) (record { good = closed_good setup v C.represents.typed fine.good; count = refl }) within.1 (shuts v c fine.good h) in
+      record { end = r.end; fine = r.fine; represents = r.represents; made = r.made; run = subst (λ z. Runs M z r.made (closed r.end)) (closed_again v) r.run }
 
   -- ---- Faults last
 

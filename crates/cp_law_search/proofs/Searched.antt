@@ -35,7 +35,7 @@ use Rattle.cp_law_cores.proofs.InStates.{closed_in, kernel_in, private_in}
 use Rattle.cp_law_cores.proofs.Runs.{acts_of, all_ones, all_ones_within, in_range, replay_ones}
 use Rattle.cp_law_cores.proofs.Schedules.{acts_are_of, fault_there, last, last_is_in, last_sees}
 use Rattle.cp_law_cores.proofs.Twins.{as_core_of, first_in}
-use Rattle.cp_law_cores.proofs.Verdicts.{core_tells_end, core_tells_sound, core_tells_still, told, unsound_if}
+use Rattle.cp_law_cores.proofs.Verdicts.{core_reports_end, core_reports_sound, core_reports_still, reported, unsound_if}
 use Rattle.cp_law_search.specs.Calls.{LeadOn, SettlesByCalls, core_machine, move_at}
 use Rattle.cp_law_search.specs.Laws.{FaultsAreInMembers, FoundByCallsIsReal, FoundIsExact, IsClockless, IsReal, IsSearched, NoOrderIsStuckByCalls, OrdersSettleByCalls, RunIsReal, StillStatesAreMembers, VerdictsAreOfMembers}
 use Rattle.cp_law_search.proofs.Following.{Acted, IsFine, M, Near, arrives, failed_is, fault_lasts, follows_acts, follows_to, move_fine_here, moved, near, shuts, stays_near, ways}
@@ -119,7 +119,7 @@ still_settled setup program C s still = record { none = λ p there e. by (s.stat
 fault_is : (program : Program) (setup : Setup) (s : State) (c : Core) (p number : ℕ) → IsCoreIn program setup s c → is_in p (processes setup) ≡ true → HasFault c p number
     → private_status (s.status p) ≡ parts.Failed number
 fault_is program setup s c p number h there fault =
-    let t = told h.machine setup s h.inside p (in_range setup p there) in
+    let t = reported h.machine setup s h.inside p (in_range setup p there) in
     let same : Some t.own ≡ Some fault.own = sym t.there ∙ (ap (λ (z : Core). part z.parts p) h.is ∙ fault.there) in
     t.private ∙ (ap own_status same ∙ (ap status_of fault.stopped ∙ ap parts.Failed fault.is))
   where
@@ -130,14 +130,14 @@ fault_is program setup s c p number h there fault =
 -- ---- What a core tells
 
 module _ (program : Program) (setup : Setup) (s : State) (c : Core) (h : IsCoreIn program setup s c) where
-  tells_still : core_is_still (process_count setup) c ≡ is_still setup s
-  tells_still = core_tells_still setup s c (as_core_of program setup s c h)
+  reports_still : core_is_still (process_count setup) c ≡ is_still setup s
+  reports_still = core_reports_still setup s c (as_core_of program setup s c h)
 
-  tells_end : core_has_ended (process_count setup) c ≡ all_pass has_ended s (processes setup)
-  tells_end = core_tells_end setup s c (as_core_of program setup s c h)
+  reports_end : core_has_ended (process_count setup) c ≡ all_pass has_ended s (processes setup)
+  reports_end = core_reports_end setup s c (as_core_of program setup s c h)
 
-  tells_sound : core_is_sound (process_count setup) c ≡ all_pass has_no_fault s (processes setup)
-  tells_sound = core_tells_sound setup s c (as_core_of program setup s c h)
+  reports_sound : core_is_sound (process_count setup) c ≡ all_pass has_no_fault s (processes setup)
+  reports_sound = core_reports_sound setup s c (as_core_of program setup s c h)
 
   has_fault : (p number : ℕ) → is_in p (processes setup) ≡ true → s.status p ≡ Faulted number → HasFault c p number
   has_fault p number there e =
@@ -154,13 +154,13 @@ start_is setup = state_is _ _ refl refl refl refl (λ i p. by (nat_eq 1 p) i) re
 
 module _ (program : Program) (setup : Setup) (C : IsClockless program setup) where
   first_fine : IsFine program setup C (start setup)
-  first_fine = record { good = start_good setup C.stands.typed; count = refl }
+  first_fine = record { good = start_good setup C.represents.typed; count = refl }
 
   closed_fine : (v : State) → IsFine program setup C v → IsFine program setup C (closed v)
-  closed_fine v fine = record { good = closed_good setup v C.stands.typed fine.good; count = refl }
+  closed_fine v fine = record { good = closed_good setup v C.represents.typed fine.good; count = refl }
 
   first_at : IsCoreIn program setup (closed (start setup)) (first_core program setup)
-  first_at = subst (λ (z : State). IsCoreIn program setup z (first_core program setup)) (sym (start_is setup)) (first_in program setup C.stands C.free)
+  first_at = subst (λ (z : State). IsCoreIn program setup z (first_core program setup)) (sym (start_is setup)) (first_in program setup C.represents C.free)
 
   -- Nothing settled has eager steps.
   resting : (ps : List ℕ) (s u : State) → IsSettled (M program setup C) s → RunsEagerly (M program setup C) s ps u → s ≡ u
@@ -182,21 +182,21 @@ module _ (program : Program) (setup : Setup) (C : IsClockless program setup) whe
 
     has_core : IsCoreIn program setup reached its_core
     has_core =
-        let m = last program setup C.stands C.free ones ones_within in
-        let sees = last_sees program setup C.stands C.free ones ones_within in
+        let m = last program setup C.represents C.free ones ones_within in
+        let sees = last_sees program setup C.represents C.free ones ones_within in
         subst (λ (z : State). IsCoreIn program setup z its_core) (replay_ones setup rounds (start setup))
         (record {
           machine = m;
           program_is = sees.timeless.program_is;
           awake = sees.timeless.awake;
-          inside = last_is_in program setup C.stands C.free ones ones_within;
+          inside = last_is_in program setup C.represents C.free ones ones_within;
           is = sees.sees;
         })
 
     acted : Acted program setup C (start setup) its_core
     acted =
         follows_acts program setup C (acts_of ones) (start setup) (first_core program setup) first_fine
-        (acts_are_of program setup C.stands C.free ones ones_within) (first_in program setup C.stands C.free)
+        (acts_are_of program setup C.represents C.free ones ones_within) (first_in program setup C.represents C.free)
 
   module _ (vs : List Core) (searched : IsSearched program setup vs) where
     near_first : Near program setup C (Contains vs) (closed (start setup))
@@ -221,15 +221,15 @@ module _ (program : Program) (setup : Setup) (C : IsClockless program setup) whe
           let c = its_core rounds within in
           let h = near_twin in
           let f = follows_to program setup C (closed twin.end) h.at (close program c) (closed_fine twin.end twin.fine)
-          (shuts program setup C twin.end c twin.fine.good twin.stands) h.settles in
+          (shuts program setup C twin.end c twin.fine.good twin.represents) h.settles in
           record {
             core = c;
-            stands = has_core rounds within;
+            represents = has_core rounds within;
             at = f.end;
             settles = f.settles;
             member = h.member;
             known = h.known;
-            twins = record { state = h.at; one = f.at; other = h.stands };
+            twins = record { state = h.at; one = f.at; other = h.represents };
           }
 
       verdict_within : is_still setup (reached rounds within) ≡ true
@@ -242,17 +242,17 @@ module _ (program : Program) (setup : Setup) (C : IsClockless program setup) whe
           let v = twin.end in
           let h = near_twin in
           let here = has_core rounds within in
-          let quiet : is_still setup v ≡ true = sym (tells_still program setup v c twin.stands) ∙ (tells_still program setup x c here ∙ still) in
+          let quiet : is_still setup v ≡ true = sym (reports_still program setup v c twin.represents) ∙ (reports_still program setup x c here ∙ still) in
           let is = still_is v h quiet in (
             h.member,
             h.known,
-            tells_still program setup h.at h.member h.stands ∙ (ap (is_still setup) (sym is) ∙ (closed_still setup v ∙ quiet)),
-            tells_end program setup h.at h.member h.stands
+            reports_still program setup h.at h.member h.represents ∙ (ap (is_still setup) (sym is) ∙ (closed_still setup v ∙ quiet)),
+            reports_end program setup h.at h.member h.represents
                 ∙ (ap (λ (z : State). all_pass has_ended z (processes setup)) (sym is)
-                ∙ (closed_ended setup v ∙ (sym (tells_end program setup v c twin.stands) ∙ tells_end program setup x c here))),
-            tells_sound program setup h.at h.member h.stands
+                ∙ (closed_ended setup v ∙ (sym (reports_end program setup v c twin.represents) ∙ reports_end program setup x c here))),
+            reports_sound program setup h.at h.member h.represents
                 ∙ (ap (λ (z : State). all_pass has_no_fault z (processes setup)) (sym is)
-                ∙ (closed_sound setup v ∙ (sym (tells_sound program setup v c twin.stands) ∙ tells_sound program setup x c here))),
+                ∙ (closed_sound setup v ∙ (sym (reports_sound program setup v c twin.represents) ∙ reports_sound program setup x c here))),
           )
 
       fault_within : (p number : ℕ) → is_in p (processes setup) ≡ true → (reached rounds within).status p ≡ Faulted number → (w : Core) × Contains vs w × HasFault w p number
@@ -261,9 +261,9 @@ module _ (program : Program) (setup : Setup) (C : IsClockless program setup) whe
           let v = twin.end in
           let h = near_twin in
           let own = has_fault program setup (reached rounds within) c (has_core rounds within) p number there e in
-          let same : v.status p ≡ Faulted number = failed_is program setup C (v.status p) number (fault_is program setup v c p number twin.stands there own) in
+          let same : v.status p ≡ Faulted number = failed_is program setup C (v.status p) number (fault_is program setup v c p number twin.represents there own) in
           let lasts = fault_lasts program setup C h.settles.made (closed v) h.at p number (closed_fine v twin.fine) h.settles.run (ap after_closing same) in
-          (h.member, h.known, has_fault program setup h.at h.member h.stands p number there lasts)
+          (h.member, h.known, has_fault program setup h.at h.member h.represents p number there lasts)
 
     -- ---- Texts that have nothing to do with the clock either
 
@@ -271,9 +271,9 @@ module _ (program : Program) (setup : Setup) (C : IsClockless program setup) whe
         → is_still setup (replay setup (start setup) rounds) ≡ true → (w : Core) × Contains vs w × IsCoreIn program setup (closed (replay setup (start setup) rounds)) w
     still_member free rounds within still =
         let x = replay setup (start setup) rounds in
-        let run = order_is_run setup rounds C.stands.typed (text_timeless setup C.stands.typed free) within in
+        let run = order_is_run setup rounds C.represents.typed (text_timeless setup C.represents.typed free) within in
         let h = near_run run.0 (closed x) run.1 in
-        (h.member, h.known, subst (λ (z : State). IsCoreIn program setup z h.member) (sym (still_is x h still)) h.stands)
+        (h.member, h.known, subst (λ (z : State). IsCoreIn program setup z h.member) (sym (still_is x h still)) h.represents)
 
 pub orders_settle_by_calls : OrdersSettleByCalls
 orders_settle_by_calls program setup vs rounds C searched within = settles_within program setup C vs searched rounds within
@@ -326,11 +326,11 @@ no_order_is_stuck_by_calls program setup vs rounds C searched fine within =
 record Reached (program : Program) (setup : Setup) (x : State) (d : Core) : Type 0 where
   rounds : List (List Event)
   within : AreAllOfProcesses setup (with_one rounds)
-  stands : IsCoreIn program setup (replay setup x (with_one rounds)) d
+  represents : IsCoreIn program setup (replay setup x (with_one rounds)) d
 
 reaches : (program : Program) (setup : Setup) (C : IsClockless program setup) (ps : List ℕ) (x : State) (c d : Core) → IsCoreIn program setup x c
     → Runs (core_machine program (process_count setup)) c ps d → Reached program setup x d
-reaches program setup C [] x c d h run = record { rounds = []; within = tt; stands = subst (IsCoreIn program setup x) run h }
+reaches program setup C [] x c d h run = record { rounds = []; within = tt; represents = subst (IsCoreIn program setup x) run h }
 reaches program setup C (p ∷ ps) x c d h run =
     by (is_private_on program (part c.parts p)) refl (λ y k. reaches program setup C ps y (move_at program c p) d k run.2)
   where
@@ -340,24 +340,24 @@ reaches program setup C (p ∷ ps) x c d h run =
         let woken = wake_in program setup x c h in
         let k = closed_in program setup C.free _ _ (private_in program setup C.free p run.0 _ c woken) in
         let r = more _ (subst (IsCoreIn program setup _) (sym (ap (λ b. close program (if b then private_at program c p else kernel_at program c p)) e)) k) in
-        record { rounds = (PrivateStep p ∷ []) ∷ r.rounds; within = ((run.0, tt), r.within); stands = r.stands }
+        record { rounds = (PrivateStep p ∷ []) ∷ r.rounds; within = ((run.0, tt), r.within); represents = r.represents }
     by false e more =
         let woken = wake_in program setup x c h in
         let k = closed_in program setup C.free _ _ (kernel_in program setup C.free p run.0 _ c woken) in
         let r = more _ (subst (IsCoreIn program setup _) (sym (ap (λ b. close program (if b then private_at program c p else kernel_at program c p)) e)) k) in
-        record { rounds = (KernelTurn p ∷ []) ∷ r.rounds; within = ((run.0, tt), r.within); stands = r.stands }
+        record { rounds = (KernelTurn p ∷ []) ∷ r.rounds; within = ((run.0, tt), r.within); represents = r.represents }
 
 pub run_is_real : RunIsReal
 run_is_real program setup ps c C run =
-    let r = reaches program setup C ps (start setup) (first_core program setup) c (first_in program setup C.stands C.free) run in
+    let r = reaches program setup C ps (start setup) (first_core program setup) c (first_in program setup C.represents C.free) run in
     let s = replay setup (start setup) (with_one r.rounds) in
     record {
       rounds = r.rounds;
       within = r.within;
-      still = λ still. sym (tells_still program setup s c r.stands) ∙ still;
-      ended = sym (tells_end program setup s c r.stands);
-      sound = sym (tells_sound program setup s c r.stands);
-      fault = λ p number there h. failed_is program setup C (s.status p) number (fault_is program setup s c p number r.stands there h);
+      still = λ still. sym (reports_still program setup s c r.represents) ∙ still;
+      ended = sym (reports_end program setup s c r.represents);
+      sound = sym (reports_sound program setup s c r.represents);
+      fault = λ p number there h. failed_is program setup C (s.status p) number (fault_is program setup s c p number r.represents there h);
     }
 
 -- ---- Runs by calls are runs
@@ -447,9 +447,9 @@ found_is_exact program setup calls u C found =
     let f = follows_to program setup C s a.end (first_core program setup) fine at a.settles in
     let r = leads_alike program setup C calls a.end f.end found.first u a.fine f.at a.at found.lead in
     let reached : ByCalls (core_machine program (process_count setup)) (first_core program setup) calls r.exact = record { first = f.end; settles = f.settles; lead = r.lead } in
-    let still = tells_still program setup r.state r.exact r.one ∙ sym (tells_still program setup r.state u r.other) in
-    let ended = tells_end program setup r.state r.exact r.one ∙ sym (tells_end program setup r.state u r.other) in
-    let sound = tells_sound program setup r.state r.exact r.one ∙ sym (tells_sound program setup r.state u r.other) in
+    let still = reports_still program setup r.state r.exact r.one ∙ sym (reports_still program setup r.state u r.other) in
+    let ended = reports_end program setup r.state r.exact r.one ∙ sym (reports_end program setup r.state u r.other) in
+    let sound = reports_sound program setup r.state r.exact r.one ∙ sym (reports_sound program setup r.state u r.other) in
     let faults : (p number : ℕ) → is_in p (processes setup) ≡ true → HasFault u p number → HasFault r.exact p number =
     λ p number there h.
     has_fault program setup r.state r.exact r.one p number there

@@ -13,10 +13,10 @@ use Rattle.cp_model.specs.States.{Setup, State, monitor_count, process_count}
 use Rattle.cp_model_program.specs.Programs as op
 use Rattle.cp_model_program.specs.Programs.{Operation, Program}
 use Rattle.cp_model_machine.specs.EffectOf.{IsNumber}
-use Rattle.cp_model_machine.specs.InState.{IsIn, PartStands}
+use Rattle.cp_model_machine.specs.InState.{IsIn, PartRepresents}
 use Rattle.cp_model_machine.specs.KernelOf.{StageMeans, kernel_ground}
 use Rattle.cp_model_machine.specs.KernelSteps as stage
-use Rattle.cp_model_machine.specs.KernelSteps.{Begun, Stage, is_begun, stage_of}
+use Rattle.cp_model_machine.specs.KernelSteps.{Begun, SchedulingState, is_begun, stage_of}
 use Rattle.cp_model_machine.specs.Machines.{Machine, transcript_of}
 use Rattle.cp_model_machine.specs.PartOf.{status_of}
 use Rattle.cp_model_machine.specs.PrivateStates as machine
@@ -32,7 +32,7 @@ use Rattle.cp_law_cores.proofs.Parts.{map_got}
 use Rattle.cp_law_cores.proofs.Runs.{in_range}
 use Rattle.cp_law_cores.proofs.Schedules.{got}
 use Rattle.cp_law_search.specs.Calls.{is_late_at, is_late_operation, way_at, way_by, way_on}
-use Rattle.cp_law_search.specs.Laws.{CoreTellsWay}
+use Rattle.cp_law_search.specs.Laws.{CoreReportsWay}
 
 -- ---- What is late
 
@@ -61,7 +61,7 @@ late_operation _ = refl
 -- ---- One process
 
 module _ (m : Machine) (setup : Setup) (s : State) (I : IsIn m setup s) (p : ℕ) (number : IsNumber (process_count setup) p) (o : PrivateState)
-    (stands : PartStands m setup I.stands s p o) where
+    (represents : PartRepresents m setup I.represents s p o) where
   abbrev computed : Way
   computed = way_on m.program m.kernel (Some (silent o))
 
@@ -69,22 +69,22 @@ module _ (m : Machine) (setup : Setup) (s : State) (I : IsIn m setup s) (p : ℕ
   on runs begun late = if runs then (if begun then way_by late else Idle) else Idle
 
   same : (x : Status) → s.status p ≡ x → private_status x ≡ status_of o.activity
-  same x is = ap private_status (sym is) ∙ stands.part.status
+  same x is = ap private_status (sym is) ∙ represents.part.status
 
-  known : (x : Status) → s.status p ≡ x → StageMeans (kernel_ground m.program I.stands.texts setup) x (stage_of m.kernel.stages o.number)
+  known : (x : Status) → s.status p ≡ x → StageMeans (kernel_ground m.program I.represents.texts setup) x (stage_of m.kernel.stages o.number)
   known x is =
-      let G = I.kernel.gates_stand in
-      subst (λ z. StageMeans (kernel_ground m.program I.stands.texts setup) x (stage_of m.kernel.stages z)) (sym stands.part.number)
-      (subst (λ z. StageMeans (kernel_ground m.program I.stands.texts setup) z (stage_of m.kernel.stages p)) is
+      let G = I.kernel.gates_represent in
+      subst (λ z. StageMeans (kernel_ground m.program I.represents.texts setup) x (stage_of m.kernel.stages z)) (sym represents.part.number)
+      (subst (λ z. StageMeans (kernel_ground m.program I.represents.texts setup) z (stage_of m.kernel.stages p)) is
       (let high = number.1 in let count = G.stage_count in G.stages p number.0 (Prim.omega (arith, high, count))))
 
   ready : s.status p ≡ status.Ready → o.activity ≡ machine.Running → computed ≡ way s p
   ready is runs =
-      let T = S m.program setup I.stands p (length o.words) s (transcript_of m.transcripts p) o m.kernel I.order.invariant number stands.part I.kernel is runs in
+      let T = S m.program setup I.represents p (length o.words) s (transcript_of m.transcripts p) o m.kernel I.order.invariant number represents.part I.kernel is runs in
       let there : operation_of m.program (silent o) ≡ Some T.operation = T.there in
       let stage : stage_of m.kernel.stages o.number ≡ Begun =
-      ap (stage_of m.kernel.stages) stands.part.number
-      ∙ begun (kernel_ground m.program I.stands.texts setup) (monitor_count setup) (process_count setup) s m.kernel (length o.words) p number is I.kernel.gates_stand in
+      ap (stage_of m.kernel.stages) represents.part.number
+      ∙ begun (kernel_ground m.program I.represents.texts setup) (monitor_count setup) (process_count setup) s m.kernel (length o.words) p number is I.kernel.gates_represent in
       let late : is_late_operation T.operation ≡ is_late (action (s.continuation p)) =
       late_operation T.operation
       ∙ ((λ i. if sym T.same_start i then false else sym T.same_kind i)
@@ -107,16 +107,16 @@ module _ (m : Machine) (setup : Setup) (s : State) (I : IsIn m setup s) (p : ℕ
       by true = refl
       by false = refl
 
-  asks : (g : ℕ) (y : Stage) → StageMeans (kernel_ground m.program I.stands.texts setup) (status.Asking g) y → is_begun y ≡ false
+  asks : (g : ℕ) (y : SchedulingState) → StageMeans (kernel_ground m.program I.represents.texts setup) (status.Asking g) y → is_begun y ≡ false
   asks g (stage.Asking j) means = refl
   asks g _ means = absurd means
 
-  waits : (g : ℕ) (q : Location) (y : Stage) → StageMeans (kernel_ground m.program I.stands.texts setup) (status.Delayed g q) y → is_begun y ≡ false
+  waits : (g : ℕ) (q : Location) (y : SchedulingState) → StageMeans (kernel_ground m.program I.represents.texts setup) (status.Delayed g q) y → is_begun y ≡ false
   waits g q (stage.Delayed j at) means = refl
   waits g q _ means = absurd means
 
-  tells : computed ≡ way s p
-  tells = by (s.status p) refl
+  reports : computed ≡ way s p
+  reports = by (s.status p) refl
     where
       by : (x : Status) → s.status p ≡ x → computed ≡ way s p
       by status.Ready is = ready is (running_is o.activity (subst IsRunning (same status.Ready is) tt))
@@ -130,8 +130,8 @@ module _ (m : Machine) (setup : Setup) (s : State) (I : IsIn m setup s) (p : ℕ
 
 -- ---- Cores
 
-pub core_tells_way : CoreTellsWay
-core_tells_way program setup s c p h there =
+pub core_reports_way : CoreReportsWay
+core_reports_way program setup s c p h there =
     subst (λ (z : Core). way_at program z p ≡ way s p) h.is
     (subst (λ (q : Program). way_at q (core h.machine) p ≡ way s p) h.program_is (by p (in_range setup p there)))
   where
@@ -143,5 +143,5 @@ core_tells_way program setup s c p h there =
         let count = h.inside.part_count in
         let x = got m.parts i (Prim.omega (arith, high, count)) in
         let place : i ≡ suc i - 1 = Prim.omega arith in
-        let stands = h.inside.parts (suc i) x.0 (Prim.omega arith) (subst (λ k. slice_get m.parts k ≡ Some x.0) place x.1) in
-        ap (way_on m.program m.kernel) (map_got silent m.parts i x.0 x.1) ∙ tells m setup s h.inside (suc i) range x.0 stands
+        let represents = h.inside.parts (suc i) x.0 (Prim.omega arith) (subst (λ k. slice_get m.parts k ≡ Some x.0) place x.1) in
+        ap (way_on m.program m.kernel) (map_got silent m.parts i x.0 x.1) ∙ reports m setup s h.inside (suc i) range x.0 represents

@@ -13,7 +13,7 @@ use Rattle.cp_model_machine.specs.Steps.{is_monitor, operation_of}
 use Rattle.cp_law_calls.specs.Runs.{Machine, Settles}
 use Rattle.cp_law_calls.specs.Ways.{Eager, Idle, Late, Way}
 use Rattle.cp_law_cores.specs.Cores.{Core, close, is_private_on, kernel_at, part, private_at}
-use Rattle.cp_law_cores.specs.Schedules.{IsCoreIn, StandsIn}
+use Rattle.cp_law_cores.specs.Schedules.{IsCoreIn, IsCoveredBy}
 
 -- ---- Ways
 
@@ -58,7 +58,7 @@ core_machine program n = record { processes = numbers_from 1 n; move = move_at p
 pub record LeadsAs (program : Program) (setup : Setup) (x w : Core) : Type 0 where
   pub at : Core
   pub settles : Settles (core_machine program (process_count setup)) x at
-  pub stands : StandsIn program setup at w
+  pub represents : IsCoveredBy program setup at w
 
 -- ---- Closed sets
 
@@ -98,7 +98,7 @@ pub record AreTwins (program : Program) (setup : Setup) (c d : Core) : Type 0 wh
 -- A core of the state settles, after the end of the round, as a twin of a member.
 pub record SettlesByCalls (program : Program) (setup : Setup) (V : Core → Type 0) (s : State) : Type 0 where
   pub core : Core
-  pub stands : IsCoreIn program setup s core
+  pub represents : IsCoreIn program setup s core
   pub at : Core
   pub settles : Settles (core_machine program (process_count setup)) (close program core) at
   pub member : Core

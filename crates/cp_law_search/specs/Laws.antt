@@ -7,7 +7,7 @@ use Rattle.cp_model.specs.Start.{start}
 use Rattle.cp_model.specs.States.{Setup, State, is_in, numbers_from, process_count, processes}
 use Rattle.cp_law_stillness.specs.Stillness.{AreAllOfProcesses, is_still}
 use Rattle.cp_model_program.specs.Programs.{Program}
-use Rattle.cp_model_program.specs.StandsFor.{StandsFor}
+use Rattle.cp_model_program.specs.IsProgramFor.{IsProgramFor}
 use Rattle.cp_law_calls.specs.Clocks.{text_is_timeless}
 use Rattle.cp_law_calls.specs.Orders.{closed}
 use Rattle.cp_law_calls.specs.Runs.{ByCalls, IsSettled, Runs, Settles}
@@ -21,14 +21,14 @@ use Rattle.cp_law_search.specs.Calls.{IsClosedByCalls, IsFound, LeadsByCalls, Se
 
 -- The program stands for the text, and has nothing to do with the clock.
 pub record IsClockless (program : Program) (setup : Setup) : Type 0 where
-  pub stands : StandsFor program setup
+  pub represents : IsProgramFor program setup
   pub free : is_timeless program ≡ true
 
 -- ---- Ways
 
 -- The way of a process is read off each core of the state.
-abbrev pub CoreTellsWay : Type 0
-CoreTellsWay =
+abbrev pub CoreReportsWay : Type 0
+CoreReportsWay =
     (program : Program) (setup : Setup) (s : State) (c : Core) (p : ℕ)
     → IsCoreIn program setup s c → is_in p (processes setup) ≡ true → way_at program c p ≡ way s p
 

@@ -1,11 +1,11 @@
 //! The laws of searches by calls, as functions with empty bodies.
 
 ghost use Rattle.cp_law_search.specs.Laws.{EagerStepSettles, PrivateTurnSettles, SettledSettles, StepsOfKinds};
-ghost use Rattle.cp_law_search.specs.Laws.{CoreTellsWay, FaultsAreInMembers, FoundByCallsIsReal, FoundIsExact, NoOrderIsStuckByCalls, OrdersSettleByCalls, RunIsReal, StillStatesAreMembers, VerdictsAreOfMembers};
+ghost use Rattle.cp_law_search.specs.Laws.{CoreReportsWay, FaultsAreInMembers, FoundByCallsIsReal, FoundIsExact, NoOrderIsStuckByCalls, OrdersSettleByCalls, RunIsReal, StillStatesAreMembers, VerdictsAreOfMembers};
 
 /// The way of a process is read off each core of the state.
 pub fn ways()
-    ensures { CoreTellsWay }
+    ensures { CoreReportsWay }
 {}
 
 /// Where the program has nothing to do with the clock, a set of cores that is closed by calls, and as a

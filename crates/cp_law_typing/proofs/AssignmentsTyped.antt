@@ -78,12 +78,12 @@ module _ (G : GlobalScope → Type 0) (env : Environment) (rs : Types) (p : Plac
   pub other_left_as : (x : Identifier) (ss : s.Selectors) (t : ℕ) → other_left_side env (s.Designate x ss) ≡ Sound t → LeftAs (erase.designator (s.Designate x ss)) t
   other_left_as x ss t h =
       let e : s.Designator = s.Designate x ss in
-      let told : c2_c5_c8_named env mode.Variable e ++ c10_designator env e ≡ [] = also_none (c2_c5_c8_named env mode.Variable e ++ c10_designator env e) _ t h in
+      let reported : c2_c5_c8_named env mode.Variable e ++ c10_designator env e ≡ [] = also_none (c2_c5_c8_named env mode.Variable e ++ c10_designator env e) _ t h in
       let value : then_judge (designate env e) (value_of env mode.Variable e) ≡ Sound t =
       also_sound (c2_c5_c8_named env mode.Variable e ++ c10_designator env e) _ t h in
-      let names : c2_c5_c8_named env mode.Variable e ≡ [] = first_empty _ (c10_designator env e) told in
+      let names : c2_c5_c8_named env mode.Variable e ≡ [] = first_empty _ (c10_designator env e) reported in
       let queues : c8_named env mode.Variable x ≡ [] = rest_empty (c2_before_index env mode.Variable e ++ c5_after_point env e) _ names in
-      let variable : c10_designator env e ≡ [] = rest_empty (c2_c5_c8_named env mode.Variable e) _ told in
+      let variable : c10_designator env e ≡ [] = rest_empty (c2_c5_c8_named env mode.Variable e) _ reported in
       let judged : judge env mode.Variable (s.Designated e) ≡ Sound t =
       ap (λ vs. also vs (then_judge (designate env e) (value_of env mode.Variable e))) names ∙ value in
       let q : VariablePart G env rs p (a.Use (erase.designator e)) t = varied_as G env rs p v (s.Designated e) t judged variable in

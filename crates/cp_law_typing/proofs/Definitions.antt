@@ -16,7 +16,7 @@ use Rattle.cp_law_typing.specs.WellTyped.{Later}
 use Rattle.cp_model.proofs.Judging.{first_empty, rest_empty}
 use Rattle.cp_law_typing.proofs.TableMeanings.{Types}
 use Rattle.cp_law_typing.proofs.TypeOrder.{ascend_kept, ascend_on, more_on, no_more}
-use Rattle.cp_law_typing.proofs.Stages.{Defined, Stage, SystemTyped, constant_defined, later_on, later_same, in_order_on, no_systems, type_defined, typed_later}
+use Rattle.cp_law_typing.proofs.Stages.{Defined, SchedulingState, SystemTyped, constant_defined, later_on, later_same, in_order_on, no_systems, type_defined, typed_later}
 use Rattle.cp_law_typing.proofs.SystemTypes.{system_defined}
 use Rattle.cp_law_typing.proofs.Enumerations.{enumeration_defined}
 
@@ -48,9 +48,9 @@ defined_on env mid after g rs ys ds es d e =
     record {
       more = e.more;
       later = subst (Later g) (sym scope) (later_on g (define_all g ds) (define_all (define_all g ds) es) d.later e.later);
-      stage = subst (λ l. Stage after (define_all g (ds ++ es)) e.more (ys ++ l)) (sym systems)
-          (subst (λ k. Stage after k e.more (ys ++ (systems_of ds ++ systems_of es))) (sym scope)
-          (subst (Stage after (define_all (define_all g ds) es) e.more) (append_assoc ys (systems_of ds) (systems_of es)) e.stage));
+      stage = subst (λ l. SchedulingState after (define_all g (ds ++ es)) e.more (ys ++ l)) (sym systems)
+          (subst (λ k. SchedulingState after k e.more (ys ++ (systems_of ds ++ systems_of es))) (sym scope)
+          (subst (SchedulingState after (define_all (define_all g ds) es) e.more) (append_assoc ys (systems_of ds) (systems_of es)) e.stage));
       in_order = λ k l.
           let l2 : Later (define_all (define_all g ds) es) k = subst (λ z. Later z k) scope l in
           in_order_on k ds es g ys (d.in_order k (later_on (define_all g ds) (define_all (define_all g ds) es) k e.later l2)) (e.in_order k l2);
@@ -73,10 +73,10 @@ defined_on env mid after g rs ys ds es d e =
         (subst (λ k. SystemTyped k (ys ++ (systems_of ds ++ take h.0 (systems_of es))) w) (sym (all_behind g ds es))
         (subst (λ l. SystemTyped (define_all (define_all g ds) es) l w) (append_assoc ys (systems_of ds) (take h.0 (systems_of es))) (e.typed h.0 w h.1)))
 
-defined_none : (env : Environment) (g : GlobalScope) (rs : Types) (ys : List a.System) → Stage env g rs ys → Defined env g rs ys [] env
-defined_none env g rs ys stage = record { more = rs; later = later_same g; stage = subst (Stage env g rs) (sym (no_systems ys)) stage; typed = λ i w h. absurd (cc); in_order = λ k l. tt; added = no_more env.names rs; ascend = omega arith }
+defined_none : (env : Environment) (g : GlobalScope) (rs : Types) (ys : List a.System) → SchedulingState env g rs ys → Defined env g rs ys [] env
+defined_none env g rs ys stage = record { more = rs; later = later_same g; stage = subst (SchedulingState env g rs) (sym (no_systems ys)) stage; typed = λ i w h. absurd (cc); in_order = λ k l. tt; added = no_more env.names rs; ascend = omega arith }
 
-constants_defined : (ds : List ConstantDefinition) (env : Environment) (g : GlobalScope) (rs : Types) (ys : List a.System) → Stage env g rs ys
+constants_defined : (ds : List ConstantDefinition) (env : Environment) (g : GlobalScope) (rs : Types) (ys : List a.System) → SchedulingState env g rs ys
     → (define_each define_constant env ds).violations ≡ [] → Defined env g rs ys (map erase.constant_definition ds) (define_each define_constant env ds).env
 constants_defined [] env g rs ys stage h = defined_none env g rs ys stage
 constants_defined (d ∷ ds) env g rs ys stage h =
@@ -85,7 +85,7 @@ constants_defined (d ∷ ds) env g rs ys stage h =
     defined_on env one.env _ g rs ys (erase.constant_definition d ∷ []) (map erase.constant_definition ds) first
     (constants_defined ds one.env (define_all g (erase.constant_definition d ∷ [])) first.more (ys ++ systems_of (erase.constant_definition d ∷ [])) first.stage (rest_empty one.violations _ h))
 
-one_defined : (x : Identifier) (d : s.Defined) (env : Environment) (g : GlobalScope) (rs : Types) (ys : List a.System) → Stage env g rs ys → (define_as env x d).violations ≡ []
+one_defined : (x : Identifier) (d : s.Defined) (env : Environment) (g : GlobalScope) (rs : Types) (ys : List a.System) → SchedulingState env g rs ys → (define_as env x d).violations ≡ []
     → Defined env g rs ys (erase.definition x d ∷ []) (define_as env x d).env
 one_defined x (s.Written t) env g rs ys stage h = type_defined env g rs ys x t stage h
 one_defined x (s.Enumeration xs) env g rs ys stage h = enumeration_defined env g rs ys x xs stage h
@@ -94,7 +94,7 @@ one_defined x (s.SystemType y) env g rs ys stage h = system_defined env g rs ys 
 abbrev define_type_definition : Environment → s.TypeDefinition → Declared
 define_type_definition e d = define_as e d.name d.defined
 
-types_defined : (ds : List s.TypeDefinition) (env : Environment) (g : GlobalScope) (rs : Types) (ys : List a.System) → Stage env g rs ys
+types_defined : (ds : List s.TypeDefinition) (env : Environment) (g : GlobalScope) (rs : Types) (ys : List a.System) → SchedulingState env g rs ys
     → (define_each define_type_definition env ds).violations ≡ [] → Defined env g rs ys (map erase.type_definition ds) (define_each define_type_definition env ds).env
 types_defined [] env g rs ys stage h = defined_none env g rs ys stage
 types_defined (d ∷ ds) env g rs ys stage h =
@@ -103,12 +103,12 @@ types_defined (d ∷ ds) env g rs ys stage h =
     defined_on env one.env _ g rs ys (erase.type_definition d ∷ []) (map erase.type_definition ds) first
     (types_defined ds one.env (define_all g (erase.type_definition d ∷ [])) first.more (ys ++ systems_of (erase.type_definition d ∷ [])) first.stage (rest_empty one.violations _ h))
 
-section_defined : (x : s.Section) (env : Environment) (g : GlobalScope) (rs : Types) (ys : List a.System) → Stage env g rs ys → (define_section env x).violations ≡ []
+section_defined : (x : s.Section) (env : Environment) (g : GlobalScope) (rs : Types) (ys : List a.System) → SchedulingState env g rs ys → (define_section env x).violations ≡ []
     → Defined env g rs ys (erase.section x) (define_section env x).env
 section_defined (s.Constants ds) env g rs ys stage h = constants_defined ds env g rs ys stage h
 section_defined (s.Types ds) env g rs ys stage h = types_defined ds env g rs ys stage h
 
-pub sections_defined : (xs : List s.Section) (env : Environment) (g : GlobalScope) (rs : Types) (ys : List a.System) → Stage env g rs ys
+pub sections_defined : (xs : List s.Section) (env : Environment) (g : GlobalScope) (rs : Types) (ys : List a.System) → SchedulingState env g rs ys
     → (define_each define_section env xs).violations ≡ [] → Defined env g rs ys (erase.sections xs) (define_each define_section env xs).env
 sections_defined [] env g rs ys stage h = defined_none env g rs ys stage
 sections_defined (x ∷ xs) env g rs ys stage h =

@@ -28,7 +28,7 @@ use Rattle.cp_law_typing.proofs.Layers.{IsOuter}
 use Rattle.cp_law_typing.proofs.DeclaredNames.{declare_new, declared_new, names_more, tables_same, each_new, names_of, each_declared, text_of}
 use Rattle.cp_law_typing.proofs.RoutineNames.{all_distinct}
 use Rattle.cp_law_typing.proofs.TypeOrder.{all_kept}
-use Rattle.cp_law_typing.proofs.Stages.{last_found, Defined, Stage, first_there, no_systems, not_first, stage_named, tables_fewer, type_later, outer_more, later_on, names_fewer}
+use Rattle.cp_law_typing.proofs.Stages.{last_found, Defined, SchedulingState, first_there, no_systems, not_first, stage_named, tables_fewer, type_later, outer_more, later_on, names_fewer}
 use Rattle.cp_law_typing.proofs.MemberNames.{new_fewer}
 
 abbrev Constants : Type 0
@@ -95,7 +95,7 @@ values_named g rs t n b names (x ∷ xs) base found new h =
       distinct = subst AllDistinct (sym (keys-append names ((x.name, e) ∷ []))) (all_distinct (keys names) (x.name ∷ []) h.distinct (new.0, tt));
     }))
 
-module _ (env : Environment) (g : GlobalScope) (rs : Types) (ys : List a.System) (x : Identifier) (xs : List Identifier) (stage : Stage env g rs ys)
+module _ (env : Environment) (g : GlobalScope) (rs : Types) (ys : List a.System) (x : Identifier) (xs : List Identifier) (stage : SchedulingState env g rs ys)
     (sound : (define_enumeration env x xs).violations ≡ []) where
   abbrev t : ℕ
   t = length env.types
@@ -178,7 +178,7 @@ module _ (env : Environment) (g : GlobalScope) (rs : Types) (ys : List a.System)
   enumeration_fits : (h : GlobalScope) → IsData h (full_range b)
   enumeration_fits h = (starts_at_0 (length (map erase.name xs) - 1), omega arith)
 
-  stage_a : Stage named scope_a more ys
+  stage_a : SchedulingState named scope_a more ys
   stage_a = stage_named env own g scope_a rs more ys ys x.name (entity.Type t) stage tables_own grows_own
       (λ n w i h. stage.systems n w i (not_new rs (full_range b) n w i refl h))
       (all_kept (Later g) env own rs more stage.tables grows_own (λ n w i h. not_new rs (full_range b) n w i refl h) stage.earlier) (record { region = refl; processes = refl; monitors = refl })
@@ -219,7 +219,7 @@ module _ (env : Environment) (g : GlobalScope) (rs : Types) (ys : List a.System)
       go None is h = (stage_a.seen z is).1
       go (Some e) is h = absurd (cc)
 
-  stage_behind : Stage after scope_behind more ys
+  stage_behind : SchedulingState after scope_behind more ys
   stage_behind = record {
     globals = named_behind.globals;
     tables = tables_same (Later scope_behind) named after more refl refl refl refl refl (tables_fewer (Later scope_a) (Later scope_behind) sub named more stage_a.tables);
@@ -243,7 +243,7 @@ module _ (env : Environment) (g : GlobalScope) (rs : Types) (ys : List a.System)
   enumeration_defined = subst (Defined env g rs ys (a.EnumDef x.name (map erase.name xs) ∷ [])) (sym after_is) (record {
     more = more;
     later = later_on g scope_a scope_behind later_a later_b;
-    stage = subst (Stage after scope_behind more) (sym (no_systems ys)) stage_behind;
+    stage = subst (SchedulingState after scope_behind more) (sym (no_systems ys)) stage_behind;
     typed = λ i w h. absurd (cc);
     in_order = λ k l. tt;
     added = record {
@@ -252,7 +252,7 @@ module _ (env : Environment) (g : GlobalScope) (rs : Types) (ys : List a.System)
     };
     ascend = (
       record {
-        stands_for = entity.Type t;
+        represents = entity.Type t;
         is = lookup_first x.name named.names (value_entries t 0 xs) (entity.Type t) (last_found env.names x.name (entity.Type t) none);
         other = (full_range b, type_there, refl);
       },

@@ -35,7 +35,7 @@ use Rattle.cp_law_typing.proofs.TypeOrder.{Ascend, ParametersBefore, SystemName,
 use Rattle.cp_law_typing.proofs.MonitorPlaces.{monitor_place, written_types}
 use Rattle.cp_law_typing.proofs.NamedTypes.{EntryNamed, written_type}
 use Rattle.cp_law_typing.proofs.DeclaredVariables.{VariablesMade}
-use Rattle.cp_law_typing.proofs.Stages.{Stage, later_same}
+use Rattle.cp_law_typing.proofs.Stages.{SchedulingState, later_same}
 use Rattle.cp_law_typing.proofs.ComponentScopes.{RoutinesMade}
 use Rattle.cp_law_typing.proofs.ComponentBodies.{Opened, routines_all, visible_in_body}
 use Rattle.cp_law_typing.proofs.EarlierRights.{OwnComponents, PlacesFollowRows, statements_earlier}
@@ -98,7 +98,7 @@ definitions_of t = erase.sections t.sections
 abbrev scope_of : s.Tree → GlobalScope
 scope_of t = define_all standard_scope (definitions_of t)
 
-module _ (t : s.Tree) (outer : Environment) (rs : Types) (stage : Stage outer (scope_of t) rs (systems_of (definitions_of t)))
+module _ (t : s.Tree) (outer : Environment) (rs : Types) (stage : SchedulingState outer (scope_of t) rs (systems_of (definitions_of t)))
     (low high : ℕ) (ascend : Ascend outer.names rs low high (definitions_of t))
     (own : Environment) (total : ℕ) (m : VariablesMade (Later (scope_of t)) outer rs position.InitialVariable t.variables own total)
     (opened : Opened (Later (scope_of t)) (systems_of (definitions_of t)) (initial_of t) position.InitialVariable own m.more)

@@ -122,7 +122,7 @@ module _ (G H : GlobalScope → Type 0) (sub : (g : GlobalScope) → H g → G g
 abbrev pub Seen : Names → GlobalScope → Type 0
 Seen names g = (x : Text) → lookup x names ≡ None → (lookup x g.constants ≡ None) × (lookup x g.types ≡ None)
 
-pub record Stage (env : Environment) (g : GlobalScope) (rs : Types) (ys : List a.System) : Type 0 where
+pub record SchedulingState (env : Environment) (g : GlobalScope) (rs : Types) (ys : List a.System) : Type 0 where
   pub globals : NamesAs (Later g) rs env.names
   pub tables : Tables (Later g) env rs
   pub is_outer : (x : Text) (e : Entity) → lookup x env.names ≡ Some e → IsOuter e
@@ -144,7 +144,7 @@ SystemTyped g before y = (h : GlobalScope) → Later g h → TypedSystem h befor
 pub record Defined (env : Environment) (g : GlobalScope) (rs : Types) (ys : List a.System) (ds : List a.Definition) (after : Environment) : Type 0 where
   pub more : Types
   pub later : Later g (define_all g ds)
-  pub stage : Stage after (define_all g ds) more (ys ++ systems_of ds)
+  pub stage : SchedulingState after (define_all g ds) more (ys ++ systems_of ds)
   pub typed : (i : ℕ) (y : a.System) → slice_get (systems_of ds) i ≡ Some y → SystemTyped (define_all g ds) (ys ++ take i (systems_of ds)) y
   pub in_order : (h : GlobalScope) → Later (define_all g ds) h → TypedInOrder h g ys ds
   pub added : MoreNames env.names after.names rs more
@@ -206,12 +206,12 @@ pub keeps_rest : (env : Environment) → KeepsRest env env
 keeps_rest env = record { region = refl; processes = refl; monitors = refl }
 
 -- one more name, with new rows
-pub stage_named : (env env1 : Environment) (g g1 : GlobalScope) (rs more : Types) (ys zs : List a.System) (x : Text) (e : Entity) → Stage env g rs ys → Tables (Later g) env1 more
+pub stage_named : (env env1 : Environment) (g g1 : GlobalScope) (rs more : Types) (ys zs : List a.System) (x : Text) (e : Entity) → SchedulingState env g rs ys → Tables (Later g) env1 more
     → Grows env env1 rs more
     → ((t : ℕ) (w : a.System) (inner : Members) → TypeAt more t (ComponentOf w inner) → (i : ℕ) × (slice_get zs i ≡ Some w))
     → ParametersBefore env1 more → KeepsRest env env1 → ((h : GlobalScope) → Later g1 h → AllFormed h g1.types) → Later g g1 → lookup x env.names ≡ None → IsOuter e → GlobalAs (Later g1) more x e
     → ((y : Text) → bytes_eq y x ≡ false → (lookup y g1.constants ≡ lookup y g.constants) × (lookup y g1.types ≡ lookup y g.types))
-    → Stage (with_names (env.names ++ (x, e) ∷ []) env1) g1 more zs
+    → SchedulingState (with_names (env.names ++ (x, e) ∷ []) env1) g1 more zs
 stage_named env env1 g g1 rs more ys zs x e stage tables grows systems earlier rest types later none outer new same =
     let sub : (h : GlobalScope) → Later g1 h → Later g h = λ h l. later_on g g1 h later l in
     let after : Environment = with_names (env.names ++ (x, e) ∷ []) env1 in
@@ -241,7 +241,7 @@ last_found names x e none = lookup_later x names ((x, e) ∷ []) none ∙ first_
 pub no_systems : (ys : List a.System) → ys ++ [] ≡ ys
 no_systems ys = append-nil ys
 
-pub constant_defined : (env : Environment) (g : GlobalScope) (rs : Types) (ys : List a.System) (d : ConstantDefinition) → Stage env g rs ys → (define_constant env d).violations ≡ []
+pub constant_defined : (env : Environment) (g : GlobalScope) (rs : Types) (ys : List a.System) (d : ConstantDefinition) → SchedulingState env g rs ys → (define_constant env d).violations ≡ []
     → Defined env g rs ys (erase.constant_definition d ∷ []) (define_constant env d).env
 constant_defined env g rs ys d stage h =
     let x : Text = d.name.name in
@@ -259,7 +259,7 @@ constant_defined env g rs ys d stage h =
     let e : Entity = entity.Constant is.0.0 is.0.1 in
     let g1 : GlobalScope = record g { constants = (x, w) ∷ g.constants } in
     let later : Later g g1 = constant_later x w g (stage.seen x none).0 in
-    let behind : Stage (with_names (env.names ++ (x, e) ∷ []) env) g1 rs ys =
+    let behind : SchedulingState (with_names (env.names ++ (x, e) ∷ []) env) g1 rs ys =
     stage_named env env g g1 rs rs ys ys x e stage stage.tables (grows_same env env rs refl refl refl refl refl) stage.systems stage.earlier (keeps_rest env) (λ k l. stage.types k (later_on g g1 k later l)) later none tt
     (v.0, v.1, λ k l. l.constants x w (first_there x w g.constants)) (λ y n. (not_first x y w g.constants n, refl)) in
     let after_is : (define_constant env d).env ≡ with_names (env.names ++ (x, e) ∷ []) env =
@@ -268,11 +268,11 @@ constant_defined env g rs ys d stage h =
     subst (Defined env g rs ys (erase.constant_definition d ∷ [])) (sym after_is) (record {
       more = rs;
       later = subst (Later g) (sym scope_is) later;
-      stage = subst (λ k. Stage (with_names (env.names ++ (x, e) ∷ []) env) k rs (ys ++ [])) (sym scope_is) (subst (Stage (with_names (env.names ++ (x, e) ∷ []) env) g1 rs) (sym (no_systems ys)) behind);
+      stage = subst (λ k. SchedulingState (with_names (env.names ++ (x, e) ∷ []) env) k rs (ys ++ [])) (sym scope_is) (subst (SchedulingState (with_names (env.names ++ (x, e) ∷ []) env) g1 rs) (sym (no_systems ys)) behind);
       typed = λ i y e. absurd (cc);
       in_order = λ k l. tt;
       added = record { names = λ z f k. lookup_first z env.names ((x, e) ∷ []) f k; types = λ t r k. k };
-      ascend = (record { stands_for = e; is = last_found env.names x e none; other = tt }, omega arith);
+      ascend = (record { represents = e; is = last_found env.names x e none; other = tt }, omega arith);
     })
 
 -- ---- written types
@@ -281,7 +281,7 @@ row_fits : {G : GlobalScope → Type 0} {env : Environment} {rs : Types} (row : 
     → IsData h r
 row_fits {G} {env} {rs} row r h as_row i alone = data_fits G row r (row_data G env rs row r as_row alone) h i
 
-pub type_defined : (env : Environment) (g : GlobalScope) (rs : Types) (ys : List a.System) (x : Identifier) (te : s.TypeExpression) → Stage env g rs ys → (define_type env x te).violations ≡ []
+pub type_defined : (env : Environment) (g : GlobalScope) (rs : Types) (ys : List a.System) (x : Identifier) (te : s.TypeExpression) → SchedulingState env g rs ys → (define_type env x te).violations ≡ []
     → Defined env g rs ys (a.TypeDef x.name (erase.type_expression te) ∷ []) (define_type env x te).env
 type_defined env g rs ys x te stage h =
     let unfinished : Environment = declare x entity.UnfinishedType env in
@@ -309,7 +309,7 @@ type_defined env g rs ys x te stage h =
     let alone : is_component one.type ≡ false =
     alone_in (Later g) m.env one.made.more position.Definition (λ y. refl) (row_of m.env inner.0).structure one.type (one.made.tables.rows inner.0 one.type one.there).structure
     (placed_allows (Later g) m.env position.Definition (type_at te) inner.0 is.0 inner.2).0 in
-    let behind : Stage (with_names (env.names ++ (x.name, e) ∷ []) m.env) g1 one.made.more ys =
+    let behind : SchedulingState (with_names (env.names ++ (x.name, e) ∷ []) m.env) g1 one.made.more ys =
     stage_named env m.env g g1 rs one.made.more ys ys x.name e stage one.made.tables grows (λ t w i k. stage.systems t w i (one.made.components t w i k))
     (all_kept (Later g) env m.env rs one.made.more stage.tables grows one.made.components stage.earlier) (record {
       region = ap (λ z. z.region) one.made.same ∙ ap (λ z. z.region) opened;
@@ -325,12 +325,12 @@ type_defined env g rs ys x te stage h =
     subst (Defined env g rs ys (a.TypeDef x.name (erase.type_expression te) ∷ [])) (sym after_is) (record {
       more = one.made.more;
       later = later;
-      stage = subst (Stage (with_names (env.names ++ (x.name, e) ∷ []) m.env) g1 one.made.more) (sym (no_systems ys)) behind;
+      stage = subst (SchedulingState (with_names (env.names ++ (x.name, e) ∷ []) m.env) g1 one.made.more) (sym (no_systems ys)) behind;
       typed = λ i y e. absurd (cc);
       in_order = λ k l. tt;
       added = record { names = λ z f k. lookup_first z env.names ((x.name, e) ∷ []) f k; types = grows.types };
       ascend = (
-        record { stands_for = e; is = last_found env.names x.name e none; other = (one.type, subst (λ k. TypeAt one.made.more k one.type) same one.there, alone) },
+        record { represents = e; is = last_found env.names x.name e none; other = (one.type, subst (λ k. TypeAt one.made.more k one.type) same one.there, alone) },
         omega (arith, stage.tables.lengths, one.made.tables.lengths, one.made.longer, ap (λ z. length z.types) opened),
       );
     })

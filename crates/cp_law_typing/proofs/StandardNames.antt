@@ -12,7 +12,7 @@ use Rattle.cp_law_typing.proofs.Names.{bytes_same}
 use Rattle.cp_law_typing.proofs.TableMeanings.{GlobalAs, NamesAs, RowAs, StructureAs, TypeAt, Types, data_row, queue_data, simple_data}
 use Rattle.cp_law_typing.proofs.Layers.{IsOuter}
 use Rattle.cp_law_typing.proofs.Visible.{some_same}
-use Rattle.cp_law_typing.proofs.Stages.{Stage}
+use Rattle.cp_law_typing.proofs.Stages.{SchedulingState}
 
 abbrev pub standard_types : Types
 standard_types = full_range a.Integer ∷ full_range a.Boolean ∷ full_range a.Char ∷ Queue ∷ []
@@ -124,7 +124,7 @@ no_components (suc (suc (suc (suc t)))) w i h = absurd (cc)
 nothing : (j : ℕ) (w : a.System) → slice_get {X = a.System} [] j ≡ Some w → ⊥
 nothing j w h = absurd (cc)
 
-pub standard_stage : Stage standard_environment standard_scope standard_types []
+pub standard_stage : SchedulingState standard_environment standard_scope standard_types []
 standard_stage = record {
   globals = each_as S standard_types standard_names standards_as;
   tables = record { rows = standard_rows; lengths = refl; integer = refl; boolean = refl; char = refl; queue = refl };

@@ -42,14 +42,14 @@ use Rattle.cp_law_typing.proofs.ComponentScopes.{RoutinesMade, taken_behind}
 use Rattle.cp_law_typing.proofs.RoutineNames.{all_distinct}
 use Rattle.cp_law_typing.proofs.Members.{members_of, rows_length}
 use Rattle.cp_law_typing.proofs.TypeOrder.{AllBefore, ParametersBefore, all_before, one_before}
-use Rattle.cp_law_typing.proofs.Stages.{Defined, KeepsRest, Stage, SystemTyped, later_on, later_same, last_found, typed_later, outer_more, first_there, not_first, stage_named, type_later}
+use Rattle.cp_law_typing.proofs.Stages.{Defined, KeepsRest, SchedulingState, SystemTyped, later_on, later_same, last_found, typed_later, outer_more, first_there, not_first, stage_named, type_later}
 use Rattle.cp_law_typing.proofs.MemberNames.{all_by_value, member_known}
 use Rattle.cp_law_typing.proofs.SystemWords.{Counted, class_fits, owner_fits}
 use Rattle.cp_law_typing.proofs.ComponentBodies.{Opened, Inside, open_scope, bodies_typed, body_need, routines_all}
 
 -- ---- a definition of a system type
 
-module _ (env : Environment) (g : GlobalScope) (rs : Types) (ys : List a.System) (x : Identifier) (y : s.System) (stage : Stage env g rs ys)
+module _ (env : Environment) (g : GlobalScope) (rs : Types) (ys : List a.System) (x : Identifier) (y : s.System) (stage : SchedulingState env g rs ys)
     (sound : (define_system env x y).violations ≡ []) where
   abbrev G : GlobalScope → Type 0
   G = Later g
@@ -359,7 +359,7 @@ module _ (env : Environment) (g : GlobalScope) (rs : Types) (ys : List a.System)
         monitors = all_made.counted.1 ∙ own_is.1 ∙ ap (λ e. e.monitors) inside_is ∙ ap (λ e. e.monitors) named_is;
       }
 
-  stage_behind : Stage (with_names (env.names ++ (x.name, entity.Type place) ∷ []) closed) scope_behind after_types (ys ++ meaning ∷ [])
+  stage_behind : SchedulingState (with_names (env.names ++ (x.name, entity.Type place) ∷ []) closed) scope_behind after_types (ys ++ meaning ∷ [])
   stage_behind = stage_named env closed g scope_behind rs after_types ys (ys ++ meaning ∷ []) x.name (entity.Type place) stage tables_closed grows_env systems_behind earlier_behind keeps_closed
       (λ k l. ((λ alone. absurd (true≢false alone), members_same k (later_on g scope_behind k later_behind l)), stage.types k (later_on g scope_behind k later_behind l))) later_behind none tt
       (type, subst (λ n. TypeAt after_types n type) (sym all_made.behind.tables.lengths) (slice_seam all_made.more type), λ k l. l.types x.name type (first_there x.name type g.types))

@@ -24,7 +24,7 @@ use Rattle.cp_law_typing.specs.Words.{words_of_variables}
 use Rattle.cp_law_typing.specs.Needs.{AllOwnersFit, owner_words}
 use Rattle.cp_model.proofs.Judging.{first_empty, rest_empty}
 use Rattle.cp_law_typing.proofs.DeclaredVariables.{VariablesMade, variables_made}
-use Rattle.cp_law_typing.proofs.Stages.{Defined, Stage, later_same}
+use Rattle.cp_law_typing.proofs.Stages.{Defined, SchedulingState, later_same}
 use Rattle.cp_law_typing.proofs.ComponentBodies.{body_need, Inside, Opened, open_scope, bodies_typed}
 use Rattle.cp_law_typing.proofs.VariableKinds.{initial_variables}
 use Rattle.cp_law_typing.proofs.Bounds.{is_within_true}
@@ -75,7 +75,7 @@ module _ (t : s.Tree) (accepted : Accepted t) where
   abbrev initial : s.System
   initial = record { sort = sort.Process; parameters = []; variables = t.variables; routines = t.routines; body = t.body }
 
-  abbrev stage : Stage defined.env g made.more (systems_of ds)
+  abbrev stage : SchedulingState defined.env g made.more (systems_of ds)
   stage = made.stage
 
   inside : Inside (Later g) (systems_of ds) initial defined.env made.more

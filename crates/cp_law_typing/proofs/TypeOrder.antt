@@ -85,9 +85,9 @@ pub record SystemBetween (names : Names) (x : Text) (low high : ℕ) : Type 0 wh
   pub below : row < high
 
 pub record OtherName (names : Names) (rs : Types) (x : Text) : Type 0 where
-  pub stands_for : Entity
-  pub is : lookup x names ≡ Some stands_for
-  pub other : IsNoSystem rs stands_for
+  pub represents : Entity
+  pub is : lookup x names ≡ Some represents
+  pub other : IsNoSystem rs represents
 
 -- The system types of these definitions have ascending rows from `low` on, below `high`.
 abbrev pub Ascend : Names → Types → ℕ → ℕ → List a.Definition → Type 0
@@ -108,7 +108,7 @@ more_on names between after rs qs more p q = record { names = λ x e h. q.names 
 
 module _ (names after : Names) (rs more : Types) (m : MoreNames names after rs more) where
   other_kept : (x : Text) → OtherName names rs x → OtherName after more x
-  other_kept x h = record { stands_for = h.stands_for; is = m.names x h.stands_for h.is; other = go h.stands_for h.other }
+  other_kept x h = record { represents = h.represents; is = m.names x h.represents h.is; other = go h.represents h.other }
     where
       go : (e : Entity) → IsNoSystem rs e → IsNoSystem more e
       go (entity.Type t) h = (h.0, m.types t h.0 h.1, h.2)
@@ -161,7 +161,7 @@ module _ (names : Names) (rs : Types) where
     pub there : TypeAt rs t (ComponentOf system inner)
 
   no_other : (x z : Text) (t : ℕ) → SystemName x t → OtherName names rs z → bytes_eq x z ≡ true → ⊥
-  no_other x z t n o same = go o.stands_for (ap (λ w. lookup w names) (sym (bytes_same x z same)) ∙ n.is) o.is o.other
+  no_other x z t n o same = go o.represents (ap (λ w. lookup w names) (sym (bytes_same x z same)) ∙ n.is) o.is o.other
     where
       go : (e : Entity) → lookup z names ≡ Some (entity.Type t) → lookup z names ≡ Some e → IsNoSystem rs e → ⊥
       go e h k other =

@@ -240,7 +240,7 @@ module _ (setup : Setup) where
       go Kernel h = subst (λ (u : State). SameKernelPart s u) (sym (no_private_step setup p s Kernel h tt)) same
       go Private h = subst (λ (u : State). SameKernelPart s u) (sym (private_step_is setup p s s (may_commute s i) h (same_for_self setup p s))) (record {
         gates = refl;
-        status = λ r. told r (nat_eq p r) refl;
+        status = λ r. reported r (nat_eq p r) refl;
         monitor_store = λ l m e. at l (is_own p l.owner) (ap (is_own p) e);
         unbegun_store = λ r a l m. at l (is_own p l.owner) (own_apart r p l.owner (other r a) m);
         unbegun_continuation = λ r a. with_at_there p r (own_configuration setup s p).continuation s.continuation (ne_eqb p r (λ e. other r a (sym e)));
@@ -252,11 +252,11 @@ module _ (setup : Setup) where
           other : (r : ℕ) → HasNotBegun (s.status r) → r ≢ p
           other r a e = subst HasNotBegun (ap s.status e ∙ is_ready) a
 
-          told : (r : ℕ) (b : Bool) → nat_eq p r ≡ b → kernel_status (if b then status_after setup s p else s.status r)
+          reported : (r : ℕ) (b : Bool) → nat_eq p r ≡ b → kernel_status (if b then status_after setup s p else s.status r)
               ≡ kernel_status (s.status r)
-          told r true e = kernel_status_by setup (outcome_of s p)
+          reported r true e = kernel_status_by setup (outcome_of s p)
               ∙ sym (ap kernel_status (ap s.status (sym (eqb-true p r e)) ∙ is_ready))
-          told r false e = refl
+          reported r false e = refl
 
   -- ---- No process is made private
 

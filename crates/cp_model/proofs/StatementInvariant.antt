@@ -52,10 +52,10 @@ module _ (w : Context) (config : Configuration) (s : StoreInvariant config.store
     effect = tt;
   }
 
-  goes_on : (k : List Task) (transcript : List ℕ) (e : Effect) → EffectInvariant k e
+  proceeds : (k : List Task) (transcript : List ℕ) (e : Effect) → EffectInvariant k e
       → ContinuationInvariant w.process config.store k
       → StepInvariant w.process (record config { continuation = k; transcript = transcript }, e)
-  goes_on k transcript e h o = record { store = s; ok = o; effect = h }
+  proceeds k transcript e h o = record { store = s; ok = o; effect = h }
 
   then_after : {A : Type 0} (o : Outcome A) (f : A → StepResult) → ((x : A) → IfGives (StepInvariant w.process) (f x))
       → IfGives (StepInvariant w.process) (and_then o f)
@@ -111,7 +111,7 @@ module _ (w : Context) (config : Configuration) (s : StoreInvariant config.store
       → IfGives (StepInvariant w.process) (standard_procedure w config env k x e)
   standard_procedure_after env k x e o l =
       if_after (bytes_eq x (codes "display")) _ _ (then_after (value w.clock env config.store e) _
-      (λ v. goes_on k _ Own tt o))
+      (λ v. proceeds k _ Own tt o))
       (if_after (bytes_eq x (codes "accept")) _ _
       (then_after (place w.clock env config.store (designator_of e)) _
       (λ at. then_store at.at at.type (simple_value Char (next_input w.input config.consumed)) _ (λ ws h. stored k (next_place w.input config.consumed) config.transcript ws h o)))
@@ -122,7 +122,7 @@ module _ (w : Context) (config : Configuration) (s : StoreInvariant config.store
   standard_statement_after : (env : Environment) (k : List Task) (d : Designator) (arguments : Expressions)
       → ContinuationInvariant w.process config.store k → ContinuationInvariant w.process config.store config.continuation
       → IfGives (StepInvariant w.process) (standard_statement w config env k d arguments)
-  standard_statement_after env k d NoExpression o l = goes_on k config.transcript Waits tt o
+  standard_statement_after env k d NoExpression o l = proceeds k config.transcript Waits tt o
   standard_statement_after env k d (MoreExpressions e es) o l = standard_procedure_after env k (name_of d) e o l
 
   for_next_continuation : (env : Environment) (k : List Task) (v : Name) (down : Bool) (n last : ℤ) (x : Statement)
@@ -290,12 +290,12 @@ module _ (w : Context) (config : Configuration) (s : StoreInvariant config.store
   execute_after : (x : Statement) (env : Environment) (k : List Task) → EnvironmentIn (in_reach w.process (marked_monitors k)) env
       → ContinuationInvariant w.process config.store k → ContinuationInvariant w.process config.store config.continuation
       → IfGives (StepInvariant w.process) (execute w config env k x)
-  execute_after Nothing env k h o l = goes_on k config.transcript Own tt o
-  execute_after (Seq x y) env k h o l = goes_on k config.transcript Own tt o
-  execute_after (While e x) env k h o l = goes_on k config.transcript Own tt o
-  execute_after (Repeat x e) env k h o l = goes_on k config.transcript Own tt o
+  execute_after Nothing env k h o l = proceeds k config.transcript Own tt o
+  execute_after (Seq x y) env k h o l = proceeds k config.transcript Own tt o
+  execute_after (While e x) env k h o l = proceeds k config.transcript Own tt o
+  execute_after (Repeat x e) env k h o l = proceeds k config.transcript Own tt o
   execute_after (Cycle x) env k h o l =
-      goes_on _ config.transcript Own tt (push_continuation w.process config.store x env (Do (Cycle x) env ∷ k) h
+      proceeds _ config.transcript Own tt (push_continuation w.process config.store x env (Do (Cycle x) env ∷ k) h
       (record { tasks = (h, o.tasks); frames = o.frames; beyond = o.beyond }))
   execute_after (Assign d e) env k h o l =
       then_after (place w.clock env config.store d) _
@@ -307,24 +307,24 @@ module _ (w : Context) (config : Configuration) (s : StoreInvariant config.store
         record config { continuation = if b then push x env k else push y env k },
         Own,
       )
-      go true = goes_on (push x env k) config.transcript Own tt (push_continuation w.process config.store x env k h o)
-      go false = goes_on (push y env k) config.transcript Own tt (push_continuation w.process config.store y env k h o)
+      go true = proceeds (push x env k) config.transcript Own tt (push_continuation w.process config.store x env k h o)
+      go false = proceeds (push y env k) config.transcript Own tt (push_continuation w.process config.store y env k h o)
   execute_after (Case e arms) env k h o l = then_after (value w.clock env config.store e) _
       (λ v. go (chosen_arm env.globals (ordinal_of v) arms))
     where
       go : (c : Option Statement) → IfGives (StepInvariant w.process)
           (elim c as (λ y. StepResult) [ None ↦ Fault 8 | Some x ↦ own_step (record config { continuation = push x env k }) ])
       go None = tt
-      go (Some x) = goes_on (push x env k) config.transcript Own tt (push_continuation w.process config.store x env k h o)
+      go (Some x) = proceeds (push x env k) config.transcript Own tt (push_continuation w.process config.store x env k h o)
   execute_after (For v down e f x) env k h o l =
       then_after (value w.clock env config.store e) _ (λ y. then_after (value w.clock env config.store f) _ (λ z.
-      if_after (is_past down (ordinal_of y) (ordinal_of z)) _ _ (goes_on k config.transcript Own tt o)
+      if_after (is_past down (ordinal_of y) (ordinal_of z)) _ _ (proceeds k config.transcript Own tt o)
       (for_step_after env k v down (ordinal_of y) (ordinal_of z) x h o)))
   execute_after (Init x arguments) env k h o l = go (component_named env x)
     where
       go : (c : Option Component) → IfGives (StepInvariant w.process)
           (elim c as (λ y. StepResult) [ None ↦ own_step (record config { continuation = k }) | Some n ↦ init_component n.system.sort w config env k arguments n ])
-      go None = goes_on k config.transcript Own tt o
+      go None = proceeds k config.transcript Own tt o
       go (Some n) = init_after n.system.sort env k arguments n refl h o
 
   pub run_task_after : (i : Task) (k : List Task) → ContinuationInvariant w.process config.store (i ∷ k)
@@ -339,9 +339,9 @@ module _ (w : Context) (config : Configuration) (s : StoreInvariant config.store
             { continuation = if b then push x env (WhileTest e e x env ∷ k) else k },
         Own,
       )
-      go true = goes_on _ config.transcript Own tt (push_continuation w.process config.store x env (WhileTest e e x env ∷ k)
+      go true = proceeds _ config.transcript Own tt (push_continuation w.process config.store x env (WhileTest e e x env ∷ k)
           o.tasks.0 (record { tasks = (o.tasks.0, o.tasks.1); frames = o.frames; beyond = o.beyond }))
-      go false = goes_on k config.transcript Own tt
+      go false = proceeds k config.transcript Own tt
           (continuation_tail w.process config.store (WhileTest now e x env) k tt o)
   run_task_after (RepeatTest now x e env) k o l = then_after (value w.clock env config.store now) _ (λ v. go (is_true v))
     where
@@ -350,13 +350,13 @@ module _ (w : Context) (config : Configuration) (s : StoreInvariant config.store
             { continuation = if b then k else push x env (RepeatTest e x e env ∷ k) },
         Own,
       )
-      go true = goes_on k config.transcript Own tt (continuation_tail w.process config.store (RepeatTest now x e env) k tt
+      go true = proceeds k config.transcript Own tt (continuation_tail w.process config.store (RepeatTest now x e env) k tt
           o)
-      go false = goes_on _ config.transcript Own tt (push_continuation w.process config.store x env
+      go false = proceeds _ config.transcript Own tt (push_continuation w.process config.store x env
           (RepeatTest e x e env ∷ k) o.tasks.0 (record
           { tasks = (o.tasks.0, o.tasks.1); frames = o.frames; beyond = o.beyond }))
   run_task_after (ForNext v down n last x env) k o l =
-      if_after (same_integer n last) _ _ (goes_on k config.transcript Own tt
+      if_after (same_integer n last) _ _ (proceeds k config.transcript Own tt
       (continuation_tail w.process config.store (ForNext v down n last x env) k tt o))
       (for_step_after env k v down (next_counter down n) last x o.tasks.0
       (continuation_tail w.process config.store (ForNext v down n last x env) k tt o))
@@ -368,11 +368,11 @@ module _ (w : Context) (config : Configuration) (s : StoreInvariant config.store
       go : (k : List Task) (g : Option ℕ) → EffectInvariant k (leaving g)
       go k None = tt
       go k (Some m) = tt
-  run_task_after (EndBody gate) k o l = goes_on k config.transcript (leaving gate) (go k gate)
+  run_task_after (EndBody gate) k o l = proceeds k config.transcript (leaving gate) (go k gate)
       (continuation_tail w.process config.store (EndBody gate) k tt o)
     where
       go : (k : List Task) (g : Option ℕ) → EffectInvariant k (leaving g)
       go k None = tt
       go k (Some m) = tt
-  run_task_after EndProcess k o l = goes_on k config.transcript Ends tt
+  run_task_after EndProcess k o l = proceeds k config.transcript Ends tt
       (continuation_tail w.process config.store EndProcess k tt o)

@@ -132,11 +132,11 @@ is_asking _ = false
 abbrev pub chain_line : List ℕ → Text
 chain_line chain = line (codes "chain" ++ numbers_text chain)
 
--- The text begins with the chain of p, if p is asking, and the rest is as `GoesOn` says.
+-- The text begins with the chain of p, if p is asking, and the rest is as `Advances` says.
 abbrev pub BeginsWithChain : Bool → State → ℕ → (Text → Type 0) → Text → Type 0
-BeginsWithChain true s p GoesOn text =
-    (chain : List ℕ) × ((rest : Text) × IsAskingChain s p chain × GoesOn rest × (text ≡ chain_line chain ++ rest))
-BeginsWithChain false s p GoesOn text = GoesOn text
+BeginsWithChain true s p Advances text =
+    (chain : List ℕ) × ((rest : Text) × IsAskingChain s p chain × Advances rest × (text ≡ chain_line chain ++ rest))
+BeginsWithChain false s p Advances text = Advances text
 
 -- The text has the chain of each of these processes that is asking.
 abbrev pub AreChainLines : State → List ℕ → Text → Type 0

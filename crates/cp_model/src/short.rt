@@ -2,10 +2,10 @@
 
 ghost use Rattle.std.specs.Prelude.{◌≡◌, ◌≤◌, length, map, take};
 ghost use Rattle.cp_model.specs.Characters.{lower};
-ghost use Rattle.cp_model.specs.declared.short.TheConstants.{LONGEST_SHORT};
+ghost use Rattle.cp_model.specs.declared.short.TheConstants.{MAX_SHORT_BYTES};
 
 /// The most letters of a short name: as many as let a kind of token, with them, take 16 bytes.
-pub const LONGEST_SHORT: usize = 14;
+pub const MAX_SHORT_BYTES: usize = 14;
 
 /// As many letters as the front of a text is looked at together: two words of the machine.
 pub const FRONT: usize = 16;
@@ -14,16 +14,16 @@ pub const FRONT: usize = 16;
 #[derive(Clone, Copy)]
 pub struct ShortWord {
     length: u8,
-    letters: [u8; LONGEST_SHORT],
-    ghost fits: { length ≤ LONGEST_SHORT },
+    letters: [u8; MAX_SHORT_BYTES],
+    ghost fits: { length ≤ MAX_SHORT_BYTES },
 }
 
 impl ShortWord {
     pub(crate) fn in_lower_case(word: &[u8]) -> ShortWord
-        requires { length word.now ≤ LONGEST_SHORT }
+        requires { length word.now ≤ MAX_SHORT_BYTES }
         ensures { take result.length result.letters ≡ map lower word.now }
     {
-        let mut letters = [0; LONGEST_SHORT];
+        let mut letters = [0; MAX_SHORT_BYTES];
         for i in 0..word.len() {
             letters[i] = word[i].to_ascii_lowercase();
         }
@@ -36,11 +36,11 @@ impl ShortWord {
     /// Returns the word of the first `length` of these letters.
     #[inline(always)]
     pub fn of_front(front: &[u8; FRONT], length: usize) -> ShortWord
-        requires { length ≤ LONGEST_SHORT }
+        requires { length ≤ MAX_SHORT_BYTES }
         ensures { take result.length result.letters ≡ take length front.now }
     {
-        let mut letters = [0; LONGEST_SHORT];
-        for i in 0..LONGEST_SHORT {
+        let mut letters = [0; MAX_SHORT_BYTES];
+        for i in 0..MAX_SHORT_BYTES {
             letters[i] = front[i];
         }
         ShortWord {

@@ -8,7 +8,7 @@ ghost use Rattle.cp_model.specs.Characters.{lower};
 ghost use Rattle.cp_model.specs.Kinds.{kind_of, letters_of, short_bytes};
 ghost use Rattle.cp_model.specs.Tokens as plain;
 
-use crate::short::{LONGEST_SHORT, ShortWord};
+use crate::short::{MAX_SHORT_BYTES, ShortWord};
 use std::alloc::{AllocError, Global};
 use std::marker::Model;
 
@@ -47,7 +47,7 @@ impl Name {
     pub fn new(alloc: Global, word: &[u8]) -> Result<Name, AllocError>
         ensures { IfOk result (λ name. name ≡ map lower word.now) }
     {
-        let letters = if word.len() <= LONGEST_SHORT {
+        let letters = if word.len() <= MAX_SHORT_BYTES {
             Letters::Short(ShortWord::in_lower_case(word))
         } else {
             Letters::Long(Box::new(alloc, word.to_ascii_lowercase(alloc)?)?)

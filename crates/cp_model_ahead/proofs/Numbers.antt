@@ -9,10 +9,10 @@ use Rattle.cp_model_program.specs.Programs as op
 use Rattle.cp_model_program.specs.Programs.{Call, CodeUnit, Counting, Operation, Program}
 use Rattle.cp_model_program.specs.Starts.{unset, word}
 use Rattle.cp_model_program.specs.Tables.{place_in}
-use Rattle.cp_model_program.specs.Terms.{Argument, Copy, Reference, Right, Spot, Term, Value}
+use Rattle.cp_model_program.specs.Terms.{Argument, Copy, Reference, Right, PlaceExpression, Term, Value}
 use Rattle.cp_model_machine.specs.Calling.{Back, call_step, class_at, enter, gate_effect, has_room, leave, init_class, init_monitor, init_process, parameters_start, return_with, settle, start_words, with_frame, with_unit}
 use Rattle.cp_model_machine.specs.Passing.{Passing, component_called, monitor_called, pass_all, pass_copy, pass_one, pass_result, pass_value, pass_word, reference_word, unless_fault, when_passed}
-use Rattle.cp_model_machine.specs.PrivateStates.{Acting, Continues, Delays, Effect, Enters, Frame, Leaves, Opens, Outside, PrivateState, Starts, fault_in, go_to, guard, private_outcome, set_word, view_of, with_result}
+use Rattle.cp_model_machine.specs.PrivateStates.{Acting, Continues, Delays, Effect, Enters, Frame, Leaves, Opens, StepContext, PrivateState, Starts, fault_in, go_to, guard, private_outcome, set_word, view_of, with_result}
 use Rattle.cp_model.specs.StandardCalls.{next_input, next_place}
 use Rattle.cp_model_machine.specs.Values.{place_of, value_of}
 use Rattle.cp_model_machine.specs.Steps.{accept, act, act_on, continue, copy_words, count_to, delay, display, first_count, go_to_arm, is_held, next_count, operation_of, set_within, step_with, with_place, with_value}
@@ -62,7 +62,7 @@ module _ (n : ℕ) where
   result_passes o (Ok x) go is h = h x
   result_passes o (Err f) go is h = is
 
-  argument_passes : (w : Outside) (to home : ℕ) (o : PrivateState) (x : Argument) → o.number ≡ n → KeepsPassed (pass_one w to home o x)
+  argument_passes : (w : StepContext) (to home : ℕ) (o : PrivateState) (x : Argument) → o.number ≡ n → KeepsPassed (pass_one w to home o x)
   argument_passes w to home o (Value at low high e) is =
       result_passes o (value_of (view_of w o) e) (λ m. pass_value o (to + at) low high m) is (λ m. value_passes o (to + at) low high m is)
   argument_passes w to home o (Copy at size from) is =
@@ -71,7 +71,7 @@ module _ (n : ℕ) where
       result_passes o (place_of (view_of w o) s) (λ a. pass_word o (to + at) (reference_word o a)) is (λ a. is)
   argument_passes w to home o (Right at t) is = is
 
-  arguments_pass : (w : Outside) (to home : ℕ) (xs : List Argument) (o : PrivateState) → o.number ≡ n → KeepsPassed (pass_all w to home xs o)
+  arguments_pass : (w : StepContext) (to home : ℕ) (xs : List Argument) (o : PrivateState) → o.number ≡ n → KeepsPassed (pass_all w to home xs o)
   arguments_pass w to home [] o is = is
   arguments_pass w to home (x ∷ xs) o is = by (pass_one w to home o x) (argument_passes w to home o x is) (λ q. arguments_pass w to home xs q)
     where
@@ -93,7 +93,7 @@ module _ (n : ℕ) where
 
   -- ---- Calls
 
-  unit_keeps : (program : Program) (w : Outside) (o : PrivateState) (call : Call) (component : ℕ) (go : CodeUnit → Acting) → o.number ≡ n
+  unit_keeps : (program : Program) (w : StepContext) (o : PrivateState) (call : Call) (component : ℕ) (go : CodeUnit → Acting) → o.number ≡ n
       → ((u : CodeUnit) → Keeps n (go u)) → Keeps n (with_unit program w o call component go)
   unit_keeps program w o call component go is h = by (slice_get program.units call.routine)
     where
@@ -102,7 +102,7 @@ module _ (n : ℕ) where
       by None = record { number = is }
       by (Some u) = choice_keeps (has_room w o call u component) _ _ (h u) (record { number = is })
 
-  call_keeps : (program : Program) (w : Outside) (o : PrivateState) (call : Call) (back : Back) → o.number ≡ n → Keeps n (call_step program w o call back)
+  call_keeps : (program : Program) (w : StepContext) (o : PrivateState) (call : Call) (back : Back) → o.number ≡ n → Keeps n (call_step program w o call back)
   call_keeps program w o call back is =
       let c = component_called program w o call.target in
       let to = o.base + call.words in
@@ -111,7 +111,7 @@ module _ (n : ℕ) where
       (passing_keeps (pass_all w to to call.arguments o) (λ p. (enter (start_words to u p) c u call back, gate_effect c.gate Enters))
       (arguments_pass w to to call.arguments o is) (λ p h. record { number = h })))
 
-  class_keeps : (program : Program) (w : Outside) (o : PrivateState) (call : Call) (at next : ℕ) → o.number ≡ n → Keeps n (init_class program w o call at next)
+  class_keeps : (program : Program) (w : StepContext) (o : PrivateState) (call : Call) (at next : ℕ) → o.number ≡ n → Keeps n (init_class program w o call at next)
   class_keeps program w o call at next is =
       let from = o.base + call.words in
       unit_keeps program w o call at _ is (λ u.
@@ -121,7 +121,7 @@ module _ (n : ℕ) where
       (enter (set_word (settle p from at (length call.arguments)) at (pos 1)) (class_at at) u call (record { counter = next; into = 0 })))
       (arguments_pass w from at call.arguments o is) (λ p h. record { number = h })))
 
-  monitor_keeps : (program : Program) (w : Outside) (o : PrivateState) (call : Call) (m next : ℕ) → o.number ≡ n → Keeps n (init_monitor program w o call m next)
+  monitor_keeps : (program : Program) (w : StepContext) (o : PrivateState) (call : Call) (m next : ℕ) → o.number ≡ n → Keeps n (init_monitor program w o call m next)
   monitor_keeps program w o call m next is =
       let c = monitor_called program w m in
       let from = o.base + call.words in
@@ -131,7 +131,7 @@ module _ (n : ℕ) where
       (λ p. (enter (settle p from c.component (length call.arguments)) c u call (record { counter = next; into = 0 }), Opens m))
       (arguments_pass w from c.component call.arguments o is) (λ p h. record { number = h })))
 
-  process_keeps : (program : Program) (w : Outside) (o : PrivateState) (r : ℕ) (xs : List Argument) (words next : ℕ) → o.number ≡ n
+  process_keeps : (program : Program) (w : StepContext) (o : PrivateState) (r : ℕ) (xs : List Argument) (words next : ℕ) → o.number ≡ n
       → Keeps n (init_process program w o r xs words next)
   process_keeps program w o r xs words next is =
       let from = o.base + words in
@@ -142,28 +142,28 @@ module _ (n : ℕ) where
 
   -- ---- Operations
 
-  count_keeps : (w : Outside) (o : PrivateState) (c : Counting) (m last : ℤ) → o.number ≡ n → Keeps n (count_to w o c m last)
+  count_keeps : (w : StepContext) (o : PrivateState) (c : Counting) (m last : ℤ) → o.number ≡ n → Keeps n (count_to w o c m last)
   count_keeps w o c m last is = guard_keeps (within c.low c.high m) o fault.Range _ is (record { number = is })
 
   arm_keeps : (o : PrivateState) (r : Option ℕ) → o.number ≡ n → Keeps n (go_to_arm o r)
   arm_keeps o None is = record { number = is }
   arm_keeps o (Some place) is = record { number = is }
 
-  value_keeps : (w : Outside) (o : PrivateState) (e : Term) (go : ℤ → Acting) → o.number ≡ n → ((m : ℤ) → Keeps n (go m)) → Keeps n (with_value w o e go)
+  value_keeps : (w : StepContext) (o : PrivateState) (e : Term) (go : ℤ → Acting) → o.number ≡ n → ((m : ℤ) → Keeps n (go m)) → Keeps n (with_value w o e go)
   value_keeps w o e go is h = result_keeps o (value_of (view_of w o) e) go is h
 
-  place_keeps : (w : Outside) (o : PrivateState) (s : Spot) (go : ℕ → Acting) → o.number ≡ n → ((at : ℕ) → Keeps n (go at)) → Keeps n (with_place w o s go)
+  place_keeps : (w : StepContext) (o : PrivateState) (s : PlaceExpression) (go : ℕ → Acting) → o.number ≡ n → ((at : ℕ) → Keeps n (go at)) → Keeps n (with_place w o s go)
   place_keeps w o s go is h = result_keeps o (place_of (view_of w o) s) go is h
 
   set_keeps : (o : PrivateState) (low high : ℤ) (at : ℕ) (m : ℤ) (next : ℕ) → o.number ≡ n → Keeps n (set_within o low high at m next)
   set_keeps o low high at m next is =
       guard_keeps (within low high m) o fault.Range (private_outcome (go_to next (set_word o at m))) is (record { number = is })
 
-  first_count_keeps : (w : Outside) (o : PrivateState) (c : Counting) (m k : ℤ) → o.number ≡ n → Keeps n (first_count w o c m k)
+  first_count_keeps : (w : StepContext) (o : PrivateState) (c : Counting) (m k : ℤ) → o.number ≡ n → Keeps n (first_count w o c m k)
   first_count_keeps w o c m k is =
       choice_keeps (is_past c.down m k) (private_outcome (go_to c.next o)) (count_to w o c m k) (record { number = is }) (count_keeps w o c m k is)
 
-  next_count_keeps : (w : Outside) (o : PrivateState) (c : Counting) (m k : ℤ) → o.number ≡ n → Keeps n (next_count w o c m k)
+  next_count_keeps : (w : StepContext) (o : PrivateState) (c : Counting) (m k : ℤ) → o.number ≡ n → Keeps n (next_count w o c m k)
   next_count_keeps w o c m k is =
       choice_keeps (same_integer m k) (private_outcome (go_to c.next o)) (count_to w o c (next_counter c.down m) k) (record { number = is })
       (count_keeps w o c (next_counter c.down m) k is)
@@ -191,7 +191,7 @@ module _ (n : ℕ) where
       choice_keeps (is_held f.gate) (left f fs) (private_outcome o)
       (return_keeps o (set_word o at (pos 0)) f fs function (Continues f.gate (word o.words at)) is is) (record { number = is }))
 
-  act_keeps : (program : Program) (w : Outside) (o : PrivateState) (x : Operation) → o.number ≡ n → Keeps n (act program w o x)
+  act_keeps : (program : Program) (w : StepContext) (o : PrivateState) (x : Operation) → o.number ≡ n → Keeps n (act program w o x)
   act_keeps program w o (op.Set to low high value next) is =
       place_keeps w o to (λ at. with_value w o value (λ m. set_within o low high at m next)) is (λ at.
       value_keeps w o value (λ m. set_within o low high at m next) is (λ m. set_keeps o low high at m next is))
@@ -227,7 +227,7 @@ module _ (n : ℕ) where
       place_keeps w o queue (λ at. continue o at function) is (λ at. continue_keeps o at function is)
   act_keeps program w o (op.Wait next) is = record { number = is }
 
-pub step_keeps_number : (program : Program) (w : Outside) (o : PrivateState) → (step_with program w o).0.number ≡ o.number
+pub step_keeps_number : (program : Program) (w : StepContext) (o : PrivateState) → (step_with program w o).0.number ≡ o.number
 step_keeps_number program w o = by (operation_of program o)
   where
     by : (r : Option Operation) → (act_on program w o r).0.number ≡ o.number

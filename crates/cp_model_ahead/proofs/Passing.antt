@@ -4,10 +4,10 @@ use Rattle.std.specs.Prelude.{◌≡◌, ◌≢◌, ◌≤◌, ◌<◌, ◌+◌,
 use Rattle.std.proofs.Common.{sym, ◌∙◌, ap, subst, arith}
 use Rattle.cp_model.specs.States.{numbers_from}
 use Rattle.cp_model_program.specs.Programs.{Program}
-use Rattle.cp_model_machine.specs.KernelSteps.{Begun, Kernel, Stage}
+use Rattle.cp_model_machine.specs.KernelSteps.{Begun, Kernel, SchedulingState}
 use Rattle.cp_model_machine.specs.Machines.{Machine, begin_one, end_round, kernel_turns, next_stage}
 use Rattle.cp_model_machine.specs.PrivateStates.{PrivateState}
-use Rattle.cp_model_ahead.specs.Ahead.{HasBegun, StandAhead, with_turns}
+use Rattle.cp_model_ahead.specs.Ahead.{HasBegun, AreRunAhead, with_turns}
 use Rattle.cp_model_ahead.proofs.Rounds.{ahead_turn, private_turns_made, round_end}
 use Rattle.cp_model_ahead.proofs.Turns.{ahead_number, begins_not}
 
@@ -22,7 +22,7 @@ below (y ∷ xs) zero x e = omega arith
 below (y ∷ xs) (suc i) x e = let less = below xs i x e in omega (arith, less)
 
 -- No stage is fresh.
-same_stages : (gs : List Stage) → ((i : ℕ) → i < length gs → get_or gs i Begun ≡ Begun) → map next_stage gs ≡ gs
+same_stages : (gs : List SchedulingState) → ((i : ℕ) → i < length gs → get_or gs i Begun ≡ Begun) → map next_stage gs ≡ gs
 same_stages [] begun = refl
 same_stages (g ∷ gs) begun =
     let first : g ≡ Begun = begun 0 (omega arith) in
@@ -38,7 +38,7 @@ same_parts program k p (y ∷ ys) each =
     λ j. begins_not program k (p + 0) y first.0 first.1 j
     ∷ same_parts program k (suc p) ys (λ i z at. subst (λ q. (z.number ≡ suc q) × HasBegun q k) (omega arith) (each (suc i) z at)) j
 
-module _ (t rounds : ℕ) (m : Machine) (n : ℕ → ℕ) (k : Kernel) (ts : List (List ℕ)) (ys : List PrivateState) (S : StandAhead t rounds m n k ts ys)
+module _ (t rounds : ℕ) (m : Machine) (n : ℕ → ℕ) (k : Kernel) (ts : List (List ℕ)) (ys : List PrivateState) (S : AreRunAhead t rounds m n k ts ys)
     (stages : length k.stages ≤ length m.parts) (all : (i : ℕ) → i < length m.parts → n i ≢ 0) where
   no_turns : (i c : ℕ) → i + c ≤ length m.parts → kernel_turns t m (numbers_from (suc i) c) ≡ m
   no_turns i zero le = refl
@@ -62,17 +62,17 @@ module _ (t rounds : ℕ) (m : Machine) (n : ℕ → ℕ) (k : Kernel) (ts : Lis
       let number : y.number ≡ suc i = ahead_number m.program m.tick t rounds (n i) o.0 y (S.ahead.each i o.0 y o.1 at) ∙ S.numbers i o.0 o.1 in
       subst (λ q. (y.number ≡ suc q) × HasBegun q k) (omega arith) (number, begun i here))
 
-  ended : StandAhead t rounds (end_round m) n k ts ys
+  ended : AreRunAhead t rounds (end_round m) n k ts ys
   ended =
-      subst (λ (u : Kernel). StandAhead t rounds (end_round m) n u ts ys) same_kernel
-      (subst (λ (zs : List PrivateState). StandAhead t rounds (end_round m) n (record k { stages = map next_stage k.stages }) ts zs) none_begins
+      subst (λ (u : Kernel). AreRunAhead t rounds (end_round m) n u ts ys) same_kernel
+      (subst (λ (zs : List PrivateState). AreRunAhead t rounds (end_round m) n (record k { stages = map next_stage k.stages }) ts zs) none_begins
       (round_end t rounds m n k ts ys S))
 
   -- The kernel turns and the end of the round, and the private turns of the next one.
   pub round_passed : rounds ≡ suc m.rounds
-      → StandAhead t (suc rounds) (with_turns t (end_round (kernel_turns t m (numbers_from 1 (length m.parts))))) (λ i. n i - 1) k ts ys
+      → AreRunAhead t (suc rounds) (with_turns t (end_round (kernel_turns t m (numbers_from 1 (length m.parts))))) (λ i. n i - 1) k ts ys
   round_passed time =
-      subst (λ (u : Machine). StandAhead t (suc rounds) (with_turns t (end_round u)) (λ i. n i - 1) k ts ys) (sym (no_turns 0 (length m.parts) (omega arith)))
+      subst (λ (u : Machine). AreRunAhead t (suc rounds) (with_turns t (end_round u)) (λ i. n i - 1) k ts ys) (sym (no_turns 0 (length m.parts) (omega arith)))
       (private_turns_made t rounds (end_round m) n k ts ys ended time ys (record {
         count = refl;
         turned = λ i y z none e f. absurd (all i (let less = below ys i y e in omega (arith, less, S.ahead.count)) none);

@@ -5,10 +5,10 @@ use Rattle.std.proofs.lemmas.Bool.{eqb-true, eq-eqb, true≢false}
 use Rattle.cp_model_program.specs.Programs as code
 use Rattle.cp_model_program.specs.Programs.{Program}
 use Rattle.cp_model_program.specs.Starts.{block, paste}
-use Rattle.cp_model_machine.specs.KernelSteps.{Asking, Begun, Delayed, Fresh, Kernel, Stage, Turning, Unstarted, kernel_steps, stage_of}
+use Rattle.cp_model_machine.specs.KernelSteps.{Asking, Begun, Delayed, Fresh, Kernel, SchedulingState, Turning, Unstarted, kernel_steps, stage_of}
 use Rattle.cp_model_machine.specs.Machines.{Machine, after_kernel_turn, begin_if, begin_one, clock, end_round, kernel_turn, next_stage, transcript_of}
 use Rattle.cp_model_machine.specs.PrivateStates.{PrivateState, Running}
-use Rattle.cp_model_ahead.specs.Ahead.{AreAhead, HasBegun, HaveTurned, IsAhead, StandAhead, turn_at, with_turns}
+use Rattle.cp_model_ahead.specs.Ahead.{AreAhead, HasBegun, HaveTurned, IsAhead, AreRunAhead, turn_at, with_turns}
 use Rattle.cp_model_ahead.proofs.Quiet.{quiet_turn}
 use Rattle.cp_model_ahead.proofs.Stages.{others_begun, kernel_steps_number}
 use Rattle.cp_model_ahead.proofs.Turns.{end_ahead, map_got, next_ahead, none_ahead, set_apart, set_is, turn_number, turn_ahead}
@@ -25,19 +25,19 @@ begin_number program k o = by (stage_of k.stages o.number)
     from None = refl
     from (Some x) = refl
 
-    by : (g : Stage) → (begin_if program k o g).number ≡ o.number
+    by : (g : SchedulingState) → (begin_if program k o g).number ≡ o.number
     by Fresh = from (slice_get program.processes (o.number - 1))
     by Unstarted = refl
     by Begun = refl
     by (Asking q) = refl
     by (Delayed q w) = refl
 
-next_begun : (gs : List Stage) (i : ℕ) → get_or gs i Begun ≡ Begun → get_or (map next_stage gs) i Begun ≡ Begun
+next_begun : (gs : List SchedulingState) (i : ℕ) → get_or gs i Begun ≡ Begun → get_or (map next_stage gs) i Begun ≡ Begun
 next_begun [] i h = h
 next_begun (g ∷ gs) zero h = ap next_stage h
 next_begun (g ∷ gs) (suc i) h = next_begun gs i h
 
-module _ (t rounds : ℕ) (m : Machine) (n : ℕ → ℕ) (k : Kernel) (ts : List (List ℕ)) (ys : List PrivateState) (S : StandAhead t rounds m n k ts ys) where
+module _ (t rounds : ℕ) (m : Machine) (n : ℕ → ℕ) (k : Kernel) (ts : List (List ℕ)) (ys : List PrivateState) (S : AreRunAhead t rounds m n k ts ys) where
   -- The kernel turn of a process that is ahead changes nothing.
   pub ahead_turn : (i : ℕ) (o y : PrivateState) → n i ≢ 0 → slice_get m.parts i ≡ Some o → slice_get ys i ≡ Some y → kernel_turn t m (suc i) ≡ m
   ahead_turn i o y some e f = by (n i) refl (S.ahead.each i o y e f)
@@ -52,9 +52,9 @@ module _ (t rounds : ℕ) (m : Machine) (n : ℕ → ℕ) (k : Kernel) (ts : Lis
   -- What the kernel turn of a process that isn't ahead makes of the kernel, its private state and its transcript.
   pub kernel_turn_made : (i : ℕ) (o y : PrivateState) → n i ≡ 0 → slice_get m.parts i ≡ Some o → slice_get ys i ≡ Some y
       → (x : Turning) → x ≡ kernel_steps m.program (clock m) t (record { kernel = k; own = y })
-      → StandAhead t rounds (kernel_turn t m (suc i)) n x.kernel (slice_set ts i (transcript_of ts (suc i) ++ x.own.output))
+      → AreRunAhead t rounds (kernel_turn t m (suc i)) n x.kernel (slice_set ts i (transcript_of ts (suc i) ++ x.own.output))
       (slice_set ys i (record x.own { output = [] }))
-  kernel_turn_made i o y none e f x is = subst (λ u. StandAhead t rounds u n x.kernel written after) (sym moved) stands
+  kernel_turn_made i o y none e f x is = subst (λ u. AreRunAhead t rounds u n x.kernel written after) (sym moved) represents
     where
       written : List (List ℕ)
       written = slice_set ts i (transcript_of ts (suc i) ++ x.own.output)
@@ -105,8 +105,8 @@ module _ (t rounds : ℕ) (m : Machine) (n : ℕ → ℕ) (k : Kernel) (ts : Lis
       number_at j z at false h =
           S.numbers j z (sym (set_apart m.parts i j (record x.own { output = [] }) (λ g. true≢false (sym (eq-eqb j i g) ∙ h))) ∙ at)
 
-      stands : StandAhead t rounds after_turn n x.kernel written after
-      stands = record {
+      represents : AreRunAhead t rounds after_turn n x.kernel written after
+      represents = record {
         kernel = refl;
         transcripts = ap (λ (l : List (List ℕ)). slice_set l i (transcript_of l (suc i) ++ x.own.output)) S.transcripts;
         ahead = turn_ahead m.program m.tick t rounds n m.parts ys S.ahead i (record x.own { output = [] }) none;
@@ -118,7 +118,7 @@ module _ (t rounds : ℕ) (m : Machine) (n : ℕ → ℕ) (k : Kernel) (ts : Lis
       }
 
   -- The end of a round.
-  pub round_end : StandAhead t rounds (end_round m) n (record k { stages = map next_stage k.stages }) ts (map (begin_one m.program k) ys)
+  pub round_end : AreRunAhead t rounds (end_round m) n (record k { stages = map next_stage k.stages }) ts (map (begin_one m.program k) ys)
   round_end = record {
     kernel = ap (λ (u : Kernel). record u { stages = map next_stage u.stages }) S.kernel;
     transcripts = S.transcripts;
@@ -133,7 +133,7 @@ module _ (t rounds : ℕ) (m : Machine) (n : ℕ → ℕ) (k : Kernel) (ts : Lis
 
   -- The private turns of the round after that.
   pub private_turns_made : rounds ≡ m.rounds → (zs : List PrivateState) → HaveTurned m.program m.tick t rounds n ys zs
-      → StandAhead t (suc rounds) (with_turns t m) (λ i. n i - 1) k ts zs
+      → AreRunAhead t (suc rounds) (with_turns t m) (λ i. n i - 1) k ts zs
   private_turns_made time zs made = record {
     kernel = S.kernel;
     transcripts = S.transcripts;

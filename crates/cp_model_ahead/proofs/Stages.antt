@@ -5,7 +5,7 @@ use Rattle.std.proofs.lemmas.Bool.{eqb-true, eq-eqb, true≢false}
 use Rattle.cp_model.specs.States.{Free, HeldBy, Holder, Unset}
 use Rattle.cp_model_program.specs.Layout.{natural}
 use Rattle.cp_model_program.specs.Programs.{Program}
-use Rattle.cp_model_machine.specs.KernelSteps.{Asking, Begun, Delayed, Fresh, Kernel, Stage, Turning, Unstarted, apply_effect, enter_gate, gate_of, is_begun, is_due, join_words, kernel_step, kernel_steps, make_ready, outside, part_words, pass_to, resume, resume_stage, set_gate, set_stage, stage_of, start_process}
+use Rattle.cp_model_machine.specs.KernelSteps.{Asking, Begun, Delayed, Fresh, Kernel, SchedulingState, Turning, Unstarted, apply_effect, enter_gate, gate_of, is_begun, is_due, join_words, kernel_step, kernel_steps, make_ready, outside, part_words, pass_to, resume, resume_stage, set_gate, set_stage, stage_of, start_process}
 use Rattle.cp_model_machine.specs.PrivateStates.{Continues, Delays, Effect, Enters, Leaves, NoEffect, Opens, Starts}
 use Rattle.cp_model_machine.specs.Steps.{step_with}
 use Rattle.cp_model_machine.proofs.StagesKept.{stage_is}
@@ -14,14 +14,14 @@ use Rattle.cp_model_ahead.proofs.Numbers.{step_keeps_number}
 
 -- ---- Lists of stages
 
-begun_here : (gs : List Stage) (i n : ℕ) → get_or gs n Begun ≡ Begun → get_or (slice_set gs i Begun) n Begun ≡ Begun
+begun_here : (gs : List SchedulingState) (i n : ℕ) → get_or gs n Begun ≡ Begun → get_or (slice_set gs i Begun) n Begun ≡ Begun
 begun_here [] i n h = h
 begun_here (g ∷ gs) zero zero h = refl
 begun_here (g ∷ gs) zero (suc n) h = h
 begun_here (g ∷ gs) (suc i) zero h = h
 begun_here (g ∷ gs) (suc i) (suc n) h = begun_here gs i n h
 
-begun_apart : (gs : List Stage) (i n : ℕ) (g : Stage) → n ≢ i → get_or gs n Begun ≡ Begun → get_or (slice_set gs i g) n Begun ≡ Begun
+begun_apart : (gs : List SchedulingState) (i n : ℕ) (g : SchedulingState) → n ≢ i → get_or gs n Begun ≡ Begun → get_or (slice_set gs i g) n Begun ≡ Begun
 begun_apart [] i n g ne h = h
 begun_apart (x ∷ gs) zero zero g ne h = absurd (ne refl)
 begun_apart (x ∷ gs) zero (suc n) g ne h = h
@@ -31,7 +31,7 @@ begun_apart (x ∷ gs) (suc i) (suc n) g ne h = begun_apart gs i n g (λ e. ne (
 -- ---- Effects
 
 module _ (n : ℕ) where
-  other_begun : (p : ℕ) (g : Stage) (k : Kernel) → n ≢ p - 1 → HasBegun n k → HasBegun n (set_stage p g k)
+  other_begun : (p : ℕ) (g : SchedulingState) (k : Kernel) → n ≢ p - 1 → HasBegun n k → HasBegun n (set_stage p g k)
   other_begun p g k ne h = record { stage = begun_apart k.stages (p - 1) n g ne h.stage }
 
   ready_begun : (r : ℕ) (k : Kernel) → HasBegun n k → HasBegun n (make_ready r k)
@@ -63,7 +63,7 @@ module _ (n : ℕ) where
   resume_begun m zero k b = pass_begun m (gate_of k.gates m).askers k b
   resume_begun m (suc r) k b = ready_begun (suc r) (set_gate m (HeldBy (suc r)) (gate_of k.gates m).askers k) (record { stage = b.stage })
 
-  start_begun : (r : ℕ) (g : Stage) (k : Kernel) → stage_of k.stages r ≡ g → HasBegun n k → HasBegun n (start_process r g k)
+  start_begun : (r : ℕ) (g : SchedulingState) (k : Kernel) → stage_of k.stages r ≡ g → HasBegun n k → HasBegun n (start_process r g k)
   start_begun zero Unstarted k is b = absurd (true≢false (ap is_begun is))
   start_begun (suc i) Unstarted k is b =
       other_begun (suc i) Fresh k

@@ -56,7 +56,7 @@ pub record HaveTurned (program : Program) (tick t rounds : ℕ) (n : ℕ → ℕ
 
 -- A kernel, transcripts and private states are those of the machine m, but for the turns that processes
 -- are ahead. The next private turns of m are those of the round after the first `rounds` rounds.
-pub record StandAhead (t rounds : ℕ) (m : Machine) (n : ℕ → ℕ) (k : Kernel) (ts : List (List ℕ)) (ys : List PrivateState) : Type 0 where
+pub record AreRunAhead (t rounds : ℕ) (m : Machine) (n : ℕ → ℕ) (k : Kernel) (ts : List (List ℕ)) (ys : List PrivateState) : Type 0 where
   pub kernel : k ≡ m.kernel
   pub transcripts : ts ≡ m.transcripts
   pub ahead : AreAhead m.program m.tick t rounds n m.parts ys

@@ -66,17 +66,17 @@ module _ {A B : Type 0} (P : ℕ → B → Type 0) (Q : ℕ → A → List Token
 -- ---- lists
 
 -- a further item preserves what holds for the items so far and the tokens after them
-module _ {A : Type 0} (goes_on : Option Kind → Bool) (item : Reader A) (Holds : List A → List Token → Type 0)
-    (ok : (xs : List A) (ts : List Token) → Holds xs ts → goes_on (kind_at ts) ≡ true → Ensures (item ts) (λ x rest. Holds (xs ++ x ∷ []) rest)) where
-  pub repeat_sound : (n : ℕ) (xs : List A) (ts : List Token) → Holds xs ts → Ensures (repeat goes_on item n xs ts) Holds
+module _ {A : Type 0} (proceeds : Option Kind → Bool) (item : Reader A) (Holds : List A → List Token → Type 0)
+    (ok : (xs : List A) (ts : List Token) → Holds xs ts → proceeds (kind_at ts) ≡ true → Ensures (item ts) (λ x rest. Holds (xs ++ x ∷ []) rest)) where
+  pub repeat_sound : (n : ℕ) (xs : List A) (ts : List Token) → Holds xs ts → Ensures (repeat proceeds item n xs ts) Holds
   unfolding repeat
   repeat_sound zero xs ts h = h
-  repeat_sound (suc n) xs ts h = turn (goes_on (kind_at ts)) refl (repeat_sound n)
+  repeat_sound (suc n) xs ts h = turn (proceeds (kind_at ts)) refl (repeat_sound n)
     where
-      turn : (b : Bool) → goes_on (kind_at ts) ≡ b → ((xs : List A) (ts : List Token) → Holds xs ts → Ensures (repeat goes_on item n xs ts) Holds)
-          → Ensures (cond b (item >>= λ x. repeat goes_on item n (xs ++ x ∷ [])) (pure xs) ts) Holds
+      turn : (b : Bool) → proceeds (kind_at ts) ≡ b → ((xs : List A) (ts : List Token) → Holds xs ts → Ensures (repeat proceeds item n xs ts) Holds)
+          → Ensures (cond b (item >>= λ x. repeat proceeds item n (xs ++ x ∷ [])) (pure xs) ts) Holds
       turn false e again = h
-      turn true e again = ensures_then (item ts) (λ x. repeat goes_on item n (xs ++ x ∷ [])) (λ x rest. Holds (xs ++ x ∷ []) rest) _ (ok xs ts h e)
+      turn true e again = ensures_then (item ts) (λ x. repeat proceeds item n (xs ++ x ∷ [])) (λ x rest. Holds (xs ++ x ∷ []) rest) _ (ok xs ts h e)
           (λ x mid g. again (xs ++ x ∷ []) mid g)
 
 module _ {A : Type 0} (f : A → Language) (x : Symbol) where
@@ -112,15 +112,15 @@ module _ {A : Type 0} (f : A → Language) where
   some_push [] a ts mid rest h g = absurd h
   some_push (y ∷ ys) a ts mid rest h g = each_push (y ∷ ys) a ts mid rest h g
 
-  pub each_sound : (goes_on : Option Kind → Bool) (item : Reader A)
-      → ((ts : List Token) → goes_on (kind_at ts) ≡ true → Ensures (item ts) (λ a rest. f a ts rest))
-      → Sound (repeat_while goes_on item []) (each f)
-  each_sound goes_on item ok ts = repeat_sound goes_on item (λ items rest. each f items ts rest)
+  pub each_sound : (proceeds : Option Kind → Bool) (item : Reader A)
+      → ((ts : List Token) → proceeds (kind_at ts) ≡ true → Ensures (item ts) (λ a rest. f a ts rest))
+      → Sound (repeat_while proceeds item []) (each f)
+  each_sound proceeds item ok ts = repeat_sound proceeds item (λ items rest. each f items ts rest)
       (λ items at g c. ensures_weaker (item at) (λ a rest. f a at rest) _ (ok at c) (λ a rest one. each_push items a ts at rest g one))
       (length ts) [] ts refl
 
-  pub some_sound : (goes_on : Option Kind → Bool) (item : Reader A) → Sound item f → Sound (one_or_more goes_on item) (some f)
-  some_sound goes_on item ok ts = ensures_then (item ts) (λ a. repeat_while goes_on item (a ∷ [])) (λ a rest. f a ts rest) _ (ok ts)
-      (λ a mid h. repeat_sound goes_on item (λ items rest. some f items ts rest)
+  pub some_sound : (proceeds : Option Kind → Bool) (item : Reader A) → Sound item f → Sound (one_or_more proceeds item) (some f)
+  some_sound proceeds item ok ts = ensures_then (item ts) (λ a. repeat_while proceeds item (a ∷ [])) (λ a rest. f a ts rest) _ (ok ts)
+      (λ a mid h. repeat_sound proceeds item (λ items rest. some f items ts rest)
       (λ items at g c. ensures_weaker (item at) (λ a rest. f a at rest) _ (ok at) (λ a rest one. some_push items a ts at rest g one))
       (length mid) (a ∷ []) mid (mid, h, refl))

@@ -12,7 +12,7 @@ use Rattle.cp_model.specs.declared.tree.Operator.TheVariants as operator
 use Rattle.cp_model.specs.declared.tree.Sign.{Sign}
 use Rattle.cp_model.specs.declared.tree.Sign.TheVariants as sign
 use Rattle.cp_model_grammar.specs.Reading.{Outcome, Reader, and_then, ◌>>=◌, pure, kind_at, repeat}
-use Rattle.cp_model_grammar.specs.Expressions.{product_operator, sum_operator, relation_operator, sign_of, goes_on, operation_of, chain_from, term_of, signed_term, simple_of, expression_of, factor_at, expression_at}
+use Rattle.cp_model_grammar.specs.Expressions.{product_operator, sum_operator, relation_operator, sign_of, proceeds, operation_of, chain_from, term_of, signed_term, simple_of, expression_of, factor_at, expression_at}
 use Rattle.cp_model_grammar.proofs.Tokens.{kind_of, token_shrinks}
 use Rattle.cp_model_grammar.proofs.Lists.{repeat_stops, repeat_goes}
 use Rattle.cp_model_grammar.specs.Follows.{ends_factor, ends_term, ends_simple, ends_expression}
@@ -30,7 +30,7 @@ module _ (operators : Option Kind → Option Operator) (operand : Reader s.Expre
   -- the rest of a chain after its first operand, if these operations were found and up to n more
   -- may be read
   abbrev pub chain_after : s.Expression → ℕ → List s.Operation → Reader s.Expression
-  chain_after first n os = repeat (goes_on operators operand) (operation_of operators operand) n os >>= λ os. pure (chain_of first os)
+  chain_after first n os = repeat (proceeds operators operand) (operation_of operators operand) n os >>= λ os. pure (chain_of first os)
 
   -- the reader has read the expression, and looks for another operator
   abbrev pub Comes : Reader s.Expression → s.Expression → List Token → List Token → Type 0
@@ -40,8 +40,8 @@ module _ (operators : Option Kind → Option Operator) (operand : Reader s.Expre
   comes_done : (reader : Reader s.Expression) (e : s.Expression) (ts rest : List Token) → operators (kind_at rest) ≡ None → Comes reader e ts rest
       → reader ts ≡ Ok (e, rest)
   comes_done reader e ts rest none c =
-      let stop : goes_on operators operand (kind_at rest) ≡ false = rw none refl in
-      c.5 ∙ rw (repeat_stops (goes_on operators operand) (operation_of operators operand) c.0 c.2 rest stop)
+      let stop : proceeds operators operand (kind_at rest) ≡ false = rw none refl in
+      c.5 ∙ rw (repeat_stops (proceeds operators operand) (operation_of operators operand) c.0 c.2 rest stop)
       (ap (λ (e : s.Expression). Ok (e, rest)) c.3)
 
   operation_reads : (o : Operator) (at : ℕ) (b : s.Expression) (ts mid rest : List Token) → symbol_at (operator_symbol o) at ts mid
@@ -60,7 +60,7 @@ module _ (operators : Option Kind → Option Operator) (operand : Reader s.Expre
       turn : (n : ℕ) → length mid ≤ n → reader ts ≡ chain_after c.1 n c.2 mid → Comes reader (s.Binary a o at b) ts rest
       turn zero le so_far = absurd (omega (arith, token_shrinks _ at mid last t))
       turn (suc n) le so_far =
-          let go : goes_on operators operand (kind_at mid) ≡ true = rw (t.1, some) refl in
+          let go : proceeds operators operand (kind_at mid) ≡ true = rw (t.1, some) refl in
           let next : s.Operation = record { operator = o; at = at; operand = b } in (
             n,
             c.1,
@@ -68,7 +68,7 @@ module _ (operators : Option Kind → Option Operator) (operand : Reader s.Expre
             chain_push c.1 c.2 next ∙ ap (λ (a : s.Expression). s.Binary a o at b) c.3,
             omega (arith, token_shrinks _ at mid last t),
             so_far ∙ ap (λ (r : Outcome (List s.Operation)). and_then r (λ os. pure (chain_of c.1 os)))
-                (repeat_goes (goes_on operators operand) (operation_of operators operand) n c.2 mid rest next go
+                (repeat_goes (proceeds operators operand) (operation_of operators operand) n c.2 mid rest next go
                 (operation_reads o at b mid last rest t some one)),
           )
 

@@ -14,7 +14,7 @@ use Rattle.cp_model.specs.declared.tree.Operator.{Operator}
 use Rattle.cp_model.specs.declared.tree.Sign.{Sign}
 use Rattle.cp_model_grammar.specs.Kinds.{is_symbol}
 use Rattle.cp_model_grammar.specs.Reading.{Reader, ◌>>=◌, pure, refuse, take_token, kind_at, place_at, tail, if_some, repeat_while}
-use Rattle.cp_model_grammar.specs.Expressions.{product_operator, sum_operator, relation_operator, sign_of, goes_on, operation_of, chain_from, term_of, signed_term, simple_of, expression_of, expressions_from, index_of, indices_from, begins_selector, field_of, indexed_of, selector_by, selector_of, designator_of, arguments_of, optional_arguments_of, call_or_part, named_of, parenthesized_of, not_of, factor_by, factor_of, inner_at, factor_at, expression_at}
+use Rattle.cp_model_grammar.specs.Expressions.{product_operator, sum_operator, relation_operator, sign_of, proceeds, operation_of, chain_from, term_of, signed_term, simple_of, expression_of, expressions_from, index_of, indices_from, begins_selector, field_of, indexed_of, selector_by, selector_of, designator_of, arguments_of, optional_arguments_of, call_or_part, named_of, parenthesized_of, not_of, factor_by, factor_of, inner_at, factor_at, expression_at}
 use Rattle.cp_model_grammar.specs.Laws.{ExpressionsAreSound}
 use Rattle.cp_model_grammar.proofs.Tokens.{head, head_symbol, is_symbol_refl}
 use Rattle.cp_model_grammar.proofs.NamesSound.{identifier_sound}
@@ -54,9 +54,9 @@ module _ (room : ℕ) (operators : Option Kind → Option Operator) (class : Ope
       → Ensures (chain_from operators operand e ts) (λ x rest. expression room x start rest × L x)
   unfolding chain_from
   chain_sound start ts e h l =
-      ensures_then (repeat_while (goes_on operators operand) (operation_of operators operand) [] ts) (λ os. pure (chain_of e os))
+      ensures_then (repeat_while (proceeds operators operand) (operation_of operators operand) [] ts) (λ os. pure (chain_of e os))
       (λ os rest. expression room (chain_of e os) start rest × L (chain_of e os)) _
-      (repeat_sound (goes_on operators operand) (operation_of operators operand)
+      (repeat_sound (proceeds operators operand) (operation_of operators operand)
       (λ os rest. expression room (chain_of e os) start rest × L (chain_of e os))
       (λ os at g c. ensures_weaker (operation_of operators operand at) (λ o rest. OperationAt at o rest) _ (operation_sound at)
       (λ o rest one. rw (chain_push e os o) (

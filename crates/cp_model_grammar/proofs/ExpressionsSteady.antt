@@ -12,7 +12,7 @@ use Rattle.cp_model.specs.declared.tree.Operator.{Operator}
 use Rattle.cp_model.specs.declared.tree.Sign.{Sign}
 use Rattle.cp_model_grammar.specs.Kinds.{is_symbol}
 use Rattle.cp_model_grammar.specs.Reading.{Reader, ◌>>=◌, pure, take_token, refuse, expect, if_some, repeat_while}
-use Rattle.cp_model_grammar.specs.Expressions.{product_operator, sum_operator, relation_operator, sign_of, goes_on, operation_of, chain_from, term_of, signed_term, simple_of, expression_of, expressions_from, index_of, indices_from, begins_selector, field_of, indexed_of, selector_by, selector_of, designator_of, arguments_of, optional_arguments_of, call_or_part, named_of, parenthesized_of, not_of, factor_by, factor_of}
+use Rattle.cp_model_grammar.specs.Expressions.{product_operator, sum_operator, relation_operator, sign_of, proceeds, operation_of, chain_from, term_of, signed_term, simple_of, expression_of, expressions_from, index_of, indices_from, begins_selector, field_of, indexed_of, selector_by, selector_of, designator_of, arguments_of, optional_arguments_of, call_or_part, named_of, parenthesized_of, not_of, factor_by, factor_of}
 use Rattle.cp_model_grammar.proofs.Tokens.{no_symbol}
 use Rattle.cp_model_grammar.proofs.Steady.{Cut, Mode, Anywhere, Before, start_of, Steady, Has, imply, before, then, then_any, finish, pure_steady, refuse_steady, take_steady, kind_steady, symbol_steady, if_some_steady, expect_steady, SteadyInner, opening_steady}
 use Rattle.cp_model_grammar.proofs.SteadyLists.{repeated_steady, each_steady, SeparatedHas, separated_some}
@@ -98,7 +98,7 @@ module _ {c : Cut} {m : Mode} (depth : ℕ) {f f' : Reader s.Expression} (r : Re
       (chain_from operators p' e)
   unfolding chain_from
   chain_steady operators none {p} {p'} s e = finish (λ os. chain_of e os)
-      (each_steady (operation_levels depth) (goes_on operators p) (rw none refl) (λ o. omega arith) (before (operation_steady operators none s)))
+      (each_steady (operation_levels depth) (proceeds operators p) (rw none refl) (λ o. omega arith) (before (operation_steady operators none s)))
       (λ os. sym (chain_levels depth e os))
 
   term_steady : Related c m depth (term_of f) (term_of f')

@@ -15,7 +15,7 @@ use Rattle.cp_model.specs.declared.tree.Sign.{Sign}
 use Rattle.cp_model_grammar.specs.Kinds.{is_symbol}
 use Rattle.cp_model_grammar.specs.Reading.{Outcome, Reader, and_then, ◌>>=◌, pure, refuse, take_token, kind_at, expect, if_some, repeat_while}
 use Rattle.cp_model_grammar.specs.Names.{identifier_of}
-use Rattle.cp_model_grammar.specs.Expressions.{product_operator, sum_operator, relation_operator, sign_of, goes_on, operation_of, chain_from, term_of, signed_term, simple_of, expression_of, expressions_from, index_of, indices_from, begins_selector, field_of, indexed_of, selector_by, selector_of, designator_of, arguments_of, optional_arguments_of, call_or_part, named_of, parenthesized_of, not_of, factor_by, factor_of, inner_at, factor_at, expression_at}
+use Rattle.cp_model_grammar.specs.Expressions.{product_operator, sum_operator, relation_operator, sign_of, proceeds, operation_of, chain_from, term_of, signed_term, simple_of, expression_of, expressions_from, index_of, indices_from, begins_selector, field_of, indexed_of, selector_by, selector_of, designator_of, arguments_of, optional_arguments_of, call_or_part, named_of, parenthesized_of, not_of, factor_by, factor_of, inner_at, factor_at, expression_at}
 use Rattle.cp_model_grammar.proofs.Tokens.{is_symbol_is}
 use Rattle.cp_model_grammar.proofs.OperatorsSound.{IsFactor, IsTerm, IsSimple, Table, product_table, sum_table, relation_kind, relation_sides, sign_kind, factor_is_term, term_is_simple}
 use Rattle.cp_model_grammar.proofs.ExpressionsSound.{chain_push, separated_expressions, each_selector, indices_push}
@@ -39,14 +39,14 @@ module _ (room : ℕ) (operators : Option Kind → Option Operator) (class : Ope
   OperationIs o ts rest = (class o.operator ≡ true) × (mid : List Token) × symbol_at (operator_symbol o.operator) o.at ts mid
       × expression room o.operand mid rest × R o.operand
 
-  operation_viable : (ts : List Token) → goes_on operators operand (kind_at ts) ≡ true → ViableAt OperationIs (operation_of operators operand ts) ts
+  operation_viable : (ts : List Token) → proceeds operators operand (kind_at ts) ≡ true → ViableAt OperationIs (operation_of operators operand ts) ts
   unfolding operation_of
   operation_viable ts go = by (operators (kind_at ts)) refl
     where
       by : (o : Option Operator) → operators (kind_at ts) ≡ o
           → ViableAt OperationIs (if_some o refuse
           (λ o. take_token >>= λ at. operand >>= λ e. pure (record { operator = o; at = at; operand = e })) ts) ts
-      by None e = absurd (let none : goes_on operators operand (kind_at ts) ≡ false = rw e refl in let no : true ≡ false = sym go ∙ none in cc)
+      by None e = absurd (let none : proceeds operators operand (kind_at ts) ≡ false = rw e refl in let no : true ≡ false = sym go ∙ none in cc)
       by (Some o) e =
           let k = table.kind (kind_at ts) o e in
           take_at OperationIs (kind.Symbol (operator_symbol o)) (λ at. operand >>= λ e. pure (record { operator = o; at = at; operand = e })) ts k.0
@@ -66,7 +66,7 @@ module _ (room : ℕ) (operators : Option Kind → Option Operator) (class : Ope
   chain_viable : (e : s.Expression) → Viable (chain_from operators operand e) (Behind (Of room L) e (Of room L))
   unfolding chain_from
   chain_viable e = finish (λ os. chain_of e os)
-      (repeated_viable (goes_on operators operand) (operation_of operators operand) OperationIs (Chain e) (chain_grows e) operation_viable [])
+      (repeated_viable (proceeds operators operand) (operation_of operators operand) OperationIs (Chain e) (chain_grows e) operation_viable [])
       (λ os mid rest g ts h. g ts h)
 
 -- ---- from terms to lists

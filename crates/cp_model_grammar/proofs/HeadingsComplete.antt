@@ -178,9 +178,9 @@ result_ends : (t : Option Identifier) (ts mid rest : List Token) → result_type
 result_ends None ts mid rest h e = rw (h, kind_of_symbol symbol.Semicolon mid rest e) semicolon_is_no_parenthesis
 result_ends (Some t) ts mid rest h e = rw (kind_of_symbol symbol.Colon ts h.0 h.1) colon_is_no_parenthesis
 
-word_tells : (t : Option Identifier) (ts rest : List Token) → routine_word t ts rest → is_symbol symbol.Function (kind_at ts) ≡ has_result t
-word_tells None ts rest h = rw (kind_of_symbol symbol.Procedure ts rest h) procedure_is_no_function
-word_tells (Some t) ts rest h = rw (kind_of_symbol symbol.Function ts rest h) (is_symbol_refl symbol.Function)
+word_reports : (t : Option Identifier) (ts rest : List Token) → routine_word t ts rest → is_symbol symbol.Function (kind_at ts) ≡ has_result t
+word_reports None ts rest h = rw (kind_of_symbol symbol.Procedure ts rest h) procedure_is_no_function
+word_reports (Some t) ts rest h = rw (kind_of_symbol symbol.Function ts rest h) (is_symbol_refl symbol.Function)
 
 word_taken : (t : Option Identifier) (ts rest : List Token) → routine_word t ts rest → tail ts ≡ rest
 word_taken None ts rest h = rw h.1.1 refl
@@ -199,7 +199,7 @@ heading_reads h ts rest g =
     let taken = word_taken h.result_type ts g.0 g.1 in
     let entry_stops : is_symbol symbol.Entry (kind_at g1.0) ≡ false =
     rw (kind_of (kind.Name h.name.name) h.name.at g1.0 g2.0 g2.1) (name_is_no symbol.Entry h.name.name) in
-    heading_go (has_result h.result_type) h ts g.0 g1.0 g2.0 g3.0 g4.0 rest (word_tells h.result_type ts g.0 g.1) taken
+    heading_go (has_result h.result_type) h ts g.0 g1.0 g2.0 g3.0 g4.0 rest (word_reports h.result_type ts g.0 g.1) taken
     (optional_reads symbol.Entry h.entry g.0 g1.0 g1.1 entry_stops)
     (identifier_reads h.name g1.0 g2.0 g2.1) (parameters_reads h.parameters g2.0 g3.0 g3.1 (result_ends h.result_type g3.0 g4.0 rest g4.1 g4.2))
     (result_reads h.result_type g3.0 g4.0 g4.1) g4.2

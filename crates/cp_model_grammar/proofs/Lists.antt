@@ -13,14 +13,14 @@ use Rattle.cp_model_grammar.proofs.Ensures.{some}
 
 -- ---- the steps of reading a list
 
-module _ {A : Type 0} (goes_on : Option Kind → Bool) (item : Reader A) where
-  pub repeat_stops : (n : ℕ) (found : List A) (ts : List Token) → goes_on (kind_at ts) ≡ false → repeat goes_on item n found ts ≡ Ok (found, ts)
+module _ {A : Type 0} (proceeds : Option Kind → Bool) (item : Reader A) where
+  pub repeat_stops : (n : ℕ) (found : List A) (ts : List Token) → proceeds (kind_at ts) ≡ false → repeat proceeds item n found ts ≡ Ok (found, ts)
   unfolding repeat
   repeat_stops zero found ts stop = refl
   repeat_stops (suc n) found ts stop = rw stop refl
 
-  pub repeat_goes : (n : ℕ) (found : List A) (ts rest : List Token) (x : A) → goes_on (kind_at ts) ≡ true → item ts ≡ Ok (x, rest)
-      → repeat goes_on item (suc n) found ts ≡ repeat goes_on item n (found ++ x ∷ []) rest
+  pub repeat_goes : (n : ℕ) (found : List A) (ts rest : List Token) (x : A) → proceeds (kind_at ts) ≡ true → item ts ≡ Ok (x, rest)
+      → repeat proceeds item (suc n) found ts ≡ repeat proceeds item n (found ++ x ∷ []) rest
   unfolding repeat
   repeat_goes n found ts rest x go one = rw (go, one) refl
 
@@ -91,32 +91,32 @@ module _ {A : Type 0} (f : A → Language) (item : Reader A) (Follows : A → Op
         rw (all.0 ts h.0 h.1 (behind_follows items h.0 rest h.2 a (ends a)))
         (behind_reads items all.1 h.0 rest (length h.0) (a ∷ []) h.2 ends stop (omega arith))
 
-  module _ (goes_on : Option Kind → Bool) (begins : (a : A) (ts rest : List Token) → f a ts rest → goes_on (kind_at ts) ≡ true)
-      (between : (a : A) (k : Option Kind) → goes_on k ≡ true → Follows a k)
+  module _ (proceeds : Option Kind → Bool) (begins : (a : A) (ts rest : List Token) → f a ts rest → proceeds (kind_at ts) ≡ true)
+      (between : (a : A) (k : Option Kind) → proceeds k ≡ true → Follows a k)
       (shrinks : (a : A) (ts rest : List Token) → f a ts rest → length rest < length ts) where
     each_follows : (items : List A) (ts rest : List Token) → each f items ts rest → (a : A) → Follows a (kind_at rest) → Follows a (kind_at ts)
     each_follows [] ts rest h a ok = rw h ok
     each_follows (y ∷ ys) ts rest h a ok = between a (kind_at ts) (begins y ts h.0 h.1)
 
     each_reads_from : (items : List A) → Each ItemReads items → (ts rest : List Token) (n : ℕ) (found : List A) → each f items ts rest
-        → ((a : A) → Follows a (kind_at rest)) → goes_on (kind_at rest) ≡ false → length ts ≤ n
-        → repeat goes_on item n found ts ≡ Ok (found ++ items, rest)
+        → ((a : A) → Follows a (kind_at rest)) → proceeds (kind_at rest) ≡ false → length ts ≤ n
+        → repeat proceeds item n found ts ≡ Ok (found ++ items, rest)
     each_reads_from [] all ts rest n found h ends stop le =
-        rw h (repeat_stops goes_on item n found rest stop ∙ ap (λ (l : List A). Ok (l, rest)) (sym (append-nil found)))
+        rw h (repeat_stops proceeds item n found rest stop ∙ ap (λ (l : List A). Ok (l, rest)) (sym (append-nil found)))
     each_reads_from (a ∷ items) all ts rest zero found h ends stop le = absurd (omega (arith, shrinks a ts h.0 h.1))
     each_reads_from (a ∷ items) all ts rest (suc n) found h ends stop le =
         let one = all.0 ts h.0 h.1 (each_follows items h.0 rest h.2 a (ends a)) in
         let less : length h.0 ≤ n = omega (arith, shrinks a ts h.0 h.1) in
-        repeat_goes goes_on item n found ts h.0 a (begins a ts h.0 h.1) one
+        repeat_goes proceeds item n found ts h.0 a (begins a ts h.0 h.1) one
         ∙ each_reads_from items all.1 h.0 rest n (found ++ a ∷ []) h.2 ends stop less
         ∙ ap (λ (l : List A). Ok (l, rest)) (append_assoc found (a ∷ []) items)
 
     pub each_reads : (items : List A) → Each ItemReads items → (ts rest : List Token) → each f items ts rest
-        → ((a : A) → Follows a (kind_at rest)) → goes_on (kind_at rest) ≡ false → repeat_while goes_on item [] ts ≡ Ok (items, rest)
+        → ((a : A) → Follows a (kind_at rest)) → proceeds (kind_at rest) ≡ false → repeat_while proceeds item [] ts ≡ Ok (items, rest)
     each_reads items all ts rest h ends stop = each_reads_from items all ts rest (length ts) [] h ends stop (omega arith)
 
     pub some_reads : (items : List A) → Each ItemReads items → (ts rest : List Token) → some f items ts rest
-        → ((a : A) → Follows a (kind_at rest)) → goes_on (kind_at rest) ≡ false → one_or_more goes_on item ts ≡ Ok (items, rest)
+        → ((a : A) → Follows a (kind_at rest)) → proceeds (kind_at rest) ≡ false → one_or_more proceeds item ts ≡ Ok (items, rest)
     some_reads [] all ts rest h ends stop = absurd h
     some_reads (a ∷ items) all ts rest h ends stop =
         rw (all.0 ts h.0 h.1 (each_follows items h.0 rest h.2 a (ends a)))

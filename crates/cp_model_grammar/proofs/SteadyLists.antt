@@ -15,9 +15,9 @@ same_kind c [] = refl
 same_kind c (x ∷ f) = refl
 
 -- a further item preserves what holds for the items so far and their levels
-module _ {A : Type 0} (goes_on : Option Kind → Bool) (none : goes_on None ≡ false) (g : A → List ℕ) (some : (x : A) → 0 < length (g x))
+module _ {A : Type 0} (proceeds : Option Kind → Bool) (none : proceeds None ≡ false) (g : A → List ℕ) (some : (x : A) → 0 < length (g x))
     (Holds : List A → List ℕ → Type 0) (push : (xs : List A) (l : List ℕ) (x : A) → Holds xs l → Holds (xs ++ x ∷ []) (l ++ g x)) where
-  before_token : (ts : List Token) → goes_on (kind_at ts) ≡ true → At Before ts
+  before_token : (ts : List Token) → proceeds (kind_at ts) ≡ true → At Before ts
   before_token [] e = absurd (let h : true ≡ false = sym e ∙ none in cc)
   before_token (x ∷ ts) e = tt
 
@@ -32,55 +32,55 @@ module _ {A : Type 0} (goes_on : Option Kind → Bool) (none : goes_on None ≡ 
   Found l ys k = Holds ys (l ++ k)
 
   module _ (r : Reader A) (ok : (ts : List Token) → At Before ts → Tame (Has g) (r ts) ts) where
-    repeat_tame : (n : ℕ) (xs : List A) (l : List ℕ) → Holds xs l → (ts : List Token) → Tame (Found l) (repeat goes_on r n xs ts) ts
+    repeat_tame : (n : ℕ) (xs : List A) (l : List ℕ) → Holds xs l → (ts : List Token) → Tame (Found l) (repeat proceeds r n xs ts) ts
     unfolding repeat
     repeat_tame zero xs l h ts = ([], refl, [], stays xs l h, refl)
-    repeat_tame (suc n) xs l h ts = turn (goes_on (kind_at ts)) refl (repeat_tame n)
+    repeat_tame (suc n) xs l h ts = turn (proceeds (kind_at ts)) refl (repeat_tame n)
       where
-        turn : (b : Bool) → goes_on (kind_at ts) ≡ b
-            → ((xs : List A) (l : List ℕ) → Holds xs l → (ts : List Token) → Tame (Found l) (repeat goes_on r n xs ts) ts)
-            → Tame (Found l) (cond b (r >>= λ x. repeat goes_on r n (xs ++ x ∷ [])) (pure xs) ts) ts
+        turn : (b : Bool) → proceeds (kind_at ts) ≡ b
+            → ((xs : List A) (l : List ℕ) → Holds xs l → (ts : List Token) → Tame (Found l) (repeat proceeds r n xs ts) ts)
+            → Tame (Found l) (cond b (r >>= λ x. repeat proceeds r n (xs ++ x ∷ [])) (pure xs) ts) ts
         turn false e again = ([], refl, [], stays xs l h, refl)
-        turn true e again = tame_then (Has g) (Found l) (r ts) (λ x. repeat goes_on r n (xs ++ x ∷ [])) ts (ok ts (before_token ts e))
-            (λ x k e mid. tame_imply (Found (l ++ g x)) (λ ys j. Found l ys (k ++ j)) (repeat goes_on r n (xs ++ x ∷ []) mid) mid
+        turn true e again = tame_then (Has g) (Found l) (r ts) (λ x. repeat proceeds r n (xs ++ x ∷ [])) ts (ok ts (before_token ts e))
+            (λ x k e mid. tame_imply (Found (l ++ g x)) (λ ys j. Found l ys (k ++ j)) (repeat proceeds r n (xs ++ x ∷ []) mid) mid
             (λ ys j p. joins ys l k j x e p) (again (xs ++ x ∷ []) (l ++ g x) (push xs l x h) mid))
 
   next_tame : (r : Reader A) → ((ts : List Token) → At Before ts → Tame (Has g) (r ts) ts) → (n : ℕ) (xs : List A) (l : List ℕ) → Holds xs l
       → (x : A) (k : List ℕ) → k ≡ g x → (mid : List Token)
-      → Tame (λ ys j. Found l ys (k ++ j)) (repeat goes_on r n (xs ++ x ∷ []) mid) mid
+      → Tame (λ ys j. Found l ys (k ++ j)) (repeat proceeds r n (xs ++ x ∷ []) mid) mid
   next_tame r ok n xs l h x k e mid =
-      tame_imply (Found (l ++ g x)) (λ ys j. Found l ys (k ++ j)) (repeat goes_on r n (xs ++ x ∷ []) mid) mid (λ ys j p. joins ys l k j x e p)
+      tame_imply (Found (l ++ g x)) (λ ys j. Found l ys (k ++ j)) (repeat proceeds r n (xs ++ x ∷ []) mid) mid (λ ys j p. joins ys l k j x e p)
       (repeat_tame r ok n (xs ++ x ∷ []) (l ++ g x) (push xs l x h) mid)
 
   module _ {c : Cut} {m : Mode} (item item' : Reader A) (s : Steady c m Before (Has g) item item') where
     repeat_like : (n n' : ℕ) (xs : List A) (l : List ℕ) → Holds xs l → (f : List Token) → length f < n → length f < n'
-        → Like c m (Found l) (repeat goes_on item n xs (f ++ c.token ∷ c.here)) (repeat goes_on item' n' xs (f ++ c.token ∷ c.there))
+        → Like c m (Found l) (repeat proceeds item n xs (f ++ c.token ∷ c.here)) (repeat proceeds item' n' xs (f ++ c.token ∷ c.there))
     unfolding repeat
     repeat_like zero n' xs l h f lt lt' = absurd (omega arith)
     repeat_like (suc n) zero xs l h f lt lt' = absurd (omega arith)
     repeat_like (suc n) (suc n') xs l h f lt lt' =
-        subst (λ k. Like c m (Found l) (cond (goes_on (kind_at (f ++ c.token ∷ c.here))) (item >>= λ x. repeat goes_on item n (xs ++ x ∷ []))
+        subst (λ k. Like c m (Found l) (cond (proceeds (kind_at (f ++ c.token ∷ c.here))) (item >>= λ x. repeat proceeds item n (xs ++ x ∷ []))
         (pure xs) (f ++ c.token ∷ c.here))
-        (cond (goes_on k) (item' >>= λ x. repeat goes_on item' n' (xs ++ x ∷ [])) (pure xs) (f ++ c.token ∷ c.there)))
-        (same_kind c f) (turn (goes_on (kind_at (f ++ c.token ∷ c.here))) (λ xs l h f lt lt'. repeat_like n n' xs l h f lt lt'))
+        (cond (proceeds k) (item' >>= λ x. repeat proceeds item' n' (xs ++ x ∷ [])) (pure xs) (f ++ c.token ∷ c.there)))
+        (same_kind c f) (turn (proceeds (kind_at (f ++ c.token ∷ c.here))) (λ xs l h f lt lt'. repeat_like n n' xs l h f lt lt'))
       where
         turn : (b : Bool) → ((xs : List A) (l : List ℕ) → Holds xs l → (f : List Token) → length f < n → length f < n'
-            → Like c m (Found l) (repeat goes_on item n xs (f ++ c.token ∷ c.here)) (repeat goes_on item' n' xs (f ++ c.token ∷ c.there)))
-            → Like c m (Found l) (cond b (item >>= λ x. repeat goes_on item n (xs ++ x ∷ [])) (pure xs) (f ++ c.token ∷ c.here))
-            (cond b (item' >>= λ x. repeat goes_on item' n' (xs ++ x ∷ [])) (pure xs) (f ++ c.token ∷ c.there))
+            → Like c m (Found l) (repeat proceeds item n xs (f ++ c.token ∷ c.here)) (repeat proceeds item' n' xs (f ++ c.token ∷ c.there)))
+            → Like c m (Found l) (cond b (item >>= λ x. repeat proceeds item n (xs ++ x ∷ [])) (pure xs) (f ++ c.token ∷ c.here))
+            (cond b (item' >>= λ x. repeat proceeds item' n' (xs ++ x ∷ [])) (pure xs) (f ++ c.token ∷ c.there))
         turn false again = (pure_steady {c = c} {m = m} {T = Found l} xs (stays xs l h)).like f
         turn true again = like_then c (Has g) (Found l) m (item (f ++ c.token ∷ c.here)) (item' (f ++ c.token ∷ c.there))
-            (λ x. repeat goes_on item n (xs ++ x ∷ [])) (λ x. repeat goes_on item' n' (xs ++ x ∷ [])) f
+            (λ x. repeat proceeds item n (xs ++ x ∷ [])) (λ x. repeat proceeds item' n' (xs ++ x ∷ [])) f
             (s.tame (f ++ c.token ∷ c.here) (at_cut Before f c.token c.here)) (s.like f) (next_tame item s.tame n xs l h)
             (next_tame item' s.tame' n' xs l h)
             (λ x k e r sum. let size : length k ≡ length (g x) = ap length e in
-            like_imply c m (Found (l ++ g x)) (λ ys j. Found l ys (k ++ j)) [] (repeat goes_on item n (xs ++ x ∷ []) (r ++ c.token ∷ c.here))
-            (repeat goes_on item' n' (xs ++ x ∷ []) (r ++ c.token ∷ c.there))
+            like_imply c m (Found (l ++ g x)) (λ ys j. Found l ys (k ++ j)) [] (repeat proceeds item n (xs ++ x ∷ []) (r ++ c.token ∷ c.here))
+            (repeat proceeds item' n' (xs ++ x ∷ []) (r ++ c.token ∷ c.there))
             (λ ys j p. joins ys l k j x e p) (again (xs ++ x ∷ []) (l ++ g x) (push xs l x h) r (omega (arith, sum, size, some x))
             (omega (arith, sum, size, some x))))
 
     pub repeated_steady : (xs : List A) (l : List ℕ) → Holds xs l
-        → Steady c m Anywhere (Found l) (repeat_while goes_on item xs) (repeat_while goes_on item' xs)
+        → Steady c m Anywhere (Found l) (repeat_while proceeds item xs) (repeat_while proceeds item' xs)
     repeated_steady xs l h = record {
       tame = λ ts k. repeat_tame item s.tame (length ts) xs l h ts;
       tame' = λ ts k. repeat_tame item' s.tame' (length ts) xs l h ts;
@@ -119,15 +119,15 @@ module _ {A : Type 0} (g : A → List ℕ) where
   some_has [] l h = absurd h
   some_has (x ∷ xs) l h = h
 
-  module _ (goes_on : Option Kind → Bool) (none : goes_on None ≡ false)
+  module _ (proceeds : Option Kind → Bool) (none : proceeds None ≡ false)
       (some : (x : A) → 0 < length (g x)) {c : Cut} {m : Mode} {item item' : Reader A} where
     pub each_steady : Steady c m Before (Has g) item item'
-        → Steady c m Anywhere (Has (each_levels g)) (repeat_while goes_on item []) (repeat_while goes_on item' [])
-    each_steady s = repeated_steady goes_on none g some EachHas each_grows item item' s [] [] refl
+        → Steady c m Anywhere (Has (each_levels g)) (repeat_while proceeds item []) (repeat_while proceeds item' [])
+    each_steady s = repeated_steady proceeds none g some EachHas each_grows item item' s [] [] refl
 
     pub some_steady : {w : Start} → Steady c m w (Has g) item item' → Steady c m Before (Has g) item item'
-        → Steady c m w SomeHas (one_or_more goes_on item) (one_or_more goes_on item')
-    some_steady first s = then first (λ x. repeated_steady goes_on none g some SomeHas some_grows item item' s (x ∷ []) (g x)
+        → Steady c m w SomeHas (one_or_more proceeds item) (one_or_more proceeds item')
+    some_steady first s = then first (λ x. repeated_steady proceeds none g some SomeHas some_grows item item' s (x ∷ []) (g x)
         (sym (append-nil (g x))))
 
   -- at least one item, with a symbol between each two

@@ -192,9 +192,9 @@ or_then L N o k ts s (inr v) next = then_at L N o k ts v next
 
 -- ---- lists
 
-module _ {A : Type 0} (goes_on : Option Kind → Bool) (item : Reader A) (L : A → Language) (F : List A → Language)
+module _ {A : Type 0} (proceeds : Option Kind → Bool) (item : Reader A) (L : A → Language) (F : List A → Language)
     (push : (xs : List A) (x : A) (ts mid rest : List Token) → F xs ts mid → L x mid rest → F (xs ++ x ∷ []) ts rest)
-    (ok : (ts : List Token) → goes_on (kind_at ts) ≡ true → ViableAt L (item ts) ts) where
+    (ok : (ts : List Token) → proceeds (kind_at ts) ≡ true → ViableAt L (item ts) ts) where
   -- what is read after the items so far
   abbrev pub Further : List A → List A → Language
   Further xs ys mid rest = (ts : List Token) → F xs ts mid → F ys ts rest
@@ -202,19 +202,19 @@ module _ {A : Type 0} (goes_on : Option Kind → Bool) (item : Reader A) (L : A 
   further_some : (xs : List A) → Inhabited (Further xs)
   further_some xs = ([], xs, λ rest ts h. h)
 
-  repeat_at : (n : ℕ) (xs : List A) (ts : List Token) → ViableAt (Further xs) (repeat goes_on item n xs ts) ts
+  repeat_at : (n : ℕ) (xs : List A) (ts : List Token) → ViableAt (Further xs) (repeat proceeds item n xs ts) ts
   unfolding repeat
   repeat_at zero xs ts = ([], refl, λ rest ts h. h)
-  repeat_at (suc n) xs ts = turn (goes_on (kind_at ts)) refl (repeat_at n)
+  repeat_at (suc n) xs ts = turn (proceeds (kind_at ts)) refl (repeat_at n)
     where
-      turn : (b : Bool) → goes_on (kind_at ts) ≡ b → ((xs : List A) (ts : List Token) → ViableAt (Further xs) (repeat goes_on item n xs ts) ts)
-          → ViableAt (Further xs) (cond b (item >>= λ x. repeat goes_on item n (xs ++ x ∷ [])) (pure xs) ts) ts
+      turn : (b : Bool) → proceeds (kind_at ts) ≡ b → ((xs : List A) (ts : List Token) → ViableAt (Further xs) (repeat proceeds item n xs ts) ts)
+          → ViableAt (Further xs) (cond b (item >>= λ x. repeat proceeds item n (xs ++ x ∷ [])) (pure xs) ts) ts
       turn false e again = ([], refl, λ rest ts h. h)
-      turn true e again = then_at L (Further xs) (item ts) (λ x. repeat goes_on item n (xs ++ x ∷ [])) ts (ok ts e) (λ x.
+      turn true e again = then_at L (Further xs) (item ts) (λ x. repeat proceeds item n (xs ++ x ∷ [])) ts (ok ts e) (λ x.
           imply {N = Further (xs ++ x ∷ [])} (Behind L x (Further xs)) (record { some = further_some (xs ++ x ∷ []); at = again (xs ++ x ∷ []) })
           (λ ys mid rest f ts l start h. f start (push xs x start ts mid h l)))
 
-  pub repeated_viable : (xs : List A) → Viable (repeat_while goes_on item xs) (Further xs)
+  pub repeated_viable : (xs : List A) → Viable (repeat_while proceeds item xs) (Further xs)
   repeated_viable xs = record { some = further_some xs; at = λ ts. repeat_at (length ts) xs ts }
 
 module _ {A : Type 0} (f : A → Language) where
@@ -227,12 +227,12 @@ module _ {A : Type 0} (f : A → Language) where
       (a ∷ []))
       (λ ys mid rest g ts h. g ts (mid, h, refl)))
 
-  pub each_viable : (goes_on : Option Kind → Bool) (item : Reader A) → ((ts : List Token) → goes_on (kind_at ts) ≡ true → ViableAt f (item ts) ts)
-      → Viable (repeat_while goes_on item []) (each f)
-  each_viable goes_on item ok = imply (each f) (repeated_viable goes_on item f (each f)
+  pub each_viable : (proceeds : Option Kind → Bool) (item : Reader A) → ((ts : List Token) → proceeds (kind_at ts) ≡ true → ViableAt f (item ts) ts)
+      → Viable (repeat_while proceeds item []) (each f)
+  each_viable proceeds item ok = imply (each f) (repeated_viable proceeds item f (each f)
       (λ xs a ts mid rest h l. each_push f xs a ts mid rest h l) ok []) (λ ys mid rest g. g mid refl)
 
-  pub some_viable : (goes_on : Option Kind → Bool) {item : Reader A} → Viable item f → Viable (one_or_more goes_on item) (some f)
-  some_viable goes_on {item} v = then v (λ a.
-      imply (Behind f a (some f)) (repeated_viable goes_on item f (some f) (λ xs a ts mid rest h l. some_push f xs a ts mid rest h l)
+  pub some_viable : (proceeds : Option Kind → Bool) {item : Reader A} → Viable item f → Viable (one_or_more proceeds item) (some f)
+  some_viable proceeds {item} v = then v (λ a.
+      imply (Behind f a (some f)) (repeated_viable proceeds item f (some f) (λ xs a ts mid rest h l. some_push f xs a ts mid rest h l)
       (λ ts e. v.at ts) (a ∷ [])) (λ ys mid rest g ts h. g ts (mid, h, refl)))

@@ -48,8 +48,8 @@ sign_of _ = None
 -- ---- chains of operands, with operators of one class between them
 
 module _ (operators : Option Kind → Option Operator) (operand : Reader s.Expression) where
-  abbrev pub goes_on : Option Kind → Bool
-  goes_on k = is_some (operators k)
+  abbrev pub proceeds : Option Kind → Bool
+  proceeds k = is_some (operators k)
 
   -- An operator and the operand after it.
   unfoldable pub operation_of : Reader s.Operation
@@ -58,7 +58,7 @@ module _ (operators : Option Kind → Option Operator) (operand : Reader s.Expre
 
   -- The operations after the first operand, grouped to the left.
   unfoldable pub chain_from : s.Expression → Reader s.Expression
-  chain_from first = repeat_while goes_on operation_of [] >>= λ os. pure (chain_of first os)
+  chain_from first = repeat_while proceeds operation_of [] >>= λ os. pure (chain_of first os)
 
 -- ---- from terms to lists of expressions, given a reader of factors
 

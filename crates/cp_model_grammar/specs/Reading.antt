@@ -81,20 +81,20 @@ inside (Some readers) f = f readers
 
 -- ---- lists
 
--- Items after those in `found`, as long as `goes_on` holds for the next token. The number bounds
+-- Items after those in `found`, as long as `proceeds` holds for the next token. The number bounds
 -- how many are read.
 unfoldable pub repeat : {A : Type 0} → (Option Kind → Bool) → Reader A → ℕ → List A → Reader (List A)
-repeat goes_on item zero found = pure found
-repeat goes_on item (suc n) found =
-    by_kind (λ k. if goes_on k then (item >>= λ x. repeat goes_on item n (found ++ x ∷ [])) else pure found)
+repeat proceeds item zero found = pure found
+repeat proceeds item (suc n) found =
+    by_kind (λ k. if proceeds k then (item >>= λ x. repeat proceeds item n (found ++ x ∷ [])) else pure found)
 
 -- Each item takes at least one token, so the number of tokens is a sufficient bound.
 abbrev pub repeat_while : {A : Type 0} → (Option Kind → Bool) → Reader A → List A → Reader (List A)
-repeat_while goes_on item found = λ ts. repeat goes_on item (length ts) found ts
+repeat_while proceeds item found = λ ts. repeat proceeds item (length ts) found ts
 
--- One item, and more as long as `goes_on` holds for the next token.
+-- One item, and more as long as `proceeds` holds for the next token.
 abbrev pub one_or_more : {A : Type 0} → (Option Kind → Bool) → Reader A → Reader (List A)
-one_or_more goes_on item = item >>= λ x. repeat_while goes_on item (x ∷ [])
+one_or_more proceeds item = item >>= λ x. repeat_while proceeds item (x ∷ [])
 
 -- One or more items, with this symbol between them.
 abbrev pub separated_by : {A : Type 0} → Symbol → Reader A → Reader (List A)

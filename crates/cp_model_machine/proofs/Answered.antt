@@ -22,14 +22,14 @@ use Rattle.cp_model_program.specs.TermsFor.{Knowns, TermFor, nothing_known}
 use Rattle.cp_model_program.specs.StatementsFor.{CodeFor}
 use Rattle.cp_model_machine.specs.PrivateStates as machine
 use Rattle.cp_model_machine.specs.Addresses.{Ground}
-use Rattle.cp_model_machine.specs.Left.{IsTask, Left, Loop, LoopLeft, Repeat, Running, While, held_below, kept_below, site}
+use Rattle.cp_model_machine.specs.Remaining.{IsTask, Remaining, Loop, LoopRemaining, Repeat, Running, While, held_below, kept_below, site}
 use Rattle.cp_model_machine.specs.PartOf.{CallsBehind}
 use Rattle.cp_model_machine.proofs.NextCalls.{AllMade, Calling, Follows, Learns, Next}
 use Rattle.cp_model_machine.proofs.FirstCalls.{TermAdvances, term_next}
 use Rattle.cp_model_machine.proofs.AssignCalls.{StatementAdvances}
 use Rattle.cp_model_machine.proofs.StatementCalls.{IsFunction, own_no_function, own_place, statement_next}
 use Rattle.cp_model_machine.proofs.Loops.{AtTest, left_at_test, loop_task, made_at_test}
-use Rattle.cp_model_machine.proofs.LeftKept.{SameBelow, left_kept}
+use Rattle.cp_model_machine.proofs.RemainingKept.{SameBelow, left_kept}
 
 abbrev call_or : Call → Option Operation → Call
 call_or d (Some (op.Function c into next)) = c
@@ -131,18 +131,18 @@ module _ (G : Ground) (temps : List ℤ) (limit : ℕ) (R : Running) (fs : List 
           omega (arith, same, f.4, temp_is)
 
   -- What is left to do, with the value in the place of the call.
-  abbrev pub LeftAnswered : List Task → Type 0
-  LeftAnswered k =
+  abbrev pub RemainingAnswered : List Task → Type 0
+  RemainingAnswered k =
       (base : BaseType) × BaseIs base × CallsBehind G (into + 1) next
-      × ((n : ℤ) → Left G (answered_temps n) limit (Learnt n) R fs next R.unit.temps (with_answer (a.Known base n) k))
+      × ((n : ℤ) → Remaining G (answered_temps n) limit (Learnt n) R fs next R.unit.temps (with_answer (a.Known base n) k))
 
   rest_kept : (n : ℤ) (place low : ℕ) (k : List Task) → SameBelow (R.temp + low) temps (answered_temps n)
-      → Left G temps limit nothing_known R fs place low k → Left G (answered_temps n) limit nothing_known R fs place low k
+      → Remaining G temps limit nothing_known R fs place low k → Remaining G (answered_temps n) limit nothing_known R fs place low k
   rest_kept n place low k below h =
       left_kept G temps (answered_temps n) limit (sym (length-set temps (R.temp + into) n)) nothing_known nothing_known R fs place low k (λ s m z. z) below h
 
   statement_answered : (s : a.Statement) (env : Environment) (k : List Task)
-      → Left G temps limit Known R fs place R.unit.temps (Do s env ∷ k) → LeftAnswered (Do s env ∷ k)
+      → Remaining G temps limit Known R fs place R.unit.temps (Do s env ∷ k) → RemainingAnswered (Do s env ∷ k)
   statement_answered s env k h = by (statement_next (site G R) Known s place h.2.0 h.2.1 h.1 h.2.3)
     where
       last : ℕ
@@ -151,14 +151,14 @@ module _ (G : Ground) (temps : List ℤ) (limit : ℕ) (R : Running) (fs : List 
       none : IsFunction (operation_at G.program last) → ⊥
       none = own_no_function (site G R) Known s place h.2.0 h.2.1 h.2.3 h.1
 
-      by : StatementAdvances (site G R) Known s place last h.2.0 h.2.1 → LeftAnswered (Do s env ∷ k)
+      by : StatementAdvances (site G R) Known s place last h.2.0 h.2.1 → RemainingAnswered (Do s env ∷ k)
       by (AllMade p q r) = absurd (none (subst IsFunction (sym at ∙ ap (operation_at G.program) p) tt))
       by (Calling N) =
           let X = by_next (λ v. call_in_statement R.env v s) (λ L x after. CodeFor (site G R) L x after h.2.0 h.2.1 × IsTask x) last h.2.1 N in (
             X.base,
             X.base_is,
             X.follows none,
-            λ n. subst (λ z. Left G (answered_temps n) limit (Learnt n) R fs next R.unit.temps z) (sym (answer X (a.Known X.base n)))
+            λ n. subst (λ z. Remaining G (answered_temps n) limit (Learnt n) R fs next R.unit.temps z) (sym (answer X (a.Known X.base n)))
                 (h.0, (X.code n).1, (h.2.0, h.2.1, h.2.2, (X.code n).0, rest_kept n h.2.0 h.2.1 k (X.below n) h.2.4)),
           )
         where
@@ -169,16 +169,16 @@ module _ (G : Ground) (temps : List ℤ) (limit : ℕ) (R : Running) (fs : List 
               ∙ (λ i. elim (in_context (λ y. Do y env) (X.found v i)) [ None ↦ Do s env ∷ k | Some f ↦ f.1 ∷ k ])
 
   loop_answered : (loop : Loop) (now e : a.Expression) (s : a.Statement) (env : Environment) (k : List Task)
-      → AtTest loop G temps limit Known R fs place R.unit.temps now e s env k → LeftAnswered (loop_task loop now e s env ∷ k)
+      → AtTest loop G temps limit Known R fs place R.unit.temps now e s env k → RemainingAnswered (loop_task loop now e s env ∷ k)
   loop_answered loop now e s env k h = by (term_next (site G R) Known now W.term W.base place W.last h.1.1 R.unit.temps W.rest)
     where
-      W : LoopLeft loop (site G R) Known now e s place h.1.0 h.1.1
+      W : LoopRemaining loop (site G R) Known now e s place h.1.0 h.1.1
       W = h.1.3
 
       none : IsFunction (operation_at G.program W.last) → ⊥
       none f = subst IsFunction W.test f
 
-      learnt : (n : ℤ) (x : a.Expression) → TermFor (site G R) (Learnt n) x W.term W.base next W.last h.1.1 R.unit.temps → LoopLeft loop (site G R) (Learnt n) x e s next h.1.0 h.1.1
+      learnt : (n : ℤ) (x : a.Expression) → TermFor (site G R) (Learnt n) x W.term W.base next W.last h.1.1 R.unit.temps → LoopRemaining loop (site G R) (Learnt n) x e s next h.1.0 h.1.1
       learnt n x rest = record {
         start = W.start;
         last = W.last;
@@ -196,14 +196,14 @@ module _ (G : Ground) (temps : List ℤ) (limit : ℕ) (R : Running) (fs : List 
           ap (λ (z : Found Task). elim z as (λ y. List Task) [ None ↦ loop_task loop now e s env ∷ k | Some f ↦ f.1 ∷ k ])
           (made_at_test now e s env loop v R.env h.0 u x found)
 
-      by : TermAdvances (site G R) Known now W.term W.base place W.last h.1.1 R.unit.temps → LeftAnswered (loop_task loop now e s env ∷ k)
+      by : TermAdvances (site G R) Known now W.term W.base place W.last h.1.1 R.unit.temps → RemainingAnswered (loop_task loop now e s env ∷ k)
       by (AllMade p q r) = absurd (none (subst IsFunction (sym at ∙ ap (operation_at G.program) p) tt))
       by (Calling N) =
           let X = by_next (λ v. first_call R.env v now) (λ L x after. TermFor (site G R) L x W.term W.base after W.last h.1.1 R.unit.temps) W.last h.1.1 N in (
             X.base,
             X.base_is,
             X.follows none,
-            λ n. subst (λ z. Left G (answered_temps n) limit (Learnt n) R fs next R.unit.temps z) (sym (answer (a.Known X.base n) (X.fill (a.Known X.base n)) X.user (X.found (a.Known X.base n))))
+            λ n. subst (λ z. Remaining G (answered_temps n) limit (Learnt n) R fs next R.unit.temps z) (sym (answer (a.Known X.base n) (X.fill (a.Known X.base n)) X.user (X.found (a.Known X.base n))))
                 (left_at_test G (answered_temps n) limit (Learnt n) R fs next R.unit.temps (X.fill (a.Known X.base n)) e s env k loop
                 (h.0, (h.1.0, h.1.1, h.1.2, learnt n (X.fill (a.Known X.base n)) (X.code n), rest_kept n h.1.0 h.1.1 k (X.below n) h.1.4))),
           )
@@ -211,7 +211,7 @@ module _ (G : Ground) (temps : List ℤ) (limit : ℕ) (R : Running) (fs : List 
   no_function : {A : Type 0} (place' : ℕ) (o : Operation) → place ≡ place' → operation_at G.program place' ≡ Some o → (IsFunction (Some o) → ⊥) → A
   no_function place' o e is none = absurd (none (subst IsFunction (sym at ∙ (ap (operation_at G.program) e ∙ is)) tt))
 
-  pub task_answered : (k : List Task) → Left G temps limit Known R fs place R.unit.temps k → LeftAnswered k
+  pub task_answered : (k : List Task) → Remaining G temps limit Known R fs place R.unit.temps k → RemainingAnswered k
   task_answered [] h = absurd h
   task_answered (Do s env ∷ k) h = statement_answered s env k h
   task_answered (WhileTest now e s env ∷ k) h = loop_answered While now e s env k h
@@ -219,12 +219,12 @@ module _ (G : Ground) (temps : List ℤ) (limit : ℕ) (R : Running) (fs : List 
   task_answered (ForNext x down n last s env ∷ k) h = no_function place _ refl h.1.3.test (λ f. f)
   task_answered (EndCall env gate ∷ k) h = by fs h
     where
-      by : (gs : List machine.Frame) → Left G temps limit Known R gs place R.unit.temps (EndCall env gate ∷ k) → LeftAnswered (EndCall env gate ∷ k)
+      by : (gs : List machine.Frame) → Remaining G temps limit Known R gs place R.unit.temps (EndCall env gate ∷ k) → RemainingAnswered (EndCall env gate ∷ k)
       by [] h = absurd h
       by (f ∷ gs) h = no_function place _ refl h.1.return (λ f. f)
   task_answered (EndBody gate ∷ k) h = by fs h
     where
-      by : (gs : List machine.Frame) → Left G temps limit Known R gs place R.unit.temps (EndBody gate ∷ k) → LeftAnswered (EndBody gate ∷ k)
+      by : (gs : List machine.Frame) → Remaining G temps limit Known R gs place R.unit.temps (EndBody gate ∷ k) → RemainingAnswered (EndBody gate ∷ k)
       by [] h = absurd h
       by (f ∷ gs) h = no_function place _ refl h.1 (λ f. f)
   task_answered (EndProcess ∷ k) h = no_function place _ refl h.3 (λ f. f)

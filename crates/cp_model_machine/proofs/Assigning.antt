@@ -17,15 +17,15 @@ use Rattle.cp_model.specs.Turns.{after_step}
 use Rattle.cp_model.specs.Types.{Simple}
 use Rattle.cp_model.specs.declared.state.Fault as machine
 use Rattle.cp_model.specs.declared.state.Fault.TheVariants as fault
-use Rattle.cp_model_program.specs.Terms.{Spot, Term}
+use Rattle.cp_model_program.specs.Terms.{PlaceExpression, Term}
 use Rattle.cp_model_program.specs.Programs as op
 use Rattle.cp_model_program.specs.Sites.{operation_at}
 use Rattle.cp_model_program.specs.TermsFor.{Agrees}
 use Rattle.cp_model_program.specs.StatementsFor.{AssignsBy}
-use Rattle.cp_model_machine.specs.PrivateStates.{Outside, PrivateState, go_to, private_outcome, guard, set_word, with_result}
+use Rattle.cp_model_machine.specs.PrivateStates.{StepContext, PrivateState, go_to, private_outcome, guard, set_word, with_result}
 use Rattle.cp_model_machine.specs.Means.{PlaceAgrees}
 use Rattle.cp_model_machine.specs.Addresses.{Ground, activations, in_sight, lies, lies_in_sight}
-use Rattle.cp_model_machine.specs.Left.{site}
+use Rattle.cp_model_machine.specs.Remaining.{site}
 use Rattle.cp_model_machine.specs.PartOf.{PartOf, RunsOn}
 use Rattle.cp_model_machine.proofs.Doing.{Ready, known, place_here, quietly, statement_steps, value_here}
 use Rattle.cp_model_machine.proofs.Evaluates.{ordinal_is}
@@ -34,7 +34,7 @@ use Rattle.cp_model_machine.proofs.Heres.{seen_mine}
 use Rattle.cp_model_machine.proofs.RunningOn.{runs_moved, runs_written}
 use Rattle.cp_model_machine.proofs.Stepping.{Now, Stepped, faulted, went}
 
-module _ (G : Ground) (s : State) (w : Outside) (before : List ℕ) (o : PrivateState) (i : Task) (k : List Task) (N : Now G s w before o i k) where
+module _ (G : Ground) (s : State) (w : StepContext) (before : List ℕ) (o : PrivateState) (i : Task) (k : List Task) (N : Now G s w before o i k) where
   -- What both sides do when a value is stored in a variable.
   abbrev pub Stores : PrivateState → (Writes → StepResult) → ℕ → BaseType → ℤ → ℤ → ℤ → ℤ → Type 0
   Stores after go n b lower upper start v =
@@ -62,8 +62,8 @@ module _ (G : Ground) (s : State) (w : Outside) (before : List ℕ) (o : Private
       by true = stored p.at there.0 there.1
 
 -- An assignment of a simple value to a variable.
-pub set_steps : (G : Ground) (s : State) (w : Outside) (before : List ℕ) (o : PrivateState) (d : a.Designator) (e : a.Expression) (env : Environment) (k : List Task)
-    → (Y : Ready G s w before o (a.Assign d e) env k) (to : Spot) (lower upper : ℤ) (c : Term) (n : ℕ)
+pub set_steps : (G : Ground) (s : State) (w : StepContext) (before : List ℕ) (o : PrivateState) (d : a.Designator) (e : a.Expression) (env : Environment) (k : List Task)
+    → (Y : Ready G s w before o (a.Assign d e) env k) (to : PlaceExpression) (lower upper : ℤ) (c : Term) (n : ℕ)
     → operation_at G.program o.counter ≡ Some (op.Set to lower upper c n)
     → AssignsBy (site G Y.now.on.running) (known G s w before o (Do (a.Assign d e) env) k Y.now) d e (op.Set to lower upper c n) o.counter Y.now.on.left.2.3.0 Y.now.on.left.2.0 Y.now.on.left.2.1
     → Stepped G s w before o

@@ -14,7 +14,7 @@ use Rattle.cp_model.specs.Turns as meaning
 use Rattle.cp_model.proofs.RoundCount.{kernel_turn_count}
 use Rattle.cp_model.proofs.StateInvariant.{kernel_step_keeps}
 use Rattle.cp_model_program.specs.Programs.{Program}
-use Rattle.cp_model_program.specs.StandsFor.{StandsFor}
+use Rattle.cp_model_program.specs.IsProgramFor.{IsProgramFor}
 use Rattle.cp_model_machine.specs.PrivateStates as machine
 use Rattle.cp_model_machine.specs.PrivateStates.{Acting, PrivateState}
 use Rattle.cp_model_machine.specs.Addresses.{Ground, OwnWords, in_sight, sees}
@@ -84,14 +84,14 @@ begins_round G s k o is B l = record {
   activity_is = B.activity_is;
   at_start = B.at_start;
   unstarted = λ later. B.unstarted is;
-  fresh = λ fresh. absurd (no_fresh (s.status G.p) (subst tells (sym fresh) tt));
+  fresh = λ fresh. absurd (no_fresh (s.status G.p) (subst reports (sym fresh) tt));
 }
   where
-    tells : Status → Type 0
-    tells stage.Fresh = Unit {0}
-    tells _ = ⊥
+    reports : Status → Type 0
+    reports stage.Fresh = Unit {0}
+    reports _ = ⊥
 
-    no_fresh : (x : Status) → tells (after_closing x) → ⊥
+    no_fresh : (x : Status) → reports (after_closing x) → ⊥
     no_fresh stage.Unstarted h = h
     no_fresh stage.Fresh h = h
     no_fresh stage.Ready h = h
@@ -103,7 +103,7 @@ begins_round G s k o is B l = record {
 
 -- ---- kernel turns of others
 
-module _ (program : Program) (setup : Setup) (F : StandsFor program setup) (p own q others : ℕ) (d : p ≢ q) (low : 1 ≤ p) (high : p ≤ process_count setup) (from : 1 ≤ q) (below : q ≤ process_count setup) where
+module _ (program : Program) (setup : Setup) (F : IsProgramFor program setup) (p own q others : ℕ) (d : p ≢ q) (low : 1 ≤ p) (high : p ≤ process_count setup) (from : 1 ≤ q) (below : q ≤ process_count setup) where
   abbrev G : Ground
   G = ground_of program setup F q others
 

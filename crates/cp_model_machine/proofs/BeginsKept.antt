@@ -4,7 +4,7 @@ use Rattle.std.proofs.Common.{◌≡◌, ℕ, zero, suc, ◌+◌, ◌-◌, ◌�
 use Rattle.std.specs.Prelude.{drop, slice_get}
 use Rattle.cp_model.specs.States.{State}
 use Rattle.cp_model_program.specs.Sites.{UnitText}
-use Rattle.cp_model_program.specs.StandsFor.{ProcessStands}
+use Rattle.cp_model_program.specs.IsProgramFor.{ProcessRepresents}
 use Rattle.cp_model_program.specs.Starts.{block, paste, word}
 use Rattle.cp_model_machine.specs.Addresses.{AllHaveRights, Ground}
 use Rattle.cp_model_machine.specs.Beginning.{Begins}
@@ -35,7 +35,7 @@ dropped (suc n) i (x ∷ ws) = dropped n i ws ∙ ap (word (x ∷ ws)) (more n i
 
 -- ---- where it stays as it was
 
-module _ (G : Ground) (q own : ℕ) (o : PrivateState) (number : o.number ≡ q) (texts : List UnitText) (P : ProcessStands G.program texts G.setup q) where
+module _ (G : Ground) (q own : ℕ) (o : PrivateState) (number : o.number ≡ q) (texts : List UnitText) (P : ProcessRepresents G.program texts G.setup q) where
   abbrev H : Ground
   H = other_ground G q own
 

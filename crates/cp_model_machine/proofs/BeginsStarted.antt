@@ -20,7 +20,7 @@ use Rattle.cp_model.proofs.Options.{same_some}
 use Rattle.cp_law_typing.specs.Declared.{Distinct}
 use Rattle.cp_model_program.specs.Layout.{component_words}
 use Rattle.cp_model_program.specs.Programs as code
-use Rattle.cp_model_program.specs.StandsFor.{ProcessStands}
+use Rattle.cp_model_program.specs.IsProgramFor.{ProcessRepresents}
 use Rattle.cp_model_program.specs.Starts.{block, paste, word}
 use Rattle.cp_model_machine.specs.Addresses.{Ground, in_sight, scope}
 use Rattle.cp_model_machine.specs.Beginning.{Begins}
@@ -28,11 +28,11 @@ use Rattle.cp_model_machine.specs.KernelSteps.{Kernel}
 use Rattle.cp_model_machine.specs.Machines.{begin_from}
 use Rattle.cp_model_machine.specs.PartOf.{DataMeans, RunsOn}
 use Rattle.cp_model_machine.specs.PrivateStates as machine
-use Rattle.cp_model_machine.specs.PrivateStates.{Outside, PrivateState}
+use Rattle.cp_model_machine.specs.PrivateStates.{StepContext, PrivateState}
 use Rattle.cp_model_machine.proofs.BeginsKept.{begun_is, dropped}
 use Rattle.cp_model_machine.proofs.BodyBegins.{process_body, runs_from_start}
 use Rattle.cp_model_machine.proofs.Copying.{copied_length, copied_word}
-use Rattle.cp_model_machine.proofs.InitProcesses.{Bound, InitOfProcess, body, is, moved, names, offsets, one, row_stands, same_system, system, to, top, waits, whole_is}
+use Rattle.cp_model_machine.proofs.InitProcesses.{Bound, InitOfProcess, body, is, moved, names, offsets, one, row_represents, same_system, system, to, top, waits, whole_is}
 use Rattle.cp_model_machine.proofs.OtherGround.{other_ground}
 use Rattle.cp_model_machine.proofs.ParametersGiven.{data_given}
 use Rattle.cp_model_machine.proofs.ProcessRights.{process_without}
@@ -43,13 +43,13 @@ not_fresh : (x : Status) → is_started x ≡ false → x ≡ stage.Unstarted
 not_fresh stage.Unstarted e = refl
 not_fresh _ e = absurd (true≢false e)
 
-module _ {G : Ground} {s : State} {w : Outside} {before : List ℕ} {o : PrivateState} (Z : InitOfProcess G s w before o) (free : is_started (s.status Z.number) ≡ false) (ws : Writes) (us : List ℤ) (B : Bound Z ws us)
+module _ {G : Ground} {s : State} {w : StepContext} {before : List ℕ} {o : PrivateState} (Z : InitOfProcess G s w before o) (free : is_started (s.status Z.number) ≡ false) (ws : Writes) (us : List ℤ) (B : Bound Z ws us)
     (own : ℕ) (oq : PrivateState) (number : oq.number ≡ Z.number) (count : length oq.words ≡ own) (k l : Kernel) (shared : l.shared ≡ drop G.own (moved Z us)) (before_it : Begins (other_ground G Z.number own) s k oq) where
   abbrev H : Ground
   H = other_ground G Z.number own
 
-  abbrev P : ProcessStands G.program Z.stands.texts G.setup Z.number
-  P = row_stands Z
+  abbrev P : ProcessRepresents G.program Z.represents.texts G.setup Z.number
+  P = row_represents Z
 
   abbrev size : ℕ
   size = length (declarations (scope G) (system Z).parameters)
@@ -70,7 +70,7 @@ module _ {G : Ground} {s : State} {w : Outside} {before : List ℕ} {o : Private
   )
 
   distinct : Distinct (permanent_variables (scope G) (system Z))
-  distinct = subst (λ (y : System). Distinct (permanent_variables (scope G) y)) (same_system Z) (process_names G Z.stands Z.number P)
+  distinct = subst (λ (y : System). Distinct (permanent_variables (scope G) y)) (same_system Z) (process_names G Z.represents Z.number P)
 
   -- The words that wait are those that were passed.
   waits_there : (j : ℕ) → j < size → word l.shared (suc P.row.parameters + j) ≡ word us (top Z + 1 + j)
@@ -87,15 +87,15 @@ module _ {G : Ground} {s : State} {w : Outside} {before : List ℕ} {o : Private
 
   data_there : DataMeans H [] (in_sight H) (put_all ws s.store) new_words
   data_there =
-      data_given G Z.number own (system Z) (is Z) fits distinct (names Z) (one Z) (offsets Z) (process_without G.setup Z.stands.typed Z.number (system Z) (is Z)) (to Z) (top Z) s.store ws o.words us B
+      data_given G Z.number own (system Z) (is Z) fits distinct (names Z) (one Z) (offsets Z) (process_without G.setup Z.represents.typed Z.number (system Z) (is Z)) (to Z) (top Z) s.store ws o.words us B
       l.shared (suc P.row.parameters) waits_there oq.words count (before_it.unstarted unstarted)
 
   runs_there : RunsOn H (put_all ws s.store) (begin_from G.program l oq) (body Z)
   runs_there =
-      subst (λ x. RunsOn H (put_all ws s.store) x (body Z)) (sym (begun_is G Z.number own oq number Z.stands.texts P l))
+      subst (λ x. RunsOn H (put_all ws s.store) x (body Z)) (sym (begun_is G Z.number own oq number Z.represents.texts P l))
       (subst (λ n. RunsOn H (put_all ws s.store) (record oq { activity = machine.Running; words = paste 1 (block l.shared (suc P.row.parameters) n) oq.words }) (body Z)) same_size
       (subst (λ (y : System). RunsOn H (put_all ws s.store) (record oq { activity = machine.Running; words = new_words }) (process_body H y)) (same_system Z)
-      (runs_from_start H Z.stands Z.texts P (ap (λ (y : System). y.sort) (same_system Z) ∙ Z.by.0) oq before_it.at_start (put_all ws s.store) new_words
+      (runs_from_start H Z.represents Z.texts P (ap (λ (y : System). y.sort) (same_system Z) ∙ Z.by.0) oq before_it.at_start (put_all ws s.store) new_words
       (copied_length oq.words l.shared 1 (suc P.row.parameters) size ∙ count) data_there)))
     where
       same_size : size ≡ P.row.waiting - 1

@@ -7,11 +7,11 @@ use Rattle.cp_model.specs.Locations.{ByIndex, ByName, Location, OfActivation, Of
 use Rattle.cp_model.specs.Stores.{Store}
 use Rattle.cp_model.specs.Types.{ResolvedType}
 use Rattle.cp_model_program.specs.Layout.{Part, activation_words, component_words}
-use Rattle.cp_model_program.specs.StandsFor.{Apart, system_of_monitor, system_of_process}
+use Rattle.cp_model_program.specs.IsProgramFor.{Apart, system_of_monitor, system_of_process}
 use Rattle.cp_model_program.specs.Starts.{word}
 use Rattle.cp_model_machine.specs.PrivateStates.{PrivateState}
 use Rattle.cp_model_machine.specs.Addresses.{Activation, ClassLies, ComponentLies, Ground, MonitorLies, ProcessLies, activation_at, activations, component_type, lies, part_at, scope}
-use Rattle.cp_model_machine.specs.Left.{site}
+use Rattle.cp_model_machine.specs.Remaining.{site}
 use Rattle.cp_model_machine.specs.Means.{CellMeans}
 use Rattle.cp_model_machine.specs.Passing.{monitor_start}
 use Rattle.cp_model_machine.specs.PartOf.{RunsOn}

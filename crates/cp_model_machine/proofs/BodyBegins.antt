@@ -11,10 +11,10 @@ use Rattle.cp_model.proofs.Options.{same_some}
 use Rattle.cp_model_program.specs.Programs as code
 use Rattle.cp_model_program.specs.Programs.{CodeUnit}
 use Rattle.cp_model_program.specs.Sites.{BodyOf}
-use Rattle.cp_model_program.specs.StandsFor.{ProcessStands, StandsFor, UnitStands, body_environment, end_of}
+use Rattle.cp_model_program.specs.IsProgramFor.{ProcessRepresents, IsProgramFor, UnitRepresents, body_environment, end_of}
 use Rattle.cp_model_machine.specs.Addresses.{Ground, ProcessLies, in_sight, scope, whole}
 use Rattle.cp_model_machine.specs.Beginning.{AtStart}
-use Rattle.cp_model_machine.specs.Left.{Running, innermost_gate}
+use Rattle.cp_model_machine.specs.Remaining.{Running, innermost_gate}
 use Rattle.cp_model_machine.specs.PartOf.{DataMeans, RunsOn}
 use Rattle.cp_model_machine.specs.PrivateStates as machine
 use Rattle.cp_model_machine.specs.PrivateStates.{PrivateState}
@@ -26,7 +26,7 @@ use Rattle.cp_model_machine.proofs.RunningOn.{left_afresh, words_pushed}
 abbrev pub process_body : Ground → System → List Task
 process_body G s = push s.body (body_environment (scope G) s (root (OfProcess G.p))) (EndProcess ∷ [])
 
-module _ (G : Ground) (F : StandsFor G.program G.setup) (texts : F.texts ≡ G.texts) (P : ProcessStands G.program F.texts G.setup G.p) (sort : P.system.sort ≡ Process) (o : PrivateState) (A : AtStart G o)
+module _ (G : Ground) (F : IsProgramFor G.program G.setup) (texts : F.texts ≡ G.texts) (P : ProcessRepresents G.program F.texts G.setup G.p) (sort : P.system.sort ≡ Process) (o : PrivateState) (A : AtStart G o)
     (store : Store) (words : List ℤ) (count : length words ≡ whole G) (means : DataMeans G [] (in_sight G) store words) where
   abbrev at : Location
   at = root (OfProcess G.p)
@@ -43,8 +43,8 @@ module _ (G : Ground) (F : StandsFor G.program G.setup) (texts : F.texts ≡ G.t
   same_unit : A.unit ≡ P.unit
   same_unit = same_some A.unit P.unit (sym A.unit_there ∙ (ap (λ (r : code.Process). slice_get G.program.units r.body) same_row ∙ P.unit_there))
 
-  stands : UnitStands G.program G.texts (scope G) P.unit (BodyOf P.system)
-  stands = subst (λ ts. UnitStands G.program ts (scope G) P.unit (BodyOf P.system)) texts (F.units P.row.body P.unit (BodyOf P.system) P.unit_there P.body)
+  represents : UnitRepresents G.program G.texts (scope G) P.unit (BodyOf P.system)
+  represents = subst (λ ts. UnitRepresents G.program ts (scope G) P.unit (BodyOf P.system)) texts (F.units P.row.body P.unit (BodyOf P.system) P.unit_there P.body)
 
   abbrev running : Running
   running = record { number = P.row.body; unit = P.unit; text = BodyOf P.system; env = env; base = P.row.words; temp = 0; component = 0 }
@@ -82,11 +82,11 @@ module _ (G : Ground) (F : StandsFor G.program G.setup) (texts : F.texts ≡ G.t
       gate = ap innermost_gate (sym (marks_push P.system.body env (EndProcess ∷ [])));
       live = 0;
       left = left_afresh G o.temps o.limit 0 running [] P.unit.start 0 body (omega arith)
-          (push_left G o.temps o.limit running [] P.system.body P.unit.start (stands.2 at).0 0 (EndProcess ∷ []) (stands.2 at).2 (
+          (push_left G o.temps o.limit running [] P.system.body P.unit.start (represents.2 at).0 0 (EndProcess ∷ []) (represents.2 at).2 (
             refl,
             refl,
             refl,
-            (stands.2 at).1 ∙ ap (λ z. Some (end_of z)) sort,
+            (represents.2 at).1 ∙ ap (λ z. Some (end_of z)) sort,
             (P.system, P.is_system, omega (arith, P.words)),
           ));
       next_value = λ c n m e. omega arith;

@@ -37,26 +37,26 @@ use Rattle.cp_model_program.specs.Programs.{Call, CodeUnit}
 use Rattle.cp_model_program.specs.Layout.{local_at, local_words, natural}
 use Rattle.cp_model_program.specs.Sites as sites
 use Rattle.cp_model_program.specs.Sites.{RoutineOf, Site, UnitText, TargetFor, TargetOf, first_parameter, operation_at, parameters, system_of_callee}
-use Rattle.cp_model_program.specs.StandsFor.{UnitStands}
+use Rattle.cp_model_program.specs.IsProgramFor.{UnitRepresents}
 use Rattle.cp_model_program.specs.Starts.{carry_out, word}
 use Rattle.cp_model_program.specs.StatementsFor.{PerformsBy}
 use Rattle.cp_model_program.specs.TermsFor.{ArgumentsFor, Knowns, nothing_known}
-use Rattle.cp_model_machine.specs.PrivateStates.{Outside, PrivateState}
+use Rattle.cp_model_machine.specs.PrivateStates.{StepContext, PrivateState}
 use Rattle.cp_model_machine.specs.Passing.{component_called}
 use Rattle.cp_model_machine.specs.Calling.{Back, frame_of}
 use Rattle.cp_model_machine.specs.PartOf.{PartOf}
 use Rattle.cp_model_machine.specs.Steps.{act, is_monitor}
 use Rattle.cp_model_machine.specs.Addresses.{Ground, activations, in_sight, lies, scope, lies_in_sight}
-use Rattle.cp_model_machine.specs.Left.{CallerAt, Left, held_below, kept_below, site}
+use Rattle.cp_model_machine.specs.Remaining.{CallerAt, Remaining, held_below, kept_below, site}
 use Rattle.cp_model_machine.proofs.Declared.{distinct_first}
-use Rattle.cp_model_program.proofs.CallsStand.{callee_of}
+use Rattle.cp_model_program.proofs.CallsRepresent.{callee_of}
 use Rattle.cp_model_machine.proofs.Declares.{Declares}
 use Rattle.cp_model_machine.proofs.Doing.{Ready, known}
 use Rattle.cp_model_machine.proofs.Entering.{Opened, Waits, owner_of_call}
 use Rattle.cp_model_machine.proofs.Finding.{in_context_none, some_is_not_none}
 use Rattle.cp_model_machine.proofs.Heres.{Sees, depth_is, seen_mine}
 use Rattle.cp_model_machine.proofs.Invoking.{Opens, TargetIs, invoked}
-use Rattle.cp_model_machine.proofs.LeftKept.{left_kept}
+use Rattle.cp_model_machine.proofs.RemainingKept.{left_kept}
 use Rattle.cp_model_machine.proofs.NextCalls.{CallReady}
 use Rattle.cp_model_machine.proofs.Opening.{HoldsValues, opened}
 use Rattle.cp_model_machine.proofs.Passing.{Has, ParameterHas, parameter_at}
@@ -112,10 +112,10 @@ kinds_agree env c x h = by c.of x h
 
 -- ---- what opens the activation
 
-module _ (G : Ground) (s : State) (w : Outside) (before : List ℕ) (o : PrivateState) (i : Task) (l : List Task) (N : Now G s w before o i l) (sees : Sees G (in_sight G) s.store N.on.running.env)
+module _ (G : Ground) (s : State) (w : StepContext) (before : List ℕ) (o : PrivateState) (i : Task) (l : List Task) (N : Now G s w before o i l) (sees : Sees G (in_sight G) s.store N.on.running.env)
     (k : List Task) (v : UserCall) (call : Call) (back : Back) (place kept live : ℕ) (W : Waits G o (i ∷ l) k N.on.running place kept live)
     (C : sites.Runs (site G N.on.running) (RoutineOf (system_of_callee N.on.running.env v.callee.of) v.callee.routine) kept call)
-    (stands : UnitStands G.program G.texts (scope G) C.unit (RoutineOf (system_of_callee N.on.running.env v.callee.of) v.callee.routine))
+    (represents : UnitRepresents G.program G.texts (scope G) C.unit (RoutineOf (system_of_callee N.on.running.env v.callee.of) v.callee.routine))
     (from last low high : ℕ) (args : ArgumentsFor (site G N.on.running) (held_below N.on.live o.temps N.on.running.temp) (parameters (site G N.on.running) v.callee) v.arguments call.arguments (first_parameter v.callee) from last low high) where
   deep : depth k ≡ length (activations o.base o.frames k)
   deep = sym (depth_is G o.temps o.limit o.base (kept_below kept live o.temps N.on.running.temp) N.on.running o.frames place kept k W.left)
@@ -126,8 +126,8 @@ module _ (G : Ground) (s : State) (w : Outside) (before : List ℕ) (o : Private
       (put_all (starting_writes (root (owner_of_call G k)) (declarations g v.callee.routine.variables)) (put_all ws (forget (owner_of_call G k) s.store))) (carry_out (o.base + call.words) C.unit.starts new) (o.base + call.words) (record { owner = owner_of_call G k; routine = v.callee.routine })) (sym N.on.runs.globals)
       (subst (λ d. Opened G (activations o.base o.frames k)
       (put_all (starting_writes (root (OfActivation G.p d)) (declarations (scope G) v.callee.routine.variables)) (put_all ws (forget (OfActivation G.p d) s.store))) (carry_out (o.base + call.words) C.unit.starts new) (o.base + call.words) (record { owner = OfActivation G.p d; routine = v.callee.routine })) (sym deep)
-      (opened G (activations o.base o.frames k) (system_of_callee N.on.running.env v.callee.of) v.callee.routine C.unit stands (o.base + call.words) s.store ws new
-      (omega (arith, stands.1, C.fits.words, C.words, N.on.runs.words_fit, N.on.count, N.on.base, len, own_in_whole G))
+      (opened G (activations o.base o.frames k) (system_of_callee N.on.running.env v.callee.of) v.callee.routine C.unit represents (o.base + call.words) s.store ws new
+      (omega (arith, represents.1, C.fits.words, C.words, N.on.runs.words_fit, N.on.count, N.on.base, len, own_in_whole G))
       (λ x n d e. subst (λ z. ParameterHas (scope G) (lies G (activations o.base o.frames k)) d (parameter_at (OfActivation G.p z) x) (put_all ws (forget (OfActivation G.p z) s.store)) new (o.base + call.words + n)) deep (holds x n d e))
       (λ x e. subst (λ z. put_all ws (forget (OfActivation G.p z) s.store) (parameter_at (OfActivation G.p z) x) ≡ forget (OfActivation G.p z) s.store (parameter_at (OfActivation G.p z) x)) deep
       (B.names x [] (forget (owner_of_call G k) s.store) (ap (λ g. lookup x (declarations g v.callee.routine.parameters)) N.on.runs.globals ∙ e)))
@@ -156,9 +156,9 @@ module _ (G : Ground) (s : State) (w : Outside) (before : List ℕ) (o : Private
 -- ---- steps
 
 -- The units of the program stand for their texts.
-abbrev pub UnitsStand : Ground → Type 0
-UnitsStand G =
-    (n : ℕ) (u : CodeUnit) (t : UnitText) → slice_get G.program.units n ≡ Some u → slice_get G.texts n ≡ Some t → UnitStands G.program G.texts (scope G) u t
+abbrev pub UnitsRepresent : Ground → Type 0
+UnitsRepresent G =
+    (n : ℕ) (u : CodeUnit) (t : UnitText) → slice_get G.program.units n ≡ Some u → slice_get G.texts n ≡ Some t → UnitRepresents G.program G.texts (scope G) u t
 
 parameters_distinct : (G : Ground) (g : GlobalScope) (c : Callee) (y : a.System) → g ≡ scope G → Distinct (local_variables (scope G) c.routine ++ permanent_variables (scope G) y) → Distinct (declarations g c.routine.parameters)
 parameters_distinct G g c y same h =
@@ -167,9 +167,9 @@ parameters_distinct G g c y same h =
     (distinct_first (local_variables (scope G) c.routine) (permanent_variables (scope G) y) h))
 
 -- A function that a task calls.
-pub function_steps : (G : Ground) (s : State) (w : Outside) (before : List ℕ) (o : PrivateState) (i : Task) (l : List Task) (N : Now G s w before o i l) → Sees G (in_sight G) s.store N.on.running.env → StoreInvariant s.store → UnitsStand G
+pub function_steps : (G : Ground) (s : State) (w : StepContext) (before : List ℕ) (o : PrivateState) (i : Task) (l : List Task) (N : Now G s w before o i l) → Sees G (in_sight G) s.store N.on.running.env → StoreInvariant s.store → UnitsRepresent G
     → (v : UserCall) (temp after : ℕ) (base : BaseType) (C : CallReady (site G N.on.running) (held_below N.on.live o.temps N.on.running.temp) v o.counter temp after base) (j : Task) → call_in_task (a.Literal 0) i ≡ Some (v, j)
-    → Left G o.temps o.limit (kept_below C.low N.on.live o.temps N.on.running.temp) N.on.running o.frames o.counter C.low (i ∷ l) → Declares G N.on.running.env
+    → Remaining G o.temps o.limit (kept_below C.low N.on.live o.temps N.on.running.temp) N.on.running o.frames o.counter C.low (i ∷ l) → Declares G N.on.running.env
     → Stepped G s w before o
 function_steps G s w before o i l N sees I units v temp after base C j found left declares = by (is_monitor C.call.target) refl
   where
@@ -194,20 +194,20 @@ function_steps G s w before o i l N sees I units v temp after base C j found lef
     called T =
         let back : Back = record { counter = after; into = temp } in
         let W : Waits G o (i ∷ l) (i ∷ l) N.on.running o.counter C.low N.on.live = record { same = refl; means = λ store words. refl; marks = refl; left = left; kept_fit = omega (arith, C.calls.runs.fits.temps) } in
-        let stands = units C.call.routine C.calls.runs.unit (RoutineOf (system_of_callee N.on.running.env v.callee.of) v.callee.routine) C.calls.runs.there C.calls.runs.text in
+        let represents = units C.call.routine C.calls.runs.unit (RoutineOf (system_of_callee N.on.running.env v.callee.of) v.callee.routine) C.calls.runs.there C.calls.runs.text in
         invoked G s w before o i l N sees (i ∷ l) v C.call back o.counter C.low N.on.live C.from o.counter C.low C.high
         record {
           waits = W;
           runs = C.calls.runs;
-          stands = stands;
+          represents = represents;
           arguments = C.arguments;
           made = C.made;
           where_is = C.where_is;
-          distinct = parameters_distinct G N.on.running.env.globals v.callee (system_of_callee N.on.running.env v.callee.of) N.on.runs.globals stands.2;
+          distinct = parameters_distinct G N.on.running.env.globals v.callee (system_of_callee N.on.running.env v.callee.of) N.on.runs.globals represents.2;
           target_is = T;
           caller = subst (λ z. CallerAt G C.call.routine C.low N.on.live z (frame_of o (component_called G.program w o C.call.target) back) o.counter) (sym C.answers.1)
               (C.call, temp, refl, C.calls.runs.temps, N.on.next_value C.call temp after C.op, C.op, refl);
-          opens = opens G s w before o i l N sees (i ∷ l) v C.call back o.counter C.low N.on.live W C.calls.runs stands C.from o.counter C.low C.high C.arguments;
+          opens = opens G s w before o i l N sees (i ∷ l) v C.call back o.counter C.low N.on.live W C.calls.runs represents C.from o.counter C.low C.high C.arguments;
         }
 
     by : (b : Bool) → is_monitor C.call.target ≡ b → Stepped G s w before o
@@ -225,7 +225,7 @@ function_steps G s w before o i l N sees I units v temp after base C j found lef
         both = called (target_is G s w before o i l N sees I v.callee.of C.call.target C.calls.target e)
 
 -- A procedure statement whose arguments contain no more calls.
-pub procedure_steps : (G : Ground) (s : State) (w : Outside) (before : List ℕ) (o : PrivateState) (d : a.Designator) (es : a.Expressions) (env : Environment) (k : List Task) → StoreInvariant s.store → UnitsStand G
+pub procedure_steps : (G : Ground) (s : State) (w : StepContext) (before : List ℕ) (o : PrivateState) (d : a.Designator) (es : a.Expressions) (env : Environment) (k : List Task) → StoreInvariant s.store → UnitsRepresent G
     → (Y : Ready G s w before o (a.Perform d es) env k) (call : Call) (n : ℕ) → operation_at G.program o.counter ≡ Some (op.Procedure call n)
     → PerformsBy (site G Y.now.on.running) (known G s w before o (Do (a.Perform d es) env) k Y.now) d es (op.Procedure call n) o.counter Y.now.on.left.2.3.0 Y.now.on.left.2.0 Y.now.on.left.2.1
     → Declares G Y.now.on.running.env → Stepped G s w before o
@@ -265,20 +265,20 @@ procedure_steps G s w before o d es env k I units Y call n there h declares = by
         let back : Back = record { counter = n; into = 0 } in
         let rest = left_kept G o.temps o.temps o.limit refl nothing_known (kept_below left.1 0 o.temps N.on.running.temp) N.on.running o.frames left.0 left.1 k (λ m q z. absurd z) (λ m q. refl) left.4 in
         let W : Waits G o (i ∷ k) k N.on.running left.0 left.1 0 = record { same = refl; means = λ store words. refl; marks = refl; left = rest; kept_fit = left.2 } in
-        let stands = units call.routine h.2.runs.unit (RoutineOf (system_of_callee N.on.running.env h.0.of) h.0.routine) h.2.runs.there h.2.runs.text in
+        let represents = units call.routine h.2.runs.unit (RoutineOf (system_of_callee N.on.running.env h.0.of) h.0.routine) h.2.runs.there h.2.runs.text in
         invoked G s w before o i k N N.sees k v call back left.0 left.1 0 o.counter left.3.0 left.1 h.1
         record {
           waits = W;
           runs = h.2.runs;
-          stands = stands;
+          represents = represents;
           arguments = h.6;
           made = in_context_none (a.Perform d) (call_in_arguments here (a.Literal 0) es) Y.none;
           where_is = refl;
-          distinct = parameters_distinct G N.on.running.env.globals h.0 (system_of_callee N.on.running.env h.0.of) N.on.runs.globals stands.2;
+          distinct = parameters_distinct G N.on.running.env.globals h.0 (system_of_callee N.on.running.env h.0.of) N.on.runs.globals represents.2;
           target_is = T;
           caller = subst (λ z. CallerAt G call.routine left.1 0 z (frame_of o (component_called G.program w o call.target) back) left.0) (sym h.3)
               (sym h.4, refl);
-          opens = opens G s w before o i k N N.sees k v call back left.0 left.1 0 W h.2.runs stands o.counter left.3.0 left.1 h.1 h.6;
+          opens = opens G s w before o i k N N.sees k v call back left.0 left.1 0 W h.2.runs represents o.counter left.3.0 left.1 h.1 h.6;
         }
 
     by : (b : Bool) → is_monitor call.target ≡ b → Stepped G s w before o

@@ -18,10 +18,10 @@ use Rattle.cp_model_program.specs.Sites.{Site, operation_at}
 use Rattle.cp_model_program.specs.Tables.{place_in}
 use Rattle.cp_model_program.specs.TermsFor.{Agrees, nothing_known}
 use Rattle.cp_model_program.specs.StatementsFor.{ArmFor, CodeFor, either}
-use Rattle.cp_model_machine.specs.PrivateStates.{Outside, PrivateState, go_to, with_result}
+use Rattle.cp_model_machine.specs.PrivateStates.{StepContext, PrivateState, go_to, with_result}
 use Rattle.cp_model_machine.specs.Steps.{go_to_arm}
 use Rattle.cp_model_machine.specs.Addresses.{Ground}
-use Rattle.cp_model_machine.specs.Left.{site}
+use Rattle.cp_model_machine.specs.Remaining.{site}
 use Rattle.cp_model_machine.specs.PartOf.{PartOf}
 use Rattle.cp_model_machine.proofs.Doing.{Ready, quietly, statement_steps, value_here}
 use Rattle.cp_model_machine.proofs.Evaluates.{ordinal_is}
@@ -44,7 +44,7 @@ chosen site (a.MoreArms labels s rest) n found next low h = by (has_label site.e
     by true h go = h
     by false h go = go h
 
-pub case_steps : (G : Ground) (s : State) (w : Outside) (before : List ℕ) (o : PrivateState) (e : a.Expression) (arms : a.Arms) (env : Environment) (k : List Task)
+pub case_steps : (G : Ground) (s : State) (w : StepContext) (before : List ℕ) (o : PrivateState) (e : a.Expression) (arms : a.Arms) (env : Environment) (k : List Task)
     → Ready G s w before o (a.Case e arms) env k → Stepped G s w before o
 case_steps G s w before o e arms env k Y =
     let N = Y.now in

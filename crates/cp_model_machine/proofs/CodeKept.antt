@@ -11,7 +11,7 @@ use Rattle.cp_model_program.specs.Programs.{Operation}
 use Rattle.cp_model_program.specs.Sites.{Site, first_parameter, parameters}
 use Rattle.cp_model_program.specs.TermsFor.{Knowns, nothing_known}
 use Rattle.cp_model_program.specs.StatementsFor.{AssignsBy, CodeFor, InitArgumentsFor, InitsBy, PerformsBy}
-use Rattle.cp_model_machine.proofs.CallsKept.{Keeps, arguments_kept, narrowed, spot_kept, term_kept}
+use Rattle.cp_model_machine.proofs.CallsKept.{Keeps, arguments_kept, narrowed, place_expression_kept, term_kept}
 
 -- If nothing is known, nothing needs to be kept.
 pub none_kept : (L : Knowns) (low high : ℕ) → Keeps nothing_known L low high
@@ -29,7 +29,7 @@ module _ (site : Site) (K L : Knowns) where
     h.5,
     h.6,
     h.7,
-    spot_kept site K L d to (Simple h.0 lower upper h.2) place h.3 low h.4 (narrowed K L low site.unit.temps low h.4 (omega arith) h.7 k) h.8,
+    place_expression_kept site K L d to (Simple h.0 lower upper h.2) place h.3 low h.4 (narrowed K L low site.unit.temps low h.4 (omega arith) h.7 k) h.8,
     term_kept site K L e value h.1 h.3 last h.4 site.unit.temps (narrowed K L low site.unit.temps h.4 site.unit.temps h.6 (omega arith) k) h.9,
   )
   assigns_kept (a.Plain x) e (op.SetResult lower upper value n) place last next low k h =
@@ -45,8 +45,8 @@ module _ (site : Site) (K L : Knowns) where
     h.7,
     h.8,
     h.9,
-    spot_kept site K L d to h.0 place h.1 low h.2 (narrowed K L low site.unit.temps low h.2 (omega arith) h.5 k) h.10,
-    spot_kept site K L e from h.0 h.1 last h.2 site.unit.temps (narrowed K L low site.unit.temps h.2 site.unit.temps h.4 (omega arith) k) h.11,
+    place_expression_kept site K L d to h.0 place h.1 low h.2 (narrowed K L low site.unit.temps low h.2 (omega arith) h.5 k) h.10,
+    place_expression_kept site K L e from h.0 h.1 last h.2 site.unit.temps (narrowed K L low site.unit.temps h.2 site.unit.temps h.4 (omega arith) k) h.11,
   )
   assigns_kept d e _ place last next low k h = absurd h
 
@@ -65,11 +65,11 @@ module _ (site : Site) (K L : Knowns) where
   performs_kept (a.Plain x) (a.MoreExpressions e a.NoExpression) (op.Display value as_byte n) place last next low k h =
       (h.0, h.1, h.2, h.3, term_kept site K L e value h.0 place last low site.unit.temps k h.4)
   performs_kept (a.Plain x) (a.MoreExpressions (a.Use d) a.NoExpression) (op.Accept to lower upper n) place last next low k h =
-      (h.0, h.1, h.2, h.3, spot_kept site K L d to (Simple Char lower upper h.0) place last low site.unit.temps k h.4)
+      (h.0, h.1, h.2, h.3, place_expression_kept site K L d to (Simple Char lower upper h.0) place last low site.unit.temps k h.4)
   performs_kept (a.Plain x) (a.MoreExpressions (a.Use d) a.NoExpression) (op.Delay queue n) place last next low k h =
-      (h.0, h.1, h.2, spot_kept site K L d queue Queue place last low site.unit.temps k h.3)
+      (h.0, h.1, h.2, place_expression_kept site K L d queue Queue place last low site.unit.temps k h.3)
   performs_kept (a.Plain x) (a.MoreExpressions (a.Use d) a.NoExpression) (op.Continue queue function) place last next low k h =
-      (h.0, h.1, spot_kept site K L d queue Queue place last low site.unit.temps k h.2, h.3)
+      (h.0, h.1, place_expression_kept site K L d queue Queue place last low site.unit.temps k h.2, h.3)
   performs_kept (a.Plain x) a.NoExpression (op.Wait n) place last next low k h = h
   performs_kept d es _ place last next low k h = absurd h
 

@@ -24,19 +24,19 @@ use Rattle.cp_model.specs.declared.state.Fault as machine
 use Rattle.cp_model.specs.declared.state.Fault.TheVariants as fault
 use Rattle.cp_model.proofs.StateMaps.{with_at_here}
 use Rattle.cp_model.proofs.Options.{same_some}
-use Rattle.cp_model_program.specs.Terms.{Spot}
+use Rattle.cp_model_program.specs.Terms.{PlaceExpression}
 use Rattle.cp_model_program.specs.Programs as op
 use Rattle.cp_model_program.specs.Layout.{local}
 use Rattle.cp_model_program.specs.Starts.{unset, word}
 use Rattle.cp_model_program.specs.TermsFor.{nothing_known}
 use Rattle.cp_model_program.specs.StatementsFor.{is_function}
 use Rattle.cp_model_machine.specs.PrivateStates as private
-use Rattle.cp_model_machine.specs.PrivateStates.{Continues, Outside, PrivateState, fault_in, go_to, private_outcome, set_temp, set_word, with_result}
+use Rattle.cp_model_machine.specs.PrivateStates.{Continues, StepContext, PrivateState, fault_in, go_to, private_outcome, set_temp, set_word, with_result}
 use Rattle.cp_model_machine.specs.Calling.{leave, return_with}
 use Rattle.cp_model_machine.specs.Steps as steps
 use Rattle.cp_model_machine.specs.Means.{PlaceAgrees}
 use Rattle.cp_model_machine.specs.Addresses.{Activation, Ground, activation_at, activation_of, activations, in_sight, lies, scope, lies_in_sight}
-use Rattle.cp_model_machine.specs.Left.{IsGate, gate_number}
+use Rattle.cp_model_machine.specs.Remaining.{IsGate, gate_number}
 use Rattle.cp_model_machine.specs.PartOf.{ActivationMeans, IfFrame, PartOf, ResultMeans, RunsOn}
 use Rattle.cp_model_machine.proofs.Continuing.{Innermost, innermost, part_same, resumed_part}
 use Rattle.cp_model_machine.proofs.Doing.{Ready, executed, place_here, statement_steps}
@@ -49,11 +49,11 @@ use Rattle.cp_model_machine.proofs.Standards.{By, argument_none, continues, not_
 use Rattle.cp_model_machine.proofs.Stepping.{Now, Stepped, faulted, went}
 use Rattle.cp_law_typing.proofs.Locations.{integer_is}
 use Rattle.cp_model_machine.proofs.Writing.{changed_other}
-use Rattle.cp_model_machine.proofs.Effects.{EffectAgrees, going, return_leaves, then_means, told}
+use Rattle.cp_model_machine.proofs.Effects.{EffectAgrees, going, return_leaves, then_means, reported}
 use Rattle.cp_model_machine.proofs.MonitorsThere.{monitor_below}
 use Rattle.cp_model_machine.specs.Steps.{act}
 
-module _ (G : Ground) (s : State) (w : Outside) (before : List ℕ) (o : PrivateState) (f : private.Frame) (fs : List private.Frame) (x : Name) (env : Environment) (k : List Task) (d : a.Designator)
+module _ (G : Ground) (s : State) (w : StepContext) (before : List ℕ) (o : PrivateState) (f : private.Frame) (fs : List private.Frame) (x : Name) (env : Environment) (k : List Task) (d : a.Designator)
     (Y : Ready G s w before (record o { frames = f ∷ fs }) (a.Perform (a.Plain x) (one (a.Use d))) env k)
     (I : Innermost G o.temps o.limit Y.now.on.running (f ∷ fs) Y.now.on.running.unit.temps k) where
   abbrev first : Task
@@ -220,13 +220,13 @@ module _ (G : Ground) (s : State) (w : Outside) (before : List ℕ) (o : Private
 
       -- The process that waited in the queue continues, and the gate is the one that the frame
       -- keeps.
-      resumes_told : (gate : Option ℕ) → I.gate ≡ gate → EffectAgrees G w.own (calls.continue (configuration s G.p) q (Some (I.env, gate, I.rest))) (does (steps.is_held f.gate)).1
-      resumes_told None i =
+      resumes_reported : (gate : Option ℕ) → I.gate ≡ gate → EffectAgrees G w.own (calls.continue (configuration s G.p) q (Some (I.env, gate, I.rest))) (does (steps.is_held f.gate)).1
+      resumes_reported None i =
           subst (λ b. EffectAgrees G w.own (own_step (configuration s G.p)) (does (steps.is_held b)).1) (sym (I.left.2.0 ∙ ap gate_number i)) tt
-      resumes_told (Some m) i =
+      resumes_reported (Some m) i =
           subst (λ b. EffectAgrees G w.own (calls.continue (configuration s G.p) q (Some (I.env, Some m, I.rest))) (does b).1)
           (sym (ap steps.is_held (I.left.2.0 ∙ ap gate_number i) ∙ is_held_at_least m (monitor_numbered G m is_gate)))
-          (told G w.own s before Y.now.ready _ (Continues f.gate (word P.words at)) _ (returns_at_once m (process_in_queue (s.store q)) (Continues f.gate (word P.words at)))
+          (reported G w.own s before Y.now.ready _ (Continues f.gate (word P.words at)) _ (returns_at_once m (process_in_queue (s.store q)) (Continues f.gate (word P.words at)))
           (then_means G w.own (Continues f.gate (word P.words at)) (returns cleared I.env I.rest) (resumes m (process_in_queue (s.store q)))
           (λ after. (sym (I.left.2.0 ∙ ap gate_number i), monitor_below G.setup m is_gate.0 is_gate.1, ap process_in_queue (Y.now.on.data_means.cells q at Queue mine is))))
           (return_leaves P (set_word P at (pos 0)) f fs function (Continues f.gate (word P.words at)) (going G s before P Y.now.part Y.now.ready)))
@@ -235,8 +235,8 @@ module _ (G : Ground) (s : State) (w : Outside) (before : List ℕ) (o : Private
           is_gate = subst (IsGate G) i I.left.2.2
 
 -- A `continue` step, whichever gate is held.
-pub continue_steps : (G : Ground) (s : State) (w : Outside) (before : List ℕ) (o : PrivateState) (x : Name) (env : Environment) (k : List Task) (d : a.Designator)
-    (Y : Ready G s w before o (a.Perform (a.Plain x) (one (a.Use d))) env k) (queue : Spot) (function : Bool)
+pub continue_steps : (G : Ground) (s : State) (w : StepContext) (before : List ℕ) (o : PrivateState) (x : Name) (env : Environment) (k : List Task) (d : a.Designator)
+    (Y : Ready G s w before o (a.Perform (a.Plain x) (one (a.Use d))) env k) (queue : PlaceExpression) (function : Bool)
     → By G s w before o x env k (one (a.Use d)) Y (op.Continue queue function)
     → ((g : Frame) (t : Name) → Y.now.on.running.env.frame ≡ Some g → g.routine.result ≡ Some t → local (scope G) g.routine g.routine.name ≡ None)
     → Stepped G s w before o
@@ -260,7 +260,7 @@ continue_steps G s w before o x env k d Y queue function h names =
     by_frames [] Y I names runs q at mine is = absurd I.left
     by_frames (f ∷ fs) Y I names runs q at mine is =
         subst (λ z. Both (calls.continue (configuration s G.p) q z) (steps.continue (record o { frames = f ∷ fs }) at function)) (sym I.is)
-        (continued G s w before o f fs x env k d Y I q at mine is names function runs I.gate refl, resumes_told G s w before o f fs x env k d Y I q at mine is names function runs I.gate refl)
+        (continued G s w before o f fs x env k d Y I q at mine is names function runs I.gate refl, resumes_reported G s w before o f fs x env k d Y I q at mine is names function runs I.gate refl)
 
     by_place : (p : Outcome Place) (r : Result ℕ machine.Fault) → PlaceAgrees (lies_in_sight (in_sight G) G (activations o.base o.frames (first ∷ k))) Queue p r
         → Both (and_then p (λ at. calls.continue (configuration s G.p) at.at (innermost_call k))) (with_result o r (λ at. steps.continue o at function))

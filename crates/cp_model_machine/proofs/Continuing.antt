@@ -10,7 +10,7 @@ use Rattle.cp_model_program.specs.TermsFor.{Knowns, nothing_known}
 use Rattle.cp_model_machine.specs.PrivateStates as machine
 use Rattle.cp_model_machine.specs.PrivateStates.{PrivateState}
 use Rattle.cp_model_machine.specs.Addresses.{Ground, activations, in_sight}
-use Rattle.cp_model_machine.specs.Left.{Left, Running}
+use Rattle.cp_model_machine.specs.Remaining.{Remaining, Running}
 use Rattle.cp_model_machine.specs.PartOf.{ActivationsMean, DataMeans, PartOf, RunsOn}
 use Rattle.cp_model_machine.proofs.Finding.{some_is_not_none}
 use Rattle.cp_model_machine.proofs.Stepping.{gate_passed}
@@ -30,10 +30,10 @@ pub record Innermost (G : Ground) (temps : List ℤ) (limit : ℕ) (R : Running)
   pub counter : ℕ
   pub low : ℕ
   pub fits : low ≤ high
-  pub left : Left G temps limit nothing_known R fs counter low (EndCall env gate ∷ rest)
+  pub left : Remaining G temps limit nothing_known R fs counter low (EndCall env gate ∷ rest)
 
 module _ (G : Ground) (temps : List ℤ) (limit : ℕ) (R : Running) (F : Frame) (runs : R.env.frame ≡ Some F) where
-  pub innermost : (K : Knowns) (fs : List machine.Frame) (place low high : ℕ) (k : List Task) → low ≤ high → Left G temps limit K R fs place low k → Innermost G temps limit R fs high k
+  pub innermost : (K : Knowns) (fs : List machine.Frame) (place low high : ℕ) (k : List Task) → low ≤ high → Remaining G temps limit K R fs place low k → Innermost G temps limit R fs high k
   innermost K fs place low high [] up h = absurd h
   innermost K fs place low high (Do s e ∷ k) up h =
       let I = innermost nothing_known fs h.2.0 h.2.1 high k (omega (arith, up, h.2.2)) h.2.4 in

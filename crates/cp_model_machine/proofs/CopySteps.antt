@@ -19,18 +19,18 @@ use Rattle.cp_model.specs.declared.state.Fault as machine
 use Rattle.cp_law_typing.specs.Judgement.{has_queues}
 use Rattle.cp_law_typing.specs.SoundTypes.{SoundType}
 use Rattle.cp_law_typing.specs.Words.{words}
-use Rattle.cp_model_program.specs.Terms.{Spot}
+use Rattle.cp_model_program.specs.Terms.{PlaceExpression}
 use Rattle.cp_model_program.specs.Programs as op
 use Rattle.cp_model_program.specs.Layout.{part}
 use Rattle.cp_model_program.specs.Sites.{operation_at}
 use Rattle.cp_model_program.specs.Starts.{block, paste, word}
 use Rattle.cp_model_program.specs.StatementsFor.{AssignsBy}
-use Rattle.cp_model_machine.specs.PrivateStates.{Outside, PrivateState, with_result}
+use Rattle.cp_model_machine.specs.PrivateStates.{StepContext, PrivateState, with_result}
 use Rattle.cp_model_machine.specs.Steps.{copy_words}
 use Rattle.cp_model_machine.specs.Values.{place_of}
 use Rattle.cp_model_machine.specs.Means.{PlaceAgrees}
 use Rattle.cp_model_machine.specs.Addresses.{Ground, activations, in_sight, lies, scope, lies_in_sight}
-use Rattle.cp_model_machine.specs.Left.{site}
+use Rattle.cp_model_machine.specs.Remaining.{site}
 use Rattle.cp_model_machine.specs.PartOf.{PartOf, RunsOn, components}
 use Rattle.cp_model_machine.proofs.Apart.{cell_has_word, cell_head}
 use Rattle.cp_model_machine.proofs.Bounds.{part_fits}
@@ -87,8 +87,8 @@ runs_copied G store o k R to from n b t sound free own_to own_from to_is from_is
         (R.data_means.cells (under from path) (b + j) u own_from (lies_under G (activations o.base o.frames k) from path b j t u from_is there))))
 
 -- An assignment of an array or a record.
-pub copy_steps : (G : Ground) (s : State) (w : Outside) (before : List ℕ) (o : PrivateState) (d e : a.Designator) (env : Environment) (k : List Task)
-    → (Y : Ready G s w before o (a.Assign d (a.Use e)) env k) (to from : Spot) (size n : ℕ)
+pub copy_steps : (G : Ground) (s : State) (w : StepContext) (before : List ℕ) (o : PrivateState) (d e : a.Designator) (env : Environment) (k : List Task)
+    → (Y : Ready G s w before o (a.Assign d (a.Use e)) env k) (to from : PlaceExpression) (size n : ℕ)
     → operation_at G.program o.counter ≡ Some (op.CopyWords to from size n)
     → AssignsBy (site G Y.now.on.running) (known G s w before o (Do (a.Assign d (a.Use e)) env) k Y.now) d (a.Use e) (op.CopyWords to from size n) o.counter Y.now.on.left.2.3.0 Y.now.on.left.2.0 Y.now.on.left.2.1
     → Stepped G s w before o

@@ -30,18 +30,18 @@ use Rattle.cp_model_program.specs.Sites.{operation_at}
 use Rattle.cp_model_program.specs.Starts.{word}
 use Rattle.cp_model_program.specs.TermsFor.{Agrees, nothing_known}
 use Rattle.cp_model_program.specs.StatementsFor.{CodeFor, Counts}
-use Rattle.cp_model_machine.specs.PrivateStates.{Outside, PrivateState, go_to, private_outcome, set_temp, set_word, with_result}
+use Rattle.cp_model_machine.specs.PrivateStates.{StepContext, PrivateState, go_to, private_outcome, set_temp, set_word, with_result}
 use Rattle.cp_model_machine.specs.Steps.{act, count_to, first_count}
 use Rattle.cp_model_machine.specs.Values.{root_place}
 use Rattle.cp_model_machine.specs.Addresses.{Ground, activations, in_sight}
-use Rattle.cp_model_machine.specs.Left.{ForLeft, Left, Runs, innermost_gate, site}
+use Rattle.cp_model_machine.specs.Remaining.{ForRemaining, Remaining, Runs, innermost_gate, site}
 use Rattle.cp_model_machine.specs.PartOf.{ActivationsMean, PartOf, RunsOn}
 use Rattle.cp_model_machine.proofs.Assigning.{stores}
 use Rattle.cp_model_machine.proofs.Doing.{Ready, acts_itself, place_here, quietly, statement_steps, value_here, view}
 use Rattle.cp_model_machine.proofs.Evaluates.{ordinal_is}
 use Rattle.cp_model_machine.proofs.Finding.{in_context_none, or_else_none}
 use Rattle.cp_model_machine.proofs.Heres.{Sees}
-use Rattle.cp_model_machine.proofs.LeftKept.{SameBelow, left_kept}
+use Rattle.cp_model_machine.proofs.RemainingKept.{SameBelow, left_kept}
 use Rattle.cp_model_machine.proofs.Pushing.{marks_push, push_left}
 use Rattle.cp_model_machine.proofs.RunningOn.{left_afresh, runs_moved, runs_written, words_moved, words_pushed}
 use Rattle.cp_model_machine.proofs.Stepping.{Now, Stepped, both_step, clock_of, does, faulted, went}
@@ -53,7 +53,7 @@ use Rattle.cp_model_machine.proofs.QuietOperations.{for_quiet, operation_quiet}
 pub counted_on : (G : Ground) (store : Store) (o : PrivateState) (i k : List Task) (R : RunsOn G store o i) (x : Name) (down : Bool) (st : a.Statement) (c : op.Counting) (next low test : ℕ) (n last : ℤ)
     → activations o.base o.frames k ≡ activations o.base o.frames i → ActivationsMean G store o.words o.base o.frames k ≡ ActivationsMean G store o.words o.base o.frames i → marked_monitors k ≡ marked_monitors i
     → Counts (site G R.running) x down c next low → operation_at G.program test ≡ Some (op.ForNext c) → CodeFor (site G R.running) nothing_known st c.body test (low + 2)
-    → Left G o.temps o.limit nothing_known R.running o.frames next low k
+    → Remaining G o.temps o.limit nothing_known R.running o.frames next low k
     → RunsOn G store (go_to c.body (set_temp (set_temp o (o.temp + c.temp) n) (o.temp + c.temp + 1) last)) (push st R.running.env (ForNext x down n last st R.running.env ∷ k))
 counted_on G store o i k R x down st c next low test n last same means marks counts there code left = record {
   at = record {
@@ -113,13 +113,13 @@ counted_on G store o i k R x down st c next low test n last same means marks cou
     below : SameBelow (R.running.temp + low) o.temps us
     below i q = other i (λ e. absurd (omega (arith, q, e, R.temp, counts.temp))) ∙ other2 i (λ e. absurd (omega (arith, q, e, R.temp, counts.temp)))
 
-module _ (G : Ground) (s : State) (w : Outside) (before : List ℕ) (o : PrivateState) (i : Task) (k : List Task) (N : Now G s w before o i k) where
+module _ (G : Ground) (s : State) (w : StepContext) (before : List ℕ) (o : PrivateState) (i : Task) (k : List Task) (N : Now G s w before o i k) where
   -- The counter is stored, on both sides.
   pub counts_to : Sees G (in_sight G) s.store N.on.running.env → (x : Name) (down : Bool) (st : a.Statement) (c : op.Counting) (next low test : ℕ) (n last : ℤ)
       → activations o.base o.frames k ≡ activations o.base o.frames (i ∷ k)
       → ((store : Store) (words : List ℤ) → ActivationsMean G store words o.base o.frames k ≡ ActivationsMean G store words o.base o.frames (i ∷ k)) → marked_monitors k ≡ marked_monitors (i ∷ k)
       → Counts (site G N.on.running) x down c next low → operation_at G.program test ≡ Some (op.ForNext c) → CodeFor (site G N.on.running) nothing_known st c.body test (low + 2)
-      → Left G o.temps o.limit nothing_known N.on.running o.frames next low k
+      → Remaining G o.temps o.limit nothing_known N.on.running o.frames next low k
       → PartOf G (after_step s G.p (for_step (context G.setup s G.p) (configuration s G.p) N.on.running.env k x down n last st)) before (count_to w o c n last).0
   counts_to sees x down st c next low test n last same means marks counts there code left =
       let at = root_place (view G s w before o i k N) c.variable in
@@ -136,7 +136,7 @@ module _ (G : Ground) (s : State) (w : Outside) (before : List ℕ) (o : Private
       j = push st N.on.running.env (ForNext x down n last st N.on.running.env ∷ k)
 
 -- The first test of a `for`.
-pub for_steps : (G : Ground) (s : State) (w : Outside) (before : List ℕ) (o : PrivateState) (x : Name) (down : Bool) (e f : a.Expression) (st : a.Statement) (env : Environment) (k : List Task)
+pub for_steps : (G : Ground) (s : State) (w : StepContext) (before : List ℕ) (o : PrivateState) (x : Name) (down : Bool) (e f : a.Expression) (st : a.Statement) (env : Environment) (k : List Task)
     → Ready G s w before o (a.For x down e f st) env k → Stepped G s w before o
 for_steps G s w before o x down e f st env k Y =
     let N = Y.now in
@@ -192,7 +192,7 @@ for_steps G s w before o x down e f st env k Y =
         (both n l (is_past down n l))))
 
 -- The next tests of a `for`.
-pub for_next_steps : (G : Ground) (s : State) (w : Outside) (before : List ℕ) (o : PrivateState) (x : Name) (down : Bool) (n last : ℤ) (st : a.Statement) (env : Environment) (k : List Task)
+pub for_next_steps : (G : Ground) (s : State) (w : StepContext) (before : List ℕ) (o : PrivateState) (x : Name) (down : Bool) (n last : ℤ) (st : a.Statement) (env : Environment) (k : List Task)
     → Now G s w before o (ForNext x down n last st env) k → Stepped G s w before o
 for_next_steps G s w before o x down n last st env k N =
     let F = N.on.left.1.3 in
@@ -208,7 +208,7 @@ for_next_steps G s w before o x down n last st env k N =
     (if_quiet (same_integer n last) _ _ tt (for_quiet (context G.setup s G.p) (configuration s G.p) N.on.running.env k x down (next_counter down n) last st))
     (operation_quiet G.program w o (op.ForNext F.counting) tt))
   where
-    F : ForLeft (site G N.on.running) o.temps N.on.running.temp x down n last st o.counter N.on.left.1.0 N.on.left.1.1
+    F : ForRemaining (site G N.on.running) o.temps N.on.running.temp x down n last st o.counter N.on.left.1.0 N.on.left.1.1
     F = N.on.left.1.3
 
     defined : Bool → StepResult

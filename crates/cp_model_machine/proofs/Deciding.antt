@@ -23,18 +23,18 @@ use Rattle.cp_model_program.specs.Programs as op
 use Rattle.cp_model_program.specs.Programs.{Operation}
 use Rattle.cp_model_program.specs.Layout.{local}
 use Rattle.cp_model_program.specs.Sites.{operation_at}
-use Rattle.cp_model_program.specs.StandsFor.{StandsFor, UnitStands}
+use Rattle.cp_model_program.specs.IsProgramFor.{IsProgramFor, UnitRepresents}
 use Rattle.cp_model_program.specs.TermsFor.{Knowns}
 use Rattle.cp_model_program.specs.StatementsFor.{AssignsBy, InitsBy, PerformsBy}
 use Rattle.cp_model_machine.specs.PrivateStates as machine
-use Rattle.cp_model_machine.specs.PrivateStates.{Outside, PrivateState}
+use Rattle.cp_model_machine.specs.PrivateStates.{StepContext, PrivateState}
 use Rattle.cp_model_machine.specs.Steps.{act, is_kernel_operation, is_start_operation}
 use Rattle.cp_model_machine.specs.Addresses.{Ground, activations, in_sight, scope}
-use Rattle.cp_model_machine.specs.Left.{Left, Loop, Repeat, Running, Runs, While, held_below, innermost_gate, kept_below, site}
+use Rattle.cp_model_machine.specs.Remaining.{Remaining, Loop, Repeat, Running, Runs, While, held_below, innermost_gate, kept_below, site}
 use Rattle.cp_model_machine.specs.PartOf.{PartOf, RunsOn}
 use Rattle.cp_model_machine.proofs.AssignCalls.{StatementAdvances}
 use Rattle.cp_model_machine.proofs.Assigning.{set_steps}
-use Rattle.cp_model_machine.proofs.CallSteps.{UnitsStand, function_steps, procedure_steps}
+use Rattle.cp_model_machine.proofs.CallSteps.{UnitsRepresent, function_steps, procedure_steps}
 use Rattle.cp_model_machine.proofs.Choosing.{case_steps}
 use Rattle.cp_model_machine.proofs.ContinueSteps.{continue_steps}
 use Rattle.cp_model_machine.proofs.CopySteps.{copy_steps}
@@ -49,7 +49,7 @@ use Rattle.cp_model_machine.proofs.GatesHeld.{gate_is_held}
 use Rattle.cp_model_machine.proofs.Heres.{Sees}
 use Rattle.cp_model_machine.proofs.InitMonitors.{monitor_inits}
 use Rattle.cp_model_machine.proofs.InitSteps.{init_steps}
-use Rattle.cp_model_machine.proofs.LeftKept.{held_within, left_kept}
+use Rattle.cp_model_machine.proofs.RemainingKept.{held_within, left_kept}
 use Rattle.cp_model_machine.proofs.Loops.{AtTest, left_at_test, loop_task, made_at_test, sees_at_test, test_left}
 use Rattle.cp_model_machine.proofs.NextCalls.{AllMade, Calling}
 use Rattle.cp_model_machine.proofs.ProcessRights.{no_class_rights}
@@ -60,14 +60,14 @@ use Rattle.cp_model_machine.proofs.Standards.{By, accept_steps, delay_steps, dis
 use Rattle.cp_model_machine.proofs.StatementCalls.{own_place, statement_next}
 use Rattle.cp_model_machine.proofs.Stepping.{Around, AroundAll, IfPlaced, Now, Stepped, kernel_step}
 use Rattle.cp_model_machine.proofs.Testing.{cycle_steps, if_steps, loop_steps}
-use Rattle.cp_model_program.specs.Terms.{Spot}
+use Rattle.cp_model_program.specs.Terms.{PlaceExpression}
 use Rattle.cp_model_machine.proofs.Effects.{EffectAgrees}
 use Rattle.cp_model_machine.proofs.InitProcesses.{InitOfProcess}
 use Rattle.cp_model_machine.proofs.Queues.{activations_none, queues_shared}
 
 -- The end mark of a routine belongs to the environment that runs.
 pub end_environment : (G : Ground) (temps : List ℤ) (limit : ℕ) (K : Knowns) (R : Running) (fs : List machine.Frame) (place low : ℕ) (env : Environment) (gate : Option ℕ) (k : List Task)
-    → Left G temps limit K R fs place low (EndCall env gate ∷ k) → env ≡ R.env
+    → Remaining G temps limit K R fs place low (EndCall env gate ∷ k) → env ≡ R.env
 end_environment G temps limit K R [] place low env gate k h = absurd h
 end_environment G temps limit K R (f ∷ fs) place low env gate k h = h.0
 
@@ -84,11 +84,11 @@ other_sort z y e h = subst (SameSort z) e h
 abbrev pub Reaches : Ground → State → Type 0
 Reaches G s = (o : Owner) → in_reach G.p (marked_monitors (s.continuation G.p)) o ≡ true → in_sight G o ≡ true
 
-module _ (G : Ground) (s : State) (w : Outside) (before : List ℕ) (o : PrivateState) (F : StandsFor G.program G.setup) (texts : F.texts ≡ G.texts) (part : PartOf G s before o) (I : Invariant s)
+module _ (G : Ground) (s : State) (w : StepContext) (before : List ℕ) (o : PrivateState) (F : IsProgramFor G.program G.setup) (texts : F.texts ≡ G.texts) (part : PartOf G s before o) (I : Invariant s)
     (around : Around G s w) (reaches : Reaches G s) where
-  pub units : UnitsStand G
+  pub units : UnitsRepresent G
   units n u t unit text =
-      subst (λ ts. UnitStands G.program ts (scope G) u t) texts (F.units n u t unit (ap (λ ts. slice_get ts n) texts ∙ text))
+      subst (λ ts. UnitRepresents G.program ts (scope G) u t) texts (F.units n u t unit (ap (λ ts. slice_get ts n) texts ∙ text))
 
   pub now_of : (i : Task) (k : List Task) (R : RunsOn G s.store o (i ∷ k)) → s.continuation G.p ≡ i ∷ k → s.status G.p ≡ stage.Ready
       → IfPlaced i (Sees G (in_sight G) s.store R.running.env) → Now G s w before o i k
@@ -99,8 +99,8 @@ module _ (G : Ground) (s : State) (w : Outside) (before : List ℕ) (o : Private
       → local (scope G) f.routine f.routine.name ≡ None
   names R runs f t is result =
       let y = text_is R.text R.env.frame f is runs.frame in
-      let stands = subst (UnitStands G.program G.texts (scope G) R.unit) y.1 (units R.number R.unit R.text runs.unit runs.text) in
-      no_local_result (scope G) y.0 f.routine t stands.2 result
+      let represents = subst (UnitRepresents G.program G.texts (scope G) R.unit) y.1 (units R.number R.unit R.text runs.unit runs.text) in
+      no_local_result (scope G) y.0 f.routine t represents.2 result
 
   pub declares_here : (R : Running) → Runs G (length o.temps) o.limit R o.frames → Declares G R.env
   declares_here R runs = runs_declares G F texts (length o.temps) o.limit R o.frames runs
@@ -108,7 +108,7 @@ module _ (G : Ground) (s : State) (w : Outside) (before : List ℕ) (o : Private
   -- ---- statements
 
   -- `delay` does nothing outside all monitors.
-  delays : (x : Name) (env : Environment) (k : List Task) (d : a.Designator) (Y : Ready G s w before o (a.Perform (a.Plain x) (one (a.Use d))) env k) (queue : Spot) (n : ℕ)
+  delays : (x : Name) (env : Environment) (k : List Task) (d : a.Designator) (Y : Ready G s w before o (a.Perform (a.Plain x) (one (a.Use d))) env k) (queue : PlaceExpression) (n : ℕ)
       → By G s w before o x env k (one (a.Use d)) Y (op.Delay queue n) → Stepped G s w before o
   delays x env k d Y queue n h = by (marked_monitors k) refl
     where
@@ -178,7 +178,7 @@ module _ (G : Ground) (s : State) (w : Outside) (before : List ℕ) (o : Private
     where
       starting : AroundAll G s w → InitOfProcess G s w before o
       starting K = record {
-        stands = F;
+        represents = F;
         texts = texts;
         stored = I.store;
         around = K;

@@ -15,11 +15,11 @@ use Rattle.cp_model.proofs.Options.{same_some}
 use Rattle.cp_law_typing.specs.Declared.{SystemVariable, sort_of}
 use Rattle.cp_law_typing.specs.SoundTypes.{SoundType}
 use Rattle.cp_law_typing.specs.WellTyped.{WellTyped, text_systems}
-use Rattle.cp_model_program.specs.StandsFor.{IsInText, StandsFor, component_at, component_in, system_of_monitor, system_of_process}
+use Rattle.cp_model_program.specs.IsProgramFor.{IsInText, IsProgramFor, component_at, component_in, system_of_monitor, system_of_process}
 use Rattle.cp_law_typing.proofs.ComponentNames.{IsNamed, each_found, is_named}
 use Rattle.cp_model_machine.specs.PrivateStates as machine
 use Rattle.cp_model_machine.specs.Addresses.{Ground, scope}
-use Rattle.cp_model_machine.specs.Left.{Running, Runs}
+use Rattle.cp_model_machine.specs.Remaining.{Running, Runs}
 use Rattle.cp_model_machine.proofs.Finding.{some_is_not_none}
 
 -- ---- what is declared
@@ -99,6 +99,6 @@ module _ (G : Ground) (W : WellTyped G.setup) (env : Environment) (there : IsInT
       two_more n = omega arith
 
 -- The environment of a running unit declares no others.
-pub runs_declares : (G : Ground) (F : StandsFor G.program G.setup) → F.texts ≡ G.texts → (temps limit : ℕ) (R : Running) (fs : List machine.Frame) → Runs G temps limit R fs → Declares G R.env
+pub runs_declares : (G : Ground) (F : IsProgramFor G.program G.setup) → F.texts ≡ G.texts → (temps limit : ℕ) (R : Running) (fs : List machine.Frame) → Runs G temps limit R fs → Declares G R.env
 runs_declares G F texts temps limit R fs h =
     declares G F.typed R.env (subst (IsInText G.setup) (sym h.system) (F.systems R.number R.text (ap (λ ts. slice_get ts R.number) texts ∙ h.text))) h.globals

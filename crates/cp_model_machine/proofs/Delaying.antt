@@ -20,11 +20,11 @@ use Rattle.cp_model.specs.Types.{Queue}
 use Rattle.cp_model.specs.declared.state.Fault as machine
 use Rattle.cp_model.specs.declared.state.Fault.TheVariants as fault
 use Rattle.cp_model.proofs.StateMaps.{with_at_here}
-use Rattle.cp_model_program.specs.Terms.{Spot}
+use Rattle.cp_model_program.specs.Terms.{PlaceExpression}
 use Rattle.cp_model_program.specs.Programs as op
 use Rattle.cp_model_program.specs.Starts.{word}
 use Rattle.cp_model_machine.specs.PrivateStates as private
-use Rattle.cp_model_machine.specs.PrivateStates.{Outside, PrivateState, go_to, private_outcome, guard, set_word, with_result}
+use Rattle.cp_model_machine.specs.PrivateStates.{StepContext, PrivateState, go_to, private_outcome, guard, set_word, with_result}
 use Rattle.cp_model_machine.specs.Steps as steps
 use Rattle.cp_model_machine.specs.Means.{PlaceAgrees, process_of_word}
 use Rattle.cp_model_machine.specs.Addresses.{Activation, AllWords, Ground, activations, in_sight, lies, lies_in_sight, whole}
@@ -37,7 +37,7 @@ use Rattle.cp_model_machine.proofs.Stacks.{all_lie}
 use Rattle.cp_model_machine.proofs.Standards.{By, argument_none, arrived, delays, not_called, one, used_none}
 use Rattle.cp_model_machine.proofs.Stepping.{AroundAll, Now, Stepped, faulted, gate_passed}
 use Rattle.cp_model_machine.proofs.EffectsKept.{runs_numbered}
-use Rattle.cp_model_machine.proofs.Effects.{EffectAgrees, LeavesIt, Means, WentOn, going, provided_leaves, told}
+use Rattle.cp_model_machine.proofs.Effects.{EffectAgrees, LeavesIt, Means, WentOn, going, provided_leaves, reported}
 use Rattle.cp_model_machine.proofs.MonitorsThere.{monitor_below}
 use Rattle.cp_model_machine.proofs.GatesHeld.{gates_there}
 use Rattle.cp_model_machine.proofs.Joining.{unshifted}
@@ -45,14 +45,14 @@ use Rattle.cp_model_machine.proofs.Sights.{same_lies}
 use Rattle.cp_model_machine.proofs.Queues.{QueuesShared}
 use Rattle.cp_model.proofs.ExpressionReach.{IfGives}
 use Rattle.cp_model_machine.specs.KernelOf.{kernel_ground}
-use Rattle.cp_model_machine.specs.Left.{IsGate, innermost_gate}
+use Rattle.cp_model_machine.specs.Remaining.{IsGate, innermost_gate}
 
 queued_number : (p : ℕ) → 1 ≤ p → process_of_word (pos p) ≡ Some p
 queued_number zero h = absurd (omega (arith, h))
 queued_number (suc p) h = refl
 
-module _ (G : Ground) (s : State) (w : Outside) (before : List ℕ) (o : PrivateState) (x : Name) (env : Environment) (k : List Task) (m : ℕ) (ms : List ℕ) (held : steps.is_held o.gate ≡ true)
-    (marks : marked_monitors k ≡ m ∷ ms) (d : a.Designator) (Y : Ready G s w before o (a.Perform (a.Plain x) (one (a.Use d))) env k) (queue : Spot) (n : ℕ)
+module _ (G : Ground) (s : State) (w : StepContext) (before : List ℕ) (o : PrivateState) (x : Name) (env : Environment) (k : List Task) (m : ℕ) (ms : List ℕ) (held : steps.is_held o.gate ≡ true)
+    (marks : marked_monitors k ≡ m ∷ ms) (d : a.Designator) (Y : Ready G s w before o (a.Perform (a.Plain x) (one (a.Use d))) env k) (queue : PlaceExpression) (n : ℕ)
     (h : By G s w before o x env k (one (a.Use d)) Y (op.Delay queue n)) where
   abbrev first : Task
   first = Do (a.Perform (a.Plain x) (one (a.Use d))) env
@@ -60,18 +60,18 @@ module _ (G : Ground) (s : State) (w : Outside) (before : List ℕ) (o : Private
   abbrev xs : List Activation
   xs = activations o.base o.frames (first ∷ k)
 
-  abbrev stands : ℕ → PrivateState
-  stands at = go_to n (set_word o at (pos o.number))
+  abbrev represents : ℕ → PrivateState
+  represents at = go_to n (set_word o at (pos o.number))
 
   -- The process waits in the queue.
   stood : (q : Location) (at : ℕ) → in_sight G q.owner ≡ true → lies G xs q ≡ Some (at, Queue)
-      → PartOf G (after_step s G.p (Gives (with_writes (configuration s G.p) ((q, QueueHolds (Some G.p)) ∷ []) k, stage.Delays m q))) before (stands at)
+      → PartOf G (after_step s G.p (Gives (with_writes (configuration s G.p) ((q, QueueHolds (Some G.p)) ∷ []) k, stage.Delays m q))) before (represents at)
   stood q at mine is =
-      gate_passed G before (stands at) m (s.gates m).askers _
-      (arrived G before _ (stands at) N.part.number N.part.input (N.part.consumed ∙ sym (with_at_here G.p (s.consumed G.p) s.consumed))
+      gate_passed G before (represents at) m (s.gates m).askers _
+      (arrived G before _ (represents at) N.part.number N.part.input (N.part.consumed ∙ sym (with_at_here G.p (s.consumed G.p) s.consumed))
       (with_at_here G.p (s.transcript G.p) s.transcript ∙ N.part.transcript)
       (ap private_status (with_at_here G.p (stage.Delayed m q) s.status) ∙ (ap private_status (sym N.ready) ∙ N.part.status))
-      (subst (RunsOn G (put q (QueueHolds (Some G.p)) s.store) (stands at)) (sym (with_at_here G.p k s.continuation))
+      (subst (RunsOn G (put q (QueueHolds (Some G.p)) s.store) (represents at)) (sym (with_at_here G.p k s.continuation))
       (subst (λ z. RunsOn G (put q (QueueHolds (Some G.p)) s.store) (go_to z (set_word o at (pos o.number))) k) (sym h.1.1)
       (runs_moved G (put q (QueueHolds (Some G.p)) s.store) (set_word o at (pos o.number)) (first ∷ k) k N.on.left.2.0 N.on.left.2.1
       (runs_stored G s.store o (first ∷ k) N.on q at Queue (QueueHolds (Some G.p)) (pos o.number) tt (ap QueueHolds (sym holds)) mine is (λ y sort e set. absurd (true≢false (sym set))))
@@ -85,10 +85,10 @@ module _ (G : Ground) (s : State) (w : Outside) (before : List ℕ) (o : Private
 
   tested : (q : Location) (at : ℕ) → in_sight G q.owner ≡ true → lies G xs q ≡ Some (at, Queue) → (z : ℤ)
       → PartOf G (after_step s G.p (enqueue G.p (configuration s G.p) k q m (process_of_word z))) before
-      (guard (int_le z (pos 0)) o fault.QueueTaken (stands at, private.Delays o.gate at)).0
+      (guard (int_le z (pos 0)) o fault.QueueTaken (represents at, private.Delays o.gate at)).0
   tested q at mine is (pos zero) = stood q at mine is
   tested q at mine is (pos (suc r)) =
-      subst (λ b. PartOf G (after_step s G.p (Fault 5)) before (guard b o fault.QueueTaken (stands at, private.Delays o.gate at)).0) (sym (lt-leb (suc r) 0 (omega arith)))
+      subst (λ b. PartOf G (after_step s G.p (Fault 5)) before (guard b o fault.QueueTaken (represents at, private.Delays o.gate at)).0) (sym (lt-leb (suc r) 0 (omega arith)))
       (faulted G s w before o first k Y.now 5 fault.QueueTaken refl)
   tested q at mine is (negsuc r) = stood q at mine is
 
@@ -110,7 +110,7 @@ module _ (G : Ground) (s : State) (w : Outside) (before : List ℕ) (o : Private
       (tested q.at at f.0 f.1 (word o.words at)))))
     where
       tests : ℕ → private.Acting
-      tests at = guard (int_le (word o.words at) (pos 0)) o fault.QueueTaken (stands at, private.Delays o.gate at)
+      tests at = guard (int_le (word o.words at) (pos 0)) o fault.QueueTaken (represents at, private.Delays o.gate at)
   by_place (Fault i) (Err f) g = faulted G s w before o first k Y.now i f g
   by_place (Gives v) (Err f) g = absurd g
   by_place (Fault i) (Ok at) g = absurd g
@@ -138,16 +138,16 @@ module _ (G : Ground) (s : State) (w : Outside) (before : List ℕ) (o : Private
     leaves_it at there =
         subst (λ b. LeavesIt (private.Delays o.gate at) (if b then (if nat_lt at (length o.words) then tests at else private_outcome o) else private_outcome o)) (sym held)
         (subst (λ b. LeavesIt (private.Delays o.gate at) (if b then tests at else private_outcome o)) (sym there)
-        (provided_leaves (int_le (word o.words at) (pos 0)) o fault.QueueTaken (private.Delays o.gate at) (stands at, private.Delays o.gate at) (WentOn refl (going G s before o Y.now.part Y.now.ready))))
+        (provided_leaves (int_le (word o.words at) (pos 0)) o fault.QueueTaken (private.Delays o.gate at) (represents at, private.Delays o.gate at) (WentOn refl (going G s before o Y.now.part Y.now.ready))))
       where
         tests : ℕ → private.Acting
-        tests at = guard (int_le (word o.words at) (pos 0)) o fault.QueueTaken (stands at, private.Delays o.gate at)
+        tests at = guard (int_le (word o.words at) (pos 0)) o fault.QueueTaken (represents at, private.Delays o.gate at)
 
     effect_by_place : (P : Outcome Place) (r : Result ℕ machine.Fault) → PlaceAgrees (lies_in_sight (in_sight G) G xs) Queue P r
         → EffectAgrees G w.own (and_then P (λ at. delay G.p (configuration s G.p) k at.at (marked_monitors k))) (with_result o r (λ at. steps.delay o at n)).1
     effect_by_place (Gives q) (Ok at) g =
         let f = seen_mine (in_sight G) G xs q.at (at, Queue) g.0 in
-        told G w.own s before Y.now.ready (delay G.p (configuration s G.p) k q.at (marked_monitors k)) (private.Delays o.gate at) (steps.delay o at n) (by_place (Gives q) (Ok at) g)
+        reported G w.own s before Y.now.ready (delay G.p (configuration s G.p) k q.at (marked_monitors k)) (private.Delays o.gate at) (steps.delay o at n) (by_place (Gives q) (Ok at) g)
         (subst (λ z. IfGives (λ y. Means G w.own y.1 (private.Delays o.gate at)) (delay G.p (configuration s G.p) k q.at z)) (sym marks) (delays_it q.at at f.0 f.1 (process_in_queue (s.store q.at))))
         (leaves_it at (among q.at at f.0 f.1))
     effect_by_place (Fault i) (Err f) g = refl

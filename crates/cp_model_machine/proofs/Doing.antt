@@ -12,17 +12,17 @@ use Rattle.cp_model.specs.States.{State, configuration, context}
 use Rattle.cp_model.specs.StatementSteps.{execute}
 use Rattle.cp_model.specs.Turns.{after_step}
 use Rattle.cp_model.specs.Types.{ResolvedType}
-use Rattle.cp_model_program.specs.Terms.{Spot, Term}
+use Rattle.cp_model_program.specs.Terms.{PlaceExpression, Term}
 use Rattle.cp_model_program.specs.Programs.{Operation}
 use Rattle.cp_model_program.specs.Sites.{operation_at}
-use Rattle.cp_model_program.specs.TermsFor.{Agrees, Knowns, SpotFor, TermFor}
-use Rattle.cp_model_machine.specs.PrivateStates.{Outside, PrivateState, go_to, view_of}
+use Rattle.cp_model_program.specs.TermsFor.{Agrees, Knowns, PlaceExpressionFor, TermFor}
+use Rattle.cp_model_machine.specs.PrivateStates.{StepContext, PrivateState, go_to, view_of}
 use Rattle.cp_model_machine.specs.Steps as steps
 use Rattle.cp_model_machine.specs.Steps.{act}
 use Rattle.cp_model_machine.specs.Values.{View, place_of, value_of}
 use Rattle.cp_model_machine.specs.Means.{PlaceAgrees}
 use Rattle.cp_model_machine.specs.Addresses.{Ground, activations, in_sight, lies_in_sight}
-use Rattle.cp_model_machine.specs.Left.{held_below, site}
+use Rattle.cp_model_machine.specs.Remaining.{held_below, site}
 use Rattle.cp_model_machine.specs.PartOf.{PartOf, RunsOn}
 use Rattle.cp_model_machine.proofs.Effects.{EffectAgrees, quiet_agrees}
 use Rattle.cp_model_machine.proofs.Evaluates.{place_agrees, value_agrees}
@@ -41,7 +41,7 @@ acts_itself i k none procedure =
     ])
     ∙ λ j. elim (procedure j) as (λ x. Action) [ Some u ↦ Calls u k | None ↦ Acts i k ]
 
-module _ (G : Ground) (s : State) (w : Outside) (before : List ℕ) (o : PrivateState) (i : Task) (k : List Task) (N : Now G s w before o i k) where
+module _ (G : Ground) (s : State) (w : StepContext) (before : List ℕ) (o : PrivateState) (i : Task) (k : List Task) (N : Now G s w before o i k) where
   abbrev pub known : Knowns
   known = held_below N.on.live o.temps N.on.running.temp
 
@@ -53,19 +53,19 @@ module _ (G : Ground) (s : State) (w : Outside) (before : List ℕ) (o : Private
   value_here sees e c b at next low high h n =
       value_agrees (site G N.on.running) (clock_of G s) s.store view _ _ (runs_here G s.store w o (i ∷ k) (clock_of G s) N.around.clock N.on sees) e c b at next low high h n
 
-  pub place_here : Sees G (in_sight G) s.store N.on.running.env → (d : a.Designator) (c : Spot) (t : ResolvedType) (at next low high : ℕ) → SpotFor (site G N.on.running) known d c t at next low high
+  pub place_here : Sees G (in_sight G) s.store N.on.running.env → (d : a.Designator) (c : PlaceExpression) (t : ResolvedType) (at next low high : ℕ) → PlaceExpressionFor (site G N.on.running) known d c t at next low high
       → call_in_designator N.on.running.env (a.Literal 0) d ≡ None
       → PlaceAgrees (lies_in_sight (in_sight G) G (activations o.base o.frames (i ∷ k))) t (place (clock_of G s) N.on.running.env s.store d) (place_of view c)
   place_here sees d c t at next low high h n =
       place_agrees (site G N.on.running) (clock_of G s) s.store view _ _ (runs_here G s.store w o (i ∷ k) (clock_of G s) N.around.clock N.on sees) d c t at next low high h n
 
 -- A statement that has no more calls to make.
-pub record Ready (G : Ground) (s : State) (w : Outside) (before : List ℕ) (o : PrivateState) (st : a.Statement) (env : Environment) (k : List Task) : Type 0 where
+pub record Ready (G : Ground) (s : State) (w : StepContext) (before : List ℕ) (o : PrivateState) (st : a.Statement) (env : Environment) (k : List Task) : Type 0 where
   pub now : Now G s w before o (Do st env) k
   pub counter : o.counter ≡ own_place (site G now.on.running) (held_below now.on.live o.temps now.on.running.temp) st o.counter now.on.left.2.0 now.on.left.2.1 now.on.left.2.3
   pub none : call_in_statement now.on.running.env (a.Literal 0) st ≡ None
 
-module _ (G : Ground) (s : State) (w : Outside) (before : List ℕ) (o : PrivateState) (st : a.Statement) (env : Environment) (k : List Task) (Y : Ready G s w before o st env k) where
+module _ (G : Ground) (s : State) (w : StepContext) (before : List ℕ) (o : PrivateState) (st : a.Statement) (env : Environment) (k : List Task) (Y : Ready G s w before o st env k) where
   abbrev pub here : Environment
   here = Y.now.on.running.env
 

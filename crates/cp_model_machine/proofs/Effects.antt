@@ -21,7 +21,7 @@ use Rattle.cp_model.specs.declared.state.Fault.TheVariants as faults
 use Rattle.cp_model.proofs.ExpressionReach.{IfGives}
 use Rattle.cp_model.proofs.QuietSteps.{Quietly}
 use Rattle.cp_model.proofs.StateMaps.{with_at_here}
-use Rattle.cp_model_program.specs.StandsFor.{system_of_monitor}
+use Rattle.cp_model_program.specs.IsProgramFor.{system_of_monitor}
 use Rattle.cp_model_program.specs.Starts.{unset, word}
 use Rattle.cp_model_program.specs.Terms.{Argument, Copy, Reference, Right, Value}
 use Rattle.cp_model_machine.specs.Addresses.{Ground}
@@ -30,10 +30,10 @@ use Rattle.cp_model_machine.specs.Passing.{Passing, pass_all, pass_copy, pass_on
 use Rattle.cp_model_machine.specs.Values.{place_of, value_of}
 use Rattle.cp_model_machine.specs.EffectOf.{EffectMeans, IsEffectOf}
 use Rattle.cp_model_machine.specs.KernelOf.{kernel_ground}
-use Rattle.cp_model_machine.specs.Left.{IsGate, gate_number}
+use Rattle.cp_model_machine.specs.Remaining.{IsGate, gate_number}
 use Rattle.cp_model_machine.specs.PartOf.{PartOf, status_of}
 use Rattle.cp_model_machine.specs.PrivateStates as machine
-use Rattle.cp_model_machine.specs.PrivateStates.{Acting, Activity, Frame, NoEffect, Outside, PrivateState, fault_in, guard, set_temp, view_of}
+use Rattle.cp_model_machine.specs.PrivateStates.{Acting, Activity, Frame, NoEffect, StepContext, PrivateState, fault_in, guard, set_temp, view_of}
 use Rattle.cp_model_machine.proofs.MonitorsThere.{monitor_below}
 
 -- The effect that the machine leaves means the effect that the meaning leaves, if `own` words are
@@ -180,19 +180,19 @@ unfailed s p ready c x h = by x (subst HasFailed (private_after s p ready c x) h
 
 -- The two sides agree if the machine leaves `e` when it doesn't fault, and `e` means what the
 -- meaning leaves then.
-pub told : (G : Ground) (own : ℕ) (s : State) (before : List ℕ) → s.status G.p ≡ Ready → (x : StepResult) (e : machine.Effect) (r : Acting)
+pub reported : (G : Ground) (own : ℕ) (s : State) (before : List ℕ) → s.status G.p ≡ Ready → (x : StepResult) (e : machine.Effect) (r : Acting)
     → PartOf G (after_step s G.p x) before r.0 → IfGives (λ y. Means G own y.1 e) x → LeavesIt e r → EffectAgrees G own x r.1
-told G own s before ready (Gives (c, x)) e r P means (WentOn same on) = subst (Means G own x) (sym same) means
-told G own s before ready (Gives (c, x)) e r P means (Stopped none off) =
+reported G own s before ready (Gives (c, x)) e r P means (WentOn same on) = subst (Means G own x) (sym same) means
+reported G own s before ready (Gives (c, x)) e r P means (Stopped none off) =
     absurd (unfailed s G.p ready c x (subst HasFailed (sym P.status) (failed r.0.activity off)))
-told G own s before ready (Fault n) e r P means (WentOn same on) =
+reported G own s before ready (Fault n) e r P means (WentOn same on) =
     absurd (on (faulted r.0.activity (subst HasFailed (ap private_status (sym (with_at_here G.p (Faulted n) s.status)) ∙ P.status) tt)))
-told G own s before ready (Fault n) e r P means (Stopped none off) = none
+reported G own s before ready (Fault n) e r P means (Stopped none off) = none
 
 -- ---- what is left if the step continues
 
 -- Passing changes nothing but words.
-module _ (w : Outside) (to home : ℕ) where
+module _ (w : StepContext) (to home : ℕ) where
   abbrev OnlyWords : PrivateState → PrivateState → Type 0
   OnlyWords o after = after ≡ record o { words = after.words }
 
@@ -250,7 +250,7 @@ provided_leaves true o f e r h = h
 provided_leaves false o f e r h = Stopped refl tt
 
 -- Passing the arguments, which comes first, changes no activity.
-pub passed_leaves : (w : Outside) (from to : ℕ) (xs : List Argument) (o : PrivateState) (e : machine.Effect) (go : PrivateState → Acting) → (HasFaulted o.activity → ⊥)
+pub passed_leaves : (w : StepContext) (from to : ℕ) (xs : List Argument) (o : PrivateState) (e : machine.Effect) (go : PrivateState → Acting) → (HasFaulted o.activity → ⊥)
     → ((p : PrivateState) → (HasFaulted p.activity → ⊥) → LeavesIt e (go p)) → LeavesIt e (when_passed (pass_all w from to xs o) go)
 passed_leaves w from to xs o e go on h = by (pass_all w from to xs o).fault
   where

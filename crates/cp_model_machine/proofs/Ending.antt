@@ -9,7 +9,7 @@ use Rattle.cp_model.specs.States.{State}
 use Rattle.cp_model.proofs.StateMaps.{with_at_here}
 use Rattle.cp_model_program.specs.Programs as op
 use Rattle.cp_model_machine.specs.PrivateStates as private
-use Rattle.cp_model_machine.specs.PrivateStates.{Outside, PrivateState}
+use Rattle.cp_model_machine.specs.PrivateStates.{StepContext, PrivateState}
 use Rattle.cp_model_machine.specs.Calling.{leave}
 use Rattle.cp_model_machine.specs.Addresses.{Ground, activations, in_sight}
 use Rattle.cp_model_machine.specs.PartOf.{DataMeans}
@@ -19,7 +19,7 @@ use Rattle.cp_model_machine.proofs.Stepping.{Now, Stepped, both_step, gate_left,
 use Rattle.cp_model_machine.proofs.Effects.{leaves}
 
 -- The end of a process.
-pub process_ends : (G : Ground) (s : State) (w : Outside) (before : List ℕ) (o : PrivateState) (k : List Task) → Now G s w before o EndProcess k → Stepped G s w before o
+pub process_ends : (G : Ground) (s : State) (w : StepContext) (before : List ℕ) (o : PrivateState) (k : List Task) → Now G s w before o EndProcess k → Stepped G s w before o
 process_ends G s w before o k N =
     both_step G s w before o EndProcess k N (Acts EndProcess k) op.End (acts_itself EndProcess k refl refl) refl N.on.left.3 refl
     record {
@@ -35,7 +35,7 @@ process_ends G s w before o k N =
     (λ all. tt)
 
 -- The end of the body of a class or a monitor: its `init` is done.
-pub body_ends : (G : Ground) (s : State) (w : Outside) (before : List ℕ) (o : PrivateState) (gate : Option ℕ) (k : List Task) → Now G s w before o (EndBody gate) k → Stepped G s w before o
+pub body_ends : (G : Ground) (s : State) (w : StepContext) (before : List ℕ) (o : PrivateState) (gate : Option ℕ) (k : List Task) → Now G s w before o (EndBody gate) k → Stepped G s w before o
 body_ends G s w before o gate k N = by o.frames N
   where
     by : (gs : List private.Frame) → Now G s w before (record o { frames = gs }) (EndBody gate) k → Stepped G s w before (record o { frames = gs })

@@ -13,7 +13,7 @@ use Rattle.cp_model_program.specs.Programs.{Call}
 use Rattle.cp_model_program.specs.Layout.{Part}
 use Rattle.cp_model_program.specs.Sites as sites
 use Rattle.cp_model_program.specs.Sites.{RoutineOf}
-use Rattle.cp_model_program.specs.StandsFor.{UnitStands, routine_environment}
+use Rattle.cp_model_program.specs.IsProgramFor.{UnitRepresents, routine_environment}
 use Rattle.cp_model_program.specs.Starts.{word}
 use Rattle.cp_model_machine.specs.PrivateStates.{PrivateState}
 use Rattle.cp_model_machine.specs.PrivateStates as machine
@@ -21,7 +21,7 @@ use Rattle.cp_model_machine.specs.Passing.{Called}
 use Rattle.cp_model_machine.specs.Calling.{Back, enter, frame_of, innermost}
 use Rattle.cp_model_machine.specs.Means.{CellMeans}
 use Rattle.cp_model_machine.specs.Addresses.{Activation, ClassHasRights, ComponentLies, Ground, activation_at, activations, in_sight, lies, part_at, part_of_activation, scope}
-use Rattle.cp_model_machine.specs.Left.{CallerAt, IsGate, Left, Running, Runs, gate_number, innermost_gate, kept_below, site}
+use Rattle.cp_model_machine.specs.Remaining.{CallerAt, IsGate, Remaining, Running, Runs, gate_number, innermost_gate, kept_below, site}
 use Rattle.cp_model_machine.specs.PartOf.{ActivationMeans, ActivationsMean, DataMeans, RunsOn, components}
 use Rattle.cp_model_machine.proofs.Apart.{IsCell}
 use Rattle.cp_model_machine.proofs.GatesHeld.{monitor_numbered}
@@ -86,13 +86,13 @@ pub record Waits (G : Ground) (o : PrivateState) (i k : List Task) (C : Running)
   pub same : activations o.base o.frames k ≡ activations o.base o.frames i
   pub means : (store : Store) (words : List ℤ) → ActivationsMean G store words o.base o.frames k ≡ ActivationsMean G store words o.base o.frames i
   pub marks : marked_monitors k ≡ marked_monitors i
-  pub left : Left G o.temps o.limit (kept_below kept live o.temps C.temp) C o.frames place kept k
+  pub left : Remaining G o.temps o.limit (kept_below kept live o.temps C.temp) C o.frames place kept k
   pub kept_fit : kept ≤ C.unit.temps
 
 -- The routine that is entered runs in a component that lies there, and enters this gate.
 pub record Entered (G : Ground) (C : Running) (call : Call) (kept : ℕ) (s : System) (r : Routine) (at : Location) (c : Called) (gate : Option ℕ) : Type 0 where
   pub runs : sites.Runs (site G C) (RoutineOf s r) kept call
-  pub stands : UnitStands G.program G.texts (scope G) runs.unit (RoutineOf s r)
+  pub represents : UnitRepresents G.program G.texts (scope G) runs.unit (RoutineOf s r)
   pub lies_there : ComponentLies G at s c.component
   pub same_gate : c.gate ≡ gate_number gate
   pub is_gate : IsGate G gate
@@ -122,9 +122,9 @@ entered_on G store after o ws i k R call back s r at c gate place kept live W E 
     gate = ap (λ g. innermost g o.gate) E.same_gate ∙ (entered gate E.is_gate ∙ ap innermost_gate (sym (marks_push r.body env (EndCall env gate ∷ k))));
     live = 0;
     left = left_afresh G o.temps o.limit 0 N (f ∷ o.frames) E.runs.unit.start 0 (push r.body env (EndCall env gate ∷ k)) (omega arith)
-        (push_left G o.temps o.limit N (f ∷ o.frames) r.body E.runs.unit.start (E.stands.4 at (owner_of_call G k)).0 0 (EndCall env gate ∷ k) (E.stands.4 at (owner_of_call G k)).2 (
+        (push_left G o.temps o.limit N (f ∷ o.frames) r.body E.runs.unit.start (E.represents.4 at (owner_of_call G k)).0 0 (EndCall env gate ∷ k) (E.represents.4 at (owner_of_call G k)).2 (
           refl,
-          record { frame = record { owner = owner_of_call G k; routine = r }; runs = refl; owner = refl; return = (E.stands.4 at (owner_of_call G k)).1 },
+          record { frame = record { owner = owner_of_call G k; routine = r }; runs = refl; owner = refl; return = (E.represents.4 at (owner_of_call G k)).1 },
           (E.same_gate, held, E.is_gate),
           (
             R.running,
@@ -202,5 +202,5 @@ entered_on G store after o ws i k R call back s r at c gate place kept live W E 
       words_fit = omega (arith, R.runs.words_fit, E.runs.fits.words, E.runs.words);
       temps_fit = omega (arith, R.runs.temps_fit, E.runs.fits.temps, E.runs.temps);
       frames_fit = omega (arith, R.runs.frames_fit, E.runs.fits.frames);
-      activation_fits = E.stands.1;
+      activation_fits = E.represents.1;
     }

@@ -20,15 +20,15 @@ use Rattle.cp_model.specs.Types.{ArrayOf, Members, Queue, RecordOf, ResolvedType
 use Rattle.cp_model.specs.declared.state.Fault as machine
 use Rattle.cp_model.specs.declared.state.Fault.TheVariants as fault
 use Rattle.cp_model_program.specs.Terms as root
-use Rattle.cp_model_program.specs.Terms.{Binary, Element, Empty, Item, Made, Negative, Not, Number, Realtime, Root, Rooted, Spot, Standard, Term}
+use Rattle.cp_model_program.specs.Terms.{Binary, Element, Empty, Item, Made, Negative, Not, Number, Realtime, Root, Rooted, PlaceExpression, Standard, Term}
 use Rattle.cp_model_program.specs.Functions.{in_range, standard, unless}
 use Rattle.cp_model_program.specs.Starts.{word}
 use Rattle.cp_law_typing.specs.Words as typed
 use Rattle.cp_model_machine.specs.Values.{View, apply, bind, place_of, root_place, truth, unless_zero, value_of}
 use Rattle.cp_model_program.specs.Layout.{Part, distance, farther, natural, part}
 use Rattle.cp_model_program.specs.Sites.{IsNoClock, NamesVariable, Site, local_location}
-use Rattle.cp_model_program.specs.TermsFor.{Agrees, Knowns, SpotFor, TermFor, move_spot, result_base}
-use Rattle.cp_model_program.proofs.StandardStand.{integer_agrees}
+use Rattle.cp_model_program.specs.TermsFor.{Agrees, Knowns, PlaceExpressionFor, TermFor, move_place_expression, result_base}
+use Rattle.cp_model_program.proofs.StandardRepresent.{integer_agrees}
 use Rattle.cp_model.specs.Integers.{same_integer}
 use Rattle.cp_model_machine.specs.Means.{Here, PlaceAgrees, process_of_word}
 use Rattle.cp_model_machine.proofs.Finding.{called_is_found, in_context_none, member_has_type, or_else_none, part_whole, under_nothing}
@@ -100,7 +100,7 @@ read_then store (Fault f) k = refl
 -- ---- places
 
 -- The place a number of words further on.
-moved_place : (v : View) (n : ℕ) (s : Spot) → place_of v (move_spot n s) ≡ bind (place_of v s) (λ m. Ok (m + n))
+moved_place : (v : View) (n : ℕ) (s : PlaceExpression) → place_of v (move_place_expression n s) ≡ bind (place_of v s) (λ m. Ok (m + n))
 moved_place v n (Rooted (root.Local at)) = ap Ok (omega arith)
 moved_place v n (Rooted (root.Member at)) = ap Ok (omega arith)
 moved_place v n (Rooted (root.Through at plus)) = ap Ok (omega arith)
@@ -216,7 +216,7 @@ module _ (site : Site) (clock : Clock) (store : Store) (v : View) (K : Knowns) (
   named_read x (root.Through at plus) t h =
       ap (value_of_meaning site.env store) h.1.means ∙ sym (ap (λ m. read store (place_of_meaning site.env store m)) h.1.means)
 
-  pub value_reads : (d : a.Designator) (s : Spot) (t : ResolvedType) (at next low high : ℕ) → IsNoClock d → SpotFor site K d s t at next low high
+  pub value_reads : (d : a.Designator) (s : PlaceExpression) (t : ResolvedType) (at next low high : ℕ) → IsNoClock d → PlaceExpressionFor site K d s t at next low high
       → value clock site.env store (a.Use d) ≡ and_then (place clock site.env store d) (λ p. Gives (read store p))
   value_reads (a.Plain x) (Rooted r) t at next low high away h =
       ap (λ b. if b then integer_result (pos (realtime clock)) else Gives (value_of_meaning site.env store (meaning site.env x))) away
@@ -297,7 +297,7 @@ module _ (site : Site) (clock : Clock) (store : Store) (v : View) (K : Knowns) (
         (operator_agrees p w u))))))
     value_agrees _ _ b at next low high h none = absurd h
 
-    pub place_agrees : (d : a.Designator) (s : Spot) (t : ResolvedType) (at next low high : ℕ) → SpotFor site K d s t at next low high
+    pub place_agrees : (d : a.Designator) (s : PlaceExpression) (t : ResolvedType) (at next low high : ℕ) → PlaceExpressionFor site K d s t at next low high
         → call_in_designator site.env (a.Literal 0) d ≡ None → PlaceAgrees lies t (place clock site.env store d) (place_of v s)
     place_agrees (a.Plain x) (Rooted r) t at next low high h none = named_agrees x r t h.1
     place_agrees (a.Part d x) s t at next low high h none =

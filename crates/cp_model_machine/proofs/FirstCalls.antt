@@ -6,12 +6,12 @@ use Rattle.cp_model.specs.Abstract.{BaseType, Name}
 use Rattle.cp_model.specs.Calls.{Found, call_in_arguments, call_in_designator, first_call, in_context, or_else, user_call}
 use Rattle.cp_model.specs.Declarations as declared
 use Rattle.cp_model.specs.Types.{ArrayOf, Queue, RecordOf, ResolvedType, Simple}
-use Rattle.cp_model_program.specs.Terms.{Argument, Binary, Copy, Element, Empty, Item, Made, Negative, Not, Number, Realtime, Reference, Rooted, Spot, Standard, Term, Value}
+use Rattle.cp_model_program.specs.Terms.{Argument, Binary, Copy, Element, Empty, Item, Made, Negative, Not, Number, Realtime, Reference, Rooted, PlaceExpression, Standard, Term, Value}
 use Rattle.cp_model_program.specs.Layout.{local_words}
 use Rattle.cp_model_program.specs.Sites.{Site, first_parameter, operation_at, parameters}
-use Rattle.cp_model_program.specs.TermsFor.{ArgumentsFor, Knowns, SpotFor, TermFor}
+use Rattle.cp_model_program.specs.TermsFor.{ArgumentsFor, Knowns, PlaceExpressionFor, TermFor}
 use Rattle.cp_model_machine.proofs.Finding.{user_call_found, user_call_none}
-use Rattle.cp_model_machine.proofs.CallsKept.{Keeps, arguments_kept, spot_kept, term_kept}
+use Rattle.cp_model_machine.proofs.CallsKept.{Keeps, arguments_kept, place_expression_kept, term_kept}
 use Rattle.cp_model_machine.proofs.NextCalls.{Advance, AllMade, Calling, Learns, call_follows, follows_on, next_in, next_left, next_right}
 use Rattle.cp_model_machine.proofs.Indexed.{IsIndexed, callee_holds_none, indexed_is_no_call, indexed_is_no_clock}
 
@@ -27,9 +27,9 @@ module _ (site : Site) (K : Knowns) where
   TermAdvances e c b at next low high =
       Advance site K (λ v. first_call site.env v e) (λ L x after. TermFor site L x c b after next low high) (λ z. TermFor site K e c b z z low high) at next low high
 
-  abbrev pub SpotAdvances : a.Designator → Spot → ResolvedType → ℕ → ℕ → ℕ → ℕ → Type 1
-  SpotAdvances d s t at next low high =
-      Advance site K (λ v. call_in_designator site.env v d) (λ L x after. SpotFor site L x s t after next low high × IsIndexed x) (λ z. SpotFor site K d s t z z low high) at next low high
+  abbrev pub PlaceExpressionAdvances : a.Designator → PlaceExpression → ResolvedType → ℕ → ℕ → ℕ → ℕ → Type 1
+  PlaceExpressionAdvances d s t at next low high =
+      Advance site K (λ v. call_in_designator site.env v d) (λ L x after. PlaceExpressionFor site L x s t after next low high × IsIndexed x) (λ z. PlaceExpressionFor site K d s t z z low high) at next low high
 
   abbrev pub ArgumentsAdvance : List (Name × declared.Variable) → a.Expressions → List Argument → ℕ → ℕ → ℕ → ℕ → ℕ → Type 1
   ArgumentsAdvance ps es xs to at next low high =
@@ -77,7 +77,7 @@ module _ (site : Site) (K : Knowns) where
           answered = λ n L k g. (refl, refl, g, h.7, h.8);
         }
     term_next (a.Use d) (Item s) b at next low high h =
-        elim (spot_next d s (Simple b h.0 h.1 h.2) at next low high h.5) [
+        elim (place_expression_next d s (Simple b h.0 h.1 h.2) at next low high h.5) [
           | AllMade p q r ↦ AllMade p (λ v. (λ i. or_else (in_context a.Use (q v i)) (user_call site.env d a.NoExpression v)) ∙ user_call_none site.env d a.NoExpression v h.3)
               (λ z. (h.0, h.1, h.2, h.3, h.4, r z))
           | Calling N ↦ Calling (next_left site K _ (λ v. user_call site.env d a.NoExpression v) _ at low high
@@ -133,16 +133,16 @@ module _ (site : Site) (K : Knowns) where
               (λ r. r) (λ L y after k g. subst (λ z. TermFor site L (a.Call (a.Plain x) z) (Standard f c) b after next low high) (sym g.1) (h.0, h.1, h.2, g.2))))
         ]
     term_next (a.Call (a.Plain x) (a.MoreExpressions (a.Use d) a.NoExpression)) (Empty s) b at next low high h =
-        elim (spot_next d s Queue at next low high h.5) [
+        elim (place_expression_next d s Queue at next low high h.5) [
           | AllMade p q r ↦ AllMade p
               (λ v. (λ i. or_else (in_context (a.Call (a.Plain x)) (or_else (in_context (λ y. a.MoreExpressions y a.NoExpression) (or_else (in_context a.Use (q v i)) (user_call site.env d a.NoExpression v))) None)) (user_call site.env (a.Plain x) (a.MoreExpressions (a.Use d) a.NoExpression) v))
               ∙ ((λ i. or_else (in_context (a.Call (a.Plain x)) (or_else (in_context (λ y. a.MoreExpressions y a.NoExpression) (user_call_none site.env d a.NoExpression v h.1 i)) None)) (user_call site.env (a.Plain x) (a.MoreExpressions (a.Use d) a.NoExpression) v))
               ∙ user_call_none site.env (a.Plain x) (a.MoreExpressions (a.Use d) a.NoExpression) v h.0))
               (λ z. (h.0, h.1, h.2, h.3, h.4, r z))
           | Calling N ↦ Calling (next_left site K _ (λ v. user_call site.env (a.Plain x) (a.MoreExpressions (a.Use d) a.NoExpression) v) _ at low high
-              (next_in site K (a.Call (a.Plain x)) _ (λ L y after. (z : a.Designator) × (y ≡ a.MoreExpressions (a.Use z) a.NoExpression) × SpotFor site L z s Queue after next low high × IsIndexed z) _ at low high low high (omega arith) (omega arith)
+              (next_in site K (a.Call (a.Plain x)) _ (λ L y after. (z : a.Designator) × (y ≡ a.MoreExpressions (a.Use z) a.NoExpression) × PlaceExpressionFor site L z s Queue after next low high × IsIndexed z) _ at low high low high (omega arith) (omega arith)
               (next_left site K _ (λ v. None) _ at low high
-              (next_in site K (λ y. a.MoreExpressions y a.NoExpression) _ (λ L y after. (z : a.Designator) × (y ≡ a.Use z) × SpotFor site L z s Queue after next low high × IsIndexed z) _ at low high low high (omega arith) (omega arith)
+              (next_in site K (λ y. a.MoreExpressions y a.NoExpression) _ (λ L y after. (z : a.Designator) × (y ≡ a.Use z) × PlaceExpressionFor site L z s Queue after next low high × IsIndexed z) _ at low high low high (omega arith) (omega arith)
               (next_left site K _ (λ v. user_call site.env d a.NoExpression v) _ at low high
               (next_in site K a.Use _ _ _ at low high low high (omega arith) (omega arith) N (λ r. r) (λ L y after k g. (y, refl, g.0, g.1))))
               (λ r. r) (λ L y after k g. (g.0, ap (λ z. a.MoreExpressions z a.NoExpression) g.1, g.2, g.3))))
@@ -203,17 +203,17 @@ module _ (site : Site) (K : Knowns) where
         ]
     term_next _ _ b at next low high h = absurd h
 
-    pub spot_next : (d : a.Designator) (s : Spot) (t : ResolvedType) (at next low high : ℕ) → SpotFor site K d s t at next low high
-        → SpotAdvances d s t at next low high
-    spot_next (a.Plain x) (Rooted r) t at next low high h = AllMade h.0 (λ v. refl) (λ z. (refl, h.1))
-    spot_next (a.Part d x) s t at next low high h =
-        elim (spot_next d h.2 (RecordOf h.0) at next low high h.5) [
+    pub place_expression_next : (d : a.Designator) (s : PlaceExpression) (t : ResolvedType) (at next low high : ℕ) → PlaceExpressionFor site K d s t at next low high
+        → PlaceExpressionAdvances d s t at next low high
+    place_expression_next (a.Plain x) (Rooted r) t at next low high h = AllMade h.0 (λ v. refl) (λ z. (refl, h.1))
+    place_expression_next (a.Part d x) s t at next low high h =
+        elim (place_expression_next d h.2 (RecordOf h.0) at next low high h.5) [
           | AllMade p q r ↦ AllMade p (λ v. ap (in_context (λ y. a.Part y x)) (q v)) (λ z. (h.0, h.1, h.2, h.3, h.4, r z))
           | Calling N ↦ Calling (next_in site K (λ y. a.Part y x) _ _ _ at low high low high (omega arith) (omega arith) N
               (λ r. r) (λ L y after k g. ((h.0, h.1, h.2, h.3, h.4, g.0), g.1)))
         ]
-    spot_next (a.At d e) (Element of lower upper words plus i) t at next low high h =
-        elim (spot_next d of (ArrayOf lower upper t) at h.1 low h.2 h.7) [
+    place_expression_next (a.At d e) (Element of lower upper words plus i) t at next low high h =
+        elim (place_expression_next d of (ArrayOf lower upper t) at h.1 low h.2 h.7) [
           | Calling N ↦ Calling (next_left site K _ (λ v. in_context (a.At d) (first_call site.env v e)) _ at low high
               (next_in site K (λ y. a.At y e) _ _ _ at low h.2 low high (omega arith) h.6 N
               (follows_on site K _ _ _ N.temp N.after h.1 next h.2 high N.upper (term_next e i h.0 h.1 next h.2 high h.8)) (λ L y after k g. (
@@ -246,14 +246,14 @@ module _ (site : Site) (K : Knowns) where
                     h.4,
                     h.5,
                     h.6,
-                    spot_kept site K L d of (ArrayOf lower upper t) after after low h.2 (learnt_below K L N.ready.low N.temp low h.2 N.keeps k) (r after),
+                    place_expression_kept site K L d of (ArrayOf lower upper t) after after low h.2 (learnt_below K L N.ready.low N.temp low h.2 N.keeps k) (r after),
                     g,
                   ),
                   tt,
                 )))))
           ]
         ]
-    spot_next _ _ t at next low high h = absurd h
+    place_expression_next _ _ t at next low high h = absurd h
 
     pub arguments_next : (ps : List (Name × declared.Variable)) (es : a.Expressions) (xs : List Argument) (to at next low high : ℕ)
         → ArgumentsFor site K ps es xs to at next low high → ArgumentsAdvance ps es xs to at next low high
@@ -298,9 +298,9 @@ module _ (site : Site) (K : Knowns) where
           ]
         ]
     arguments_next (p ∷ ps) (a.MoreExpressions (a.Use d) es) (Copy place words from ∷ xs) to at next low high h =
-        elim (spot_next d from p.1.type at h.0 low h.1 h.10) [
+        elim (place_expression_next d from p.1.type at h.0 low h.1 h.10) [
           | Calling N ↦ Calling (next_left site K _ (λ v. in_context (a.MoreExpressions (a.Use d)) (call_in_arguments site.env v es)) _ at low high
-              (next_in site K (λ y. a.MoreExpressions y es) _ (λ L y after. (z : a.Designator) × (y ≡ a.Use z) × SpotFor site L z from p.1.type after h.0 low h.1 × IsIndexed z) _ at low h.1 low high (omega arith) h.9
+              (next_in site K (λ y. a.MoreExpressions y es) _ (λ L y after. (z : a.Designator) × (y ≡ a.Use z) × PlaceExpressionFor site L z from p.1.type after h.0 low h.1 × IsIndexed z) _ at low h.1 low high (omega arith) h.9
               (next_left site K _ (λ v. user_call site.env d a.NoExpression v) _ at low h.1
               (next_in site K a.Use _ _ _ at low h.1 low h.1 (omega arith) (omega arith) N (λ r. r) (λ L y after k g. (y, refl, g.0, g.1))))
               (follows_on site K _ _ _ N.temp N.after h.0 next h.1 high N.upper (arguments_next ps es xs (to + local_words site.env.globals p.1) h.0 next h.1 high h.11)) (λ L y after k g. subst (λ z. ArgumentsFor site L (p ∷ ps) (a.MoreExpressions z es) (Copy place words from ∷ xs) to after next low high) (sym g.1) (
@@ -337,15 +337,15 @@ module _ (site : Site) (K : Knowns) where
                   h.7,
                   h.8,
                   h.9,
-                  spot_kept site K L d from p.1.type after after low h.1 (learnt_below K L N.ready.low N.temp low h.1 N.keeps k) (r after),
+                  place_expression_kept site K L d from p.1.type after after low h.1 (learnt_below K L N.ready.low N.temp low h.1 N.keeps k) (r after),
                   g,
                 )))))
           ]
         ]
     arguments_next (p ∷ ps) (a.MoreExpressions (a.Use d) es) (Reference place s ∷ xs) to at next low high h =
-        elim (spot_next d s p.1.type at h.0 low h.1 h.7) [
+        elim (place_expression_next d s p.1.type at h.0 low h.1 h.7) [
           | Calling N ↦ Calling (next_left site K _ (λ v. in_context (a.MoreExpressions (a.Use d)) (call_in_arguments site.env v es)) _ at low high
-              (next_in site K (λ y. a.MoreExpressions y es) _ (λ L y after. (z : a.Designator) × (y ≡ a.Use z) × SpotFor site L z s p.1.type after h.0 low h.1 × IsIndexed z) _ at low h.1 low high (omega arith) h.6
+              (next_in site K (λ y. a.MoreExpressions y es) _ (λ L y after. (z : a.Designator) × (y ≡ a.Use z) × PlaceExpressionFor site L z s p.1.type after h.0 low h.1 × IsIndexed z) _ at low h.1 low high (omega arith) h.6
               (next_left site K _ (λ v. user_call site.env d a.NoExpression v) _ at low h.1
               (next_in site K a.Use _ _ _ at low h.1 low h.1 (omega arith) (omega arith) N (λ r. r) (λ L y after k g. (y, refl, g.0, g.1))))
               (follows_on site K _ _ _ N.temp N.after h.0 next h.1 high N.upper (arguments_next ps es xs (to + local_words site.env.globals p.1) h.0 next h.1 high h.8)) (λ L y after k g. subst (λ z. ArgumentsFor site L (p ∷ ps) (a.MoreExpressions z es) (Reference place s ∷ xs) to after next low high) (sym g.1) (
@@ -376,7 +376,7 @@ module _ (site : Site) (K : Knowns) where
                   h.4,
                   h.5,
                   h.6,
-                  spot_kept site K L d s p.1.type after after low h.1 (learnt_below K L N.ready.low N.temp low h.1 N.keeps k) (r after),
+                  place_expression_kept site K L d s p.1.type after after low h.1 (learnt_below K L N.ready.low N.temp low h.1 N.keeps k) (r after),
                   g,
                 )))))
           ]

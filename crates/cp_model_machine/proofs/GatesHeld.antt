@@ -7,7 +7,7 @@ use Rattle.cp_model_machine.specs.PrivateStates as machine
 use Rattle.cp_model_machine.specs.PrivateStates.{PrivateState}
 use Rattle.cp_model_machine.specs.Steps as steps
 use Rattle.cp_model_machine.specs.Addresses.{Ground}
-use Rattle.cp_model_machine.specs.Left.{IsGate, Left, Running, innermost_gate, kept_below}
+use Rattle.cp_model_machine.specs.Remaining.{IsGate, Remaining, Running, innermost_gate, kept_below}
 use Rattle.cp_model_machine.specs.PartOf.{RunsOn}
 use Rattle.cp_model_machine.proofs.Finding.{cons_is_not_nil, some_is_not_none}
 
@@ -18,7 +18,7 @@ monitor_numbered G (suc m) h = omega arith
 
 -- What is left to do names only monitors of the text.
 pub gates_there : (G : Ground) (temps : List ℤ) (limit : ℕ) (K : Knowns) (R : Running) (fs : List machine.Frame) (place low : ℕ) (k : List Task) (m : ℕ) (ms : List ℕ)
-    → Left G temps limit K R fs place low k → marked_monitors k ≡ m ∷ ms → IsGate G (Some m)
+    → Remaining G temps limit K R fs place low k → marked_monitors k ≡ m ∷ ms → IsGate G (Some m)
 gates_there G temps limit K R fs place low [] m ms h e = absurd h
 gates_there G temps limit K R fs place low (Do s env ∷ k) m ms h e = gates_there G temps limit nothing_known R fs h.2.0 h.2.1 k m ms h.2.4 e
 gates_there G temps limit K R fs place low (WhileTest now x s env ∷ k) m ms h e = gates_there G temps limit nothing_known R fs h.1.0 h.1.1 k m ms h.1.4 e

@@ -20,11 +20,11 @@ use Rattle.cp_model_program.specs.Layout.{Part, farther, head_words, local, memb
 use Rattle.cp_model_program.specs.TermsFor.{Knowns, nothing_known}
 use Rattle.cp_model_machine.specs.Means.{Here}
 use Rattle.cp_model_program.specs.Sites.{local_location}
-use Rattle.cp_model_program.specs.StandsFor.{system_of_process}
+use Rattle.cp_model_program.specs.IsProgramFor.{system_of_process}
 use Rattle.cp_model_machine.specs.Passing.{monitor_start}
 use Rattle.cp_model_machine.specs.PrivateStates as machine
 use Rattle.cp_model_machine.specs.Addresses.{Activation, ClassLies, ComponentLies, Ground, MonitorLies, ProcessLies, activation_at, activation_of, activations, lies, part_at, part_of_activation, part_of_component, part_of_local, part_of_owner, scope, lies_in_sight}
-use Rattle.cp_model_machine.specs.Left.{Left, Running, held_below, kept_below}
+use Rattle.cp_model_machine.specs.Remaining.{Remaining, Running, held_below, kept_below}
 use Rattle.cp_model_machine.specs.PartOf.{ActivationMeans, ActivationsMean, DataMeans, IfFrame}
 use Rattle.cp_model_machine.proofs.Finding.{part_whole, some_is_not_none}
 use Rattle.cp_model_machine.proofs.Layouts.{lies_under}
@@ -32,7 +32,7 @@ use Rattle.cp_model_machine.proofs.Layouts.{lies_under}
 module _ (G : Ground) (temps : List ℤ) (limit : ℕ) where
   -- There are as many activations as end marks of routines.
   pub depth_is : (b : ℕ) (K : Knowns) (R : Running) (fs : List machine.Frame) (place low : ℕ) (k : List Task)
-      → Left G temps limit K R fs place low k → length (activations b fs k) ≡ depth k
+      → Remaining G temps limit K R fs place low k → length (activations b fs k) ≡ depth k
   depth_is b K R fs place low [] h = absurd h
   depth_is b K R fs place low (Do s e ∷ k) h = depth_is b nothing_known R fs h.2.0 h.2.1 k h.2.4
   depth_is b K R fs place low (WhileTest now e s env ∷ k) h = depth_is b nothing_known R fs h.1.0 h.1.1 k h.1.4
@@ -57,7 +57,7 @@ module _ (G : Ground) (temps : List ℤ) (limit : ℕ) where
 
   -- Tasks before the end mark don't change the innermost activation.
   pub top_is : (store : Store) (words : List ℤ) (b : ℕ) (K : Knowns) (R : Running) (fs : List machine.Frame) (place low : ℕ) (k : List Task)
-      (f : Frame) → Left G temps limit K R fs place low k → ActivationsMean G store words b fs k → R.env.frame ≡ Some f
+      (f : Frame) → Remaining G temps limit K R fs place low k → ActivationsMean G store words b fs k → R.env.frame ≡ Some f
       → Top b store words fs k f
   top_is store words b K R fs place low [] f h m e = absurd h
   top_is store words b K R fs place low (Do s env ∷ k) f h m e =
@@ -189,7 +189,7 @@ pub record Sees (G : Ground) (mine : Owner → Bool) (store : Store) (env : Envi
   pub references : (l j : Location) (d : ℕ) → l.owner ≡ OfActivation G.p d → store l ≡ Reference j → mine j.owner ≡ true
 
 pub here : (G : Ground) (store : Store) (words temps : List ℤ) (limit live : ℕ) (K : Knowns) (R : Running) (fs : List machine.Frame) (place low : ℕ) (k : List Task) (mine : Owner → Bool) (clock : Clock)
-    → Left G temps limit K R fs place low k → ActivationsMean G store words R.base fs k
+    → Remaining G temps limit K R fs place low k → ActivationsMean G store words R.base fs k
     → ComponentLies G R.env.component R.env.system R.component
     → DataMeans G (activations R.base fs k) mine store words
     → R.env.globals ≡ scope G → Sees G mine store R.env

@@ -15,7 +15,7 @@ use Rattle.cp_model_program.specs.Starts.{word}
 use Rattle.cp_model_machine.specs.Means.{CellMeans}
 use Rattle.cp_model_machine.specs.Addresses.{Activation, ClassLies, ComponentLies, Ground, HasRights, MonitorLies, ProcessLies, activation_at, component_type, in_sight, lies, part_at, part_of_activation, part_of_local, scope}
 use Rattle.cp_model_machine.specs.PartOf.{DataMeans}
-use Rattle.cp_model_program.specs.StandsFor.{system_of_process}
+use Rattle.cp_model_program.specs.IsProgramFor.{system_of_process}
 use Rattle.cp_model_machine.proofs.Apart.{InHead, IsCell, cell_head}
 use Rattle.cp_model_machine.proofs.Finding.{some_is_not_none}
 use Rattle.cp_model_machine.proofs.Given.{KeepsGiven, rights_kept}

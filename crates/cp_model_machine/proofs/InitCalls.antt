@@ -10,7 +10,7 @@ use Rattle.cp_model_program.specs.Programs as op
 use Rattle.cp_model_program.specs.Programs.{Operation}
 use Rattle.cp_model_program.specs.Sites.{Site}
 use Rattle.cp_model_program.specs.TermsFor.{Knowns}
-use Rattle.cp_model_program.specs.StatementsFor.{CodeFor, InitArgumentsFor, InitsBy, PassesBy, stands_at}
+use Rattle.cp_model_program.specs.StatementsFor.{CodeFor, InitArgumentsFor, InitsBy, PassesBy, represents_at}
 use Rattle.cp_model_machine.proofs.Finding.{user_call_none}
 use Rattle.cp_model_machine.proofs.CallsKept.{term_kept}
 use Rattle.cp_model_machine.proofs.CodeKept.{init_kept}
@@ -85,7 +85,7 @@ module _ (site : Site) (K : Knowns) where
             (λ r. r) (λ L y after k g. (go L y after g, tt)))
       ]
 
-  pub inits_next : (x : Name) (n : Component) (es : a.Expressions) (o : Operation) (at last next low : ℕ) → stands_at site last o → component_named site.env x ≡ Some n
+  pub inits_next : (x : Name) (n : Component) (es : a.Expressions) (o : Operation) (at last next low : ℕ) → represents_at site last o → component_named site.env x ≡ Some n
       → InitsBy site K n es o at last next low → StatementAdvances site K (a.Init x es) at last next low
   inits_next x n es (op.InitClass call m) at last next low there named h =
       inits_by x n es call.arguments at last next low h.3 (λ L y after g. (last, op.InitClass call m, n, there, named, (h.0, h.1, h.2, g)))

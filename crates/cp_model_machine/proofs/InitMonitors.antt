@@ -29,19 +29,19 @@ use Rattle.cp_law_typing.specs.Words.{words}
 use Rattle.cp_model_program.specs.Layout.{Part}
 use Rattle.cp_model_program.specs.Sites as sites
 use Rattle.cp_model_program.specs.Sites.{BodyOf, TargetOf}
-use Rattle.cp_model_program.specs.StandsFor.{UnitStands, end_of, system_of_monitor}
+use Rattle.cp_model_program.specs.IsProgramFor.{UnitRepresents, end_of, system_of_monitor}
 use Rattle.cp_model_program.specs.Starts.{block, paste}
 use Rattle.cp_model_program.specs.StatementsFor.{InitArgumentsFor, InitsBy}
 use Rattle.cp_model_program.specs.TermsFor.{Knowns, nothing_known}
 use Rattle.cp_model_machine.specs.PrivateStates as machine
-use Rattle.cp_model_machine.specs.PrivateStates.{Acting, Outside, PrivateState, fault_in, private_outcome, guard}
+use Rattle.cp_model_machine.specs.PrivateStates.{Acting, StepContext, PrivateState, fault_in, private_outcome, guard}
 use Rattle.cp_model_machine.specs.Passing.{Called, Passing, component_called, monitor_called, monitor_start, pass_all, when_passed}
 use Rattle.cp_model_machine.specs.Calling.{Back, enter, frame_of, has_room, init_monitor, innermost, settle}
 use Rattle.cp_model_machine.specs.Addresses.{Activation, ClassHasRights, Ground, HasRights, MonitorLies, activations, in_sight, lies, scope, lies_in_sight, whole, words_seen}
-use Rattle.cp_model_machine.specs.Left.{Left, Running, Runs, innermost_gate, site}
+use Rattle.cp_model_machine.specs.Remaining.{Remaining, Running, Runs, innermost_gate, site}
 use Rattle.cp_model_machine.specs.PartOf.{ActivationsMean, DataMeans, PartOf, RunsOn}
 use Rattle.cp_model_machine.proofs.Apart.{IsCell}
-use Rattle.cp_model_machine.proofs.CallSteps.{UnitsStand}
+use Rattle.cp_model_machine.proofs.CallSteps.{UnitsRepresent}
 use Rattle.cp_model_machine.proofs.Doing.{Ready, executed, known}
 use Rattle.cp_model_machine.proofs.Pushing.{marks_push, push_left}
 use Rattle.cp_model_machine.proofs.Copying.{copied_length}
@@ -64,7 +64,7 @@ use Rattle.cp_model_machine.specs.Addresses as addresses
 use Rattle.cp_model_machine.specs.Steps.{act}
 use Rattle.cp_model_machine.proofs.GatesHeld.{monitor_numbered}
 use Rattle.cp_model_machine.proofs.Targets.{no_class_begins}
-use Rattle.cp_model_machine.proofs.Effects.{EffectAgrees, LeavesIt, Means, WentOn, going, passed_leaves, provided_leaves, then_means, told}
+use Rattle.cp_model_machine.proofs.Effects.{EffectAgrees, LeavesIt, Means, WentOn, going, passed_leaves, provided_leaves, then_means, reported}
 use Rattle.cp_model_machine.proofs.MonitorsThere.{monitor_below}
 use Rattle.cp_model.proofs.ExpressionReach.{IfGives}
 
@@ -73,13 +73,13 @@ body_of_monitor G s m = record { globals = scope G; system = s; component = moni
 
 -- The process runs on in the body, and holds the gate.
 body_entered : (G : Ground) (store : Store) (o : PrivateState) (i : Task) (k : List Task) (R : RunsOn G store o (i ∷ k)) (call : Call) (back : Back) (s : System) (m : ℕ) (c : Called) (kept : ℕ)
-    → (C : sites.Runs (site G R.running) (BodyOf s) kept call) → UnitStands G.program G.texts (scope G) C.unit (BodyOf s) → s.sort ≡ Monitor → system_of_monitor G.setup m ≡ Some s
+    → (C : sites.Runs (site G R.running) (BodyOf s) kept call) → UnitRepresents G.program G.texts (scope G) C.unit (BodyOf s) → s.sort ≡ Monitor → system_of_monitor G.setup m ≡ Some s
     → c.component ≡ G.own + monitor_start G.program m → c.gate ≡ m → ClassHasRights G store c.component
     → activations o.base o.frames (i ∷ k) ≡ activations o.base o.frames k → ActivationsMean G store o.words o.base o.frames (i ∷ k) ≡ ActivationsMean G store o.words o.base o.frames k
     → marked_monitors (i ∷ k) ≡ marked_monitors k
-    → Left G o.temps o.limit nothing_known R.running o.frames back.counter kept k → kept ≤ R.running.unit.temps
+    → Remaining G o.temps o.limit nothing_known R.running o.frames back.counter kept k → kept ≤ R.running.unit.temps
     → RunsOn G store (enter o c C.unit call back) (push s.body (body_of_monitor G s m) (EndBody (Some m) ∷ k))
-body_entered G store o i k R call back s m c kept C stands sort is from gate has same means marks left fits = record {
+body_entered G store o i k R call back s m c kept C represents sort is from gate has same means marks left fits = record {
   at = record {
     running = N;
     runs = new_runs;
@@ -89,9 +89,9 @@ body_entered G store o i k R call back s m c kept C stands sort is from gate has
     gate = ap (λ g. innermost g o.gate) gate ∙ (entered m (monitor_numbered G m (s, is)) ∙ ap innermost_gate (sym (marks_push s.body env (EndBody (Some m) ∷ k))));
     live = 0;
     left = left_afresh G o.temps o.limit 0 N (f ∷ o.frames) C.unit.start 0 (push s.body env (EndBody (Some m) ∷ k)) (omega arith)
-        (push_left G o.temps o.limit N (f ∷ o.frames) s.body C.unit.start (stands.2 at).0 0 (EndBody (Some m) ∷ k) (stands.2 at).2 (
+        (push_left G o.temps o.limit N (f ∷ o.frames) s.body C.unit.start (represents.2 at).0 0 (EndBody (Some m) ∷ k) (represents.2 at).2 (
           refl,
-          (stands.2 at).1 ∙ ap (λ z. Some (end_of z)) sort,
+          (represents.2 at).1 ∙ ap (λ z. Some (end_of z)) sort,
           (gate, held, (s, is)),
           (
             R.running,
@@ -167,14 +167,14 @@ opened_part G before after m u P = record {
   runs_on = P.runs_on;
 }
 
-pub monitor_inits : (G : Ground) (s : State) (w : Outside) (before : List ℕ) (o : PrivateState) (x : Name) (es : a.Expressions) (env : Environment) (k : List Task) → StoreInvariant s.store → UnitsStand G → AroundAll G s w
+pub monitor_inits : (G : Ground) (s : State) (w : StepContext) (before : List ℕ) (o : PrivateState) (x : Name) (es : a.Expressions) (env : Environment) (k : List Task) → StoreInvariant s.store → UnitsRepresent G → AroundAll G s w
     → (Y : Ready G s w before o (a.Init x es) env k) (call : Call) (next : ℕ)
     → InitsBy (site G Y.now.on.running) (known G s w before o (Do (a.Init x es) env) k Y.now) Y.now.on.left.2.3.2 es (op.InitMonitor call next) o.counter Y.now.on.left.2.3.0 Y.now.on.left.2.0 Y.now.on.left.2.1
     → NoClassRights G → Declares G Y.now.on.running.env
     → PartOf G (after_step s G.p (executed G s w before o (a.Init x es) env k Y)) before (act G.program w o (op.InitMonitor call next)).0
     × EffectAgrees G w.own (executed G s w before o (a.Init x es) env k Y) (act G.program w o (op.InitMonitor call next)).1
 monitor_inits G s w before o x es env k I units K Y call next h none declares =
-    (part, told G w.own s before Y.now.ready (executed G s w before o (a.Init x es) env k Y) (machine.Opens m) (act G.program w o (op.InitMonitor call next)) part means leaves_it)
+    (part, reported G w.own s before Y.now.ready (executed G s w before o (a.Init x es) env k Y) (machine.Opens m) (act G.program w o (op.InitMonitor call next)) part means leaves_it)
   where
     here : Environment
     here = Y.now.on.running.env
@@ -261,11 +261,11 @@ monitor_inits G s w before o x es env k I units K Y call next h none declares =
     placed : Placed G (activations o.base o.frames (first ∷ k)) top at c.component n.system
     placed = monitor_placed G (activations o.base o.frames (first ∷ k)) top stack m c.component n.system (ap (λ v. addresses.sees v G.p (OfMonitor m)) K.sight) is (omega (arith, Y.now.around.own))
 
-    stands : UnitStands G.program G.texts (scope G) h.2.runs.unit (BodyOf n.system)
-    stands = units call.routine h.2.runs.unit (BodyOf n.system) h.2.runs.there h.2.runs.text
+    represents : UnitRepresents G.program G.texts (scope G) h.2.runs.unit (BodyOf n.system)
+    represents = units call.routine h.2.runs.unit (BodyOf n.system) h.2.runs.there h.2.runs.text
 
     names : Distinct (declarations (scope G) n.system.parameters)
-    names = distinct_first (declarations (scope G) n.system.parameters) (declarations (scope G) n.system.variables) stands.1
+    names = distinct_first (declarations (scope G) n.system.parameters) (declarations (scope G) n.system.variables) represents.1
 
     arguments : InitArgumentsFor (site G Y.now.on.running) known_here n.system passed es call.arguments o.counter Y.now.on.left.2.3.0 Y.now.on.left.2.1 Y.now.on.running.unit.temps
     arguments =
@@ -318,12 +318,12 @@ monitor_inits G s w before o x es env k I units K Y call next h none declares =
         (opened_part G before result m _
         (went G s before o Y.now.part (put_all ws s.store) result (push n.system.body (body_of_monitor G n.system m) (EndBody (Some m) ∷ k))
         (body_entered G (put_all ws s.store) (record o { words = moved us }) first k
-        (runs_settled G s.store (put_all ws s.store) o (moved us) (first ∷ k) Y.now.on at c.component n.system placed stands.1 one offsets settled
+        (runs_settled G s.store (put_all ws s.store) o (moved us) (first ∷ k) Y.now.on at c.component n.system placed represents.1 one offsets settled
         (copied_length us us (c.component + 1) (o.base + call.words + 1) (length passed) ∙ B.length_is))
-        call back n.system m c Y.now.on.left.2.1 h.2.runs stands h.0 is (omega (arith, Y.now.around.own)) refl
+        call back n.system m c Y.now.on.left.2.1 h.2.runs represents h.0 is (omega (arith, Y.now.around.own)) refl
         (no_class_begins G s w before o first k Y.now Y.now.sees I K (put_all ws s.store) m n.system is)
         refl refl refl
-        (subst (λ z. Left G o.temps o.limit nothing_known Y.now.on.running o.frames z Y.now.on.left.2.1 k) (sym h.1) Y.now.on.left.2.4) Y.now.on.left.2.2)
+        (subst (λ z. Remaining G o.temps o.limit nothing_known Y.now.on.running o.frames z Y.now.on.left.2.1 k) (sym h.1) Y.now.on.left.2.4) Y.now.on.left.2.2)
         record { number = refl; input = refl; consumed = refl; output = refl; activity = refl })))
       where
         settled : Settled G top s.store (put_all ws s.store) o.words (moved us) at c.component n.system

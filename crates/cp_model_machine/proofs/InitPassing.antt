@@ -35,7 +35,7 @@ use Rattle.cp_model_program.specs.Sites.{Site, TargetFor}
 use Rattle.cp_model_program.specs.Starts.{word}
 use Rattle.cp_model_program.specs.StatementsFor.{InitArgumentsFor}
 use Rattle.cp_model_program.specs.TermsFor.{Agrees, Knowns}
-use Rattle.cp_model_machine.specs.PrivateStates.{Outside, PrivateState, view_of}
+use Rattle.cp_model_machine.specs.PrivateStates.{StepContext, PrivateState, view_of}
 use Rattle.cp_model_machine.specs.Passing.{Passing, pass_all, pass_result, pass_word, right_word, unless_fault}
 use Rattle.cp_model_machine.specs.Values.{value_of}
 use Rattle.cp_model_machine.specs.Means.{CellMeans}
@@ -156,7 +156,7 @@ module _ (G : Ground) (sys : System) (at : Location) (c from : ℕ) (distinct : 
           inner component (inr z) = absurd (true≢false (sym component ∙ z.0))
           inner component (inl z) = subst (IsGiven p.1.type) (sym (stored st)) z.2
 
-  module _ (site : Site) (clock : Clock) (store : Store) (w : Outside) (K : Knowns) (lies : Location → Option Part) (o : PrivateState) (stays : Stays site.env clock store w K lies from o)
+  module _ (site : Site) (clock : Clock) (store : Store) (w : StepContext) (K : Knowns) (lies : Location → Option Part) (o : PrivateState) (stays : Stays site.env clock store w K lies from o)
       (globals : site.env.globals ≡ scope G)
       (given : (n : Component) (t : Target) → TargetFor site.env (Some n) t → (named : Name) → component_named site.env named ≡ Some n → (ws : List ℤ) → SameOutside from w.own o.words ws → length ws ≡ length o.words → (k : ℕ) (inner : Members) (l : Location)
       → c + k ≤ length o.words → (y : Name) (u : Variable) → right (scope G) sys y ≡ Some (k, u) → u.type ≡ ComponentOf n.system inner → (v : StoreValue) × (right_writes site.env store sys.sort l n.system.sort n ≡ (l, v) ∷ []) × RightMeans G (ComponentOf n.system inner) v (c + k) (right_word (record o { words = ws }) (c + k) t) × IsGiven (ComponentOf n.system inner) v)

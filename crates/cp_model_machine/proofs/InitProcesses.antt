@@ -29,17 +29,17 @@ use Rattle.cp_law_typing.specs.Words.{words}
 use Rattle.cp_model_program.specs.Terms.{Argument}
 use Rattle.cp_model_program.specs.Programs as op
 use Rattle.cp_model_program.specs.Layout.{Part}
-use Rattle.cp_model_program.specs.StandsFor.{IsInText, ProcessStands, StandsFor, body_environment, system_of_process}
+use Rattle.cp_model_program.specs.IsProgramFor.{IsInText, ProcessRepresents, IsProgramFor, body_environment, system_of_process}
 use Rattle.cp_model_program.specs.Starts.{block, paste}
 use Rattle.cp_model_program.specs.StatementsFor.{InitArgumentsFor, InitsBy}
 use Rattle.cp_model_program.specs.TermsFor.{Knowns}
 use Rattle.cp_model_machine.specs.PrivateStates as machine
-use Rattle.cp_model_machine.specs.PrivateStates.{Acting, Outside, PrivateState, fault_in, go_to, guard}
+use Rattle.cp_model_machine.specs.PrivateStates.{Acting, StepContext, PrivateState, fault_in, go_to, guard}
 use Rattle.cp_model_machine.specs.Passing.{Passing, pass_all, when_passed}
 use Rattle.cp_model_machine.specs.Calling.{init_process, parameters_start, settle}
 use Rattle.cp_model_machine.specs.Steps.{act}
 use Rattle.cp_model_machine.specs.Addresses.{Ground, activations, in_sight, scope, lies_in_sight, words_seen}
-use Rattle.cp_model_machine.specs.Left.{site}
+use Rattle.cp_model_machine.specs.Remaining.{site}
 use Rattle.cp_model_machine.specs.PartOf.{RunsOn}
 use Rattle.cp_model_machine.proofs.Apart.{IsCell}
 use Rattle.cp_model_machine.proofs.Declared.{distinct_first}
@@ -55,13 +55,13 @@ use Rattle.cp_model_machine.proofs.ProcessRights.{NoClassRights, no_class_rights
 use Rattle.cp_model_machine.proofs.RunningOn.{runs_here, runs_over}
 use Rattle.cp_model_machine.proofs.Stacks.{own_in_whole}
 use Rattle.cp_model_machine.proofs.Stepping.{AroundAll, beyond, clock_of}
-use Rattle.cp_model_machine.proofs.Waiting.{parameters_are, process_declared, process_names, process_stands}
+use Rattle.cp_model_machine.proofs.Waiting.{parameters_are, process_declared, process_names, process_represents}
 
 -- The `init` of a process with all words in reach: the name and the arguments in the text, and the
 -- operation.
-pub record InitOfProcess (G : Ground) (s : State) (w : Outside) (before : List ℕ) (o : PrivateState) : Type 0 where
-  pub stands : StandsFor G.program G.setup
-  pub texts : stands.texts ≡ G.texts
+pub record InitOfProcess (G : Ground) (s : State) (w : StepContext) (before : List ℕ) (o : PrivateState) : Type 0 where
+  pub represents : IsProgramFor G.program G.setup
+  pub texts : represents.texts ≡ G.texts
   pub stored : StoreInvariant s.store
   pub around : AroundAll G s w
   pub name : Name
@@ -77,7 +77,7 @@ pub record InitOfProcess (G : Ground) (s : State) (w : Outside) (before : List �
   pub by : InitsBy (site G ready.now.on.running) (known G s w before o (Do (a.Init name given) env) rest ready.now) ready.now.on.left.2.3.2 given (op.InitProcess number passes words next) o.counter
       ready.now.on.left.2.3.0 ready.now.on.left.2.0 ready.now.on.left.2.1
 
-module _ {G : Ground} {s : State} {w : Outside} {before : List ℕ} {o : PrivateState} (Z : InitOfProcess G s w before o) where
+module _ {G : Ground} {s : State} {w : StepContext} {before : List ℕ} {o : PrivateState} (Z : InitOfProcess G s w before o) where
   abbrev pub on : RunsOn G s.store o (Do (a.Init Z.name Z.given) Z.env ∷ Z.rest)
   on = Z.ready.now.on
 
@@ -100,19 +100,19 @@ module _ {G : Ground} {s : State} {w : Outside} {before : List ℕ} {o : Private
   passed = declarations (scope G) system.parameters
 
   in_text : IsInText G.setup here.system
-  in_text = subst (IsInText G.setup) (sym on.runs.system) (Z.stands.systems on.running.number on.running.text (ap (λ ts. slice_get ts on.running.number) Z.texts ∙ on.runs.text))
+  in_text = subst (IsInText G.setup) (sym on.runs.system) (Z.represents.systems on.running.number on.running.text (ap (λ ts. slice_get ts on.running.number) Z.texts ∙ on.runs.text))
 
   -- The process that is started.
   pub is : system_of_process G.setup Z.number ≡ Some system
   is =
       ap (system_of_process G.setup) (sym Z.by.2)
-      ∙ Z.declares.processes Z.name component on.left.2.3.4 (process_declared G Z.stands.typed here in_text on.runs.globals Z.name component on.left.2.3.4 Z.by.0) Z.by.0
+      ∙ Z.declares.processes Z.name component on.left.2.3.4 (process_declared G Z.represents.typed here in_text on.runs.globals Z.name component on.left.2.3.4 Z.by.0) Z.by.0
 
-  pub row_stands : ProcessStands G.program Z.stands.texts G.setup Z.number
-  row_stands = process_stands G Z.stands Z.number system is
+  pub row_represents : ProcessRepresents G.program Z.represents.texts G.setup Z.number
+  row_represents = process_represents G Z.represents Z.number system is
 
-  pub same_system : row_stands.system ≡ system
-  same_system = same_some row_stands.system system (sym row_stands.is_system ∙ is)
+  pub same_system : row_represents.system ≡ system
+  same_system = same_some row_represents.system system (sym row_represents.is_system ∙ is)
 
   -- Where the parameters wait.
   abbrev pub to : ℕ
@@ -123,16 +123,16 @@ module _ {G : Ground} {s : State} {w : Outside} {before : List ℕ} {o : Private
       omega (
         arith,
         Z.ready.now.around.own,
-        parameters_are G Z.stands Z.number row_stands,
-        row_stands.waits,
-        row_stands.waiting,
+        parameters_are G Z.represents Z.number row_represents,
+        row_represents.waits,
+        row_represents.waiting,
         ap (λ (y : System). length (declarations (scope G) y.parameters)) same_system,
       )
 
   pub names : Distinct (declarations (scope G) system.parameters)
   names =
       subst (λ (y : System). Distinct (declarations (scope G) y.parameters)) same_system
-      (distinct_first (declarations (scope G) row_stands.system.parameters) (declarations (scope G) row_stands.system.variables) (process_names G Z.stands Z.number row_stands))
+      (distinct_first (declarations (scope G) row_represents.system.parameters) (declarations (scope G) row_represents.system.variables) (process_names G Z.represents Z.number row_represents))
 
   abbrev known_here : Knowns
   known_here = known G s w before o first Z.rest Z.ready.now
@@ -163,7 +163,7 @@ module _ {G : Ground} {s : State} {w : Outside} {before : List ℕ} {o : Private
   lying' = lies_in_sight (in_sight G) G (activations o.base o.frames (first ∷ Z.rest))
 
   none : NoClassRights G
-  none = no_class_rights G Z.stands.typed
+  none = no_class_rights G Z.represents.typed
 
   abbrev pub bound : Outcome Writes
   bound = bind (λ l v e. init_argument_writes system.sort (clock_of G s) here s.store l v.type e) (process_location Z.number) passed Z.given
@@ -174,7 +174,7 @@ module _ {G : Ground} {s : State} {w : Outside} {before : List ℕ} {o : Private
       (λ ws len same. runs_here G s.store w (record o { words = ws }) (first ∷ Z.rest) (clock_of G s) Z.ready.now.around.clock (runs_over G s.store s.store o ws (first ∷ Z.rest) on (λ l q. refl) (λ j q. same j (beyond G s w Z.ready.now.around top j q)) len) Z.ready.now.sees)
       on.runs.globals
       (λ d t f y named ws same len j inner l room z u right type.
-      given G s w before o first Z.rest Z.ready.now Z.ready.now.sees Z.stored none Z.declares system to d (λ e. absurd (process_without G.setup Z.stands.typed Z.number system is j z u d.system inner right type e)) t f y named ws (λ v q. same v (beyond G s w Z.ready.now.around top v q)) len j inner l room)
+      given G s w before o first Z.rest Z.ready.now Z.ready.now.sees Z.stored none Z.declares system to d (λ e. absurd (process_without G.setup Z.represents.typed Z.number system is j z u d.system inner right type e)) t f y named ws (λ v q. same v (beyond G s w Z.ready.now.around top v q)) len j inner l room)
       (omega (arith, waits, whole_is))
       passed Z.given Z.passes o.counter on.left.2.3.0 on.left.2.1 on.running.unit.temps o.words arguments
       (in_context_none (a.Init Z.name) (call_in_arguments here (a.Literal 0) Z.given) Z.ready.none) names (λ p i. i)

@@ -17,11 +17,11 @@ use Rattle.cp_model_program.specs.Terms as t
 use Rattle.cp_model_program.specs.Layout.{member, natural, right}
 use Rattle.cp_model_program.specs.Sites.{RightTo, TargetFor, TargetOf}
 use Rattle.cp_model_program.specs.Starts.{word}
-use Rattle.cp_model_machine.specs.PrivateStates.{Outside, PrivateState}
+use Rattle.cp_model_machine.specs.PrivateStates.{StepContext, PrivateState}
 use Rattle.cp_model_machine.specs.Passing.{class_right, distance_word, monitor_word, right_word}
 use Rattle.cp_model_machine.specs.Addresses.{ClassLies, ComponentLies, Ground, IsGiven, IsGivenTo, IsMonitor, MonitorLies, ProcessLies, RightMeans, RightOf, component_type, in_sight, lies, scope}
-use Rattle.cp_model_machine.specs.Left.{site}
-use Rattle.cp_model_program.specs.StandsFor.{system_of_monitor}
+use Rattle.cp_model_machine.specs.Remaining.{site}
+use Rattle.cp_model_program.specs.IsProgramFor.{system_of_monitor}
 use Rattle.cp_model_machine.proofs.Declares.{Declares}
 use Rattle.cp_model_machine.proofs.Heres.{Sees}
 use Rattle.cp_model_machine.proofs.ProcessRights.{NoClassRights}
@@ -33,7 +33,7 @@ use Rattle.cp_model_machine.proofs.Holding.{SameBelow}
 back_again : (x y : ℕ) → natural (pos x +ℤ (pos y -ℤ pos x)) ≡ y
 back_again x y = Prim.grind (arith, ints)
 
-module _ (G : Ground) (s : State) (w : Outside) (before : List ℕ) (o : PrivateState) (i : Task) (l : List Task) (N : Now G s w before o i l) (sees : Sees G (in_sight G) s.store N.on.running.env) (I : StoreInvariant s.store) where
+module _ (G : Ground) (s : State) (w : StepContext) (before : List ℕ) (o : PrivateState) (i : Task) (l : List Task) (N : Now G s w before o i l) (sees : Sees G (in_sight G) s.store N.on.running.env) (I : StoreInvariant s.store) where
   abbrev here : Environment
   here = N.on.running.env
 

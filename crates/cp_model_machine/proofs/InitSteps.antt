@@ -33,19 +33,19 @@ use Rattle.cp_law_typing.specs.Words.{words}
 use Rattle.cp_model_program.specs.Layout.{Part, member}
 use Rattle.cp_model_program.specs.Sites as sites
 use Rattle.cp_model_program.specs.Sites.{BodyOf, TargetOf, operation_at}
-use Rattle.cp_model_program.specs.StandsFor.{UnitStands, end_of}
+use Rattle.cp_model_program.specs.IsProgramFor.{UnitRepresents, end_of}
 use Rattle.cp_model_program.specs.Starts.{block, paste, word}
 use Rattle.cp_model_program.specs.StatementsFor.{InitArgumentsFor, InitsBy}
 use Rattle.cp_model_program.specs.TermsFor.{Knowns, nothing_known}
 use Rattle.cp_model_machine.specs.PrivateStates as machine
-use Rattle.cp_model_machine.specs.PrivateStates.{Acting, Effect, Outside, PrivateState, fault_in, private_outcome, guard, set_word}
+use Rattle.cp_model_machine.specs.PrivateStates.{Acting, Effect, StepContext, PrivateState, fault_in, private_outcome, guard, set_word}
 use Rattle.cp_model_machine.specs.Passing.{Passing, component_called, pass_all, when_passed}
 use Rattle.cp_model_machine.specs.Calling.{Back, class_at, enter, frame_of, has_room, init_class, settle}
 use Rattle.cp_model_machine.specs.Addresses.{Activation, ClassLies, Ground, HasRights, activations, component_type, in_sight, lies, scope, lies_in_sight, whole}
-use Rattle.cp_model_machine.specs.Left.{Left, Running, Runs, innermost_gate, site}
+use Rattle.cp_model_machine.specs.Remaining.{Remaining, Running, Runs, innermost_gate, site}
 use Rattle.cp_model_machine.specs.PartOf.{ActivationsMean, DataMeans, PartOf, RunsOn}
 use Rattle.cp_model_machine.proofs.Apart.{IsCell, IsClass}
-use Rattle.cp_model_machine.proofs.CallSteps.{UnitsStand}
+use Rattle.cp_model_machine.proofs.CallSteps.{UnitsRepresent}
 use Rattle.cp_model_machine.proofs.Doing.{Ready, known, statement_steps}
 use Rattle.cp_model_machine.proofs.Given.{KeepsGiven, class_has_rights, system_same}
 use Rattle.cp_model_machine.proofs.Heres.{lies_any}
@@ -78,12 +78,12 @@ body_of_class G s at = record { globals = scope G; system = s; component = at; f
 
 -- The process runs on in the body, where the mark is set.
 body_entered : (G : Ground) (store : Store) (o : PrivateState) (i : Task) (k : List Task) (R : RunsOn G store o (i ∷ k)) (call : Call) (back : Back) (s : System) (at : Location) (n kept : ℕ)
-    → (C : sites.Runs (site G R.running) (BodyOf s) kept call) → UnitStands G.program G.texts (scope G) C.unit (BodyOf s) → s.sort ≡ Class → in_sight G at.owner ≡ true → lies G [] at ≡ Some (n, component_type G s) → HasRights G store at s
+    → (C : sites.Runs (site G R.running) (BodyOf s) kept call) → UnitRepresents G.program G.texts (scope G) C.unit (BodyOf s) → s.sort ≡ Class → in_sight G at.owner ≡ true → lies G [] at ≡ Some (n, component_type G s) → HasRights G store at s
     → activations o.base o.frames (i ∷ k) ≡ activations o.base o.frames k → ActivationsMean G (put at (Initialised true) store) (set_word o n (pos 1)).words o.base o.frames (i ∷ k) ≡ ActivationsMean G (put at (Initialised true) store) (set_word o n (pos 1)).words o.base o.frames k
     → marked_monitors (i ∷ k) ≡ marked_monitors k
-    → Left G o.temps o.limit nothing_known R.running o.frames back.counter kept k → kept ≤ R.running.unit.temps
+    → Remaining G o.temps o.limit nothing_known R.running o.frames back.counter kept k → kept ≤ R.running.unit.temps
     → RunsOn G (put at (Initialised true) store) (enter (set_word o n (pos 1)) (class_at n) C.unit call back) (push s.body (body_of_class G s at) (EndBody None ∷ k))
-body_entered G store o i k R call back s at n kept C stands sort own there has same means marks left fits = record {
+body_entered G store o i k R call back s at n kept C represents sort own there has same means marks left fits = record {
   at = record {
     running = N;
     runs = new_runs;
@@ -93,9 +93,9 @@ body_entered G store o i k R call back s at n kept C stands sort own there has s
     gate = held ∙ ap innermost_gate (sym (marks_push s.body env (EndBody None ∷ k)));
     live = 0;
     left = left_afresh G o.temps o.limit 0 N (f ∷ o.frames) C.unit.start 0 (push s.body env (EndBody None ∷ k)) (omega arith)
-        (push_left G o.temps o.limit N (f ∷ o.frames) s.body C.unit.start (stands.2 at).0 0 (EndBody None ∷ k) (stands.2 at).2 (
+        (push_left G o.temps o.limit N (f ∷ o.frames) s.body C.unit.start (represents.2 at).0 0 (EndBody None ∷ k) (represents.2 at).2 (
           refl,
-          (stands.2 at).1 ∙ ap (λ z. Some (end_of z)) sort,
+          (represents.2 at).1 ∙ ap (λ z. Some (end_of z)) sort,
           (refl, held, tt),
           (
             R.running,
@@ -173,7 +173,7 @@ body_entered G store o i k R call back s at n kept C stands sort own there has s
       activation_fits = omega arith;
     }
 
-pub init_steps : (G : Ground) (s : State) (w : Outside) (before : List ℕ) (o : PrivateState) (x : Name) (es : a.Expressions) (env : Environment) (k : List Task) → StoreInvariant s.store → UnitsStand G
+pub init_steps : (G : Ground) (s : State) (w : StepContext) (before : List ℕ) (o : PrivateState) (x : Name) (es : a.Expressions) (env : Environment) (k : List Task) → StoreInvariant s.store → UnitsRepresent G
     → (Y : Ready G s w before o (a.Init x es) env k) (call : Call) (next : ℕ) → operation_at G.program o.counter ≡ Some (op.InitClass call next)
     → InitsBy (site G Y.now.on.running) (known G s w before o (Do (a.Init x es) env) k Y.now) Y.now.on.left.2.3.2 es (op.InitClass call next) o.counter Y.now.on.left.2.3.0 Y.now.on.left.2.0 Y.now.on.left.2.1
     → NoClassRights G → Declares G Y.now.on.running.env → Stepped G s w before o
@@ -256,11 +256,11 @@ init_steps G s w before o x es env k I units Y call next there h none declares =
     back : Back
     back = record { counter = next; into = 0 }
 
-    stands : UnitStands G.program G.texts (scope G) h.2.runs.unit (BodyOf n.system)
-    stands = units call.routine h.2.runs.unit (BodyOf n.system) h.2.runs.there h.2.runs.text
+    represents : UnitRepresents G.program G.texts (scope G) h.2.runs.unit (BodyOf n.system)
+    represents = units call.routine h.2.runs.unit (BodyOf n.system) h.2.runs.there h.2.runs.text
 
     names : Distinct (declarations (scope G) n.system.parameters)
-    names = distinct_first (declarations (scope G) n.system.parameters) (declarations (scope G) n.system.variables) stands.1
+    names = distinct_first (declarations (scope G) n.system.parameters) (declarations (scope G) n.system.variables) represents.1
 
     arguments : InitArgumentsFor (site G Y.now.on.running) known_here n.system passed es call.arguments o.counter Y.now.on.left.2.3.0 Y.now.on.left.2.1 Y.now.on.running.unit.temps
     arguments =
@@ -349,12 +349,12 @@ init_steps G s w before o x es env k I units Y call next there h none declares =
             }))) before result) (sym env_is)
             (went G s before o Y.now.part (put (name_location here n) (Initialised true) (put_all ws s.store)) result (push n.system.body (body_of_class G n.system (name_location here n)) (EndBody None ∷ k))
             (body_entered G (put_all ws s.store) (record o { words = moved us }) first k
-            (runs_settled G s.store (put_all ws s.store) o (moved us) (first ∷ k) Y.now.on (name_location here n) (o.component + off) n.system placed stands.1 one offsets settled
+            (runs_settled G s.store (put_all ws s.store) o (moved us) (first ∷ k) Y.now.on (name_location here n) (o.component + off) n.system placed represents.1 one offsets settled
             (copied_length us us (o.component + off + 1) (o.base + call.words + 1) (length passed) ∙ B.length_is))
-            call back n.system (name_location here n) (o.component + off) Y.now.on.left.2.1 h.2.runs stands h.0 Y.now.sees.component lying
-            (has_settled G (activations o.base o.frames (first ∷ k)) top (runs_stacked G s.store o (first ∷ k) Y.now.on) s.store (put_all ws s.store) o.words (moved us) (name_location here n) (o.component + off) n.system placed stands.1 one offsets settled)
+            call back n.system (name_location here n) (o.component + off) Y.now.on.left.2.1 h.2.runs represents h.0 Y.now.sees.component lying
+            (has_settled G (activations o.base o.frames (first ∷ k)) top (runs_stacked G s.store o (first ∷ k) Y.now.on) s.store (put_all ws s.store) o.words (moved us) (name_location here n) (o.component + off) n.system placed represents.1 one offsets settled)
             refl refl refl
-            (subst (λ z. Left G o.temps o.limit nothing_known Y.now.on.running o.frames z Y.now.on.left.2.1 k) (sym h.1) Y.now.on.left.2.4) Y.now.on.left.2.2)
+            (subst (λ z. Remaining G o.temps o.limit nothing_known Y.now.on.running o.frames z Y.now.on.left.2.1 k) (sym h.1) Y.now.on.left.2.4) Y.now.on.left.2.2)
             record { number = refl; input = refl; consumed = refl; output = refl; activity = refl }))
           where
             settled : Settled G top s.store (put_all ws s.store) o.words (moved us) (name_location here n) (o.component + off) n.system

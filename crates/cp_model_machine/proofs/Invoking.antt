@@ -34,14 +34,14 @@ use Rattle.cp_model_program.specs.Programs.{Call, CodeUnit}
 use Rattle.cp_model_program.specs.Layout.{activation_words, locals_words, part}
 use Rattle.cp_model_program.specs.Sites as sites
 use Rattle.cp_model_program.specs.Sites.{RoutineOf, first_parameter, parameters, system_of_callee}
-use Rattle.cp_model_program.specs.StandsFor.{UnitStands}
+use Rattle.cp_model_program.specs.IsProgramFor.{UnitRepresents}
 use Rattle.cp_model_program.specs.Starts.{carry_out}
 use Rattle.cp_model_program.specs.TermsFor.{ArgumentsFor}
-use Rattle.cp_model_machine.specs.PrivateStates.{Acting, Effect, Enters, Outside, PrivateState, fault_in, private_outcome, guard}
+use Rattle.cp_model_machine.specs.PrivateStates.{Acting, Effect, Enters, StepContext, PrivateState, fault_in, private_outcome, guard}
 use Rattle.cp_model_machine.specs.Passing.{Called, Passing, component_called, pass_all, when_passed}
 use Rattle.cp_model_machine.specs.Calling.{Back, call_step, enter, frame_of, gate_effect, has_room, start_words}
 use Rattle.cp_model_machine.specs.Addresses.{ClassHasRights, ComponentLies, Ground, activations, in_sight, scope, lies_in_sight, whole}
-use Rattle.cp_model_machine.specs.Left.{CallerAt, IsGate, gate_number, held_below, kept_below, site}
+use Rattle.cp_model_machine.specs.Remaining.{CallerAt, IsGate, gate_number, held_below, kept_below, site}
 use Rattle.cp_model_machine.specs.PartOf.{DataMeans, PartOf, RunsOn}
 use Rattle.cp_model_machine.proofs.Entering.{Opened, Waits, entered_on, environment_of_call, owner_of_call}
 use Rattle.cp_model_machine.proofs.Heres.{Sees, depth_is, seen_is, seen_mine}
@@ -56,7 +56,7 @@ use Rattle.cp_model_machine.proofs.Separate.{part_below}
 use Rattle.cp_model_machine.proofs.Stepping.{Now, beyond, clock_of, faulted, gate_entered, stopped, went}
 use Rattle.cp_law_typing.proofs.Locations.{location_is, owner_is, same_owner_itself}
 use Rattle.cp_model_machine.proofs.Stacks.{own_in_whole}
-use Rattle.cp_model_machine.proofs.Effects.{EffectAgrees, LeavesIt, Means, WentOn, enters, going, passed_leaves, provided_leaves, then_means, told}
+use Rattle.cp_model_machine.proofs.Effects.{EffectAgrees, LeavesIt, Means, WentOn, enters, going, passed_leaves, provided_leaves, then_means, reported}
 use Rattle.cp_model.specs.Configurations.{StepResult}
 
 -- ---- writes of one owner
@@ -97,7 +97,7 @@ pub record TargetIs (G : Ground) (store : Store) (t : calls.Target) (c : Called)
 
 -- ---- calls
 
-module _ (G : Ground) (s : State) (w : Outside) (before : List ℕ) (o : PrivateState) (i : Task) (l : List Task) (N : Now G s w before o i l) (sees : Sees G (in_sight G) s.store N.on.running.env)
+module _ (G : Ground) (s : State) (w : StepContext) (before : List ℕ) (o : PrivateState) (i : Task) (l : List Task) (N : Now G s w before o i l) (sees : Sees G (in_sight G) s.store N.on.running.env)
     (k : List Task) (v : UserCall) (call : Call) (back : Back) (place kept live : ℕ) where
   abbrev pub callee_system : System
   callee_system = system_of_callee N.on.running.env v.callee.of
@@ -122,7 +122,7 @@ module _ (G : Ground) (s : State) (w : Outside) (before : List ℕ) (o : Private
   pub record Invocation (from last low high : ℕ) : Type 1 where
     pub waits : Waits G o (i ∷ l) k N.on.running place kept live
     pub runs : sites.Runs (site G N.on.running) (RoutineOf callee_system v.callee.routine) kept call
-    pub stands : UnitStands G.program G.texts (scope G) runs.unit (RoutineOf callee_system v.callee.routine)
+    pub represents : UnitRepresents G.program G.texts (scope G) runs.unit (RoutineOf callee_system v.callee.routine)
     pub arguments : ArgumentsFor (site G N.on.running) (held_below N.on.live o.temps N.on.running.temp) (parameters (site G N.on.running) v.callee) v.arguments call.arguments (first_parameter v.callee) from last low high
     pub made : call_in_arguments N.on.running.env (a.Literal 0) v.arguments ≡ None
     pub where_is : v.environment ≡ N.on.running.env
@@ -137,7 +137,7 @@ module _ (G : Ground) (s : State) (w : Outside) (before : List ℕ) (o : Private
 
   pub invoked : (from last low high : ℕ) → Invocation from last low high
       → PartOf G (after_step s G.p (called v.environment)) before (call_step G.program w o call back).0 × EffectAgrees G w.own (called v.environment) (call_step G.program w o call back).1
-  invoked from last low high I = (part, told G w.own s before N.ready (called v.environment) entered_gate (call_step G.program w o call back) part means leaves_it)
+  invoked from last low high I = (part, reported G w.own s before N.ready (called v.environment) entered_gate (call_step G.program w o call back) part means leaves_it)
     where
       t : calls.Target
       t = target (context G.setup s G.p) s.store N.on.running.env v.callee.of
@@ -223,7 +223,7 @@ module _ (G : Ground) (s : State) (w : Outside) (before : List ℕ) (o : Private
       sized : top + (first_parameter v.callee + locals_words N.on.running.env.globals (parameters (site G N.on.running) v.callee)) ≤ w.own
       sized =
           let g = ap (λ z. locals_words z (declarations z v.callee.routine.parameters)) N.on.runs.globals in
-          omega (arith, g, locals_two (scope G) (declarations (scope G) v.callee.routine.parameters) (declarations (scope G) v.callee.routine.variables), I.stands.1, I.runs.fits.words, N.on.runs.words_fit, N.around.own, N.on.base)
+          omega (arith, g, locals_two (scope G) (declarations (scope G) v.callee.routine.parameters) (declarations (scope G) v.callee.routine.variables), I.represents.1, I.runs.fits.words, N.on.runs.words_fit, N.around.own, N.on.base)
 
       parts_lie : PartsLie N.on.running.env.globals (lies_in_sight (in_sight G) G (activations o.base o.frames (i ∷ l)))
       parts_lie at path n m t u is there =
@@ -257,8 +257,8 @@ module _ (G : Ground) (s : State) (w : Outside) (before : List ℕ) (o : Private
           (gate_entered G s before t.gate after _ N.ready
           (went G s before o N.part (opened_store ws) after (push v.callee.routine.body env (EndCall env t.gate ∷ k))
           (entered_on G s.store (opened_store ws) o new_words (i ∷ l) k N.on call back callee_system v.callee.routine t.component c t.gate place kept live I.waits
-          (record { runs = I.runs; stands = I.stands; lies_there = I.target_is.lies_there callable; same_gate = I.target_is.gate; is_gate = I.target_is.is_gate callable })
-          I.caller (I.target_is.given callable) (live_same ws inside) below (I.stands.0.length_is (o.base + call.words) new ∙ B.length_is) (I.opens ws new B.length_is B))
+          (record { runs = I.runs; represents = I.represents; lies_there = I.target_is.lies_there callable; same_gate = I.target_is.gate; is_gate = I.target_is.is_gate callable })
+          I.caller (I.target_is.given callable) (live_same ws inside) below (I.represents.0.length_is (o.base + call.words) new ∙ B.length_is) (I.opens ws new B.length_is B))
           record { number = refl; input = refl; consumed = refl; output = refl; activity = refl }))
         where
           new_words : List ℤ
@@ -268,17 +268,17 @@ module _ (G : Ground) (s : State) (w : Outside) (before : List ℕ) (o : Private
           after = enter (record o { words = carry_out (o.base + call.words) I.runs.unit.starts new }) c I.runs.unit call back
 
           start_room : o.base + call.words + activation_words (scope G) v.callee.routine ≤ length new
-          start_room = omega (arith, I.stands.1, I.runs.fits.words, N.on.runs.words_fit, N.on.count, N.on.base, I.runs.words, B.length_is, own_in_whole G)
+          start_room = omega (arith, I.represents.1, I.runs.fits.words, N.on.runs.words_fit, N.on.count, N.on.base, I.runs.words, B.length_is, own_in_whole G)
 
           below : SameBelow G (o.base + (site G N.on.running).words) o.words (carry_out (o.base + call.words) I.runs.unit.starts new)
           below z (inl q) =
-              I.stands.0.outside (o.base + call.words) new z start_room
+              I.represents.0.outside (o.base + call.words) new z start_room
               (inl (omega (arith, q, I.runs.words))) (λ n e f. absurd (omega (arith, q, f, I.runs.words)))
               ∙ B.outside z (inl (omega (arith, q)))
           below z (inr q) =
-              I.stands.0.outside (o.base + call.words) new z start_room
-              (inr (omega (arith, q, I.stands.1, I.runs.fits.words, N.on.runs.words_fit, N.on.base, I.runs.words)))
-              (λ n e f. absurd (omega (arith, q, f, result_inside (scope G) v.callee.routine n e, I.stands.1, I.runs.fits.words, N.on.runs.words_fit, N.on.base, I.runs.words)))
+              I.represents.0.outside (o.base + call.words) new z start_room
+              (inr (omega (arith, q, I.represents.1, I.runs.fits.words, N.on.runs.words_fit, N.on.base, I.runs.words)))
+              (λ n e f. absurd (omega (arith, q, f, result_inside (scope G) v.callee.routine n e, I.represents.1, I.runs.fits.words, N.on.runs.words_fit, N.on.base, I.runs.words)))
               ∙ B.outside z (inr (omega (arith, q, sized, N.around.own)))
 
       by : (b : Bool) → t.is_callable ≡ b

@@ -15,7 +15,7 @@ use Rattle.cp_model_program.specs.Starts.{word}
 use Rattle.cp_model_machine.specs.PrivateStates.{PrivateState}
 use Rattle.cp_model_machine.specs.Addresses.{Activation, AllWords, ClassLies, ComponentLies, Ground, HasRights, MonitorLies, MonitorsLie, OwnWords, ProcessLies, RightMeans, RightOf, activation_at, activations, component_type, in_sight, lies, part_at, scope, sees, whole, words_seen}
 use Rattle.cp_model_machine.specs.KernelOf.{is_shared, kernel_ground}
-use Rattle.cp_model_machine.specs.Left.{held_below, site}
+use Rattle.cp_model_machine.specs.Remaining.{held_below, site}
 use Rattle.cp_model_machine.specs.Means.{CellMeans}
 use Rattle.cp_model_machine.specs.Passing.{monitor_start}
 use Rattle.cp_model_machine.specs.PartOf.{DataMeans, RunsOn, components, control}
@@ -29,7 +29,7 @@ use Rattle.cp_model_machine.proofs.Separate.{cell_inside, own_right_inside}
 use Rattle.cp_model_machine.proofs.Sights.{at_there, component_back, mean_there, right_means, rights_there, same_lies, with_sight}
 use Rattle.cp_model_machine.proofs.Stacks.{Stacked, found_inside}
 use Rattle.cp_model_machine.proofs.Writing.{is_cell}
-use Rattle.cp_model_program.specs.StandsFor.{system_of_process}
+use Rattle.cp_model_program.specs.IsProgramFor.{system_of_process}
 use Rattle.cp_model.specs.CallSteps.{is_initialised}
 use Rattle.std.proofs.lemmas.List.{get_or_append_left, get_or-append-add, length-append}
 

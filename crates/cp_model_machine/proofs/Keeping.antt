@@ -20,9 +20,9 @@ use Rattle.cp_model_program.specs.TermsFor.{Knowns, nothing_known}
 use Rattle.cp_model_machine.specs.Means.{CellMeans}
 use Rattle.cp_model_machine.specs.PrivateStates as machine
 use Rattle.cp_model_machine.specs.Addresses.{Activation, ClassLies, ComponentLies, Ground, MonitorLies, ProcessLies, RightMeans, activation_at, activation_of, activations, component_type, in_sight, lies, part_of_component, scope}
-use Rattle.cp_model_machine.specs.Left.{Left, Running, kept_below}
+use Rattle.cp_model_machine.specs.Remaining.{Remaining, Running, kept_below}
 use Rattle.cp_model_machine.specs.PartOf.{ActivationMeans, ActivationsMean, DataMeans, IfFrame, ResultMeans}
-use Rattle.cp_model_program.specs.StandsFor.{system_of_process}
+use Rattle.cp_model_program.specs.IsProgramFor.{system_of_process}
 use Rattle.cp_model_machine.proofs.Apart.{InHead, IsCell, IsClass}
 use Rattle.cp_model_machine.proofs.Finding.{some_is_not_none}
 use Rattle.cp_model_machine.proofs.Given.{KeepsGiven, rights_kept}
@@ -122,7 +122,7 @@ module _ (G : Ground) (store after : Store) (old new : List ℤ) where
 
   -- The same for all activations.
   pub activations_kept : (temps : List ℤ) (limit b : ℕ) (K : Knowns) (R : Running) (fs : List machine.Frame) (place low : ℕ) (k : List Task)
-      → Left G temps limit K R fs place low k → EachKept (activations b fs k)
+      → Remaining G temps limit K R fs place low k → EachKept (activations b fs k)
       → ActivationsMean G store old b fs k → ActivationsMean G after new b fs k
   activations_kept temps limit b K R fs place low [] h keeps m = absurd h
   activations_kept temps limit b K R fs place low (Do s e ∷ k) h keeps m =

@@ -8,12 +8,12 @@ use Rattle.cp_model.specs.States as states
 use Rattle.cp_model.specs.States.{Free, Gate, HeldBy, Holder, State, Unset}
 use Rattle.cp_model.proofs.Options.{same_some}
 use Rattle.cp_model_program.specs.Programs as code
-use Rattle.cp_model_program.specs.StandsFor.{StandsFor}
+use Rattle.cp_model_program.specs.IsProgramFor.{IsProgramFor}
 use Rattle.cp_model_machine.specs.Addresses.{AllWords, Ground}
 use Rattle.cp_model_machine.specs.KernelOf.{KernelOf, StageMeans, kernel_ground}
-use Rattle.cp_model_machine.specs.KernelSteps.{Asking, Begun, Delayed, Fresh, Kernel, Stage, Unstarted, gate_of, is_set, is_started, stage_of}
+use Rattle.cp_model_machine.specs.KernelSteps.{Asking, Begun, Delayed, Fresh, Kernel, SchedulingState, Unstarted, gate_of, is_set, is_started, stage_of}
 use Rattle.cp_model_machine.specs.Passing.{monitor_start}
-use Rattle.cp_model_machine.specs.PrivateStates.{Outside}
+use Rattle.cp_model_machine.specs.PrivateStates.{StepContext}
 pub use Rattle.cp_model_machine.proofs.MonitorsThere.{monitor_below, process_below}
 use Rattle.cp_model_machine.proofs.Stepping.{AroundAll}
 use Rattle.std.proofs.lemmas.Option.{slice_get_within}
@@ -24,7 +24,7 @@ same_set Unset = refl
 same_set Free = refl
 same_set (HeldBy p) = refl
 
-same_started : (G : Ground) (x : Status) (g : Stage) → StageMeans G x g → is_started g ≡ states.is_started x
+same_started : (G : Ground) (x : Status) (g : SchedulingState) → StageMeans G x g → is_started g ≡ states.is_started x
 same_started G status.Unstarted Unstarted h = refl
 same_started G status.Fresh Fresh h = refl
 same_started G (status.Asking m) (Asking k) h = refl
@@ -35,7 +35,7 @@ same_started G status.Waiting Begun h = refl
 same_started G (status.Faulted n) Begun h = refl
 same_started G _ _ h = absurd h
 
-module _ (G : Ground) (F : StandsFor G.program G.setup) where
+module _ (G : Ground) (F : IsProgramFor G.program G.setup) where
   -- The first word of each monitor is a shared word, or comes after the last one.
   start_below : (m : ℕ) → monitor_start G.program m ≤ G.program.shared
   start_below m = by (slice_get G.program.monitors (m - 1)) refl
@@ -48,16 +48,16 @@ module _ (G : Ground) (F : StandsFor G.program G.setup) where
           let same : M.row ≡ r = same_some M.row r (sym M.there ∙ (ap (slice_get G.program.monitors) (one_less (m - 1)) ∙ e)) in
           omega (arith, M.lies, ap (λ (z : code.Monitor). z.start) same)
 
-  pub around_all : G.sight ≡ AllWords → (s : State) (k : Kernel) → KernelOf G.program G.texts G.setup s k → (w : Outside) → ((m : ℕ) → w.is_set m ≡ is_set (gate_of k.gates m).holder)
+  pub around_all : G.sight ≡ AllWords → (s : State) (k : Kernel) → KernelOf G.program G.texts G.setup s k → (w : StepContext) → ((m : ℕ) → w.is_set m ≡ is_set (gate_of k.gates m).holder)
       → ((r : ℕ) → w.is_started r ≡ is_started (stage_of k.stages r)) → AroundAll G s w
   around_all sight s k K w set started = record {
     sight = sight;
     starts = start_below;
     few = λ m y is. omega (arith, (monitor_below G.setup m y is).1, F.typed.monitors);
-    set_is = λ m. set m ∙ (same_set (gate_of k.gates m).holder ∙ ap (λ (g : Gate). states.is_set g.holder) (K.gates_stand.gates m));
+    set_is = λ m. set m ∙ (same_set (gate_of k.gates m).holder ∙ ap (λ (g : Gate). states.is_set g.holder) (K.gates_represent.gates m));
     none_set = set 0;
     started_is = λ r y is.
         let below = process_below G.setup r y is in
         started r
-        ∙ same_started (kernel_ground G.program G.texts G.setup) (s.status r) (stage_of k.stages r) (K.gates_stand.stages r below.0 (omega (arith, below.1, K.gates_stand.stage_count)));
+        ∙ same_started (kernel_ground G.program G.texts G.setup) (s.status r) (stage_of k.stages r) (K.gates_represent.stages r below.0 (omega (arith, below.1, K.gates_represent.stage_count)));
   }

@@ -22,7 +22,7 @@ use Rattle.cp_law_typing.specs.WellTyped.{WellTyped}
 use Rattle.cp_model_program.specs.Layout.{farther, head_words, member, member_part, right, rights}
 use Rattle.cp_model_program.specs.Programs as code
 use Rattle.cp_model_program.specs.Programs.{Program}
-use Rattle.cp_model_program.specs.StandsFor.{MonitorStands, StandsFor, system_of_monitor}
+use Rattle.cp_model_program.specs.IsProgramFor.{MonitorRepresents, IsProgramFor, system_of_monitor}
 use Rattle.cp_model_program.specs.Starts.{word}
 use Rattle.cp_model_machine.specs.Addresses.{ClassLies, ComponentLies, Ground, MonitorLies, ProcessLies, RightMeans, component_type, lies, part_at, part_of_component}
 use Rattle.cp_model_machine.specs.KernelOf.{StageMeans, is_shared, kernel_ground}
@@ -34,7 +34,7 @@ use Rattle.cp_model_machine.specs.Passing.{monitor_start}
 use Rattle.cp_model_machine.proofs.Apart.{IsCell, IsClass}
 use Rattle.cp_model_machine.proofs.Finding.{some_is_not_none}
 use Rattle.cp_model_machine.proofs.Keeping.{right_no_variable, right_within}
-use Rattle.cp_model_machine.proofs.MonitorsThere.{monitor_below, stands_there, start_is, system_is}
+use Rattle.cp_model_machine.proofs.MonitorsThere.{monitor_below, represents_there, start_is, system_is}
 use Rattle.cp_model_machine.proofs.Owned.{found_monitor}
 use Rattle.cp_model_machine.proofs.PartLeaves.{member_cell_is_leaf, member_leaf_lies, start_value}
 use Rattle.cp_model_machine.proofs.SharedStarts.{BlockStarts, shared_length, shared_starts}
@@ -49,7 +49,7 @@ owns setup typed (suc k) s h = monitor_owns setup typed k s h
 
 -- ---- the shared words
 
-module _ (program : Program) (setup : Setup) (F : StandsFor program setup) where
+module _ (program : Program) (setup : Setup) (F : IsProgramFor program setup) where
   abbrev g : GlobalScope
   g = globals setup.tree
 
@@ -61,7 +61,7 @@ module _ (program : Program) (setup : Setup) (F : StandsFor program setup) where
 
   block : (m : ℕ) (s : System) → system_of_monitor setup m ≡ Some s → BlockStarts g s (monitor_start program m) shared
   block m s is =
-      let M : MonitorStands program F.texts setup m = stands_there program setup F m s is in
+      let M : MonitorRepresents program F.texts setup m = represents_there program setup F m s is in
       let below = monitor_below setup m s is in
       subst (λ y. BlockStarts g y (monitor_start program m) shared) (system_is program setup F m s is M)
       (subst (λ n. BlockStarts g M.system n shared) (sym (start_is program setup F m M)) (shared_starts program setup F m below.0 below.1 M))
@@ -203,7 +203,7 @@ stages_start H setup (x ∷ xs) (suc (suc p)) low high =
 pub kernel_starts : StartIsKernel
 kernel_starts program setup F tick inputs = record {
   word_count = shared_length program setup F;
-  gates_stand = record {
+  gates_represent = record {
     gate_count = length-map program.monitors (λ m. record { holder = Unset; askers = [] }) ∙ F.monitor_rows;
     stage_count = stage_count program.processes ∙ F.process_rows;
     gates = no_gate program.monitors;

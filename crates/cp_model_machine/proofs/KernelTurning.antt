@@ -24,23 +24,23 @@ use Rattle.cp_model.specs.Turns.{after_step, if_kernel, kind, kind_of, step}
 use Rattle.cp_model.proofs.StateInvariant.{kernel_step_keeps}
 use Rattle.cp_model.proofs.StateMaps.{with_at_here}
 use Rattle.cp_model_program.specs.Programs.{Operation, Program}
-use Rattle.cp_model_program.specs.StandsFor.{StandsFor}
+use Rattle.cp_model_program.specs.IsProgramFor.{IsProgramFor}
 use Rattle.cp_model_program.specs.TermsFor.{Knowns}
 use Rattle.cp_model_machine.specs.PrivateStates as machine
-use Rattle.cp_model_machine.specs.PrivateStates.{Acting, Activity, Outside, PrivateState}
+use Rattle.cp_model_machine.specs.PrivateStates.{Acting, Activity, StepContext, PrivateState}
 use Rattle.cp_model_machine.specs.Steps as steps
 use Rattle.cp_model_machine.specs.Steps.{act, act_on, operation_of, step_with}
 use Rattle.cp_model_machine.specs.Addresses.{Activation, AllWords, Ground, MonitorsLie, activations, in_sight}
 use Rattle.cp_model_machine.specs.EffectOf.{IsNumber}
 use Rattle.cp_model_machine.specs.KernelOf.{KernelOf, StageMeans, is_shared, kernel_ground}
 use Rattle.cp_model_machine.specs.KernelSteps as plain
-use Rattle.cp_model_machine.specs.KernelSteps.{Begun, Kernel, Stage, Turning, apply_effect, is_begun, is_due, join_words, needs_kernel, outside, part_words, stage_of}
+use Rattle.cp_model_machine.specs.KernelSteps.{Begun, Kernel, SchedulingState, Turning, apply_effect, is_begun, is_due, join_words, needs_kernel, outside, part_words, stage_of}
 use Rattle.cp_model_machine.specs.Laws.{TurningOf, ground_of}
-use Rattle.cp_model_machine.specs.Left.{Left, Running, innermost_gate, site}
-use Rattle.cp_model_machine.specs.PartOf.{DataMeans, GoesOn, PartOf, RunsOn, status_of}
+use Rattle.cp_model_machine.specs.Remaining.{Remaining, Running, innermost_gate, site}
+use Rattle.cp_model_machine.specs.PartOf.{DataMeans, Advances, PartOf, RunsOn, status_of}
 use Rattle.cp_model_machine.proofs.Deciding.{Reaches, ready_steps}
 use Rattle.cp_model_machine.proofs.Effects.{HasFailed, HasFaulted, failed, private_after, private_by, unfailed}
-use Rattle.cp_model_machine.proofs.EffectsKept.{Stand, effects_kept, stand_beside}
+use Rattle.cp_model_machine.proofs.EffectsKept.{Represent, effects_kept, represent_beside}
 use Rattle.cp_model_machine.proofs.EndsAlone.{DoesNotEnd, Endless, IsEnd, action_endless}
 use Rattle.cp_model_machine.proofs.GatesHeld.{gate_is_held}
 use Rattle.cp_model_machine.proofs.Joining.{runs_joined}
@@ -62,7 +62,7 @@ abbrev pub Due : List Task → Bool
 Due k = holds_gate stage.Ready k || is_kernel_action (action k)
 
 -- A process at its end mark has no kernel step.
-no_end : (G : Ground) (temps : List ℤ) (limit : ℕ) (K : Knowns) (R : Running) (fs : List machine.Frame) (place low : ℕ) (k : List Task) → Left G temps limit K R fs place low k → Due k ≡ true → IsEnd (action k) → ⊥
+no_end : (G : Ground) (temps : List ℤ) (limit : ℕ) (K : Knowns) (R : Running) (fs : List machine.Frame) (place low : ℕ) (k : List Task) → Remaining G temps limit K R fs place low k → Due k ≡ true → IsEnd (action k) → ⊥
 no_end G temps limit K R fs place low [] left due end = end
 no_end G temps limit K R fs place low (i ∷ k) left due end = by i left due (of_task (call_in_task (a.Literal 0) i) (procedure_call i) end)
   where
@@ -71,7 +71,7 @@ no_end G temps limit K R fs place low (i ∷ k) left due end = by i left due (of
     of_task None (Some u) h = absurd h
     of_task (Some f) u h = absurd h
 
-    by : (i : Task) → Left G temps limit K R fs place low (i ∷ k) → Due (i ∷ k) ≡ true → IsEnd (Acts i k) → ⊥
+    by : (i : Task) → Remaining G temps limit K R fs place low (i ∷ k) → Due (i ∷ k) ≡ true → IsEnd (Acts i k) → ⊥
     by EndProcess left due end =
         true≢false (sym due ∙ ap (λ ms. (elim ms as (λ x. Bool) [ [] ↦ false | m ∷ rest ↦ true ]) || false) (ap marked_monitors left.1))
     by (Do s env) left due end = end
@@ -87,7 +87,7 @@ no_end G temps limit K R fs place low (i ∷ k) left due end = by i left due (of
 begun_still : (o : PrivateState) (y : Operation) (after : PrivateState) → Stops o y after → HasBegun (status_of after.activity)
 begun_still o y after (On goes) = by after.activity goes
   where
-    by : (x : Activity) → GoesOn x → HasBegun (status_of x)
+    by : (x : Activity) → Advances x → HasBegun (status_of x)
     by machine.Running h = tt
     by machine.Waiting h = tt
     by _ h = absurd h
@@ -114,7 +114,7 @@ not_begun o program k held = by (machine.is_running o.activity)
     by true = ap (λ b. if b then needs_kernel o (operation_of program o) else false) held
     by false = refl
 
-module _ (program : Program) (setup : Setup) (F : StandsFor program setup) (p own : ℕ) (s : State) (before : List ℕ) (o : PrivateState) (k : Kernel)
+module _ (program : Program) (setup : Setup) (F : IsProgramFor program setup) (p own : ℕ) (s : State) (before : List ℕ) (o : PrivateState) (k : Kernel)
     (I : Invariant s) (number : IsNumber (process_count setup) p) (P : PartOf (ground_of program setup F p own) s before o) (K : KernelOf program F.texts setup s k) where
   abbrev pub G : Ground
   G = ground_of program setup F p own
@@ -128,7 +128,7 @@ module _ (program : Program) (setup : Setup) (F : StandsFor program setup) (p ow
   abbrev pub x : Turning
   x = record { kernel = k; own = o }
 
-  abbrev pub w : Outside
+  abbrev pub w : StepContext
   w = outside clock x
 
   pub around : Around H s w
@@ -144,7 +144,7 @@ module _ (program : Program) (setup : Setup) (F : StandsFor program setup) (p ow
 
   module _ (ready : s.status p ≡ stage.Ready) (running : o.activity ≡ machine.Running) where
     R : RunsOn G s.store o (s.continuation p)
-    R = P.runs_on (subst GoesOn (sym running) tt)
+    R = P.runs_on (subst Advances (sym running) tt)
 
     pub joins : RunsOn H s.store (join_words x) (s.continuation p)
     joins = runs_joined G refl (monitors_lie program setup F) s.store o (s.continuation p) R k.shared K.word_count K.data_means
@@ -169,7 +169,7 @@ module _ (program : Program) (setup : Setup) (F : StandsFor program setup) (p ow
     stage_begun : stage_of k.stages o.number ≡ Begun
     stage_begun =
         ap (stage_of k.stages) P.number
-        ∙ begun (kernel_ground program F.texts setup) (monitor_count setup) (process_count setup) s k own p number ready K.gates_stand
+        ∙ begun (kernel_ground program F.texts setup) (monitor_count setup) (process_count setup) s k own p number ready K.gates_represent
 
     pub due_is : is_due program x ≡ Due (s.continuation p)
     due_is =
@@ -214,7 +214,7 @@ module _ (program : Program) (setup : Setup) (F : StandsFor program setup) (p ow
     module _ (J : StoreInvariant u.store) where
       -- After the words are separated, the kernel and the private state are right, whether the
       -- process runs on or not.
-      halves : (top : ℕ) → Stacked H top xs → HasBegun (status_of r.0.activity) → (GoesOn r.0.activity → RunsOn G u.store (record r.0 { words = take own r.0.words }) (u.continuation p))
+      halves : (top : ℕ) → Stacked H top xs → HasBegun (status_of r.0.activity) → (Advances r.0.activity → RunsOn G u.store (record r.0 { words = take own r.0.words }) (u.continuation p))
           → TurningOf program setup F p own u before (part_words n x r)
       halves top stack begun runs = record {
         part = record {
@@ -229,8 +229,8 @@ module _ (program : Program) (setup : Setup) (F : StandsFor program setup) (p ow
         };
         kernel = record {
           word_count = ap length (effect_shared n o.number r.1 edited) ∙ (ap (λ z. length (drop z r.0.words)) P.count ∙ shared_count G refl lie u.store J r.0.words xs top stack after.count D);
-          gates_stand = subst (λ z. Stand H u (apply_effect n z r.1 edited)) (sym P.number)
-              (effects_kept H s w before (join_words x) S all number ready edited (stand_beside H s k (drop n r.0.words) K.gates_stand));
+          gates_represent = subst (λ z. Represent H u (apply_effect n z r.1 edited)) (sym P.number)
+              (effects_kept H s w before (join_words x) S all number ready edited (represent_beside H s k (drop n r.0.words) K.gates_represent));
           data_means = subst (DataMeans (kernel_ground program F.texts setup) [] is_shared u.store) (sym (effect_shared n o.number r.1 edited))
               (subst (λ z. DataMeans (kernel_ground program F.texts setup) [] is_shared u.store (drop z r.0.words)) (sym P.count) (data_shared G refl lie u.store J r.0.words xs top stack after.count D));
         };
@@ -247,7 +247,7 @@ module _ (program : Program) (setup : Setup) (F : StandsFor program setup) (p ow
       left_same (Fault m) Q fails = refl
       left_same (Gives (c, e)) Q fails = absurd (unfailed s p ready c e (subst HasFailed (sym Q.status) (failed r.0.activity fails)))
 
-      goes_no_fault : (a : Activity) → HasFaulted a → GoesOn a → ⊥
+      goes_no_fault : (a : Activity) → HasFaulted a → Advances a → ⊥
       goes_no_fault (machine.Faulted f) h g = g
       goes_no_fault _ h g = h
 
@@ -319,13 +319,13 @@ module _ (program : Program) (setup : Setup) (F : StandsFor program setup) (p ow
       known : (y : Status) → s.status p ≡ y → StageMeans (kernel_ground program F.texts setup) y (stage_of k.stages o.number)
       known y is =
           subst (λ z. StageMeans (kernel_ground program F.texts setup) y (stage_of k.stages z)) (sym P.number)
-          (subst (λ z. StageMeans (kernel_ground program F.texts setup) z (stage_of k.stages p)) is (K.gates_stand.stages p number.0 (omega (arith, number.1, K.gates_stand.stage_count))))
+          (subst (λ z. StageMeans (kernel_ground program F.texts setup) z (stage_of k.stages p)) is (K.gates_represent.stages p number.0 (omega (arith, number.1, K.gates_represent.stage_count))))
 
-      asks : (m : ℕ) (g : Stage) → StageMeans (kernel_ground program F.texts setup) (stage.Asking m) g → is_begun g ≡ false
+      asks : (m : ℕ) (g : SchedulingState) → StageMeans (kernel_ground program F.texts setup) (stage.Asking m) g → is_begun g ≡ false
       asks m (plain.Asking j) means = refl
       asks m _ means = absurd means
 
-      waits : (m : ℕ) (q : Location) (g : Stage) → StageMeans (kernel_ground program F.texts setup) (stage.Delayed m q) g → is_begun g ≡ false
+      waits : (m : ℕ) (q : Location) (g : SchedulingState) → StageMeans (kernel_ground program F.texts setup) (stage.Delayed m q) g → is_begun g ≡ false
       waits m q (plain.Delayed j at) means = refl
       waits m q _ means = absurd means
 

@@ -12,7 +12,7 @@ use Rattle.cp_model_machine.specs.Addresses.{Activation, Ground, activation_at, 
 use Rattle.cp_model.specs.Abstract.{System}
 use Rattle.cp_model.specs.Declarations as declared
 use Rattle.cp_model.proofs.Options.{same_some}
-use Rattle.cp_model_program.specs.StandsFor.{system_of_monitor, system_of_process}
+use Rattle.cp_model_program.specs.IsProgramFor.{system_of_monitor, system_of_process}
 use Rattle.cp_model_machine.specs.Passing.{monitor_start}
 use Rattle.cp_model_machine.proofs.Finding.{some_is_not_none}
 

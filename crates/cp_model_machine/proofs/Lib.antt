@@ -37,8 +37,8 @@ pub mod PerformCalls
 pub mod InitCalls
 pub mod StatementCalls
 -- Running on.
-pub mod LeftKept
-mod LeftExample
+pub mod RemainingKept
+mod RemainingExample
 pub mod Pushing
 pub mod RunningOn
 -- What steps have in common.
@@ -137,7 +137,7 @@ pub mod KernelStarts
 pub mod RoundEnds
 pub mod RoundParts
 pub mod BeginsBeside
-pub mod Stands
+pub mod Represents
 pub mod MachineTurns
 pub mod MachineRounds
 -- The report.

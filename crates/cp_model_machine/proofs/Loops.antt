@@ -16,7 +16,7 @@ use Rattle.cp_model.specs.Stores.{Store}
 use Rattle.cp_model_program.specs.TermsFor.{Knowns, nothing_known}
 use Rattle.cp_model_program.specs.Sites.{Site}
 use Rattle.cp_model_machine.specs.Addresses.{Ground, activations}
-use Rattle.cp_model_machine.specs.Left.{Left, Loop, LoopLeft, Repeat, Running, While, at_true, site}
+use Rattle.cp_model_machine.specs.Remaining.{Remaining, Loop, LoopRemaining, Repeat, Running, While, at_true, site}
 use Rattle.cp_model_machine.specs.PartOf.{ActivationsMean}
 use Rattle.cp_model_machine.specs.PrivateStates as machine
 use Rattle.cp_model_machine.proofs.Stepping.{IfPlaced}
@@ -25,7 +25,7 @@ use Rattle.cp_model_machine.proofs.Stepping.{IfPlaced}
 
 -- The test begins anew.
 pub whole_loop : (loop : Loop) (s : Site) (K : Knowns) (now e : a.Expression) (body : a.Statement) (place next low : ℕ)
-    → (W : LoopLeft loop s K now e body place next low) → LoopLeft loop s nothing_known e e body W.start next low
+    → (W : LoopRemaining loop s K now e body place next low) → LoopRemaining loop s nothing_known e e body W.start next low
 whole_loop loop s K now e body place next low W = record {
   start = W.start;
   last = W.last;
@@ -48,14 +48,14 @@ loop_task Repeat now e s env = RepeatTest now s e env
 abbrev pub AtTest : Loop → Ground → List ℤ → ℕ → Knowns → Running → List machine.Frame → ℕ → ℕ → (now e : a.Expression) (s : a.Statement) (env : Environment) → List Task → Type 0
 AtTest loop G temps limit K R fs place low now e s env k =
     (env ≡ R.env) × ((next : ℕ) × (from : ℕ) × (from ≤ low)
-    × LoopLeft loop (site G R) K now e s place next from × Left G temps limit nothing_known R fs next from k)
+    × LoopRemaining loop (site G R) K now e s place next from × Remaining G temps limit nothing_known R fs next from k)
 
 module _ (G : Ground) (temps : List ℤ) (limit : ℕ) (K : Knowns) (R : Running) (fs : List machine.Frame) (place low : ℕ) (now e : a.Expression) (s : a.Statement) (env : Environment) (k : List Task) where
-  abbrev pub test_left : (loop : Loop) → Left G temps limit K R fs place low (loop_task loop now e s env ∷ k) → AtTest loop G temps limit K R fs place low now e s env k
+  abbrev pub test_left : (loop : Loop) → Remaining G temps limit K R fs place low (loop_task loop now e s env ∷ k) → AtTest loop G temps limit K R fs place low now e s env k
   test_left While h = h
   test_left Repeat h = h
 
-  pub left_at_test : (loop : Loop) → AtTest loop G temps limit K R fs place low now e s env k → Left G temps limit K R fs place low (loop_task loop now e s env ∷ k)
+  pub left_at_test : (loop : Loop) → AtTest loop G temps limit K R fs place low now e s env k → Remaining G temps limit K R fs place low (loop_task loop now e s env ∷ k)
   left_at_test While h = h
   left_at_test Repeat h = h
 

@@ -21,7 +21,7 @@ use Rattle.cp_model.proofs.StateMaps.{with_at_here}
 use Rattle.cp_model.proofs.RoundCount.{kernel_turn_count}
 use Rattle.cp_model.proofs.StateInvariant.{kernel_turn_keeps}
 use Rattle.cp_model_program.specs.Programs.{Program}
-use Rattle.cp_model_program.specs.StandsFor.{StandsFor}
+use Rattle.cp_model_program.specs.IsProgramFor.{IsProgramFor}
 use Rattle.cp_model_machine.specs.Steps.{step_with}
 use Rattle.cp_model_machine.specs.PrivateStates as machine
 use Rattle.cp_model_machine.specs.PrivateStates.{PrivateState}
@@ -31,7 +31,7 @@ use Rattle.cp_model_machine.specs.KernelSteps.{Kernel, Turning, join_words, kern
 use Rattle.cp_model_machine.specs.Laws.{OutputMoves, TurningOf, ground_of}
 use Rattle.cp_model_machine.specs.Machines.{Machine, after_kernel_turn, clock, kernel_turn, transcript_of}
 use Rattle.cp_model_machine.specs.PartOf.{PartOf, status_of}
-use Rattle.cp_model_machine.proofs.Stands.{AllStand, IsIn, PartStands}
+use Rattle.cp_model_machine.proofs.Represents.{AllRepresent, IsIn, PartRepresents}
 use Rattle.cp_model_machine.proofs.BeginsBeside.{kernel_turn_keeps_begins}
 use Rattle.cp_model_machine.proofs.Finding.{some_is_not_none}
 use Rattle.cp_model_machine.proofs.Effects.{private_after, private_by}
@@ -74,20 +74,20 @@ abbrev IsNotBegun : PrivateStatus → Type 0
 IsNotBegun parts.NotBegun = Unit {0}
 IsNotBegun _ = ⊥
 
-told_not_begun : (x : Status) → HasNotBegun x → IsNotBegun (private_status x)
-told_not_begun stage.Unstarted h = tt
-told_not_begun stage.Fresh h = tt
-told_not_begun _ h = absurd h
+reported_not_begun : (x : Status) → HasNotBegun x → IsNotBegun (private_status x)
+reported_not_begun stage.Unstarted h = tt
+reported_not_begun stage.Fresh h = tt
+reported_not_begun _ h = absurd h
 
-not_begun_told : (x : Status) → IsNotBegun (private_status x) → HasNotBegun x
-not_begun_told stage.Unstarted h = tt
-not_begun_told stage.Fresh h = tt
-not_begun_told stage.Ready h = h
-not_begun_told stage.Ended h = h
-not_begun_told stage.Waiting h = h
-not_begun_told (stage.Asking m) h = h
-not_begun_told (stage.Delayed m q) h = h
-not_begun_told (stage.Faulted n) h = h
+not_begun_reported : (x : Status) → IsNotBegun (private_status x) → HasNotBegun x
+not_begun_reported stage.Unstarted h = tt
+not_begun_reported stage.Fresh h = tt
+not_begun_reported stage.Ready h = h
+not_begun_reported stage.Ended h = h
+not_begun_reported stage.Waiting h = h
+not_begun_reported (stage.Asking m) h = h
+not_begun_reported (stage.Delayed m q) h = h
+not_begun_reported (stage.Faulted n) h = h
 
 -- In its own kernel turn, a process that hasn't begun does nothing.
 idle_turn : (program : Program) (n tick : ℕ) (x : Turning) → x.own.activity ≡ machine.NotBegun → kernel_steps program tick n x ≡ x
@@ -124,7 +124,7 @@ module _ (setup : Setup) where
 
       stepped : s.status p ≡ stage.Ready → (x : StepResult) → HasNotBegun ((meaning.after_step s p x).status p) → ⊥
       stepped ready (Fault n) h = subst HasNotBegun (with_at_here p (stage.Faulted n) s.status) h
-      stepped ready (Gives (c, e)) h = effect_begun e (subst IsNotBegun (private_after s p ready c e) (told_not_begun _ h))
+      stepped ready (Gives (c, e)) h = effect_begun e (subst IsNotBegun (private_after s p ready c e) (reported_not_begun _ h))
 
       by_kind : s.status p ≡ stage.Ready → (z : meaning.Kind) → HasNotBegun ((meaning.if_kernel z (meaning.step setup s p) s).status p) → ⊥
       by_kind ready meaning.Kernel h = stepped ready (step_of (context setup s p) (configuration s p)) h
@@ -152,8 +152,8 @@ there_is [] i h e = omega (arith, h)
 there_is (x ∷ xs) zero h e = some_is_not_none x e
 there_is (x ∷ xs) (suc i) h e = there_is xs i (omega (arith, h)) e
 
-module _ (program : Program) (setup : Setup) (F : StandsFor program setup) (own : ℕ → ℕ) (s : State) (k : Kernel) (os : List PrivateState) (ts : List (List ℕ))
-    (A : AllStand program setup F own s k os ts) (n p : ℕ) (low : 1 ≤ p) (high : p ≤ process_count setup) where
+module _ (program : Program) (setup : Setup) (F : IsProgramFor program setup) (own : ℕ → ℕ) (s : State) (k : Kernel) (os : List PrivateState) (ts : List (List ℕ))
+    (A : AllRepresent program setup F own s k os ts) (n p : ℕ) (low : 1 ≤ p) (high : p ≤ process_count setup) where
   abbrev u : State
   u = meaning.kernel_turn setup n s p
 
@@ -167,7 +167,7 @@ module _ (program : Program) (setup : Setup) (F : StandsFor program setup) (own 
     abbrev y : Turning
     y = kernel_steps program (realtime (running_clock setup s)) n x
 
-    mine : PartStands program setup F (own p) p s k (transcript_of ts p) o
+    mine : PartRepresents program setup F (own p) p s k (transcript_of ts p) o
     mine = A.parts p low high o there
 
     now : TurningOf program setup F p (own p) s (transcript_of ts p) x
@@ -183,8 +183,8 @@ module _ (program : Program) (setup : Setup) (F : StandsFor program setup) (own 
     moved = record y.own { output = [] }
 
     -- The process's own private state.
-    own_stands : PartStands program setup F (own p) p u y.kernel bytes moved
-    own_stands = record {
+    own_represents : PartRepresents program setup F (own p) p u y.kernel bytes moved
+    own_represents = record {
       part = output_moved (ground_of program setup F p (own p)) u (transcript_of ts p) y.own later.part;
       begins = λ h.
           let before = begun_turn setup n s p h in
@@ -195,17 +195,17 @@ module _ (program : Program) (setup : Setup) (F : StandsFor program setup) (own 
     }
 
     -- The private state of another process.
-    other_stands : (q : ℕ) → p ≢ q → 1 ≤ q → q ≤ process_count setup → (oq : PrivateState) → slice_get os (q - 1) ≡ Some oq → PartStands program setup F (own q) q u y.kernel (transcript_of ts q) oq
-    other_stands q d from below oq is =
+    other_represents : (q : ℕ) → p ≢ q → 1 ≤ q → q ≤ process_count setup → (oq : PrivateState) → slice_get os (q - 1) ≡ Some oq → PartRepresents program setup F (own q) q u y.kernel (transcript_of ts q) oq
+    other_represents q d from below oq is =
         let theirs = A.parts q from below oq is in
         record {
           part = kernel_turn_keeps_parts program setup F p (own p) q (own q) n s (transcript_of ts p) x (transcript_of ts q) oq d A.invariant low high now theirs.part;
           begins = λ h.
               kernel_turn_keeps_begins program setup F p (own p) q (own q) n s (transcript_of ts p) x (transcript_of ts q) oq d A.invariant low high from below now theirs.part
-              (theirs.begins (not_begun_told (s.status q) (subst IsNotBegun (kernel_turn_other_parts setup n q p s d A.invariant).status (told_not_begun (u.status q) h))));
+              (theirs.begins (not_begun_reported (s.status q) (subst IsNotBegun (kernel_turn_other_parts setup n q p s d A.invariant).status (reported_not_begun (u.status q) h))));
         }
 
-    turned : AllStand program setup F own u y.kernel (slice_set os (p - 1) moved) (slice_set ts (p - 1) bytes)
+    turned : AllRepresent program setup F own u y.kernel (slice_set os (p - 1) moved) (slice_set ts (p - 1) bytes)
     turned = record {
       kernel = later.kernel;
       part_count = length-set os (p - 1) moved ∙ A.part_count;
@@ -215,20 +215,20 @@ module _ (program : Program) (setup : Setup) (F : StandsFor program setup) (own 
     }
       where
         by : (q : ℕ) → 1 ≤ q → q ≤ process_count setup → (oq : PrivateState) → slice_get (slice_set os (p - 1) moved) (q - 1) ≡ Some oq → (b : Bool) → nat_eq p q ≡ b
-            → PartStands program setup F (own q) q u y.kernel (transcript_of (slice_set ts (p - 1) bytes) q) oq
+            → PartRepresents program setup F (own q) q u y.kernel (transcript_of (slice_set ts (p - 1) bytes) q) oq
         by q from below oq is true e =
             let same : p ≡ q = eqb-true p q e in
-            subst (λ z. PartStands program setup F (own z) z u y.kernel (transcript_of (slice_set ts (p - 1) bytes) z) oq) same
-            (subst (λ z. PartStands program setup F (own p) p u y.kernel z oq) (sym (transcript_there ts p bytes (omega (arith, low, high, A.transcript_count))))
-            (subst (PartStands program setup F (own p) p u y.kernel bytes) (set_found os (p - 1) moved oq (ap (λ z. slice_get (slice_set os (p - 1) moved) (z - 1)) same ∙ is)) own_stands))
+            subst (λ z. PartRepresents program setup F (own z) z u y.kernel (transcript_of (slice_set ts (p - 1) bytes) z) oq) same
+            (subst (λ z. PartRepresents program setup F (own p) p u y.kernel z oq) (sym (transcript_there ts p bytes (omega (arith, low, high, A.transcript_count))))
+            (subst (PartRepresents program setup F (own p) p u y.kernel bytes) (set_found os (p - 1) moved oq (ap (λ z. slice_get (slice_set os (p - 1) moved) (z - 1)) same ∙ is)) own_represents))
         by q from below oq is false e =
             let d : p ≢ q = λ h. true≢false (sym (eq-eqb p q h) ∙ e) in
             let apart : p - 1 ≡ q - 1 → ⊥ = λ h. d (omega (arith, low, from, h)) in
-            subst (λ z. PartStands program setup F (own q) q u y.kernel z oq) (sym (transcript_elsewhere ts p q bytes apart))
-            (other_stands q d from below oq (sym (set_elsewhere os (p - 1) (q - 1) moved apart) ∙ is))
+            subst (λ z. PartRepresents program setup F (own q) q u y.kernel z oq) (sym (transcript_elsewhere ts p q bytes apart))
+            (other_represents q d from below oq (sym (set_elsewhere os (p - 1) (q - 1) moved apart) ∙ is))
 
-  pub kernel_turn_stands : IsIn program setup F own u (kernel_turn n holds p)
-  kernel_turn_stands = by (slice_get os (p - 1)) refl
+  pub kernel_turn_represents : IsIn program setup F own u (kernel_turn n holds p)
+  kernel_turn_represents = by (slice_get os (p - 1)) refl
     where
       by : (z : Option PrivateState) → slice_get os (p - 1) ≡ z
           → IsIn program setup F own u (elim z as (λ v. Machine) [ None ↦ holds | Some o ↦ after_kernel_turn holds p (kernel_steps program (clock holds) n (record { kernel = k; own = o })) ])

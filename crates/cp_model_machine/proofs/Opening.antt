@@ -27,7 +27,7 @@ use Rattle.cp_law_typing.proofs.Names.{bytes_same}
 use Rattle.cp_model_program.specs.Programs.{CodeUnit}
 use Rattle.cp_model_program.specs.Layout.{activation_words, distance, farther, local, local_at, local_words, member_part, natural, part}
 use Rattle.cp_model_program.specs.Sites.{RoutineOf}
-use Rattle.cp_model_program.specs.StandsFor.{UnitStands}
+use Rattle.cp_model_program.specs.IsProgramFor.{UnitRepresents}
 use Rattle.cp_model_program.specs.Starts.{carry_out, word}
 use Rattle.cp_model_machine.specs.Means.{CellMeans, ReferenceMeans}
 use Rattle.cp_model_machine.specs.Addresses.{Activation, Ground, activation_at, lies, part_at, part_of_activation, part_of_local, scope}
@@ -124,7 +124,7 @@ part_is_simple g t path m u (inr h) e c = cell_is_simple g t path m u h.0 h.1 e 
 
 -- ---- the activation
 
-module _ (G : Ground) (ys : List Activation) (sys : System) (r : Routine) (u : CodeUnit) (stands : UnitStands G.program G.texts (scope G) u (RoutineOf sys r)) (base : ℕ) (store : Store) (ws : Writes) (new : List ℤ)
+module _ (G : Ground) (ys : List Activation) (sys : System) (r : Routine) (u : CodeUnit) (represents : UnitRepresents G.program G.texts (scope G) u (RoutineOf sys r)) (base : ℕ) (store : Store) (ws : Writes) (new : List ℤ)
     (room : base + activation_words (scope G) r ≤ length new)
     (holds : (x : Name) (k : ℕ) (d : Variable) → local_at (scope G) (result_words r.result) (declarations (scope G) r.parameters) x ≡ Some (k, d)
     → ParameterHas (scope G) (lies G ys) d (parameter_at (OfActivation G.p (length ys)) x) (put_all ws (forget (OfActivation G.p (length ys)) store)) new (base + k))
@@ -148,7 +148,7 @@ module _ (G : Ground) (ys : List Activation) (sys : System) (r : Routine) (u : C
   bound = put_all ws (forget (OfActivation G.p (length ys)) store)
 
   both_distinct : Distinct (parameters ++ (variables ++ result_variable (scope G) r.name r.result))
-  both_distinct = distinct_first (local_variables (scope G) r) (permanent_variables (scope G) sys) stands.2
+  both_distinct = distinct_first (local_variables (scope G) r) (permanent_variables (scope G) sys) represents.2
 
   variables_distinct : Distinct variables
   variables_distinct =
@@ -165,7 +165,7 @@ module _ (G : Ground) (ys : List Activation) (sys : System) (r : Routine) (u : C
   parameter_kept x path k m d e less =
       let inside = local_inside (scope G) (result_words r.result) parameters x k d e in (
         starts_keep (OfActivation G.p (length ys)) x path variables _ variables_distinct (no_variable x k d e),
-        stands.0.outside base new (base + k + m) room (inl (omega (arith, inside.1, less)))
+        represents.0.outside base new (base + k + m) room (inl (omega (arith, inside.1, less)))
             (λ t is q. absurd (omega (arith, q, inside.0, ap result_words is, one_word t))),
       )
     where
@@ -184,12 +184,12 @@ module _ (G : Ground) (ys : List Activation) (sys : System) (r : Routine) (u : C
           let place_is : base + k + 0 ≡ base + k = omega arith in
           (h.0, kept.0 ∙ h.1, h.2 ∙ ap (λ z. Some (natural z, d.type)) (sym (sym (ap (word new_words) place_is) ∙ (kept.1 ∙ ap (word new) place_is))))
       by (inr f) =
-          absurd (true≢false (sym by_reference ∙ (ap (λ (v : Variable). v.by_reference) (sym f.5) ∙ (each_at (RoutineVariable (scope G)) variables f.0 stands.3 f.3).2)))
+          absurd (true≢false (sym by_reference ∙ (ap (λ (v : Variable). v.by_reference) (sym f.5) ∙ (each_at (RoutineVariable (scope G)) variables f.0 represents.3 f.3).2)))
 
   result_means : (t : Name) → r.result ≡ Some t → ResultMeans (new_store (parameter_at (OfActivation G.p (length ys)) r.name)) (word new_words base)
   result_means t is =
-      let unnamed = result_unnamed (scope G) sys r t stands.2 is in
-      subst (λ z. ResultMeans z (word new_words base)) (sym (nothing unnamed)) (stands.0.result base new t room is)
+      let unnamed = result_unnamed (scope G) sys r t represents.2 is in
+      subst (λ z. ResultMeans z (word new_words base)) (sym (nothing unnamed)) (represents.0.result base new t room is)
     where
       nothing : lookup r.name (parameters ++ variables) ≡ None → new_store (parameter_at (OfActivation G.p (length ys)) r.name) ≡ Absent
       nothing unnamed =
@@ -216,7 +216,7 @@ module _ (G : Ground) (ys : List Activation) (sys : System) (r : Routine) (u : C
       in_variable : (v : Name × Variable) (i : ℕ) → slice_get variables i ≡ Some v → IsIn v variables → v.0 ≡ x → v.1 ≡ d
           → CellMeans t (new_store (record { owner = OfActivation G.p (length ys); path = ByName x ∷ path })) (word new_words (base + (k + m)))
       in_variable v i at is name type =
-          let known = each_at (RoutineVariable (scope G)) variables v stands.3 is in
+          let known = each_at (RoutineVariable (scope G)) variables v represents.3 is in
           let found : part (scope G) v.1.type path ≡ Some (m, t) = ap (λ (z : Variable). part (scope G) z.type path) type ∙ there in
           let local_is : local (scope G) r v.0 ≡ Some (k, v.1) = ap (local (scope G) r) name ∙ (e ∙ ap (λ z. Some (k, z)) (sym type)) in
           subst (λ z. CellMeans t (new_store (record { owner = OfActivation G.p (length ys); path = ByName z ∷ path })) (word new_words (base + (k + m)))) name
@@ -226,7 +226,7 @@ module _ (G : Ground) (ys : List Activation) (sys : System) (r : Routine) (u : C
               → CellMeans y (new_store (record { owner = OfActivation G.p (length ys); path = ByName v.0 ∷ path })) (word new_words (base + (k + m)))
           written (Simple b low high start) s f l sound =
               starts_write (scope G) (OfActivation G.p (length ys)) v.0 v.1 path variables _ m b low high start variables_distinct is sound f
-              ∙ ap Ordinal (sym (stands.0.variables base new room v i k m path b low high start at l f))
+              ∙ ap Ordinal (sym (represents.0.variables base new room v i k m path b low high start at l f))
           written (ArrayOf low high y) s f l sound = absurd s
           written (RecordOf ms) s f l sound = absurd s
           written Queue s f l sound = absurd s

@@ -12,7 +12,7 @@ use Rattle.cp_model.proofs.Options.{same_some}
 use Rattle.cp_law_typing.specs.Needs.{result_words}
 use Rattle.cp_law_typing.specs.Words.{words}
 use Rattle.cp_model_program.specs.Layout.{activation_words, component_words, farther, head_words, local, local_at, local_words, locals, locals_words, member_part, part}
-use Rattle.cp_model_program.specs.StandsFor.{system_of_monitor, system_of_process}
+use Rattle.cp_model_program.specs.IsProgramFor.{system_of_monitor, system_of_process}
 use Rattle.cp_model_machine.specs.Addresses.{Activation, Ground, activation_at, in_sight, part_of_activation, part_of_component, part_of_local, part_of_owner, scope}
 use Rattle.cp_model_machine.proofs.Apart.{InHead, head_inside, member_above, part_apart}
 use Rattle.cp_model_machine.proofs.Bounds.{member_fits, part_fits}

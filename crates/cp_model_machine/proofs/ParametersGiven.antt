@@ -10,7 +10,7 @@ use Rattle.cp_law_typing.specs.Declared.{Distinct}
 use Rattle.cp_law_typing.specs.StartValues.{IsIn}
 use Rattle.cp_law_typing.specs.Words.{words}
 use Rattle.cp_model_program.specs.Layout.{component_words, head_words, rights}
-use Rattle.cp_model_program.specs.StandsFor.{system_of_process}
+use Rattle.cp_model_program.specs.IsProgramFor.{system_of_process}
 use Rattle.cp_model_program.specs.Starts.{block, paste, word}
 use Rattle.cp_model_machine.specs.Addresses.{Activation, ClassLies, ComponentLies, Ground, MonitorLies, ProcessLies, RightMeans, component_type, in_sight, lies, scope}
 use Rattle.cp_model_machine.specs.Means.{CellMeans}

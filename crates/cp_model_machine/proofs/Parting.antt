@@ -11,12 +11,12 @@ use Rattle.cp_model.specs.Locations.{ByName, Location, OfActivation, OfMonitor, 
 use Rattle.cp_model.specs.Stores.{Absent, ClassRight, MonitorRight, Store, Value}
 use Rattle.cp_model.specs.Types.{ArrayOf, ComponentOf, NoType, Queue, RecordOf, ResolvedType, Simple}
 use Rattle.cp_model_program.specs.Layout.{activation_words, component_words, natural, right, rights}
-use Rattle.cp_model_program.specs.StandsFor.{system_of_process}
+use Rattle.cp_model_program.specs.IsProgramFor.{system_of_process}
 use Rattle.cp_model_program.specs.Starts.{word}
 use Rattle.cp_model_machine.specs.PrivateStates.{PrivateState}
 use Rattle.cp_model_machine.specs.Addresses.{Activation, AllWords, ClassLies, ComponentLies, Ground, MonitorLies, MonitorsLie, OwnWords, ProcessLies, RightMeans, RightOf, activation_at, activations, component_type, in_sight, lies, scope, sees, whole, words_seen}
 use Rattle.cp_model_machine.specs.KernelOf.{is_shared, kernel_ground}
-use Rattle.cp_model_machine.specs.Left.{held_below, site}
+use Rattle.cp_model_machine.specs.Remaining.{held_below, site}
 use Rattle.cp_model_machine.specs.Means.{CellMeans}
 use Rattle.cp_model_machine.specs.PartOf.{DataMeans, RunsOn, components, control}
 use Rattle.cp_model_machine.proofs.Apart.{IsCell, IsClass, cell_head}

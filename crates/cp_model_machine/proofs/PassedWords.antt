@@ -18,7 +18,7 @@ use Rattle.cp_model_program.specs.Starts.{block, paste}
 use Rattle.cp_model_program.specs.StatementsFor.{InitArgumentsFor}
 use Rattle.cp_model_program.specs.Terms.{Argument, Copy, Reference, Right, Value}
 use Rattle.cp_model_program.specs.TermsFor.{ArgumentsFor, Knowns}
-use Rattle.cp_model_machine.specs.PrivateStates.{Outside, PrivateState, view_of}
+use Rattle.cp_model_machine.specs.PrivateStates.{StepContext, PrivateState, view_of}
 use Rattle.cp_model_machine.specs.Passing.{Passing, pass_all, pass_one, pass_result, pass_value, pass_word, unless_fault}
 use Rattle.cp_model_machine.specs.Values.{place_of, value_of}
 use Rattle.cp_model_machine.proofs.Apart.{IsCell}
@@ -35,7 +35,7 @@ LieBelow n (Copy at size from ∷ xs) = (at + size ≤ n) × LieBelow n xs
 LieBelow n (Reference at s ∷ xs) = (at < n) × LieBelow n xs
 LieBelow n (Right at t ∷ xs) = (at < n) × LieBelow n xs
 
-module _ (w : Outside) (to home n : ℕ) where
+module _ (w : StepContext) (to home n : ℕ) where
   abbrev Kept : List ℤ → List ℤ → Type 0
   Kept ws us = KeptOutside to (to + n) ws us
 

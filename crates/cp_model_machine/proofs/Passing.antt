@@ -40,7 +40,7 @@ use Rattle.cp_model_program.specs.Sites.{Site}
 use Rattle.cp_model_program.specs.TermsFor.{Agrees, ArgumentsFor, IsPlainStructure, Knowns}
 use Rattle.cp_model_machine.specs.Means.{Here, PlaceAgrees}
 use Rattle.cp_model_program.specs.StatementsFor.{either}
-use Rattle.cp_model_machine.specs.PrivateStates.{Outside, PrivateState, view_of}
+use Rattle.cp_model_machine.specs.PrivateStates.{StepContext, PrivateState, view_of}
 use Rattle.cp_model_machine.specs.Passing.{Passing, pass_all, pass_copy, pass_result, pass_word, reference_word, unless_fault}
 use Rattle.cp_model_machine.proofs.Apart.{cell_has_word}
 use Rattle.cp_model_machine.proofs.Bounds.{part_fits}
@@ -203,11 +203,11 @@ prepend_word site lies n to at p ps v m top ws x O P one distinct room in_words 
         ∙ (put_here n p.0 v st ∙ (h.1 ∙ ap Ordinal (sym (ap (word (slice_set ws (to + at) m)) place_is ∙ held))))
 
 -- `Here` still holds if words after everything in use change: the process's own words from `to` on.
-abbrev pub Stays : Environment → Clock → Store → Outside → Knowns → (Location → Option Part) → ℕ → PrivateState → Type 0
+abbrev pub Stays : Environment → Clock → Store → StepContext → Knowns → (Location → Option Part) → ℕ → PrivateState → Type 0
 Stays env clock store w K lies to o =
     (ws : List ℤ) → length ws ≡ length o.words → SameOutside to w.own o.words ws → Here env clock store (view_of w (record o { words = ws })) K lies
 
-module _ (site : Site) (clock : Clock) (store : Store) (w : Outside) (K : Knowns) (lies : Location → Option Part) (n : Owner) (to : ℕ) (o : PrivateState)
+module _ (site : Site) (clock : Clock) (store : Store) (w : StepContext) (K : Knowns) (lies : Location → Option Part) (n : Owner) (to : ℕ) (o : PrivateState)
     (stays : Stays site.env clock store w K lies to o) (parts_lie : PartsLie site.env.globals lies) (there : (l : Location) (m : ℕ) (t : ResolvedType) → lies l ≡ Some (m, t) → m ≤ length o.words) where
   abbrev pub Passes : List (Name × declared.Variable) → ℕ → List ℤ → Outcome Writes → Passing → Type 0
   Passes ps at ws O P = PassingAgrees (λ us new. Bound site lies n to at ps us ws new) (KeptOutside to w.own ws) (record o { words = ws }) O P

@@ -4,12 +4,12 @@ use Rattle.cp_model.specs.Abstract as a
 use Rattle.cp_model.specs.Abstract.{Char, Name}
 use Rattle.cp_model.specs.Calls.{first_call, in_context, or_else}
 use Rattle.cp_model.specs.Types.{Queue, ResolvedType, Simple}
-use Rattle.cp_model_program.specs.Terms.{Spot}
+use Rattle.cp_model_program.specs.Terms.{PlaceExpression}
 use Rattle.cp_model_program.specs.Programs as op
 use Rattle.cp_model_program.specs.Programs.{Operation}
 use Rattle.cp_model_program.specs.Sites.{Site, first_parameter, parameters}
-use Rattle.cp_model_program.specs.TermsFor.{Knowns, SpotFor}
-use Rattle.cp_model_program.specs.StatementsFor.{CodeFor, PerformsBy, stands_at}
+use Rattle.cp_model_program.specs.TermsFor.{Knowns, PlaceExpressionFor}
+use Rattle.cp_model_program.specs.StatementsFor.{CodeFor, PerformsBy, represents_at}
 use Rattle.cp_model_machine.proofs.Indexed.{IsIndexed, indexed_is_no_call}
 use Rattle.cp_model_machine.proofs.NextCalls.{Advance, AllMade, Calling, next_in, next_left}
 use Rattle.cp_model_machine.proofs.FirstCalls.{arguments_next, term_next}
@@ -31,19 +31,19 @@ module _ (site : Site) (K : Knowns) where
       AllMade m (λ v. ap (λ z. in_context (a.Perform (a.Plain x)) (or_else (in_context (λ y. a.MoreExpressions y a.NoExpression) z) None)) (q v)) (λ z. tt)
 
   -- The one argument of a standard procedure is a lone designator.
-  one_used : (x : Name) (d : a.Designator) (s : Spot) (t : ResolvedType) (at last next low : ℕ)
-      → Rattle.cp_model.specs.Calls.callee site.env d ≡ None → SpotFor site K d s t at last low site.unit.temps
-      → ((L : Knowns) (z : a.Designator) (after : ℕ) → SpotFor site L z s t after last low site.unit.temps → Rattle.cp_model.specs.Calls.callee site.env z ≡ None
+  one_used : (x : Name) (d : a.Designator) (s : PlaceExpression) (t : ResolvedType) (at last next low : ℕ)
+      → Rattle.cp_model.specs.Calls.callee site.env d ≡ None → PlaceExpressionFor site K d s t at last low site.unit.temps
+      → ((L : Knowns) (z : a.Designator) (after : ℕ) → PlaceExpressionFor site L z s t after last low site.unit.temps → Rattle.cp_model.specs.Calls.callee site.env z ≡ None
       → CodeFor site L (a.Perform (a.Plain x) (a.MoreExpressions (a.Use z) a.NoExpression)) after next low)
       → StatementAdvances site K (a.Perform (a.Plain x) (a.MoreExpressions (a.Use d) a.NoExpression)) at last next low
   one_used x d s t at last next low none h go =
       one_argument x (a.Use d) at last next low
-      (λ L y after. (z : a.Designator) × (y ≡ a.Use z) × SpotFor site L z s t after last low site.unit.temps × IsIndexed z) _
+      (λ L y after. (z : a.Designator) × (y ≡ a.Use z) × PlaceExpressionFor site L z s t after last low site.unit.temps × IsIndexed z) _
       (used_next site K d s t at last low site.unit.temps none h)
       (λ L y after g. subst (λ z. CodeFor site L (a.Perform (a.Plain x) (a.MoreExpressions z a.NoExpression)) after next low) (sym g.1)
       (go L g.0 after g.2 (indexed_is_no_call site.env g.0 g.3)))
 
-  pub performs_next : (d : a.Designator) (es : a.Expressions) (o : Operation) (at last next low : ℕ) → stands_at site last o → PerformsBy site K d es o at last next low
+  pub performs_next : (d : a.Designator) (es : a.Expressions) (o : Operation) (at last next low : ℕ) → represents_at site last o → PerformsBy site K d es o at last next low
       → StatementAdvances site K (a.Perform d es) at last next low
   performs_next d es (op.Procedure call n) at last next low there h =
       elim (arguments_next site K (parameters site h.0) es call.arguments (first_parameter h.0) at last low h.1 h.6) [

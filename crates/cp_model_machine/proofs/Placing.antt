@@ -8,7 +8,7 @@ use Rattle.cp_model.specs.Locations.{Location, OfActivation, OfMonitor, OfProces
 use Rattle.cp_model.specs.Types.{ResolvedType}
 use Rattle.cp_model.proofs.Options.{same_some}
 use Rattle.cp_model_program.specs.Layout.{Part, component_words, head_words, right, rights}
-use Rattle.cp_model_program.specs.StandsFor.{Apart, system_of_monitor, system_of_process}
+use Rattle.cp_model_program.specs.IsProgramFor.{Apart, system_of_monitor, system_of_process}
 use Rattle.cp_model_machine.specs.Addresses.{Activation, ClassLies, ComponentLies, Ground, MonitorLies, ProcessLies, component_type, in_sight, lies, scope, whole}
 use Rattle.cp_model_machine.specs.Passing.{monitor_start}
 use Rattle.cp_model_machine.proofs.Apart.{InHead, IsClass}

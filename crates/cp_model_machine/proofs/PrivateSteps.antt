@@ -15,20 +15,20 @@ use Rattle.cp_model.specs.Turns.{Kernel, NoStep, Private, if_private, kind_of, p
 use Rattle.cp_model_program.specs.Programs.{Operation}
 use Rattle.cp_model_program.specs.Sites.{operation_at}
 use Rattle.cp_model_machine.specs.PrivateStates as machine
-use Rattle.cp_model_machine.specs.PrivateStates.{Activity, Outside, PrivateState}
+use Rattle.cp_model_machine.specs.PrivateStates.{Activity, StepContext, PrivateState}
 use Rattle.cp_model_machine.specs.Steps as steps
 use Rattle.cp_model_machine.specs.Steps.{act_on, alone}
 use Rattle.cp_model_machine.specs.Addresses.{Ground, OwnWords, sees, words_seen}
 use Rattle.cp_model_machine.specs.Laws.{PrivateStepIsStep, ground_of}
-use Rattle.cp_model_machine.specs.Left.{innermost_gate}
-use Rattle.cp_model_machine.specs.PartOf.{GoesOn, PartOf, RunsOn, status_of}
+use Rattle.cp_model_machine.specs.Remaining.{innermost_gate}
+use Rattle.cp_model_machine.specs.PartOf.{Advances, PartOf, RunsOn, status_of}
 use Rattle.cp_model_machine.proofs.Deciding.{Reaches, ready_steps}
 use Rattle.cp_model_machine.proofs.GatesHeld.{gate_is_held}
 use Rattle.cp_model_machine.proofs.Alone.{StepsAlone, steps_alone}
 use Rattle.cp_model_machine.proofs.Stepping.{clock_of}
 use Rattle.cp_model.specs.Locations.{OfActivation, OfMonitor, OfProcess, Owner}
 use Rattle.cp_model.specs.Reach.{in_reach}
-use Rattle.cp_model_program.specs.StandsFor.{StandsFor}
+use Rattle.cp_model_program.specs.IsProgramFor.{IsProgramFor}
 
 module _ (G : Ground) (s : State) (before : List ℕ) (o : PrivateState) (part : PartOf G s before o) where
   -- Neither side makes a step.
@@ -66,7 +66,7 @@ module _ (G : Ground) (s : State) (before : List ℕ) (o : PrivateState) (part :
   -- ---- all cases
 
   runs : o.activity ≡ machine.Running → RunsOn G s.store o (s.continuation G.p)
-  runs is = part.runs_on (subst GoesOn (sym is) tt)
+  runs is = part.runs_on (subst Advances (sym is) tt)
 
   -- The process asks for a gate or is delayed, so it has entered a monitor.
   blocked_rests : (x : Status) → s.status G.p ≡ x → kind_of x (s.continuation G.p) ≡ NoStep → is_in_monitor (s.continuation G.p) ≡ true → o.activity ≡ machine.Running → StepsAlone G s before o
@@ -87,17 +87,17 @@ reach_own p (OfProcess q) h = h
 reach_own p (OfActivation q d) h = h
 reach_own p (OfMonitor m) h = absurd (true≢false (sym h))
 
-ready_alone : (G : Ground) (s : State) (before : List ℕ) (o : PrivateState) (F : StandsFor G.program G.setup) → F.texts ≡ G.texts → G.sight ≡ OwnWords → PartOf G s before o → Invariant s
+ready_alone : (G : Ground) (s : State) (before : List ℕ) (o : PrivateState) (F : IsProgramFor G.program G.setup) → F.texts ≡ G.texts → G.sight ≡ OwnWords → PartOf G s before o → Invariant s
     → s.status G.p ≡ stage.Ready → marked_monitors (s.continuation G.p) ≡ [] → o.activity ≡ machine.Running → StepsAlone G s before o
 ready_alone G s before o F texts sight part I ready marks running =
     steps_alone G s before o part ready marks running gate
     (ready_steps G s w before o F texts part I (record { clock = refl; own = part.count ∙ ap (λ v. words_seen v G.program G.own) sight }) reaches (s.continuation G.p) refl ready on)
   where
-    w : Outside
+    w : StepContext
     w = alone (realtime (clock_of G s)) o
 
     on : RunsOn G s.store o (s.continuation G.p)
-    on = part.runs_on (subst GoesOn (sym running) tt)
+    on = part.runs_on (subst Advances (sym running) tt)
 
     gate : o.gate ≡ 0
     gate = on.gate ∙ ap innermost_gate marks

@@ -24,20 +24,20 @@ use Rattle.cp_model_program.specs.Layout.{component_words, natural}
 use Rattle.cp_model_program.specs.Programs as op
 use Rattle.cp_model_program.specs.Programs.{Operation}
 use Rattle.cp_model_program.specs.Sites.{operation_at}
-use Rattle.cp_model_program.specs.StandsFor.{Apart, ProcessStands, StandsFor}
+use Rattle.cp_model_program.specs.IsProgramFor.{Apart, ProcessRepresents, IsProgramFor}
 use Rattle.cp_model_program.specs.Starts.{word}
 use Rattle.cp_model_machine.specs.Addresses.{Ground, scope}
 use Rattle.cp_model_machine.specs.Beginning.{Begins}
-use Rattle.cp_model_machine.specs.KernelSteps.{Delayed, Kernel, Stage, Turning, Unstarted, apply_effect, enter_gate, gate_of, join_words, part_words, pass_to, resume, set_stage, stage_of, start_process}
+use Rattle.cp_model_machine.specs.KernelSteps.{Delayed, Kernel, SchedulingState, Turning, Unstarted, apply_effect, enter_gate, gate_of, join_words, part_words, pass_to, resume, set_stage, stage_of, start_process}
 use Rattle.cp_model_machine.specs.Passing.{monitor_start}
 use Rattle.cp_model_machine.specs.PartOf.{PartOf, RunsOn}
 use Rattle.cp_model_machine.specs.PrivateStates as machine
-use Rattle.cp_model_machine.specs.PrivateStates.{Acting, Outside, PrivateState}
+use Rattle.cp_model_machine.specs.PrivateStates.{Acting, StepContext, PrivateState}
 use Rattle.cp_model_machine.specs.Steps.{act}
 use Rattle.cp_model_machine.proofs.BeginsKept.{SameWaiting, dropped, kept_begins}
 use Rattle.cp_model_machine.proofs.BeginsStarted as started
 use Rattle.cp_model_machine.proofs.Deciding.{Reaches}
-use Rattle.cp_model_machine.proofs.InitProcesses.{Bound, BothFault, BothInit, BothStart, InitOfProcess, Kept, body, both_init, here, moved, row_stands}
+use Rattle.cp_model_machine.proofs.InitProcesses.{Bound, BothFault, BothInit, BothStart, InitOfProcess, Kept, body, both_init, here, moved, row_represents}
 use Rattle.cp_model_machine.proofs.OtherGround.{other_ground}
 use Rattle.cp_model_machine.proofs.OthersKept.{KeepsOwned, NotStarted, after_other_start, after_start_stored, after_started, step_started, step_stored}
 use Rattle.cp_model_machine.proofs.ProcessSteps.{moved_same, passes_same}
@@ -55,13 +55,13 @@ kernel_ready _ k e = absurd (subst is_none e tt)
     is_none turns.NoStep = Unit {0}
     is_none _ = ⊥
 
-module _ (G : Ground) (s : State) (w : Outside) (before : List ℕ) (o : PrivateState) (around : Around G s w) (q own : ℕ) (oq : PrivateState) (low : 1 ≤ q) (high : q ≤ process_count G.setup) (other : G.p ≡ q → ⊥)
+module _ (G : Ground) (s : State) (w : StepContext) (before : List ℕ) (o : PrivateState) (around : Around G s w) (q own : ℕ) (oq : PrivateState) (low : 1 ≤ q) (high : q ≤ process_count G.setup) (other : G.p ≡ q → ⊥)
     (number : oq.number ≡ q) (count : length oq.words ≡ own) (k l : Kernel) (shared : k.shared ≡ drop G.own o.words) where
   abbrev H : Ground
   H = other_ground G q own
 
-  module _ (F : StandsFor G.program G.setup) where
-    abbrev P : ProcessStands G.program F.texts G.setup q
+  module _ (F : IsProgramFor G.program G.setup) where
+    abbrev P : ProcessRepresents G.program F.texts G.setup q
     P = F.processes q low high
 
     -- No monitor lies in the words where the parameters wait.
@@ -88,7 +88,7 @@ module _ (G : Ground) (s : State) (w : Outside) (before : List ℕ) (o : Private
   module _ (Z : InitOfProcess G s w before o) (B : Begins H s k oq) where
     faulted_begins : (n : ℕ) (us : List ℤ) → l.shared ≡ drop G.own us → Kept Z us → Begins H (after_step s G.p (Fault n)) l oq
     faulted_begins n us is same =
-        kept Z.stands (after_step s G.p (Fault n)) us is (after_started s G.p q other (Fault n) tt) (λ j mine. refl) (λ i from below. same.1 (G.own + i) (inr (omega (arith, around.own)))) B
+        kept Z.represents (after_step s G.p (Fault n)) us is (after_started s G.p q other (Fault n) tt) (λ j mine. refl) (λ i from below. same.1 (G.own + i) (inr (omega (arith, around.own)))) B
 
     module _ (free : is_started (s.status Z.number) ≡ false) (ws : Writes) (us : List ℤ) (bound : Bound Z ws us) (is : l.shared ≡ drop G.own (moved Z us)) where
       abbrev after : State
@@ -96,15 +96,15 @@ module _ (G : Ground) (s : State) (w : Outside) (before : List ℕ) (o : Private
 
       other_begins : (Z.number ≡ q → ⊥) → Begins H after l oq
       other_begins differ =
-          kept Z.stands after (moved Z us) is (after_other_start s G.p q other _ Z.number (body Z) differ) (after_start_stored s G.p q other _ Z.number (body Z) unwritten)
-          (λ i from below. moved_same Z us (G.own + i) (by i from below (Z.stands.parameters_apart Z.number q (row_stands Z) (P Z.stands) differ)) ∙ passes_same Z ws us bound (G.own + i) (inr (omega arith))) B
+          kept Z.represents after (moved Z us) is (after_other_start s G.p q other _ Z.number (body Z) differ) (after_start_stored s G.p q other _ Z.number (body Z) unwritten)
+          (λ i from below. moved_same Z us (G.own + i) (by i from below (Z.represents.parameters_apart Z.number q (row_represents Z) (P Z.represents) differ)) ∙ passes_same Z ws us bound (G.own + i) (inr (omega arith))) B
         where
           unwritten : (j : Location) → is_own q j.owner ≡ true → put_all ws s.store j ≡ s.store j
           unwritten j mine = bound.unwritten j s.store (λ p i e. differ (sym (eqb-true q Z.number (ap (λ (z : Location). is_own q z.owner) (sym e) ∙ mine))))
 
-          by : (i : ℕ) → (P Z.stands).row.parameters ≤ i → i < (P Z.stands).row.parameters + (P Z.stands).row.waiting
-              → Apart (row_stands Z).row.parameters (row_stands Z).row.waiting (P Z.stands).row.parameters (P Z.stands).row.waiting
-              → (G.own + i < G.own + (row_stands Z).row.parameters) ⊎ (G.own + (row_stands Z).row.parameters + (row_stands Z).row.waiting ≤ G.own + i)
+          by : (i : ℕ) → (P Z.represents).row.parameters ≤ i → i < (P Z.represents).row.parameters + (P Z.represents).row.waiting
+              → Apart (row_represents Z).row.parameters (row_represents Z).row.waiting (P Z.represents).row.parameters (P Z.represents).row.waiting
+              → (G.own + i < G.own + (row_represents Z).row.parameters) ⊎ (G.own + (row_represents Z).row.parameters + (row_represents Z).row.waiting ≤ G.own + i)
           by i from below (inl h) = inr (omega (arith, h, from))
           by i from below (inr h) = inl (omega (arith, h, below))
 
@@ -128,7 +128,7 @@ module _ (G : Ground) (s : State) (w : Outside) (before : List ℕ) (o : Private
 
 -- Process `p` takes its next step, which is a kernel step, with all words in reach. The words after
 -- its own are those of the kernel, both before and after the step.
-pub started_begins : (G : Ground) (s : State) (w : Outside) (before : List ℕ) (o : PrivateState) (F : StandsFor G.program G.setup) → F.texts ≡ G.texts → PartOf G s before o → Invariant s
+pub started_begins : (G : Ground) (s : State) (w : StepContext) (before : List ℕ) (o : PrivateState) (F : IsProgramFor G.program G.setup) → F.texts ≡ G.texts → PartOf G s before o → Invariant s
     → Around G s w → Reaches G s → AroundAll G s w → kind s G.p ≡ turns.Kernel → RunsOn G s.store o (s.continuation G.p)
     → (y : Operation) → operation_at G.program o.counter ≡ Some y → (k l : Kernel) → k.shared ≡ drop G.own o.words → l.shared ≡ drop G.own (act G.program w o y).0.words
     → (q own : ℕ) (oq : PrivateState) (previous : List ℕ) → 1 ≤ q → q ≤ process_count G.setup → (G.p ≡ q → ⊥)
@@ -178,12 +178,12 @@ effect_shared own p (machine.Continues m r) k = by (natural r)
 effect_shared own p (machine.Opens m) k = refl
 effect_shared own p (machine.Starts r) k = by (stage_of k.stages r)
   where
-    by : (g : Stage) → (start_process r g k).shared ≡ k.shared
+    by : (g : SchedulingState) → (start_process r g k).shared ≡ k.shared
     by Unstarted = refl
     by _ = refl
 
 -- The same for a step in the kernel turn of the process.
-pub step_begins : (G : Ground) (s : State) (w : Outside) (before : List ℕ) (x : Turning) → length x.own.words ≡ G.own → (F : StandsFor G.program G.setup) → F.texts ≡ G.texts → PartOf G s before (join_words x) → Invariant s
+pub step_begins : (G : Ground) (s : State) (w : StepContext) (before : List ℕ) (x : Turning) → length x.own.words ≡ G.own → (F : IsProgramFor G.program G.setup) → F.texts ≡ G.texts → PartOf G s before (join_words x) → Invariant s
     → Around G s w → Reaches G s → AroundAll G s w → kind s G.p ≡ turns.Kernel → RunsOn G s.store (join_words x) (s.continuation G.p)
     → (y : Operation) → operation_at G.program x.own.counter ≡ Some y
     → (q own : ℕ) (oq : PrivateState) (previous : List ℕ) → 1 ≤ q → q ≤ process_count G.setup → (G.p ≡ q → ⊥)

@@ -15,7 +15,7 @@ use Rattle.cp_law_typing.specs.SoundTypes.{SoundType}
 use Rattle.cp_law_typing.specs.WellTyped.{WellTyped, text_systems}
 use Rattle.cp_law_typing.proofs.StartValues.{each_in}
 use Rattle.cp_model_program.specs.Layout.{right, rights}
-use Rattle.cp_model_program.specs.StandsFor.{component_at, component_in, system_of_monitor, system_of_process}
+use Rattle.cp_model_program.specs.IsProgramFor.{component_at, component_in, system_of_monitor, system_of_process}
 use Rattle.cp_model_machine.specs.Addresses.{Ground, scope}
 use Rattle.cp_model_machine.proofs.Finding.{some_is_not_none}
 use Rattle.cp_model_machine.proofs.InitOffsets.{of_filter, right_is}

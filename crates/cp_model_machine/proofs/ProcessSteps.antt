@@ -18,14 +18,14 @@ use Rattle.cp_model.specs.Turns.{after_step}
 use Rattle.cp_model.proofs.StateMaps.{with_at_there}
 use Rattle.cp_model_program.specs.Programs as op
 use Rattle.cp_model_program.specs.Starts.{word}
-use Rattle.cp_model_machine.specs.PrivateStates.{Acting, Outside, PrivateState, go_to}
+use Rattle.cp_model_machine.specs.PrivateStates.{Acting, StepContext, PrivateState, go_to}
 use Rattle.cp_model_machine.specs.Steps.{act}
 use Rattle.cp_model_machine.specs.Addresses.{Ground, activations, in_sight, scope}
 use Rattle.cp_model_machine.specs.PartOf.{DataMeans, PartOf, RunsOn}
 use Rattle.cp_model_machine.proofs.Beside.{Beside, runs_beside}
 use Rattle.cp_model_machine.proofs.Copying.{copied_length, copied_outside}
 use Rattle.cp_model_machine.proofs.InitOffsets.{offset_within}
-use Rattle.cp_model_machine.proofs.InitProcesses.{BothFault, BothInit, BothStart, Bound, InitOfProcess, Kept, body, both_init, here, is, moved, names, one, passed, room, row_stands, same_system, system, to, top}
+use Rattle.cp_model_machine.proofs.InitProcesses.{BothFault, BothInit, BothStart, Bound, InitOfProcess, Kept, body, both_init, here, is, moved, names, one, passed, room, row_represents, same_system, system, to, top}
 use Rattle.cp_model_machine.proofs.RunningOn.{runs_moved, runs_over}
 use Rattle.cp_model_machine.proofs.Stepping.{beyond, stopped, went}
 use Rattle.cp_model_machine.proofs.Waiting.{parameters_are, waits_apart}
@@ -53,17 +53,17 @@ started_part G before after r j stage.Unstarted u other P = record {
     left = with_at_there r G.p j u.continuation (ne_eqb r G.p other)
 started_part G before after r j _ u other P = P
 
-module _ {G : Ground} {s : State} {w : Outside} {before : List ℕ} {o : PrivateState} (Z : InitOfProcess G s w before o) where
+module _ {G : Ground} {s : State} {w : StepContext} {before : List ℕ} {o : PrivateState} (Z : InitOfProcess G s w before o) where
   abbrev first : Task
   first = Do (a.Init Z.name Z.given) Z.env
 
   -- ---- what both make of the rest
 
   abbrev pub params : ℕ
-  params = (row_stands Z).row.parameters
+  params = (row_represents Z).row.parameters
 
   abbrev pub waiting : ℕ
-  waiting = (row_stands Z).row.waiting
+  waiting = (row_represents Z).row.waiting
 
   abbrev pub from : ℕ
   from = top Z
@@ -78,12 +78,12 @@ module _ {G : Ground} {s : State} {w : Outside} {before : List ℕ} {o : Private
   WellBound ws us = Bound Z ws us
 
   pub start_is : to Z ≡ G.own + params
-  start_is = omega (arith, Z.ready.now.around.own, parameters_are G Z.stands Z.number (row_stands Z))
+  start_is = omega (arith, Z.ready.now.around.own, parameters_are G Z.represents Z.number (row_represents Z))
 
   pub size_is : waiting ≡ 1 + size
   size_is = omega (
     arith,
-    (row_stands Z).waiting,
+    (row_represents Z).waiting,
     ap (λ (y : a.System). length (declarations (scope G) y.parameters)) (same_system Z),
   )
 
@@ -125,7 +125,7 @@ module _ {G : Ground} {s : State} {w : Outside} {before : List ℕ} {o : Private
   beside : (ws : Writes) (us : List ℤ) → is_started (s.status Z.number) ≡ false → WellBound ws us → Beside G from Z.number params waiting s.store (put_all ws s.store) o.words (words_moved us)
   beside ws us free B = record {
     other = λ e. unstarted_is_other free (sym e);
-    clear = waits_apart G Z.stands Z.number (row_stands Z);
+    clear = waits_apart G Z.represents Z.number (row_represents Z);
     kept = λ l none. B.unwritten l s.store (λ p i e. none (ap (λ (l : Location). l.owner) e));
     same = λ i below apart. moved_same us i apart ∙ passes_same ws us B i below;
   }

@@ -8,13 +8,13 @@ use Rattle.cp_model_program.specs.TermsFor.{nothing_known}
 use Rattle.cp_model_program.specs.StatementsFor.{CodeFor}
 use Rattle.cp_model_machine.specs.PrivateStates as machine
 use Rattle.cp_model_machine.specs.Addresses.{Ground, activations}
-use Rattle.cp_model_machine.specs.Left.{Left, Running, site}
+use Rattle.cp_model_machine.specs.Remaining.{Remaining, Running, site}
 use Rattle.cp_model_machine.specs.PartOf.{ActivationsMean}
 
 module _ (G : Ground) (temps : List ℤ) (limit : ℕ) (R : Running) (fs : List machine.Frame) where
   pub push_left : (s : a.Statement) (place next low : ℕ) (k : List Task) → CodeFor (site G R) nothing_known s place next low
-      → Left G temps limit nothing_known R fs next low k → Left G temps limit nothing_known R fs place low (push s R.env k)
-  push_left a.Nothing place next low k c h = subst (λ z. Left G temps limit nothing_known R fs z low k) (sym c) h
+      → Remaining G temps limit nothing_known R fs next low k → Remaining G temps limit nothing_known R fs place low (push s R.env k)
+  push_left a.Nothing place next low k c h = subst (λ z. Remaining G temps limit nothing_known R fs z low k) (sym c) h
   push_left (a.Seq s t) place next low k c h =
       push_left s place c.0 low (push t R.env k) c.1 (push_left t c.0 next low k c.2 h)
   push_left (a.While e s) place next low k c h = (

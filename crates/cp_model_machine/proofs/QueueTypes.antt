@@ -24,7 +24,7 @@ use Rattle.cp_law_typing.specs.WellTyped.{TypedSystem, WellTyped, text_systems}
 use Rattle.cp_law_typing.proofs.Facts.{taken}
 use Rattle.cp_law_typing.proofs.StartValues.{each_in}
 use Rattle.cp_model_program.specs.Layout.{distance, farther, head_words, member_part, of_class, part}
-use Rattle.cp_model_program.specs.StandsFor.{component_in, system_of_process}
+use Rattle.cp_model_program.specs.IsProgramFor.{component_in, system_of_process}
 use Rattle.cp_model_machine.proofs.Finding.{some_is_not_none}
 use Rattle.cp_model_machine.proofs.InitOffsets.{of_filter}
 use Rattle.cp_model_machine.proofs.Layouts.{farther_some}

@@ -13,13 +13,13 @@ use Rattle.cp_law_typing.specs.Declared.{Each, RoutineParameter, RoutineVariable
 use Rattle.cp_law_typing.specs.Needs.{result_words}
 use Rattle.cp_law_typing.specs.WellTyped.{WellTyped}
 use Rattle.cp_model_program.specs.Layout.{local_at, local_words, locals}
-use Rattle.cp_model_program.specs.StandsFor.{UnitStands}
+use Rattle.cp_model_program.specs.IsProgramFor.{UnitRepresents}
 use Rattle.cp_model_program.specs.TermsFor.{Knowns, nothing_known}
 use Rattle.cp_model_machine.specs.PrivateStates as machine
 use Rattle.cp_model_machine.specs.Addresses.{Activation, Ground, activation_at, activation_of, activations, lies, part_at, scope}
 use Rattle.cp_model_machine.specs.KernelOf.{is_shared}
-use Rattle.cp_model_machine.specs.Left.{Left, Running, Runs, kept_below}
-use Rattle.cp_model_machine.proofs.CallSteps.{UnitsStand}
+use Rattle.cp_model_machine.specs.Remaining.{Remaining, Running, Runs, kept_below}
+use Rattle.cp_model_machine.proofs.CallSteps.{UnitsRepresent}
 use Rattle.cp_model_machine.proofs.Finding.{some_is_not_none}
 use Rattle.cp_model_machine.proofs.Owned.{activation_cell, component_part}
 use Rattle.cp_model_machine.proofs.Returning.{text_is}
@@ -42,14 +42,14 @@ abbrev NoneIn : GlobalScope → List Activation → Type 0
 NoneIn g [] = Unit {0}
 NoneIn g (x ∷ xs) = HasNoQueues g x.routine × NoneIn g xs
 
-module _ (G : Ground) (units : UnitsStand G) (temps : List ℤ) (limit : ℕ) where
+module _ (G : Ground) (units : UnitsRepresent G) (temps : List ℤ) (limit : ℕ) where
   routine_none : (R : Running) (fs : List machine.Frame) → Runs G (length temps) limit R fs → (f : Frame) → R.env.frame ≡ Some f → HasNoQueues (scope G) f.routine
   routine_none R fs runs f is =
       let y = text_is R.text R.env.frame f is runs.frame in
-      let stands = subst (UnitStands G.program G.texts (scope G) R.unit) y.1 (units R.number R.unit R.text runs.unit runs.text) in
-      locals_none (scope G) _ (declarations (scope G) f.routine.parameters) (declarations (scope G) f.routine.variables) stands.5 stands.3
+      let represents = subst (UnitRepresents G.program G.texts (scope G) R.unit) y.1 (units R.number R.unit R.text runs.unit runs.text) in
+      locals_none (scope G) _ (declarations (scope G) f.routine.parameters) (declarations (scope G) f.routine.variables) represents.5 represents.3
 
-  pub activations_none : (b : ℕ) (K : Knowns) (R : Running) (fs : List machine.Frame) (place low : ℕ) (k : List Task) → Runs G (length temps) limit R fs → Left G temps limit K R fs place low k
+  pub activations_none : (b : ℕ) (K : Knowns) (R : Running) (fs : List machine.Frame) (place low : ℕ) (k : List Task) → Runs G (length temps) limit R fs → Remaining G temps limit K R fs place low k
       → NoneIn (scope G) (activations b fs k)
   activations_none b K R fs place low [] runs h = absurd h
   activations_none b K R fs place low (Do s e ∷ k) runs h = activations_none b nothing_known R fs h.2.0 h.2.1 k runs h.2.4

@@ -23,7 +23,7 @@ use Rattle.cp_model_program.specs.Starts.{word}
 use Rattle.cp_model_program.specs.Tables.{place_in}
 use Rattle.cp_model_machine.specs.Calling.{class_at, enter, has_room, init_class, settle, with_unit}
 use Rattle.cp_model_machine.specs.Passing.{Passing, component_called, pass_all, when_passed}
-use Rattle.cp_model_machine.specs.PrivateStates.{Acting, NoEffect, Outside, PrivateState, fault_in, private_outcome, guard, set_word, view_of, with_result}
+use Rattle.cp_model_machine.specs.PrivateStates.{Acting, NoEffect, StepContext, PrivateState, fault_in, private_outcome, guard, set_word, view_of, with_result}
 use Rattle.cp_model_machine.specs.Steps.{act, count_to, go_to_arm}
 use Rattle.cp_model_machine.specs.Values.{View, place_of, value_of}
 
@@ -84,7 +84,7 @@ provided_quiet : (b : Bool) (o : PrivateState) (f : fault.Fault) (x : Acting) â†
 provided_quiet true o f x h = h
 provided_quiet false o f x h = refl
 
-module _ (program : Program) (w : Outside) (o : PrivateState) where
+module _ (program : Program) (w : StepContext) (o : PrivateState) where
   abbrev v : View
   v = view_of w o
 

@@ -18,7 +18,7 @@ use Rattle.cp_law_typing.specs.WellTyped.{WellTyped, text_systems}
 use Rattle.cp_law_typing.proofs.StartValues.{each_in}
 use Rattle.cp_model_program.specs.Layout.{farther, head_words, member_part}
 use Rattle.cp_model_program.specs.Programs.{Program}
-use Rattle.cp_model_program.specs.StandsFor.{StandsFor, component_at, component_in, system_of_monitor, system_of_process}
+use Rattle.cp_model_program.specs.IsProgramFor.{IsProgramFor, component_at, component_in, system_of_monitor, system_of_process}
 use Rattle.cp_model_program.specs.Starts.{word}
 use Rattle.cp_model_machine.specs.Addresses.{Activation, Ground, OwnWords, in_sight, part_of_component, sees}
 use Rattle.cp_model_machine.specs.KernelOf.{is_shared, kernel_ground}
@@ -104,7 +104,7 @@ module _ (G : Ground) (store : Store) (ws : List ℤ) (sys : System) (named : Na
           ap (λ b. if b then part_of_component (globals G.setup.tree) (system_of_process G.setup G.p) x q else None) (eq-eqb G.p G.p refl)
           ∙ ap (λ o. part_of_component (globals G.setup.tree) o x q) is
 
-module _ (program : Program) (setup : Setup) (F : StandsFor program setup) (store : Store) (us : List ℤ) (D : DataMeans (kernel_ground program F.texts setup) [] is_shared store us) where
+module _ (program : Program) (setup : Setup) (F : IsProgramFor program setup) (store : Store) (us : List ℤ) (D : DataMeans (kernel_ground program F.texts setup) [] is_shared store us) where
   pub monitor_values : (n : ℕ) (sys : System) → NamedMembers (reported_members (globals setup.tree) sys) → system_of_monitor setup n ≡ Some sys
       → variable_lines store (monitor_location n) (reported_members (globals setup.tree) sys)
       ≡ visit_members (globals setup.tree) (lines_visit us) [] (monitor_start program n + head_words (globals setup.tree) sys) (reported_members (globals setup.tree) sys)

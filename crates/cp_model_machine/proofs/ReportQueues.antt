@@ -167,7 +167,7 @@ module _ (g : GlobalScope) (target : ℕ) where
       place a b w = Prim.grind arith
 
   abbrev Finds : Path → ℕ → (Path → Option Part) → Text → Path → Type 0
-  Finds path at parts told q = (k : ℕ) → parts q ≡ Some (k, Queue) → target ≡ at + k → told ≡ path_text (path ++ q)
+  Finds path at parts reported q = (k : ℕ) → parts q ≡ Some (k, Queue) → target ≡ at + k → reported ≡ path_text (path ++ q)
 
   deeper : (path q : Path) (s : PathStep) (x : Text) → x ≡ path_text ((path ++ s ∷ []) ++ q) → x ≡ path_text (path ++ s ∷ q)
   deeper path q s x h = h ∙ ap path_text (join_append path (s ∷ []) q)

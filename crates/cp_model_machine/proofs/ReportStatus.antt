@@ -20,10 +20,10 @@ use Rattle.cp_model.proofs.Options.{same_some}
 use Rattle.cp_law_typing.specs.Words.{words_of_members}
 use Rattle.cp_model_program.specs.Layout.{Part, component_words, head_words}
 use Rattle.cp_model_program.specs.Programs.{Program}
-use Rattle.cp_model_program.specs.StandsFor.{Apart, StandsFor, component_at, component_in, system_of_monitor, system_of_process}
+use Rattle.cp_model_program.specs.IsProgramFor.{Apart, IsProgramFor, component_at, component_in, system_of_monitor, system_of_process}
 use Rattle.cp_model_machine.specs.Addresses.{Ground, lies, part_at}
 use Rattle.cp_model_machine.specs.KernelOf.{StageMeans, kernel_ground}
-use Rattle.cp_model_machine.specs.KernelSteps.{Asking, Begun, Delayed, Fresh, Stage, Unstarted}
+use Rattle.cp_model_machine.specs.KernelSteps.{Asking, Begun, Delayed, Fresh, SchedulingState, Unstarted}
 use Rattle.cp_model_machine.specs.PartOf.{status_of}
 use Rattle.cp_model_machine.specs.Passing.{monitor_start}
 use Rattle.cp_model_machine.specs.PrivateStates as machine
@@ -48,7 +48,7 @@ queues_found g program at i j [] v q there here others = absurd (some_is_not_non
 queues_found g program at i zero (u ∷ vs) v q there here others =
     (λ k. (ap (λ n. visit_component g (queue_visit at) (monitor_start program n) u.1.type) (no_more i)
     ∙ (ap (λ (w : Name × Variable). visit_component g (queue_visit at) (monitor_start program (i + 0)) w.1.type) (same_some u v there) ∙ here)) k
-    ++ none_told (suc i) vs (λ l w h. ap (λ n. visit_component g (queue_visit at) (monitor_start program n) w.1.type) (one_more i l) ∙ others (suc l) w h (λ e. omega (arith, e))) k)
+    ++ none_reported (suc i) vs (λ l w h. ap (λ n. visit_component g (queue_visit at) (monitor_start program n) w.1.type) (one_more i l) ∙ others (suc l) w h (λ e. omega (arith, e))) k)
     ∙ append_none q
   where
     no_more : (n : ℕ) → n ≡ n + 0
@@ -57,12 +57,12 @@ queues_found g program at i zero (u ∷ vs) v q there here others =
     one_more : (n k : ℕ) → suc n + k ≡ n + suc k
     one_more n k = omega arith
 
-    none_told : (n : ℕ) (ws : List (Name × Variable))
+    none_reported : (n : ℕ) (ws : List (Name × Variable))
         → ((l : ℕ) (w : Name × Variable) → slice_get ws l ≡ Some w → visit_component g (queue_visit at) (monitor_start program (n + l)) w.1.type ≡ []) → queues_text g program at n ws ≡ []
-    none_told n [] h = refl
-    none_told n (w ∷ ws) h =
+    none_reported n [] h = refl
+    none_reported n (w ∷ ws) h =
         (λ k. (ap (λ z. visit_component g (queue_visit at) (monitor_start program z) w.1.type) (no_more n) ∙ h 0 w refl) k ++ queues_text g program at (suc n) ws)
-        ∙ none_told (suc n) ws (λ l z e. ap (λ y. visit_component g (queue_visit at) (monitor_start program y) z.1.type) (one_more n l) ∙ h (suc l) z e)
+        ∙ none_reported (suc n) ws (λ l z e. ap (λ y. visit_component g (queue_visit at) (monitor_start program y) z.1.type) (one_more n l) ∙ h (suc l) z e)
 queues_found g program at i (suc j) (u ∷ vs) v q there here others =
     (λ k. (ap (λ z. visit_component g (queue_visit at) (monitor_start program z) u.1.type) (no_more i) ∙ others 0 u refl (λ e. omega (arith, e))) k ++ queues_text g program at (suc i) vs)
     ∙ queues_found g program at (suc i) j vs v q there (ap (λ z. visit_component g (queue_visit at) (monitor_start program z) v.1.type) (one_more i j) ∙ here)
@@ -74,7 +74,7 @@ queues_found g program at i (suc j) (u ∷ vs) v q there here others =
     one_more : (n k : ℕ) → suc n + k ≡ n + suc k
     one_more n k = omega arith
 
-module _ (program : Program) (setup : Setup) (F : StandsFor program setup) where
+module _ (program : Program) (setup : Setup) (F : IsProgramFor program setup) where
   abbrev g : GlobalScope
   g = globals setup.tree
 
@@ -82,10 +82,10 @@ module _ (program : Program) (setup : Setup) (F : StandsFor program setup) where
   K = kernel_ground program F.texts setup
 
   -- The words of a monitor, whose type is that of its variable.
-  told_by : (v : Name × Variable) (C : IsComponent setup v.1.type) (at n : ℕ)
+  reported_by : (v : Name × Variable) (C : IsComponent setup v.1.type) (at n : ℕ)
       → visit_component g (queue_visit at) (monitor_start program n) v.1.type
       ≡ visit_members g (queue_visit at) [] (monitor_start program n + head_words g C.system) (reported_members g C.system)
-  told_by v C at n =
+  reported_by v C at n =
       ap (visit_component g (queue_visit at) (monitor_start program n)) C.type
       ∙ ap (visit_members g (queue_visit at) [] (monitor_start program n + head_words g C.system)) C.members
 
@@ -133,13 +133,13 @@ module _ (program : Program) (setup : Setup) (F : StandsFor program setup) where
 
       here : visit_component g (queue_visit n) (monitor_start program (1 + j)) there.0.1.type ≡ path_text (ByName x ∷ q)
       here =
-          told_by there.0 C n (1 + j)
+          reported_by there.0 C n (1 + j)
           ∙ (ap (λ y. visit_members g (queue_visit n) [] (monitor_start program (1 + j) + head_words g y) (reported_members g y)) is_it
           ∙ member_found g n [] (monitor_start program (1 + j)) (head_words g f.system) (reported_members g f.system) x q f.far f.there place)
 
       others : (l : ℕ) (u : Name × Variable) → slice_get (components_of setup Monitor) l ≡ Some u → (l ≡ j → ⊥) → visit_component g (queue_visit n) (monitor_start program (1 + l)) u.1.type ≡ []
       others l u is apart =
-          told_by u D n (1 + l) ∙ members_beside g n [] (monitor_start program (1 + l) + head_words g D.system) (reported_members g D.system) (beside lie)
+          reported_by u D n (1 + l) ∙ members_beside g n [] (monitor_start program (1 + l) + head_words g D.system) (reported_members g D.system) (beside lie)
         where
           D : IsComponent setup u.1.type
           D = is_component setup F.typed Monitor l u is
@@ -172,7 +172,7 @@ module _ (program : Program) (setup : Setup) (F : StandsFor program setup) where
 
   -- ---- statuses
 
-  pub status_same : (x : Status) (y : Stage) (a : Activity) → StageMeans K x y → private_status x ≡ status_of a → status_text setup x ≡ stage_text setup program y a
+  pub status_same : (x : Status) (y : SchedulingState) (a : Activity) → StageMeans K x y → private_status x ≡ status_of a → status_text setup x ≡ stage_text setup program y a
   status_same status.Unstarted Unstarted a h e = refl
   status_same status.Fresh Fresh a h e = refl
   status_same (status.Asking m) (Asking k) a h e = ap (λ n. codes "asking " ++ monitor_name setup n) h

@@ -12,9 +12,9 @@ use Rattle.cp_model.specs.States.{Setup, State, initial_variables, process_count
 use Rattle.cp_model.specs.Types.{ComponentOf, GlobalScope}
 use Rattle.cp_model.proofs.ComponentCounts.{counted}
 use Rattle.cp_model_program.specs.Layout.{head_words}
-use Rattle.cp_model_program.specs.StandsFor.{component_in, system_of_monitor, system_of_process}
+use Rattle.cp_model_program.specs.IsProgramFor.{component_in, system_of_monitor, system_of_process}
 use Rattle.cp_model_machine.specs.Addresses.{Activation, Ground, activations, in_sight}
-use Rattle.cp_model_machine.specs.InState.{IsIn, NoneFresh, PartStands}
+use Rattle.cp_model_machine.specs.InState.{IsIn, NoneFresh, PartRepresents}
 use Rattle.cp_model_machine.specs.KernelSteps.{stage_of}
 use Rattle.cp_model_machine.specs.Laws.{ground_of}
 use Rattle.cp_model_machine.specs.Machines.{Machine}
@@ -44,12 +44,12 @@ module _ (m : Machine) (setup : Setup) (s : State) (I : IsIn m setup s) (calm : 
   g = globals setup.tree
 
   abbrev G : ℕ → PrivateState → Ground
-  G p o = ground_of m.program setup I.stands p (length o.words)
+  G p o = ground_of m.program setup I.represents p (length o.words)
 
   -- ---- processes
 
   -- The words of a process mean its variables, whether it has begun or not.
-  data_of : (p : ℕ) (o : PrivateState) → PartStands m setup I.stands s p o → (xs : List Activation) × DataMeans (G p o) xs (in_sight (G p o)) s.store o.words
+  data_of : (p : ℕ) (o : PrivateState) → PartRepresents m setup I.represents s p o → (xs : List Activation) × DataMeans (G p o) xs (in_sight (G p o)) s.store o.words
   data_of p o P = by (s.status p) refl
     where
       begun : (x : Status) → s.status p ≡ x → HasBegun (private_status x) → (xs : List Activation) × DataMeans (G p o) xs (in_sight (G p o)) s.store o.words
@@ -70,11 +70,11 @@ module _ (m : Machine) (setup : Setup) (s : State) (I : IsIn m setup s) (calm : 
   part_same p x sys o first last named is there =
       let P = I.parts p o first there in
       let D = data_of p o P in
-      let told = sym (status_same m.program setup I.stands (s.status p) (stage_of m.kernel.stages p) o.activity
-      (I.kernel.gates_stand.stages p first (omega (arith, last, I.kernel.gates_stand.stage_count))) P.part.status) in
+      let reported = sym (status_same m.program setup I.represents (s.status p) (stage_of m.kernel.stages p) o.activity
+      (I.kernel.gates_represent.stages p first (omega (arith, last, I.kernel.gates_represent.stage_count))) P.part.status) in
       let written = sym P.part.transcript in
       let values = sym (process_values (G p o) s.store o.words sys named D.0 refl D.1 is) in
-      λ i. head_line p x (told i) ++ (transcript_line (written i) ++ values i)
+      λ i. head_line p x (reported i) ++ (transcript_line (written i) ++ values i)
 
   process_same : (p : ℕ) (x : Name) (sys : System) → 1 ≤ p → p ≤ process_count setup → NamedMembers (reported_members g sys) → system_of_process setup p ≡ Some sys
       → process_lines setup m p x (head_words g sys) (reported_members g sys) ≡ process_text setup s p x (reported_members g sys)
@@ -102,7 +102,7 @@ module _ (m : Machine) (setup : Setup) (s : State) (I : IsIn m setup s) (calm : 
 
   process_listed : Listed 2 (components_of setup Process)
   process_listed j v there =
-      let C = is_component setup I.stands.typed Process j v there in
+      let C = is_component setup I.represents.typed Process j v there in
       let below = within_list (components_of setup Process) j v there in
       let is : system_of_process setup (2 + j) ≡ Some C.system =
       ap (system_of_process setup) (second j) ∙ (component_of (components_of setup Process) j v there ∙ ap component_in C.type) in
@@ -134,12 +134,12 @@ module _ (m : Machine) (setup : Setup) (s : State) (I : IsIn m setup s) (calm : 
 
   monitor_listed : MonitorsListed 1 (components_of setup Monitor)
   monitor_listed j v there =
-      let C = is_component setup I.stands.typed Monitor j v there in
+      let C = is_component setup I.represents.typed Monitor j v there in
       let is : system_of_monitor setup (1 + j) ≡ Some C.system =
       ap (system_of_monitor setup) (first j) ∙ (component_of (components_of setup Monitor) j v there ∙ ap component_in C.type) in
       let shape = C.type ∙ ap (ComponentOf C.system) C.members in
-      let values = sym (monitor_values m.program setup I.stands s.store m.kernel.shared I.kernel.data_means (1 + j) C.system C.named is) in
-      (λ i. gate_line v.0 (I.kernel.gates_stand.gates (1 + j) i) ++ visit_component g (lines_visit m.kernel.shared) (monitor_start m.program (1 + j)) (shape i))
+      let values = sym (monitor_values m.program setup I.represents s.store m.kernel.shared I.kernel.data_means (1 + j) C.system C.named is) in
+      (λ i. gate_line v.0 (I.kernel.gates_represent.gates (1 + j) i) ++ visit_component g (lines_visit m.kernel.shared) (monitor_start m.program (1 + j)) (shape i))
       ∙ ((λ i. gate_line v.0 (s.gates (1 + j)) ++ values i) ∙ (λ i. monitor_text s (1 + j) v.0 (component_members (sym shape i))))
     where
       first : (n : ℕ) → 1 + n ≡ suc n
@@ -147,7 +147,7 @@ module _ (m : Machine) (setup : Setup) (s : State) (I : IsIn m setup s) (calm : 
 
   whole_same : machine_report setup m ≡ report setup s
   whole_same =
-      let O = initial_owns setup I.stands.typed in
+      let O = initial_owns setup I.represents.typed in
       let initial = process_same 1 (codes "initial") setup.tree.initial (omega arith) (omega arith) O.named refl in
       λ i. line (codes "rounds " ++ natural (I.rounds i)) ++ (initial i ++ (processes_same 2 (components_of setup Process) process_listed i ++ monitors_same 1 (components_of setup Monitor) monitor_listed i))
 

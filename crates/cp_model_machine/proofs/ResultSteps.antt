@@ -24,13 +24,13 @@ use Rattle.cp_model_program.specs.Terms.{Term}
 use Rattle.cp_model_program.specs.Programs as op
 use Rattle.cp_model_program.specs.Layout.{local}
 use Rattle.cp_model_program.specs.Sites.{local_location, operation_at}
-use Rattle.cp_model_program.specs.StandsFor.{StandsFor}
+use Rattle.cp_model_program.specs.IsProgramFor.{IsProgramFor}
 use Rattle.cp_model_program.specs.StatementsFor.{AssignsBy, NamesResult}
 use Rattle.cp_model_program.specs.TermsFor.{Agrees}
-use Rattle.cp_model_machine.specs.PrivateStates.{Outside, PrivateState, go_to, private_outcome, guard, set_word, with_result}
+use Rattle.cp_model_machine.specs.PrivateStates.{StepContext, PrivateState, go_to, private_outcome, guard, set_word, with_result}
 use Rattle.cp_model_machine.specs.Steps.{act}
 use Rattle.cp_model_machine.specs.Addresses.{Ground}
-use Rattle.cp_model_machine.specs.Left.{site}
+use Rattle.cp_model_machine.specs.Remaining.{site}
 use Rattle.cp_model_machine.specs.PartOf.{PartOf, RunsOn}
 use Rattle.cp_model_machine.proofs.Doing.{Ready, known, quietly, statement_steps, value_here}
 use Rattle.cp_model_machine.proofs.Evaluates.{ordinal_is}
@@ -39,8 +39,8 @@ use Rattle.cp_model_machine.proofs.Resulting.{runs_resulted}
 use Rattle.cp_model_machine.proofs.RunningOn.{runs_moved}
 use Rattle.cp_model_machine.proofs.Stepping.{Stepped, clock_of, faulted, went}
 
-pub result_steps : (G : Ground) (s : State) (w : Outside) (before : List ℕ) (o : PrivateState) (x : Name) (e : a.Expression) (env : Environment) (k : List Task)
-    → StandsFor G.program G.setup → (Y : Ready G s w before o (a.Assign (a.Plain x) e) env k) (lower upper : ℤ) (c : Term) (n : ℕ)
+pub result_steps : (G : Ground) (s : State) (w : StepContext) (before : List ℕ) (o : PrivateState) (x : Name) (e : a.Expression) (env : Environment) (k : List Task)
+    → IsProgramFor G.program G.setup → (Y : Ready G s w before o (a.Assign (a.Plain x) e) env k) (lower upper : ℤ) (c : Term) (n : ℕ)
     → operation_at G.program o.counter ≡ Some (op.SetResult lower upper c n)
     → AssignsBy (site G Y.now.on.running) (known G s w before o (Do (a.Assign (a.Plain x) e) env) k Y.now) (a.Plain x) e (op.SetResult lower upper c n) o.counter Y.now.on.left.2.3.0 Y.now.on.left.2.0 Y.now.on.left.2.1
     → Stepped G s w before o

@@ -18,7 +18,7 @@ use Rattle.cp_model_program.specs.Starts.{unset, word}
 use Rattle.cp_model_machine.specs.PrivateStates.{PrivateState, set_word}
 use Rattle.cp_model_machine.specs.Means.{CellMeans}
 use Rattle.cp_model_machine.specs.Addresses.{Activation, ClassLies, ComponentLies, Ground, MonitorLies, ProcessLies, activation_at, activations, in_sight, lies, scope}
-use Rattle.cp_model_machine.specs.Left.{held_below, site}
+use Rattle.cp_model_machine.specs.Remaining.{held_below, site}
 use Rattle.cp_model_machine.specs.PartOf.{ActivationMeans, ResultMeans, RunsOn}
 use Rattle.cp_model_machine.proofs.Apart.{InHead, cell_head}
 use Rattle.cp_model_machine.proofs.Finding.{some_is_not_none}

@@ -26,23 +26,23 @@ use Rattle.cp_model_program.specs.Sites.{BodyOf, RoutineOf, UnitText}
 use Rattle.cp_model_program.specs.Starts.{unset, word}
 use Rattle.cp_model_program.specs.StatementsFor.{is_function}
 use Rattle.cp_model_machine.specs.PrivateStates as machine
-use Rattle.cp_model_machine.specs.PrivateStates.{Outside, PrivateState, fault_in, set_temp}
+use Rattle.cp_model_machine.specs.PrivateStates.{StepContext, PrivateState, fault_in, set_temp}
 use Rattle.cp_model_machine.specs.Calling.{gate_effect, leave, return_with}
 use Rattle.cp_model_machine.specs.Addresses.{Activation, Ground, activation_of, activations, in_sight, scope}
-use Rattle.cp_model_machine.specs.Left.{CallerAt, FrameFor, Left, Runs, held_below, innermost_gate, kept_below, result_of, site}
+use Rattle.cp_model_machine.specs.Remaining.{CallerAt, FrameFor, Remaining, Runs, held_below, innermost_gate, kept_below, result_of, site}
 use Rattle.cp_model_machine.specs.PartOf.{ActivationMeans, ActivationsMean, CallsBehind, DataMeans, IfFrame, PartOf, ResultMeans, RunsOn, components}
-use Rattle.cp_model_machine.proofs.Answered.{LeftAnswered, task_answered}
+use Rattle.cp_model_machine.proofs.Answered.{RemainingAnswered, task_answered}
 use Rattle.cp_model_machine.proofs.Doing.{acts_itself}
 use Rattle.cp_model_machine.proofs.Finding.{some_is_not_none}
 use Rattle.cp_model_machine.proofs.Heres.{depth_is, lies_behind}
 use Rattle.cp_model_machine.proofs.Holding.{SameLive, activation_below, data_below}
 use Rattle.cp_model_machine.proofs.Keeping.{activations_kept, data_kept, each_kept, keeps_given}
-use Rattle.cp_model_machine.proofs.LeftKept.{left_kept, left_raised}
+use Rattle.cp_model_machine.proofs.RemainingKept.{left_kept, left_raised}
 use Rattle.cp_model_machine.proofs.Stacks.{Stack, Stacked, stacked}
 use Rattle.cp_model_machine.proofs.Stepping.{Now, Stepped, both_step, does, faulted, gates_left, went}
 use Rattle.cp_law_typing.proofs.Locations.{integer_is, owner_is}
 use Rattle.cp_model_machine.proofs.Given.{all_kept}
-use Rattle.cp_model_machine.proofs.Effects.{going, leaves, return_leaves, then_means, told}
+use Rattle.cp_model_machine.proofs.Effects.{going, leaves, return_leaves, then_means, reported}
 use Rattle.cp_model_machine.specs.Steps.{act}
 
 -- ---- one activation less
@@ -109,7 +109,7 @@ text_is t None f e h = absurd (some_is_not_none f (sym e))
 text_is (RoutineOf s r) (Some g) f e h = (s, ap (RoutineOf s) (sym h ∙ ap (λ (y : Frame). y.routine) (same_some g f e)))
 text_is (BodyOf s) (Some g) f e h = absurd h
 
-module _ (G : Ground) (s : State) (w : Outside) (before : List ℕ) (o : PrivateState) (f : machine.Frame) (fs : List machine.Frame) (env : Environment) (gate : Option ℕ) (k : List Task)
+module _ (G : Ground) (s : State) (w : StepContext) (before : List ℕ) (o : PrivateState) (f : machine.Frame) (fs : List machine.Frame) (env : Environment) (gate : Option ℕ) (k : List Task)
     (N : Now G s w before (record o { frames = f ∷ fs }) (EndCall env gate) k) where
   abbrev returning : PrivateState
   returning = record o { frames = f ∷ fs }
@@ -119,7 +119,7 @@ module _ (G : Ground) (s : State) (w : Outside) (before : List ℕ) (o : Private
 
   -- The caller, at a place and with something left to do that has the same end marks.
   caller_on : (us : List ℤ) (place live : ℕ) (j : List Task) → length us ≡ length o.temps
-      → Left G us o.limit (held_below live us N.on.left.3.0.temp) N.on.left.3.0 fs place N.on.left.3.0.unit.temps j → CallsBehind G live place
+      → Remaining G us o.limit (held_below live us N.on.left.3.0.temp) N.on.left.3.0 fs place N.on.left.3.0.unit.temps j → CallsBehind G live place
       → ((F : List Activation → List ℕ → Type 0) → F (activations f.base fs k) (marked_monitors k) → F (activations f.base fs j) (marked_monitors j))
       → ((store : Store) (ws : List ℤ) → ActivationsMean G store ws f.base fs k → ActivationsMean G store ws f.base fs j)
       → RunsOn G (forget N.on.left.1.frame.owner s.store) (record (leave o f fs) { temps = us; counter = place }) j
@@ -177,7 +177,7 @@ module _ (G : Ground) (s : State) (w : Outside) (before : List ℕ) (o : Private
       let there = caller_there None none in
       went G s before (record o { frames = f ∷ fs }) N.part (forget N.on.left.1.frame.owner s.store) (leave o f fs) k
       (caller_on o.temps f.counter 0 k refl
-      (subst (λ z. Left G o.temps o.limit (held_below 0 o.temps c.0.temp) c.0 fs z c.0.unit.temps k) there.0
+      (subst (λ z. Remaining G o.temps o.limit (held_below 0 o.temps c.0.temp) c.0 fs z c.0.unit.temps k) there.0
       (left_raised G o.temps o.limit (held_below 0 o.temps c.0.temp) c.0 fs c.1 c.2 c.0.unit.temps k c.5.kept_fit
       (left_kept G o.temps o.temps o.limit refl (kept_below c.2 c.3 o.temps c.0.temp) (held_below 0 o.temps c.0.temp) c.0 fs c.1 c.2 k
       (λ n m h. absurd (omega (arith, h.0, there.1))) (λ i q. refl) c.7)))
@@ -207,18 +207,18 @@ module _ (G : Ground) (s : State) (w : Outside) (before : List ℕ) (o : Private
       into_is : N.on.left.3.0.temp + caller.1 ≡ f.temp + f.into
       into_is = omega (arith, caller.6, N.on.left.3.5.temp)
 
-      A : LeftAnswered G o.temps o.limit N.on.left.3.0 fs N.on.left.3.3 N.on.left.3.1 caller.0 caller.1 f.counter caller.5 room caller.4 k
+      A : RemainingAnswered G o.temps o.limit N.on.left.3.0 fs N.on.left.3.3 N.on.left.3.1 caller.0 caller.1 f.counter caller.5 room caller.4 k
       A =
           task_answered G o.temps o.limit N.on.left.3.0 fs N.on.left.3.3 N.on.left.3.1 caller.0 caller.1 f.counter caller.5 room caller.4 k
           (left_raised G o.temps o.limit (kept_below caller.0.temps N.on.left.3.3 o.temps N.on.left.3.0.temp) N.on.left.3.0 fs N.on.left.3.1 N.on.left.3.2 N.on.left.3.0.unit.temps k N.on.left.3.5.kept_fit
-          (subst (λ z. Left G o.temps o.limit (kept_below z N.on.left.3.3 o.temps N.on.left.3.0.temp) N.on.left.3.0 fs N.on.left.3.1 N.on.left.3.2 k) (sym caller.3) N.on.left.3.7))
+          (subst (λ z. Remaining G o.temps o.limit (kept_below z N.on.left.3.3 o.temps N.on.left.3.0.temp) N.on.left.3.0 fs N.on.left.3.1 N.on.left.3.2 k) (sym caller.3) N.on.left.3.7))
 
-      answer : (n : ℤ) → Left G (slice_set o.temps (f.temp + f.into) n) o.limit (held_below (caller.1 + 1) (slice_set o.temps (f.temp + f.into) n) N.on.left.3.0.temp) N.on.left.3.0 fs f.counter N.on.left.3.0.unit.temps
+      answer : (n : ℤ) → Remaining G (slice_set o.temps (f.temp + f.into) n) o.limit (held_below (caller.1 + 1) (slice_set o.temps (f.temp + f.into) n) N.on.left.3.0.temp) N.on.left.3.0 fs f.counter N.on.left.3.0.unit.temps
           (with_answer (a.Known (base_of_type (named_type env.globals t)) n) k)
       answer n =
           let base_is = A.1 _ N.on.left.1.frame.routine t text is ∙ ap (λ g. base_of_type (named_type g t)) globals in
-          subst (λ b. Left G (slice_set o.temps (f.temp + f.into) n) o.limit (held_below (caller.1 + 1) (slice_set o.temps (f.temp + f.into) n) N.on.left.3.0.temp) N.on.left.3.0 fs f.counter N.on.left.3.0.unit.temps (with_answer (a.Known b n) k)) base_is
-          (subst (λ i. Left G (slice_set o.temps i n) o.limit (held_below (caller.1 + 1) (slice_set o.temps i n) N.on.left.3.0.temp) N.on.left.3.0 fs f.counter N.on.left.3.0.unit.temps (with_answer (a.Known A.0 n) k)) into_is
+          subst (λ b. Remaining G (slice_set o.temps (f.temp + f.into) n) o.limit (held_below (caller.1 + 1) (slice_set o.temps (f.temp + f.into) n) N.on.left.3.0.temp) N.on.left.3.0 fs f.counter N.on.left.3.0.unit.temps (with_answer (a.Known b n) k)) base_is
+          (subst (λ i. Remaining G (slice_set o.temps i n) o.limit (held_below (caller.1 + 1) (slice_set o.temps i n) N.on.left.3.0.temp) N.on.left.3.0 fs f.counter N.on.left.3.0.unit.temps (with_answer (a.Known A.0 n) k)) into_is
           (A.3 n))
 
       marks : (v : a.Expression) (F : List Activation → List ℕ → Type 0) → F (activations f.base fs k) (marked_monitors k) → F (activations f.base fs (with_answer v k)) (marked_monitors (with_answer v k))
@@ -254,7 +254,7 @@ module _ (G : Ground) (s : State) (w : Outside) (before : List ℕ) (o : Private
       by _ n e h = absurd h
 
 -- The end of a routine. A function's name is no parameter or variable of it.
-pub return_steps : (G : Ground) (s : State) (w : Outside) (before : List ℕ) (o : PrivateState) (env : Environment) (gate : Option ℕ) (k : List Task) → Now G s w before o (EndCall env gate) k
+pub return_steps : (G : Ground) (s : State) (w : StepContext) (before : List ℕ) (o : PrivateState) (env : Environment) (gate : Option ℕ) (k : List Task) → Now G s w before o (EndCall env gate) k
     → ((f : Frame) (t : Name) → env.frame ≡ Some f → f.routine.result ≡ Some t → local (scope G) f.routine f.routine.name ≡ None)
     → Stepped G s w before o
 return_steps G s w before o env gate k N names = by o.frames N
@@ -270,7 +270,7 @@ return_steps G s w before o env gate k N names = by o.frames N
         (subst (λ x. PartOf G (gone G s w before o f fs env gate k N (frame_returns (configuration s G.p) env k x)) before (return_with P P f fs function (gate_effect f.gate machine.Leaves)).0) (sym (here G s w before o f fs env gate k N))
         (returned r.frame.routine.result refl)) in
         both_step G s w before P (EndCall env gate) k N (Acts (EndCall env gate) k) (op.Return function) (acts_itself (EndCall env gate) k refl refl) refl r.return refl part
-        (λ all. told G w.own s before N.ready (does G s (Acts (EndCall env gate) k)) (gate_effect f.gate machine.Leaves) (act G.program w P (op.Return function)) part
+        (λ all. reported G w.own s before N.ready (does G s (Acts (EndCall env gate) k)) (gate_effect f.gate machine.Leaves) (act G.program w P (op.Return function)) part
         (then_means G w.own (gate_effect f.gate machine.Leaves) (returns (configuration s G.p) env k) (λ after. Gives (after, leaving gate)) (λ after. leaves G w.own gate f.gate N.on.left.2.0 N.on.left.2.2))
         (return_leaves P P f fs function (gate_effect f.gate machine.Leaves) (going G s before P N.part N.ready)))
       where

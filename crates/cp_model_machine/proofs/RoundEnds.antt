@@ -15,9 +15,9 @@ use Rattle.cp_model_machine.specs.PrivateStates.{Activity, PrivateState}
 use Rattle.cp_model_machine.specs.Addresses.{Ground}
 use Rattle.cp_model_machine.specs.Beginning.{Begins}
 use Rattle.cp_model_machine.specs.KernelOf.{StageMeans, kernel_ground}
-use Rattle.cp_model_machine.specs.KernelSteps.{Asking, Begun, Delayed, Fresh, Kernel, Stage, Unstarted, stage_of}
+use Rattle.cp_model_machine.specs.KernelSteps.{Asking, Begun, Delayed, Fresh, Kernel, SchedulingState, Unstarted, stage_of}
 use Rattle.cp_model_machine.specs.Machines.{awake, begin_from, begin_if, begin_one, wake_one}
-use Rattle.cp_model_machine.specs.PartOf.{GoesOn, PartOf, RunsOn, status_of}
+use Rattle.cp_model_machine.specs.PartOf.{Advances, PartOf, RunsOn, status_of}
 use Rattle.cp_model_program.specs.Starts.{block, paste}
 
 -- ---- waking
@@ -50,7 +50,7 @@ roused_begun Finished h = h
 roused_begun Sleeping h = tt
 roused_begun (Failed n) h = h
 
-awake_goes : (x : Activity) → GoesOn (awake x) → GoesOn x
+awake_goes : (x : Activity) → Advances (awake x) → Advances x
 awake_goes machine.NotBegun h = h
 awake_goes machine.Running h = h
 awake_goes machine.Waiting h = tt
@@ -118,13 +118,13 @@ fresh_begins G s before k o fresh P B = record {
 -- before.
 pub part_ends_round : (G : Ground) (s : State) (before : List ℕ) (k : Kernel) (o : PrivateState) → StageMeans (kernel_ground G.program G.texts G.setup) (s.status G.p) (stage_of k.stages G.p)
     → PartOf G s before o → (s.status G.p ≡ status.Fresh → Begins G s k o) → PartOf G (close_round s) before (begin_one G.program k o)
-part_ends_round G s before k o stands P B =
-    subst (λ n. PartOf G (close_round s) before (begin_if G.program k o (stage_of k.stages n))) (sym P.number) (by (s.status G.p) (stage_of k.stages G.p) refl stands)
+part_ends_round G s before k o represents P B =
+    subst (λ n. PartOf G (close_round s) before (begin_if G.program k o (stage_of k.stages n))) (sym P.number) (by (s.status G.p) (stage_of k.stages G.p) refl represents)
   where
     stays : (x : Status) → s.status G.p ≡ x → after_closing x ≡ x → PartOf G (close_round s) before o
     stays x is same = part_closes G s before o (ap after_closing is ∙ (same ∙ sym is)) P
 
-    by : (x : Status) (g : Stage) → s.status G.p ≡ x → StageMeans (kernel_ground G.program G.texts G.setup) x g → PartOf G (close_round s) before (begin_if G.program k o g)
+    by : (x : Status) (g : SchedulingState) → s.status G.p ≡ x → StageMeans (kernel_ground G.program G.texts G.setup) x g → PartOf G (close_round s) before (begin_if G.program k o g)
     by status.Unstarted Unstarted is h = stays status.Unstarted is refl
     by status.Fresh Fresh is h = fresh_begins G s before k o is P (B is)
     by (status.Asking m) (Asking n) is h = stays (status.Asking m) is refl

@@ -11,7 +11,7 @@ use Rattle.cp_model.specs.States.{Setup, State, is_in, processes, running_clock}
 use Rattle.cp_model.specs.Turns as meaning
 use Rattle.cp_model.proofs.PrivateStepsKept.{own_part_is_turned, own_parts_kernel_part}
 use Rattle.cp_model_program.specs.Programs.{Program}
-use Rattle.cp_model_program.specs.StandsFor.{StandsFor}
+use Rattle.cp_model_program.specs.IsProgramFor.{IsProgramFor}
 use Rattle.cp_model_machine.specs.PrivateStates.{PrivateState}
 use Rattle.cp_model_machine.specs.Steps.{private_steps}
 use Rattle.cp_model_machine.specs.KernelOf.{KernelOf}
@@ -29,7 +29,7 @@ use Rattle.cp_model.proofs.StateInvariant.{private_step_keeps}
 use Rattle.cp_model_machine.proofs.Given.{rights_kept}
 use Rattle.cp_model_machine.specs.Addresses.{Ground}
 
-module _ (program : Program) (setup : Setup) (F : StandsFor program setup) (p own : ℕ) (s : State) (before : List ℕ) (o : PrivateState) (P : PartOf (ground_of program setup F p own) s before o) where
+module _ (program : Program) (setup : Setup) (F : IsProgramFor program setup) (p own : ℕ) (s : State) (before : List ℕ) (o : PrivateState) (P : PartOf (ground_of program setup F p own) s before o) where
   -- If the round's number is a multiple of the tick, processes that wait wake.
   pub part_woken : PartOf (ground_of program setup F p own) (wake setup s) before (if nat_eq (suc s.rounds % setup.tick) 0 then wake_one o else o)
   part_woken = by (nat_eq (suc s.rounds % setup.tick) 0)
@@ -50,7 +50,7 @@ monitor_same setup zero s p I l m owner = refl
 monitor_same setup (suc n) s p I l m owner =
     monitor_same setup n (meaning.private_step setup s p) p (private_step_keeps setup s p I) l m owner ∙ (private_step_kernel_part setup p s I).monitor_store l m owner
 
-module _ (program : Program) (setup : Setup) (F : StandsFor program setup) (n : ℕ) (s : State) (I : Invariant s) where
+module _ (program : Program) (setup : Setup) (F : IsProgramFor program setup) (n : ℕ) (s : State) (I : Invariant s) where
   -- The private state of each process after all private turns together.
   pub part_turned : (p own : ℕ) (before : List ℕ) (o : PrivateState) → is_in p (processes setup) ≡ true → PartOf (ground_of program setup F p own) s before o
       → PartOf (ground_of program setup F p own) (own_parts setup n s) before (private_steps program (realtime (running_clock setup s)) n o)

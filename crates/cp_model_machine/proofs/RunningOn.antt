@@ -15,25 +15,25 @@ use Rattle.cp_model.specs.Stores.{Ordinal, Store, Value, put}
 use Rattle.cp_model.specs.Types.{ResolvedType, Simple}
 use Rattle.cp_model_program.specs.TermsFor.{nothing_known}
 use Rattle.cp_model_program.specs.StatementsFor.{CodeFor}
-use Rattle.cp_model_machine.specs.PrivateStates.{Outside, PrivateState, go_to, set_word, view_of}
+use Rattle.cp_model_machine.specs.PrivateStates.{StepContext, PrivateState, go_to, set_word, view_of}
 use Rattle.cp_model_machine.specs.PrivateStates as machine
 use Rattle.cp_model_machine.specs.Values.{View}
 use Rattle.cp_model_machine.specs.Means.{CellMeans, Here}
 use Rattle.cp_model_machine.specs.Addresses.{AllHaveRights, ClassHasRights, Ground, HasRights, activations, component_type, in_sight, lies, scope, lies_in_sight}
-use Rattle.cp_model_machine.specs.Left.{Left, Running, held_below, innermost_gate, site}
+use Rattle.cp_model_machine.specs.Remaining.{Remaining, Running, held_below, innermost_gate, site}
 use Rattle.cp_model_machine.specs.PartOf.{ActivationsMean, DataMeans, RunsOn, WordsMean, components}
 use Rattle.cp_model_machine.proofs.Apart.{IsCell, cell_head}
 use Rattle.cp_model_machine.proofs.Given.{all_kept}
 use Rattle.cp_model_machine.proofs.Heres.{Sees, here}
 use Rattle.cp_model_machine.proofs.Holding.{SameBelow, SameLive, activation_below, activation_written, data_below, data_written, written_keeps}
 use Rattle.cp_model_machine.proofs.Keeping.{EachKept, KeepsData, activations_kept, data_kept, each_kept, keeps_given}
-use Rattle.cp_model_machine.proofs.LeftKept.{left_kept, left_raised}
+use Rattle.cp_model_machine.proofs.RemainingKept.{left_kept, left_raised}
 use Rattle.cp_model_machine.proofs.Pushing.{activations_push, marks_push, mean_push, push_left}
 use Rattle.cp_model_machine.proofs.Separate.{cell_inside}
 use Rattle.cp_model_machine.proofs.Stacks.{Stack, Stacked, own_in_whole, stacked}
 
 -- The names mean what the words hold.
-pub runs_here : (G : Ground) (store : Store) (w : Outside) (o : PrivateState) (k : List Task) (clock : Clock) → w.clock ≡ realtime clock → (R : RunsOn G store o k) → Sees G (in_sight G) store R.running.env
+pub runs_here : (G : Ground) (store : Store) (w : StepContext) (o : PrivateState) (k : List Task) (clock : Clock) → w.clock ≡ realtime clock → (R : RunsOn G store o k) → Sees G (in_sight G) store R.running.env
     → Here R.running.env clock store (view_of w o) (held_below R.live o.temps R.running.temp) (lies_in_sight (in_sight G) G (activations o.base o.frames k))
 runs_here G store w o k clock clock_is R sees =
     subst (λ b. Here R.running.env clock store (view_of w o) (held_below R.live o.temps R.running.temp) (lies_in_sight (in_sight G) G (activations b o.frames k))) (sym R.base)
@@ -64,7 +64,7 @@ runs_room G store o k R = omega (arith, R.base, R.runs.words_fit, R.runs.activat
 
 -- What is left where no value is known is so whatever is.
 pub left_afresh : (G : Ground) (ts : List ℤ) (limit live : ℕ) (R : Running) (fs : List machine.Frame) (place low : ℕ) (k : List Task) → low ≤ R.unit.temps
-    → Left G ts limit nothing_known R fs place low k → Left G ts limit (held_below live ts R.temp) R fs place R.unit.temps k
+    → Remaining G ts limit nothing_known R fs place low k → Remaining G ts limit (held_below live ts R.temp) R fs place R.unit.temps k
 left_afresh G ts limit live R fs place low k up h =
     left_raised G ts limit (held_below live ts R.temp) R fs place low R.unit.temps k up
     (left_kept G ts ts limit refl nothing_known (held_below live ts R.temp) R fs place low k (λ s m z. absurd z) (λ i q. refl) h)
@@ -102,7 +102,7 @@ words_of_body G store words base component f fs s env gate i k same means has W 
 abbrev pub runs_moved : (G : Ground) (store : Store) (o : PrivateState) (i j : List Task) (place low : ℕ) (R : RunsOn G store o i)
     → activations o.base o.frames j ≡ activations o.base o.frames i → ActivationsMean G store o.words o.base o.frames j ≡ ActivationsMean G store o.words o.base o.frames i
     → marked_monitors j ≡ marked_monitors i
-    → Left G o.temps o.limit nothing_known R.running o.frames place low j → low ≤ R.running.unit.temps
+    → Remaining G o.temps o.limit nothing_known R.running o.frames place low j → low ≤ R.running.unit.temps
     → RunsOn G store (go_to place o) j
 runs_moved G store o i j place low R same mean marks left fits = record {
   at = record {
@@ -123,7 +123,7 @@ runs_moved G store o i j place low R same mean marks left fits = record {
 abbrev pub runs_pushed : (G : Ground) (store : Store) (o : PrivateState) (i k : List Task) (s : a.Statement) (place next low : ℕ) (R : RunsOn G store o i)
     → activations o.base o.frames k ≡ activations o.base o.frames i → ActivationsMean G store o.words o.base o.frames k ≡ ActivationsMean G store o.words o.base o.frames i
     → marked_monitors k ≡ marked_monitors i
-    → CodeFor (site G R.running) nothing_known s place next low → Left G o.temps o.limit nothing_known R.running o.frames next low k → low ≤ R.running.unit.temps
+    → CodeFor (site G R.running) nothing_known s place next low → Remaining G o.temps o.limit nothing_known R.running o.frames next low k → low ≤ R.running.unit.temps
     → RunsOn G store (go_to place o) (push s R.running.env k)
 runs_pushed G store o i k s place next low R same mean marks code left fits =
     runs_moved G store o i (push s R.running.env k) place low R

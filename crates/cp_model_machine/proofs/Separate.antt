@@ -13,7 +13,7 @@ use Rattle.cp_model.proofs.Options.{same_some}
 use Rattle.cp_law_typing.specs.Needs.{result_words}
 use Rattle.cp_law_typing.specs.Words.{words}
 use Rattle.cp_model_program.specs.Layout.{activation_words, component_words, head_words, local, local_words, locals, member_part}
-use Rattle.cp_model_program.specs.StandsFor.{Apart, system_of_monitor, system_of_process}
+use Rattle.cp_model_program.specs.IsProgramFor.{Apart, system_of_monitor, system_of_process}
 use Rattle.cp_model_machine.specs.Addresses.{Activation, Ground, activation_at, in_sight, lies, part_at, part_of_owner, scope, whole}
 use Rattle.cp_model_machine.proofs.Apart.{InHead, head_inside, member_above, member_apart}
 use Rattle.cp_model_machine.proofs.Bounds.{member_fits, part_fits}

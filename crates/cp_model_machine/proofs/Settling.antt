@@ -14,13 +14,13 @@ use Rattle.cp_law_typing.specs.Declared.{Distinct}
 use Rattle.cp_law_typing.specs.StartValues.{IsIn}
 use Rattle.cp_law_typing.specs.Words.{words}
 use Rattle.cp_law_typing.proofs.Leaves.{step_same}
-use Rattle.cp_model_program.specs.StandsFor.{system_of_process}
+use Rattle.cp_model_program.specs.IsProgramFor.{system_of_process}
 use Rattle.cp_model_program.specs.Layout.{Part, activation_words, component_words, member, right, rights}
 use Rattle.cp_model_program.specs.Starts.{word}
 use Rattle.cp_model_machine.specs.PrivateStates.{PrivateState}
 use Rattle.cp_model_machine.specs.Means.{CellMeans}
 use Rattle.cp_model_machine.specs.Addresses.{Activation, ClassLies, ComponentLies, Ground, HasRights, IsGiven, RightMeans, activation_at, activations, component_type, in_sight, lies, scope}
-use Rattle.cp_model_machine.specs.Left.{site}
+use Rattle.cp_model_machine.specs.Remaining.{site}
 use Rattle.cp_model_machine.specs.PartOf.{DataMeans, RunsOn, components}
 use Rattle.cp_model_machine.proofs.Apart.{InHead, IsCell, cell_head}
 use Rattle.cp_model_machine.proofs.Copying.{Inside, inside_or_not}

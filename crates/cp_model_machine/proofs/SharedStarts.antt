@@ -11,7 +11,7 @@ use Rattle.cp_model.proofs.Options.{same_some}
 use Rattle.cp_model_program.specs.Layout.{component_words, head_words, member_part}
 use Rattle.cp_model_program.specs.Programs as code
 use Rattle.cp_model_program.specs.Programs.{Program, StartPlan}
-use Rattle.cp_model_program.specs.StandsFor.{Apart, MonitorStands, StandsFor}
+use Rattle.cp_model_program.specs.IsProgramFor.{Apart, MonitorRepresents, IsProgramFor}
 use Rattle.cp_model_program.specs.Starts.{AreZero, StartsComponent, carry_out, word}
 use Rattle.cp_model_machine.specs.Machines.{first_shared}
 use Rattle.cp_model_machine.proofs.Apart.{IsClass, head_inside}
@@ -54,20 +54,20 @@ block_kept g s base ws us B same = record {
 
 -- ---- all blocks
 
-module _ (program : Program) (setup : Setup) (F : StandsFor program setup) where
+module _ (program : Program) (setup : Setup) (F : IsProgramFor program setup) where
   abbrev g : GlobalScope
   g = globals setup.tree
 
-  abbrev Stands : ℕ → Type 0
-  Stands m = MonitorStands program F.texts setup m
+  abbrev Represents : ℕ → Type 0
+  Represents m = MonitorRepresents program F.texts setup m
 
   -- The blocks of the first `k` monitors have their start values, and the others are 0.
   record Until (k : ℕ) (ws : List ℤ) : Type 0 where
     count : length ws ≡ program.shared
-    done : (m : ℕ) → 1 ≤ m → m ≤ k → (M : Stands m) → BlockStarts g M.system M.row.start ws
-    zeros : (m : ℕ) → k < m → (M : Stands m) → AreZero g M.system M.row.start ws
+    done : (m : ℕ) → 1 ≤ m → m ≤ k → (M : Represents m) → BlockStarts g M.system M.row.start ws
+    zeros : (m : ℕ) → k < m → (M : Represents m) → AreZero g M.system M.row.start ws
 
-  module _ (k : ℕ) (ws : List ℤ) (U : Until k ws) (N : Stands (suc k)) where
+  module _ (k : ℕ) (ws : List ℤ) (U : Until k ws) (N : Represents (suc k)) where
     abbrev after : List ℤ
     after = carry_out N.row.start N.row.starts ws
 
@@ -75,7 +75,7 @@ module _ (program : Program) (setup : Setup) (F : StandsFor program setup) where
     room = omega (arith, N.lies, N.words, U.count)
 
     -- The block of another monitor is as it was.
-    beside : (m : ℕ) (M : Stands m) → (m ≡ suc k → ⊥) → (i : ℕ) → i < component_words g M.system → word after (M.row.start + i) ≡ word ws (M.row.start + i)
+    beside : (m : ℕ) (M : Represents m) → (m ≡ suc k → ⊥) → (i : ℕ) → i < component_words g M.system → word after (M.row.start + i) ≡ word ws (M.row.start + i)
     beside m M other i h = N.starts.outside N.row.start ws room (M.row.start + i) (U.zeros (suc k) (omega arith) N) (by (F.monitors_apart m (suc k) M N other))
       where
         by : Apart M.row.start M.row.words N.row.start N.row.words → (M.row.start + i < N.row.start) ⊎ (N.row.start + component_words g N.system ≤ M.row.start + i)
@@ -89,13 +89,13 @@ module _ (program : Program) (setup : Setup) (F : StandsFor program setup) where
       zeros = λ m above M i h. beside m M (λ e. absurd (omega (arith, e, above))) i h ∙ U.zeros m (omega (arith, above)) M i h;
     }
       where
-        here : (m : ℕ) → m ≡ suc k → (M : Stands m) → BlockStarts g M.system M.row.start after
+        here : (m : ℕ) → m ≡ suc k → (M : Represents m) → BlockStarts g M.system M.row.start after
         here m e M =
             let row : M.row ≡ N.row = same_some M.row N.row (sym M.there ∙ (ap (λ z. slice_get program.monitors (z - 1)) e ∙ N.there)) in
             subst (λ (r : code.Monitor). BlockStarts g M.system M.row.start (carry_out r.start r.starts ws)) row
             (block_started g M.system M.row.starts M.row.start ws M.starts (omega (arith, M.lies, M.words, U.count)) (U.zeros m (omega (arith, e)) M))
 
-        by : (m : ℕ) → 1 ≤ m → m ≤ suc k → (M : Stands m) → (b : Bool) → nat_eq m (suc k) ≡ b → BlockStarts g M.system M.row.start after
+        by : (m : ℕ) → 1 ≤ m → m ≤ suc k → (M : Represents m) → (b : Bool) → nat_eq m (suc k) ≡ b → BlockStarts g M.system M.row.start after
         by m low high M true e = here m (eqb-true m (suc k) e) M
         by m low high M false e =
             let other : m ≡ suc k → ⊥ = λ q. true≢false (sym (eq-eqb m (suc k) q) ∙ e) in
@@ -123,7 +123,7 @@ module _ (program : Program) (setup : Setup) (F : StandsFor program setup) where
           nothing_more : (n : ℕ) → n ≡ n + 0
           nothing_more n = omega arith
 
-      N : Stands (suc k)
+      N : Represents (suc k)
       N = F.monitors (suc k) (omega arith) (omega (arith, slice_get_within program.monitors k r here, F.monitor_rows))
 
       row : N.row ≡ r
@@ -149,5 +149,5 @@ module _ (program : Program) (setup : Setup) (F : StandsFor program setup) where
   shared_length = shared_until.count
 
   -- At the start each monitor's block has its start values.
-  pub shared_starts : (m : ℕ) → 1 ≤ m → m ≤ monitor_count setup → (M : Stands m) → BlockStarts g M.system M.row.start (first_shared program.monitors zeroed)
+  pub shared_starts : (m : ℕ) → 1 ≤ m → m ≤ monitor_count setup → (M : Represents m) → BlockStarts g M.system M.row.start (first_shared program.monitors zeroed)
   shared_starts m low high M = shared_until.done m low (omega (arith, high, F.monitor_rows)) M

@@ -9,7 +9,7 @@ use Rattle.cp_model.specs.Types.{ArrayOf, ComponentOf, NoType, Queue, RecordOf, 
 use Rattle.cp_model_program.specs.TermsFor.{Knowns, nothing_known}
 use Rattle.cp_model_machine.specs.PrivateStates as machine
 use Rattle.cp_model_machine.specs.Addresses.{Activation, AllHaveRights, ClassLies, ComponentLies, Ground, MonitorLies, ProcessLies, RightMeans, RightOf, Sight, WhereMonitorsLie, activations, lies, part_at}
-use Rattle.cp_model_machine.specs.Left.{CallerAt, Keeps, Left, Running, Runs, held_below, kept_below}
+use Rattle.cp_model_machine.specs.Remaining.{CallerAt, Keeps, Remaining, Running, Runs, held_below, kept_below}
 use Rattle.cp_model_machine.specs.PartOf.{ActivationMeans, ActivationsMean, Control, DataMeans, IfFrame, RunsAt}
 
 module _ (G : Ground) (v : Sight) (lie : WhereMonitorsLie v G.program G.setup) where
@@ -76,7 +76,7 @@ module _ (G : Ground) (v : Sight) (lie : WhereMonitorsLie v G.program G.setup) w
   caller_there n kept live (Some t) f place h = h
 
   pub left_there : (temps : List ℤ) (limit : ℕ) (K : Knowns) (R : Running) (fs : List machine.Frame) (place low : ℕ) (k : List Task)
-      → Left G temps limit K R fs place low k → Left with_sight temps limit K R fs place low k
+      → Remaining G temps limit K R fs place low k → Remaining with_sight temps limit K R fs place low k
   left_there temps limit K R fs place low [] h = absurd h
   left_there temps limit K R fs place low (Do s e ∷ k) h =
       (h.0, h.1, (h.2.0, h.2.1, h.2.2, h.2.3, left_there temps limit nothing_known R fs h.2.0 h.2.1 k h.2.4))

@@ -11,7 +11,7 @@ use Rattle.cp_model.specs.declared.state.Fault as faults
 use Rattle.cp_law_typing.specs.Needs.{result_words}
 use Rattle.cp_law_typing.specs.Words.{words}
 use Rattle.cp_model_program.specs.Layout.{component_words, head_words, locals}
-use Rattle.cp_model_program.specs.StandsFor.{system_of_monitor, system_of_process}
+use Rattle.cp_model_program.specs.IsProgramFor.{system_of_monitor, system_of_process}
 use Rattle.cp_model_program.specs.Starts.{block, paste, word}
 use Rattle.cp_model_machine.specs.PrivateStates.{Acting, PrivateState, fault_in, guard, with_result}
 use Rattle.cp_model_machine.specs.Passing.{Passing, monitor_start, when_passed}

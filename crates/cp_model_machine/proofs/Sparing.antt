@@ -28,16 +28,16 @@ use Rattle.cp_model_program.specs.Layout.{activation_words, locals_words}
 use Rattle.cp_model_program.specs.Sites.{RoutineOf, first_parameter, operation_at, parameters, system_of_callee}
 use Rattle.cp_model.specs.Declarations.{declarations}
 use Rattle.cp_model_program.specs.Sites as sites
-use Rattle.cp_model_program.specs.StandsFor.{StandsFor, UnitStands}
+use Rattle.cp_model_program.specs.IsProgramFor.{IsProgramFor, UnitRepresents}
 use Rattle.cp_model_program.specs.StatementsFor.{AssignsBy, InitsBy, PerformsBy, is_function}
 use Rattle.cp_model_program.specs.TermsFor.{ArgumentsFor, Knowns}
 use Rattle.cp_model_machine.specs.PrivateStates as machine
-use Rattle.cp_model_machine.specs.PrivateStates.{Outside, PrivateState, fault_in, go_to, set_temp, private_outcome, view_of}
+use Rattle.cp_model_machine.specs.PrivateStates.{StepContext, PrivateState, fault_in, go_to, set_temp, private_outcome, view_of}
 use Rattle.cp_model_machine.specs.Values.{value_of}
 use Rattle.cp_model_machine.specs.Calling.{Back, call_step, gate_effect, leave, return_with, with_frame}
 use Rattle.cp_model_machine.specs.Steps.{act, count_to, go_to_arm}
 use Rattle.cp_model_machine.specs.Addresses.{Ground, in_sight, scope}
-use Rattle.cp_model_machine.specs.Left.{Left, Loop, Repeat, Running, While, at_true, held_below, site}
+use Rattle.cp_model_machine.specs.Remaining.{Remaining, Loop, Repeat, Running, While, at_true, held_below, site}
 use Rattle.cp_model_machine.proofs.Heres.{Sees}
 use Rattle.cp_model_machine.specs.PartOf.{PartOf, RunsOn}
 use Rattle.cp_model_machine.proofs.AssignCalls.{StatementAdvances}
@@ -61,12 +61,12 @@ use Rattle.cp_model_machine.proofs.Stepping.{Around, AroundAll, IfPlaced, Now}
 
 -- What a step does to words that belong neither to the process nor to a monitor: nothing, or it
 -- gives another process its parameters.
-pub data Sparing (G : Ground) (s : State) (w : Outside) (before : List ℕ) (o : PrivateState) : Type 0 where
+pub data Sparing (G : Ground) (s : State) (w : StepContext) (before : List ℕ) (o : PrivateState) : Type 0 where
   SparesAll : (y : Operation) → operation_at G.program o.counter ≡ Some y → starts (action (s.continuation G.p)) ≡ false → Spares G o.words (act G.program w o y).0.words → Sparing G s w before o
   StartsOne : (Z : InitOfProcess G s w before o) → operation_at G.program o.counter ≡ Some (op.InitProcess Z.number Z.passes Z.words Z.next)
       → action (s.continuation G.p) ≡ Acts (Do (a.Init Z.name Z.given) (here Z)) Z.rest → Sparing G s w before o
 
-module _ (G : Ground) (s : State) (w : Outside) (before : List ℕ) (o : PrivateState) (F : StandsFor G.program G.setup) (texts : F.texts ≡ G.texts) (part : PartOf G s before o) (I : Invariant s)
+module _ (G : Ground) (s : State) (w : StepContext) (before : List ℕ) (o : PrivateState) (F : IsProgramFor G.program G.setup) (texts : F.texts ≡ G.texts) (part : PartOf G s before o) (I : Invariant s)
     (around : Around G s w) (reaches : Reaches G s) (K : AroundAll G s w) where
   -- ---- calls
 
@@ -76,13 +76,13 @@ module _ (G : Ground) (s : State) (w : Outside) (before : List ℕ) (o : Private
       → ArgumentsFor (site G N.on.running) L (parameters (site G N.on.running) c) es call.arguments at from last low high → at ≡ first_parameter c
       → Spares G o.words (call_step G.program w o call back).0.words
   call_spared i k N call back kept c L es at from last low high C arguments first =
-      call_spares G w o call back (system_of_callee N.on.running.env c.of) c.routine C.unit C.there stands
+      call_spares G w o call back (system_of_callee N.on.running.env c.of) c.routine C.unit C.there represents
       (omega (arith, N.on.base, N.on.runs.words_fit, C.fits.words, C.words)) (omega (arith, N.on.count, own_in_whole G))
       (arguments_below (site G N.on.running) L (parameters (site G N.on.running) c) es call.arguments at from last low high (activation_words (scope G) c.routine) arguments
       (omega (arith, first, globals, locals_two (scope G) (declarations (scope G) c.routine.parameters) (declarations (scope G) c.routine.variables))))
     where
-      stands : UnitStands G.program G.texts (scope G) C.unit (RoutineOf (system_of_callee N.on.running.env c.of) c.routine)
-      stands = units G s w before o F texts part I around reaches call.routine C.unit (RoutineOf (system_of_callee N.on.running.env c.of) c.routine) C.there C.text
+      represents : UnitRepresents G.program G.texts (scope G) C.unit (RoutineOf (system_of_callee N.on.running.env c.of) c.routine)
+      represents = units G s w before o F texts part I around reaches call.routine C.unit (RoutineOf (system_of_callee N.on.running.env c.of) c.routine) C.there C.text
 
       globals : locals_words N.on.running.env.globals (parameters (site G N.on.running) c) ≡ locals_words (scope G) (declarations (scope G) c.routine.parameters)
       globals = ap (λ g. locals_words g (declarations g c.routine.parameters)) N.on.runs.globals
@@ -145,7 +145,7 @@ module _ (G : Ground) (s : State) (w : Outside) (before : List ℕ) (o : Private
       (monitor_is_spared G s w before o x es env k I.store (units G s w before o F texts part I around reaches) Y call m h (declares_here G s w before o F texts part I around reaches Y.now.on.running Y.now.on.runs))
   initialised x es env k Y (op.InitProcess r xs count m) there h =
       StartsOne (record {
-        stands = F;
+        represents = F;
         texts = texts;
         stored = I.store;
         around = K;
@@ -240,12 +240,12 @@ module _ (G : Ground) (s : State) (w : Outside) (before : List ℕ) (o : Private
           counts_spare G s w before o (ForNext x down counter last st env) k N N.sees x down c N.on.left.1.0 N.on.left.1.1 (next_counter c.down n) m N.on.left.1.3.counts
 
   return_there : (temps : List ℤ) (limit : ℕ) (L : Knowns) (R : Running) (fs : List machine.Frame) (place low : ℕ) (env : Environment) (gate : Option ℕ) (k : List Task)
-      → Left G temps limit L R fs place low (EndCall env gate ∷ k) → (function : Bool) × (operation_at G.program place ≡ Some (op.Return function))
+      → Remaining G temps limit L R fs place low (EndCall env gate ∷ k) → (function : Bool) × (operation_at G.program place ≡ Some (op.Return function))
   return_there temps limit L R [] place low env gate k h = absurd h
   return_there temps limit L R (f ∷ fs) place low env gate k h = (is_function h.1.frame.routine.result, h.1.return)
 
   end_there : (temps : List ℤ) (limit : ℕ) (L : Knowns) (R : Running) (fs : List machine.Frame) (place low : ℕ) (gate : Option ℕ) (k : List Task)
-      → Left G temps limit L R fs place low (EndBody gate ∷ k) → operation_at G.program place ≡ Some op.EndBody
+      → Remaining G temps limit L R fs place low (EndBody gate ∷ k) → operation_at G.program place ≡ Some op.EndBody
   end_there temps limit L R [] place low gate k h = absurd h
   end_there temps limit L R (f ∷ fs) place low gate k h = h.1
 

@@ -13,10 +13,10 @@ use Rattle.cp_law_typing.specs.Words.{words}
 use Rattle.cp_model_program.specs.Layout.{activation_words, component_words, head_words, rights}
 use Rattle.cp_model_program.specs.Programs.{Call, CodeUnit}
 use Rattle.cp_model_program.specs.Sites.{RoutineOf}
-use Rattle.cp_model_program.specs.StandsFor.{UnitStands}
+use Rattle.cp_model_program.specs.IsProgramFor.{UnitRepresents}
 use Rattle.cp_model_program.specs.Starts.{block, paste, carry_out, word}
 use Rattle.cp_model_program.specs.Terms.{Argument}
-use Rattle.cp_model_machine.specs.PrivateStates.{Acting, Enters, Opens, Outside, PrivateState, private_outcome, guard, set_word}
+use Rattle.cp_model_machine.specs.PrivateStates.{Acting, Enters, Opens, StepContext, PrivateState, private_outcome, guard, set_word}
 use Rattle.cp_model_machine.specs.Passing.{Called, component_called, monitor_start, pass_all, when_passed}
 use Rattle.cp_model_machine.specs.Calling.{Back, call_step, class_at, enter, gate_effect, has_room, init_class, init_monitor, settle, start_words}
 use Rattle.cp_model_machine.specs.Addresses.{Activation, ClassLies, ComponentLies, Ground, MonitorLies, ProcessLies, component_type, lies, scope}
@@ -34,11 +34,11 @@ use Rattle.cp_model_machine.proofs.Stacks.{Stacked, bottom_below}
 -- ---- what is passed
 
 -- What is passed lies among the process's own words.
-pub passing_spares : (G : Ground) (w : Outside) (to home n : ℕ) (xs : List Argument) (o : PrivateState) → to + n ≤ G.own → LieBelow n xs → Spares G o.words (pass_all w to home xs o).own.words
+pub passing_spares : (G : Ground) (w : StepContext) (to home n : ℕ) (xs : List Argument) (o : PrivateState) → to + n ≤ G.own → LieBelow n xs → Spares G o.words (pass_all w to home xs o).own.words
 passing_spares G w to home n xs o room below i spared = (passes_below w to home n xs o below).1 i (inr (omega (arith, room, spared.0)))
 
 -- A step that needs a unit, which is there.
-unit_spares : (G : Ground) (w : Outside) (o : PrivateState) (call : Call) (component : ℕ) (u : CodeUnit) (go : CodeUnit → Acting) → slice_get G.program.units call.routine ≡ Some u → Spares G o.words (go u).0.words
+unit_spares : (G : Ground) (w : StepContext) (o : PrivateState) (call : Call) (component : ℕ) (u : CodeUnit) (go : CodeUnit → Acting) → slice_get G.program.units call.routine ≡ Some u → Spares G o.words (go u).0.words
     → Spares G o.words (elim (slice_get G.program.units call.routine) as (λ z. Acting) [ None ↦ private_outcome o | Some v ↦ if has_room w o call v component then go v else private_outcome o ]).0.words
 unit_spares G w o call component u go there h =
     subst (λ (z : Option CodeUnit). Spares G o.words (elim z as (λ y. Acting) [ None ↦ private_outcome o | Some v ↦ if has_room w o call v component then go v else private_outcome o ]).0.words) (sym there)
@@ -50,23 +50,23 @@ unit_spares G w o call component u go there h =
 
 -- ---- calls
 
-module _ (G : Ground) (w : Outside) (o : PrivateState) (call : Call) (back : Back) (y : System) (r : Routine) (u : CodeUnit) (there : slice_get G.program.units call.routine ≡ Some u)
-    (stands : UnitStands G.program G.texts (scope G) u (RoutineOf y r)) (room : o.base + call.words + u.words ≤ G.own) (enough : G.own ≤ length o.words)
+module _ (G : Ground) (w : StepContext) (o : PrivateState) (call : Call) (back : Back) (y : System) (r : Routine) (u : CodeUnit) (there : slice_get G.program.units call.routine ≡ Some u)
+    (represents : UnitRepresents G.program G.texts (scope G) u (RoutineOf y r)) (room : o.base + call.words + u.words ≤ G.own) (enough : G.own ≤ length o.words)
     (below : LieBelow (activation_words (scope G) r) call.arguments) where
   abbrev to : ℕ
   to = o.base + call.words
 
   started_spares : (ws : List ℤ) → length ws ≡ length o.words → Spares G ws (carry_out to u.starts ws)
   started_spares ws same i spared =
-      stands.0.outside to ws i (omega (arith, stands.1, room, same, enough)) (inr (omega (arith, stands.1, room, spared.0)))
-      (λ t is e. absurd (omega (arith, e, spared.0, result_inside (scope G) r t is, stands.1, room)))
+      represents.0.outside to ws i (omega (arith, represents.1, room, same, enough)) (inr (omega (arith, represents.1, room, spared.0)))
+      (λ t is e. absurd (omega (arith, e, spared.0, result_inside (scope G) r t is, represents.1, room)))
 
   pub call_spares : Spares G o.words (call_step G.program w o call back).0.words
   call_spares =
       unit_spares G w o call c.component u (λ v. guard c.is_set o fault.NotInitialised (when_passed (pass_all w to to call.arguments o) (entering v))) there
       (provided_spares G o c.is_set fault.NotInitialised (when_passed (pass_all w to to call.arguments o) (entering u))
       (passed_spares G o (pass_all w to to call.arguments o) (entering u)
-      (passing_spares G w to to (activation_words (scope G) r) call.arguments o (omega (arith, stands.1, room)) below)
+      (passing_spares G w to to (activation_words (scope G) r) call.arguments o (omega (arith, represents.1, room)) below)
       (started_spares (pass_all w to to call.arguments o).own.words (passes_below w to to (activation_words (scope G) r) call.arguments o below).0)))
     where
       c : Called
@@ -113,7 +113,7 @@ module _ (G : Ground) (xs : List Activation) (top : ℕ) (stack : Stacked G top 
       by (inl h) =
           let found = offset_at (scope G) s distinct one (suc h.0) (omega arith) (omega (arith, h.1)) in absurd (inner (suc h.0) found.0 found.2 (omega (arith, h.2)))
 
-  module _ (w : Outside) (o : PrivateState) (call : Call) (next : ℕ) (u : CodeUnit) (has : slice_get G.program.units call.routine ≡ Some u) (counted : length call.arguments ≡ size)
+  module _ (w : StepContext) (o : PrivateState) (call : Call) (next : ℕ) (u : CodeUnit) (has : slice_get G.program.units call.routine ≡ Some u) (counted : length call.arguments ≡ size)
       (below : LieBelow (1 + size) call.arguments) (room : o.base + call.words + (1 + size) ≤ G.own) where
     abbrev from : ℕ
     from = o.base + call.words

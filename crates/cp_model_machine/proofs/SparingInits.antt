@@ -16,18 +16,18 @@ use Rattle.cp_law_typing.specs.Words.{words}
 use Rattle.cp_model_program.specs.Programs as op
 use Rattle.cp_model_program.specs.Programs.{Call}
 use Rattle.cp_model_program.specs.Sites.{BodyOf, TargetOf}
-use Rattle.cp_model_program.specs.StandsFor.{UnitStands, system_of_monitor}
+use Rattle.cp_model_program.specs.IsProgramFor.{UnitRepresents, system_of_monitor}
 use Rattle.cp_model_program.specs.StatementsFor.{InitArgumentsFor, InitCalls, InitsBy}
 use Rattle.cp_model_program.specs.TermsFor.{Knowns}
 use Rattle.cp_model_program.specs.Terms as target
-use Rattle.cp_model_machine.specs.PrivateStates.{Outside, PrivateState}
+use Rattle.cp_model_machine.specs.PrivateStates.{StepContext, PrivateState}
 use Rattle.cp_model_machine.specs.Calling.{init_class, init_monitor}
 use Rattle.cp_model_machine.specs.Passing.{component_called, monitor_start}
 use Rattle.cp_model_machine.specs.Steps.{act}
 use Rattle.cp_model_machine.specs.Addresses.{ClassLies, Ground, MonitorLies, activations, scope}
-use Rattle.cp_model_machine.specs.Left.{site}
+use Rattle.cp_model_machine.specs.Remaining.{site}
 use Rattle.cp_model_machine.proofs.Apart.{IsCell}
-use Rattle.cp_model_machine.proofs.CallSteps.{UnitsStand}
+use Rattle.cp_model_machine.proofs.CallSteps.{UnitsRepresent}
 use Rattle.cp_model_machine.proofs.Declared.{distinct_first}
 use Rattle.cp_model_machine.proofs.Declares.{Declares}
 use Rattle.cp_model_machine.proofs.Doing.{Ready, known}
@@ -38,7 +38,7 @@ use Rattle.cp_model_machine.proofs.Spares.{Spares}
 use Rattle.cp_model_machine.proofs.SparingCalls.{class_spares, monitor_spares}
 use Rattle.cp_model_machine.proofs.Targets.{class_lies}
 
-module _ (G : Ground) (s : State) (w : Outside) (before : List ℕ) (o : PrivateState) (x : Name) (es : a.Expressions) (env : Environment) (k : List Task) (I : StoreInvariant s.store) (units : UnitsStand G)
+module _ (G : Ground) (s : State) (w : StepContext) (before : List ℕ) (o : PrivateState) (x : Name) (es : a.Expressions) (env : Environment) (k : List Task) (I : StoreInvariant s.store) (units : UnitsRepresent G)
     (Y : Ready G s w before o (a.Init x es) env k) (call : Call) (next : ℕ) where
   abbrev first : Task
   first = Do (a.Init x es) env
@@ -69,11 +69,11 @@ module _ (G : Ground) (s : State) (w : Outside) (before : List ℕ) (o : Private
     one p i component =
         init_values (site G Y.now.on.running) known_here n.system passed es call.arguments o.counter Y.now.on.left.2.3.0 Y.now.on.left.2.1 Y.now.on.running.unit.temps arguments (scope G) p i component
 
-    stands : UnitStands G.program G.texts (scope G) C.runs.unit (BodyOf n.system)
-    stands = units call.routine C.runs.unit (BodyOf n.system) C.runs.there C.runs.text
+    represents : UnitRepresents G.program G.texts (scope G) C.runs.unit (BodyOf n.system)
+    represents = units call.routine C.runs.unit (BodyOf n.system) C.runs.there C.runs.text
 
     names : Distinct (declarations (scope G) n.system.parameters)
-    names = distinct_first (declarations (scope G) n.system.parameters) (declarations (scope G) n.system.variables) stands.1
+    names = distinct_first (declarations (scope G) n.system.parameters) (declarations (scope G) n.system.variables) represents.1
 
     below : LieBelow (1 + length passed) call.arguments
     below =

@@ -20,16 +20,16 @@ use Rattle.cp_model_program.specs.Programs as op
 use Rattle.cp_model_program.specs.Programs.{Operation}
 use Rattle.cp_model_program.specs.Starts.{block, paste, unset, word}
 use Rattle.cp_model_program.specs.StatementsFor.{AssignsBy, Counts}
-use Rattle.cp_model_program.specs.Terms.{Rooted, Spot, Term}
+use Rattle.cp_model_program.specs.Terms.{Rooted, PlaceExpression, Term}
 use Rattle.cp_model_machine.specs.PrivateStates as machine
-use Rattle.cp_model_machine.specs.PrivateStates.{Acting, Outside, PrivateState, fault_in, go_to, private_outcome, guard, set_temp, set_word, view_of}
+use Rattle.cp_model_machine.specs.PrivateStates.{Acting, StepContext, PrivateState, fault_in, go_to, private_outcome, guard, set_temp, set_word, view_of}
 use Rattle.cp_model_machine.specs.Calling.{leave, return_with, with_frame}
 use Rattle.cp_model_machine.specs.Steps as steps
 use Rattle.cp_model_machine.specs.Steps.{act, with_place}
 use Rattle.cp_model_machine.specs.Means.{PlaceAgrees}
 use Rattle.cp_model_machine.specs.Values.{place_of, value_of}
 use Rattle.cp_model_machine.specs.Addresses.{Activation, Ground, activations, in_sight, scope, lies_in_sight}
-use Rattle.cp_model_machine.specs.Left.{site}
+use Rattle.cp_model_machine.specs.Remaining.{site}
 use Rattle.cp_model_machine.proofs.Apart.{IsCell}
 use Rattle.cp_model_machine.proofs.Doing.{Ready, known, place_here}
 use Rattle.cp_model_machine.proofs.Finding.{in_context_none, or_else_none}
@@ -40,11 +40,11 @@ use Rattle.cp_model_machine.proofs.Stacks.{Stacked, frame_words}
 use Rattle.cp_model_machine.proofs.Owned.{result_inside}
 use Rattle.cp_model_machine.proofs.Writing.{changed_other}
 use Rattle.cp_model_machine.specs.PartOf.{RunsOn}
-use Rattle.cp_model_program.specs.StandsFor.{own_words}
+use Rattle.cp_model_program.specs.IsProgramFor.{own_words}
 use Rattle.cp_model_machine.proofs.Standards.{By, argument_none, one, used_none}
 use Rattle.cp_model_machine.proofs.Stepping.{Now, clock_of}
 
-module _ (G : Ground) (s : State) (w : Outside) (before : List ℕ) (o : PrivateState) (i : Task) (k : List Task) (N : Now G s w before o i k) where
+module _ (G : Ground) (s : State) (w : StepContext) (before : List ℕ) (o : PrivateState) (i : Task) (k : List Task) (N : Now G s w before o i k) where
   abbrev xs : List Activation
   xs = activations o.base o.frames (i ∷ k)
 
@@ -55,7 +55,7 @@ module _ (G : Ground) (s : State) (w : Outside) (before : List ℕ) (o : Private
   stack = runs_stacked G s.store o (i ∷ k) N.on
 
   -- Something is done at a place.
-  pub at_place : (t : ResolvedType) (P : Outcome Place) (c : Spot) → PlaceAgrees (lies_in_sight (in_sight G) G xs) t P (place_of (view_of w o) c) → (go : ℕ → Acting)
+  pub at_place : (t : ResolvedType) (P : Outcome Place) (c : PlaceExpression) → PlaceAgrees (lies_in_sight (in_sight G) G xs) t P (place_of (view_of w o) c) → (go : ℕ → Acting)
       → ((n : ℕ) → ((v : ℤ) → IsCell t → Spares G o.words (set_word o n v).words) → ((from : ℕ) → Spares G o.words (paste n (block o.words from (words (scope G) t)) o.words)) → Kept (go n))
       → Kept (with_place w o c go)
   at_place t P c agrees go h =
@@ -73,14 +73,14 @@ module _ (G : Ground) (s : State) (w : Outside) (before : List ℕ) (o : Private
 
 -- ---- assignments
 
-module _ (G : Ground) (s : State) (w : Outside) (before : List ℕ) (o : PrivateState) (env : Environment) (k : List Task) where
+module _ (G : Ground) (s : State) (w : StepContext) (before : List ℕ) (o : PrivateState) (env : Environment) (k : List Task) where
   abbrev Assigns : a.Designator → a.Expression → Type 0
   Assigns d e = Ready G s w before o (a.Assign d e) env k
 
   abbrev By' : (d : a.Designator) (e : a.Expression) → Assigns d e → Operation → Type 0
   By' d e Y x = AssignsBy (site G Y.now.on.running) (known G s w before o (Do (a.Assign d e) env) k Y.now) d e x o.counter Y.now.on.left.2.3.0 Y.now.on.left.2.0 Y.now.on.left.2.1
 
-  pub set_spares : (d : a.Designator) (e : a.Expression) (Y : Assigns d e) (to : Spot) (lower upper : ℤ) (c : Term) (n : ℕ) → By' d e Y (op.Set to lower upper c n)
+  pub set_spares : (d : a.Designator) (e : a.Expression) (Y : Assigns d e) (to : PlaceExpression) (lower upper : ℤ) (c : Term) (n : ℕ) → By' d e Y (op.Set to lower upper c n)
       → Spares G o.words (act G.program w o (op.Set to lower upper c n)).0.words
   set_spares d e Y to lower upper c n h =
       let N = Y.now in
@@ -113,7 +113,7 @@ module _ (G : Ground) (s : State) (w : Outside) (before : List ℕ) (o : Private
         result_inside (scope G) h.2.frame.routine h.2.function.0 h.2.function.1,
       )
 
-  pub copy_is_spared : (d e : a.Designator) (Y : Assigns d (a.Use e)) (to from : Spot) (size n : ℕ) → By' d (a.Use e) Y (op.CopyWords to from size n)
+  pub copy_is_spared : (d e : a.Designator) (Y : Assigns d (a.Use e)) (to from : PlaceExpression) (size n : ℕ) → By' d (a.Use e) Y (op.CopyWords to from size n)
       → Spares G o.words (act G.program w o (op.CopyWords to from size n)).0.words
   copy_is_spared d e Y to from size n h =
       let N = Y.now in
@@ -142,7 +142,7 @@ module _ (G : Ground) (s : State) (w : Outside) (before : List ℕ) (o : Private
 
 -- ---- standard procedures
 
-module _ (G : Ground) (s : State) (w : Outside) (before : List ℕ) (o : PrivateState) (x : Name) (env : Environment) (k : List Task) (d : a.Designator)
+module _ (G : Ground) (s : State) (w : StepContext) (before : List ℕ) (o : PrivateState) (x : Name) (env : Environment) (k : List Task) (d : a.Designator)
     (Y : Ready G s w before o (a.Perform (a.Plain x) (one (a.Use d))) env k) where
   abbrev first : Task
   first = Do (a.Perform (a.Plain x) (one (a.Use d))) env
@@ -150,7 +150,7 @@ module _ (G : Ground) (s : State) (w : Outside) (before : List ℕ) (o : Private
   none : call_in_designator Y.now.on.running.env (a.Literal 0) d ≡ None
   none = used_none G s w before o x env k Y.now.on.running.env d (argument_none G s w before o x env k Y.now.on.running.env (a.Use d) Y.none)
 
-  pub accept_spares : (to : Spot) (lower upper : ℤ) (n : ℕ) → By G s w before o x env k (one (a.Use d)) Y (op.Accept to lower upper n) → Spares G o.words (act G.program w o (op.Accept to lower upper n)).0.words
+  pub accept_spares : (to : PlaceExpression) (lower upper : ℤ) (n : ℕ) → By G s w before o x env k (one (a.Use d)) Y (op.Accept to lower upper n) → Spares G o.words (act G.program w o (op.Accept to lower upper n)).0.words
   accept_spares to lower upper n h =
       let N = Y.now in
       at_place G s w before o first k N (Simple Char lower upper h.1.0) _ to
@@ -158,7 +158,7 @@ module _ (G : Ground) (s : State) (w : Outside) (before : List ℕ) (o : Private
       (λ at. steps.accept o at lower upper n)
       (λ at stores copies. provided_spares G o (within lower upper (next_input o.input o.consumed)) fault.Range _ (stores (next_input o.input o.consumed) tt))
 
-  pub delay_spares : (queue : Spot) (n : ℕ) → By G s w before o x env k (one (a.Use d)) Y (op.Delay queue n) → Spares G o.words (act G.program w o (op.Delay queue n)).0.words
+  pub delay_spares : (queue : PlaceExpression) (n : ℕ) → By G s w before o x env k (one (a.Use d)) Y (op.Delay queue n) → Spares G o.words (act G.program w o (op.Delay queue n)).0.words
   delay_spares queue n h =
       let N = Y.now in
       at_place G s w before o first k N Queue _ queue
@@ -172,7 +172,7 @@ module _ (G : Ground) (s : State) (w : Outside) (before : List ℕ) (o : Private
       in_monitor true false at h = λ j spared. refl
       in_monitor false c at h = λ j spared. refl
 
-  pub continue_spares : (queue : Spot) (function : Bool) → By G s w before o x env k (one (a.Use d)) Y (op.Continue queue function) → Spares G o.words (act G.program w o (op.Continue queue function)).0.words
+  pub continue_spares : (queue : PlaceExpression) (function : Bool) → By G s w before o x env k (one (a.Use d)) Y (op.Continue queue function) → Spares G o.words (act G.program w o (op.Continue queue function)).0.words
   continue_spares queue function h =
       let N = Y.now in
       at_place G s w before o first k N Queue _ queue

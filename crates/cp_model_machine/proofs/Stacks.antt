@@ -9,10 +9,10 @@ use Rattle.cp_model.specs.Types.{GlobalScope}
 use Rattle.cp_model_program.specs.Layout.{activation_words, component_words}
 use Rattle.cp_model_program.specs.TermsFor.{Knowns, nothing_known}
 use Rattle.cp_model_program.specs.Sites.{BodyOf, RoutineOf, UnitText}
-use Rattle.cp_model_program.specs.StandsFor.{own_words, system_of_process}
+use Rattle.cp_model_program.specs.IsProgramFor.{own_words, system_of_process}
 use Rattle.cp_model_machine.specs.PrivateStates as machine
 use Rattle.cp_model_machine.specs.Addresses.{Activation, AllWords, Ground, MonitorsLie, OwnWords, Sight, WhereMonitorsLie, activation_at, activation_of, activations, in_sight, scope, sees, whole, words_seen}
-use Rattle.cp_model_machine.specs.Left.{FrameFor, Left, Running, kept_below, site}
+use Rattle.cp_model_machine.specs.Remaining.{FrameFor, Remaining, Running, kept_below, site}
 use Rattle.cp_model_machine.proofs.Finding.{some_is_not_none}
 use Rattle.cp_model.specs.Locations.{OfMonitor}
 use Rattle.cp_model.proofs.Options.{same_some}
@@ -44,7 +44,7 @@ frame_words g (RoutineOf s q) (Some f) r e h = ap (activation_words g) (sym h �
 frame_words g (BodyOf s) (Some f) r e h = absurd h
 
 pub stacked : (G : Ground) (temps : List ℤ) (limit : ℕ) (K : Knowns) (R : Running) (fs : List machine.Frame) (place low : ℕ) (k : List Task)
-    → R.env.globals ≡ scope G → FrameFor R.text R.env.frame → Left G temps limit K R fs place low k
+    → R.env.globals ≡ scope G → FrameFor R.text R.env.frame → Remaining G temps limit K R fs place low k
     → Stack G (R.base + (site G R).words) (activations R.base fs k)
 stacked G temps limit K R fs place low [] gl w h = absurd h
 stacked G temps limit K R fs place low (Do s e ∷ k) gl w h = stacked G temps limit nothing_known R fs h.2.0 h.2.1 k gl w h.2.4

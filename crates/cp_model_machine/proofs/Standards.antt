@@ -27,17 +27,17 @@ use Rattle.cp_model.specs.Types.{Queue, Simple}
 use Rattle.cp_model.specs.declared.state.Fault as machine
 use Rattle.cp_model.specs.declared.state.Fault.TheVariants as faults
 use Rattle.cp_model.proofs.StateMaps.{with_at_here}
-use Rattle.cp_model_program.specs.Terms.{Spot, Term}
+use Rattle.cp_model_program.specs.Terms.{PlaceExpression, Term}
 use Rattle.cp_model_program.specs.Programs as op
 use Rattle.cp_model_program.specs.Sites.{operation_at}
 use Rattle.cp_model_program.specs.TermsFor.{Agrees}
 use Rattle.cp_model_program.specs.StatementsFor.{IsByte, PerformsBy}
 use Rattle.cp_model_machine.specs.PrivateStates as private
-use Rattle.cp_model_machine.specs.PrivateStates.{Activity, Outside, PrivateState, go_to, private_outcome, guard, set_word, view_of, with_result}
+use Rattle.cp_model_machine.specs.PrivateStates.{Activity, StepContext, PrivateState, go_to, private_outcome, guard, set_word, view_of, with_result}
 use Rattle.cp_model_machine.specs.Steps as steps
 use Rattle.cp_model_machine.specs.Means.{PlaceAgrees}
 use Rattle.cp_model_machine.specs.Addresses.{Ground, activations, in_sight, lies_in_sight}
-use Rattle.cp_model_machine.specs.Left.{site}
+use Rattle.cp_model_machine.specs.Remaining.{site}
 use Rattle.cp_model_machine.specs.PartOf.{PartOf, RunsOn, status_of}
 use Rattle.cp_model_machine.proofs.Assigning.{stores}
 use Rattle.cp_model_machine.proofs.Doing.{Ready, goes_next, known, place_here, statement_steps, value_here}
@@ -118,7 +118,7 @@ pub continues : (context : Context) (config : Configuration) (env : Environment)
     ≡ and_then (designation context config env (designator_of e)) (λ at. calls.continue config at.at (innermost_call k))
 continues context config env k x e h g f = where_false _ _ _ h ∙ (where_false _ _ _ g ∙ where_false _ _ _ f)
 
-module _ (G : Ground) (s : State) (w : Outside) (before : List ℕ) (o : PrivateState) (x : Name) (env : Environment) (k : List Task) where
+module _ (G : Ground) (s : State) (w : StepContext) (before : List ℕ) (o : PrivateState) (x : Name) (env : Environment) (k : List Task) where
   -- No call is left in the one argument.
   pub argument_none : (here : Environment) (e : a.Expression) → in_context (a.Perform (a.Plain x)) (or_else (in_context (λ y. a.MoreExpressions y a.NoExpression) (first_call here (a.Literal 0) e)) None) ≡ None
       → first_call here (a.Literal 0) e ≡ None
@@ -175,7 +175,7 @@ module _ (G : Ground) (s : State) (w : Outside) (before : List ℕ) (o : Private
       by (Gives v) (Err f) g = absurd g
       by (Fault i) (Ok m) g = absurd g
 
-  pub accept_steps : (d : a.Designator) (Y : Ready G s w before o (a.Perform (a.Plain x) (one (a.Use d))) env k) (to : Spot) (lower upper : ℤ) (n : ℕ)
+  pub accept_steps : (d : a.Designator) (Y : Ready G s w before o (a.Perform (a.Plain x) (one (a.Use d))) env k) (to : PlaceExpression) (lower upper : ℤ) (n : ℕ)
       → By (one (a.Use d)) Y (op.Accept to lower upper n) → Stepped G s w before o
   accept_steps d Y to lower upper n h =
       let N = Y.now in
@@ -239,7 +239,7 @@ module _ (G : Ground) (s : State) (w : Outside) (before : List ℕ) (o : Private
   queue_rests free d Y go act same (Gives v) (Err f) g = absurd g
   queue_rests free d Y go act same (Fault i) (Ok m) g = absurd g
 
-  pub delay_steps : IsFree G s o → (d : a.Designator) (Y : Ready G s w before o (a.Perform (a.Plain x) (one (a.Use d))) env k) (queue : Spot) (n : ℕ)
+  pub delay_steps : IsFree G s o → (d : a.Designator) (Y : Ready G s w before o (a.Perform (a.Plain x) (one (a.Use d))) env k) (queue : PlaceExpression) (n : ℕ)
       → By (one (a.Use d)) Y (op.Delay queue n) → Stepped G s w before o
   delay_steps free d Y queue n h =
       let N = Y.now in

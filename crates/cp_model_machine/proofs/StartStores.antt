@@ -22,7 +22,7 @@ use Rattle.cp_law_typing.proofs.Leaves.{in_either, in_first, in_mapped, in_secon
 use Rattle.cp_law_typing.proofs.Names.{bytes_eq-refl}
 use Rattle.cp_law_typing.proofs.StartValues.{IsOwnedBy, OtherWrite, each_in, distinct, members_in, not_first, other_from, other_writes, own_write, own_writes, process_in, same_variable, variables_start}
 use Rattle.cp_law_typing.proofs.StartWrites.{found_in, numbers_apart}
-use Rattle.cp_model_program.specs.StandsFor.{component_at, component_in}
+use Rattle.cp_model_program.specs.IsProgramFor.{component_at, component_in}
 use Rattle.cp_model_machine.proofs.Finding.{some_is_not_none}
 use Rattle.cp_model_machine.proofs.InitOffsets.{other_name}
 use Rattle.cp_model_machine.proofs.Naming.{initial_reported, initial_system_named, system_named}

@@ -24,7 +24,7 @@ use Rattle.cp_model.proofs.Options.{same_some}
 use Rattle.cp_law_typing.specs.WellTyped.{WellTyped}
 use Rattle.cp_model_program.specs.Programs.{CodeUnit, Done, Program}
 use Rattle.cp_model_program.specs.Layout.{Part, component_words, head_words, member, member_part}
-use Rattle.cp_model_program.specs.StandsFor.{ProcessStands, StandsFor, system_of_process}
+use Rattle.cp_model_program.specs.IsProgramFor.{ProcessRepresents, IsProgramFor, system_of_process}
 use Rattle.cp_model_program.specs.Starts.{AreZero, word}
 use Rattle.cp_model_machine.specs.Addresses.{ClassLies, ComponentLies, Ground, MonitorLies, ProcessLies, RightMeans, RightOf, activations, component_type, lies, part_at, part_of_component}
 use Rattle.cp_model_machine.specs.Beginning.{AtStart, Begins}
@@ -66,7 +66,7 @@ owns setup typed (suc (suc k)) s h = process_owns setup typed k s h
 
 -- ---- one process
 
-module _ (program : Program) (setup : Setup) (F : StandsFor program setup) (p : ℕ) (P : ProcessStands program F.texts setup p) where
+module _ (program : Program) (setup : Setup) (F : IsProgramFor program setup) (p : ℕ) (P : ProcessRepresents program F.texts setup p) where
   abbrev g : GlobalScope
   g = globals setup.tree
 
@@ -217,7 +217,7 @@ module _ (program : Program) (setup : Setup) (F : StandsFor program setup) (p : 
 -- ---- all processes
 
 -- The initial process runs.
-initial_is_part : (program : Program) (setup : Setup) (F : StandsFor program setup) (P : ProcessStands program F.texts setup 1) → PartOf (G program setup F 1 P) (start setup) [] (own program setup F 1 P)
+initial_is_part : (program : Program) (setup : Setup) (F : IsProgramFor program setup) (P : ProcessRepresents program F.texts setup 1) → PartOf (G program setup F 1 P) (start setup) [] (own program setup F 1 P)
 initial_is_part program setup F P = record {
   number = refl;
   input = refl;
@@ -246,7 +246,7 @@ not_fresh e = true≢false (ap is_unstarted e)
     is_unstarted _ = false
 
 -- Each other process has not begun.
-module _ (program : Program) (setup : Setup) (F : StandsFor program setup) (k : ℕ) (P : ProcessStands program F.texts setup (suc (suc k))) where
+module _ (program : Program) (setup : Setup) (F : IsProgramFor program setup) (k : ℕ) (P : ProcessRepresents program F.texts setup (suc (suc k))) where
   unstarted : (start setup).status (suc (suc k)) ≡ stage.Unstarted
   unstarted = with_at_there 1 (suc (suc k)) Ready (λ q. Unstarted) (ne_eqb 1 (suc (suc k)) (λ e. absurd (omega (arith, e))))
 
@@ -270,7 +270,7 @@ module _ (program : Program) (setup : Setup) (F : StandsFor program setup) (k : 
     fresh = λ is. absurd (not_fresh (sym unstarted ∙ is));
   }
 
-abbrev Result : (program : Program) (setup : Setup) → StandsFor program setup → ℕ → PrivateState → Type 0
+abbrev Result : (program : Program) (setup : Setup) → IsProgramFor program setup → ℕ → PrivateState → Type 0
 Result program setup F p o =
     PartOf (ground_of program setup F p (length o.words)) (start setup) [] o × ((k : Kernel) → 2 ≤ p → Begins (ground_of program setup F p (length o.words)) (start setup) k o)
 
@@ -279,13 +279,13 @@ start_is_part program setup F p x low high there =
     subst (λ r. Result program setup F p (first_part program setup.inputs p r)) (same_some P.row x (sym P.there ∙ there))
     (subst (λ u. Result program setup F p (part_at_start setup.inputs p P.row u)) (sym unit_is) (by p P low))
   where
-    P : ProcessStands program F.texts setup p
+    P : ProcessRepresents program F.texts setup p
     P = F.processes p low high
 
     unit_is : unit_at program P.row.body ≡ P.unit
     unit_is = λ i. elim (P.unit_there i) as (λ z. CodeUnit) [ None ↦ record { start = 0; starts = Done; words = 0; temps = 0; frames = 0 } | Some u ↦ u ]
 
-    by : (p : ℕ) (P : ProcessStands program F.texts setup p) → 1 ≤ p → Result program setup F p (part_at_start setup.inputs p P.row P.unit)
+    by : (p : ℕ) (P : ProcessRepresents program F.texts setup p) → 1 ≤ p → Result program setup F p (part_at_start setup.inputs p P.row P.unit)
     by zero P low = absurd (omega (arith, low))
     by (suc zero) P low = (initial_is_part program setup F P, λ k two. absurd (omega (arith, two)))
     by (suc (suc k)) P low = (other_is_part program setup F k P, λ kernel two. other_begins program setup F k P kernel)

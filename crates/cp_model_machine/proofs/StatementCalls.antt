@@ -8,7 +8,7 @@ use Rattle.cp_model_program.specs.Programs.{Operation}
 use Rattle.cp_model_program.specs.Sites.{Site, operation_at}
 use Rattle.cp_model_program.specs.TermsFor.{Knowns}
 use Rattle.cp_model_program.specs.StatementsFor.{AssignsBy, CodeFor, InitsBy, PerformsBy}
-use Rattle.cp_model_machine.specs.Left.{IsTask}
+use Rattle.cp_model_machine.specs.Remaining.{IsTask}
 use Rattle.cp_model_machine.proofs.CallsKept.{term_kept}
 use Rattle.cp_model_machine.proofs.NextCalls.{AllMade, Calling, follows_on, next_in, next_left, next_right}
 use Rattle.cp_model_machine.proofs.FirstCalls.{learnt_above, learnt_below, moved_to, term_next}

@@ -22,11 +22,11 @@ use Rattle.cp_model.proofs.StateMaps.{with_at_here}
 use Rattle.cp_model_program.specs.Programs as op
 use Rattle.cp_model_program.specs.Programs.{Operation}
 use Rattle.cp_model_program.specs.Sites.{operation_at}
-use Rattle.cp_model_program.specs.StandsFor.{system_of_monitor, system_of_process}
+use Rattle.cp_model_program.specs.IsProgramFor.{system_of_monitor, system_of_process}
 use Rattle.cp_model_machine.specs.Passing.{monitor_start}
 use Rattle.cp_model.specs.Abstract.{Class, Init, Monitor, Name, Process, Sort, System}
 use Rattle.cp_model_machine.specs.PrivateStates as machine
-use Rattle.cp_model_machine.specs.PrivateStates.{Outside, PrivateState}
+use Rattle.cp_model_machine.specs.PrivateStates.{StepContext, PrivateState}
 use Rattle.cp_model_machine.specs.Steps as steps
 use Rattle.cp_model_machine.specs.Steps.{act}
 use Rattle.cp_model_machine.specs.Addresses.{AllWords, Ground, activations, in_sight, whole}
@@ -49,13 +49,13 @@ clock_of G s = running_clock G.setup s
 
 -- What a step reads besides the private state: the running clock, and the number of the process's
 -- own words.
-pub record Around (G : Ground) (s : State) (w : Outside) : Type 0 where
+pub record Around (G : Ground) (s : State) (w : StepContext) : Type 0 where
   pub clock : w.clock ≡ realtime (clock_of G s)
   pub own : w.own ≡ G.own
 
 -- All words are in reach, and what is read of gates and stages is the kernel's. The number 0 is no
 -- monitor.
-pub record AroundAll (G : Ground) (s : State) (w : Outside) : Type 0 where
+pub record AroundAll (G : Ground) (s : State) (w : StepContext) : Type 0 where
   pub sight : G.sight ≡ AllWords
   pub starts : (m : ℕ) → monitor_start G.program m ≤ G.program.shared
   pub few : (m : ℕ) (y : System) → system_of_monitor G.setup m ≡ Some y → m ≤ 255
@@ -63,12 +63,12 @@ pub record AroundAll (G : Ground) (s : State) (w : Outside) : Type 0 where
   pub none_set : w.is_set 0 ≡ false
   pub started_is : (r : ℕ) (y : System) → system_of_process G.setup r ≡ Some y → w.is_started r ≡ is_started (s.status r)
 
-pub beyond : (G : Ground) (s : State) (w : Outside) → Around G s w → (top i : ℕ) → (i < top) ⊎ (G.own ≤ i) → (i < top) ⊎ (w.own ≤ i)
+pub beyond : (G : Ground) (s : State) (w : StepContext) → Around G s w → (top i : ℕ) → (i < top) ⊎ (G.own ≤ i) → (i < top) ⊎ (w.own ≤ i)
 beyond G s w A top i (inl h) = inl h
 beyond G s w A top i (inr h) = inr (omega (arith, A.own, h))
 
 -- The process is ready, and `i` is its first task.
-pub record Now (G : Ground) (s : State) (w : Outside) (before : List ℕ) (o : PrivateState) (i : Task) (k : List Task) : Type 0 where
+pub record Now (G : Ground) (s : State) (w : StepContext) (before : List ℕ) (o : PrivateState) (i : Task) (k : List Task) : Type 0 where
   pub part : PartOf G s before o
   pub on : RunsOn G s.store o (i ∷ k)
   pub left : s.continuation G.p ≡ i ∷ k
@@ -99,7 +99,7 @@ is_start _ = false
 -- The machine's operation and the meaning's action are both kernel steps, or neither is, and both start a
 -- process, or neither does. If neither is a kernel step, or if all words are in reach, the private state after the machine's step is that of the
 -- process after the meaning's. With all words in reach, both leave the same to the kernel.
-pub record Stepped (G : Ground) (s : State) (w : Outside) (before : List ℕ) (o : PrivateState) : Type 0 where
+pub record Stepped (G : Ground) (s : State) (w : StepContext) (before : List ℕ) (o : PrivateState) : Type 0 where
   pub operation : Operation
   pub there : operation_at G.program o.counter ≡ Some operation
   pub same_kind : is_kernel_action (action (s.continuation G.p)) ≡ steps.is_kernel_operation operation
@@ -225,7 +225,7 @@ pub gates_left : (G : Ground) (s : State) (before : List ℕ) (gate : Option ℕ
 gates_left G s before gate (Gives config) after P = gate_left G s before gate after config P
 gates_left G s before gate (Fault n) after P = P
 
-module _ (G : Ground) (s : State) (w : Outside) (before : List ℕ) (o : PrivateState) (i : Task) (k : List Task) (N : Now G s w before o i k) where
+module _ (G : Ground) (s : State) (w : StepContext) (before : List ℕ) (o : PrivateState) (i : Task) (k : List Task) (N : Now G s w before o i k) where
   -- A fault of an expression.
   pub faulted : (n : ℕ) (f : fault.Fault) → n ≡ fault_number f → PartOf G (after_step s G.p (Fault n)) before (machine.fault_in o f).0
   faulted n f same =

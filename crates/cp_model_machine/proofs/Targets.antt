@@ -20,15 +20,15 @@ use Rattle.cp_model.specs.Types.{ComponentOf, ResolvedType}
 use Rattle.cp_model_program.specs.Terms as t
 use Rattle.cp_model_program.specs.Layout.{Part, member, natural, right}
 use Rattle.cp_model_program.specs.Sites.{RightTo, TargetFor, TargetOf, system_of_callee}
-use Rattle.cp_model_program.specs.StandsFor.{system_of_monitor}
+use Rattle.cp_model_program.specs.IsProgramFor.{system_of_monitor}
 use Rattle.cp_model_program.specs.Starts.{word}
-use Rattle.cp_model_machine.specs.PrivateStates.{Outside, PrivateState}
+use Rattle.cp_model_machine.specs.PrivateStates.{StepContext, PrivateState}
 use Rattle.cp_model_machine.specs.Passing.{Called, class_called, class_right, component_called, monitor_called, monitor_start, monitor_word}
 use Rattle.cp_model_machine.specs.Steps.{is_monitor}
 use Rattle.cp_model_machine.specs.Means.{MarkMeans}
 use Rattle.cp_model_machine.specs.Addresses as addresses
 use Rattle.cp_model_machine.specs.Addresses.{Activation, AllWords, ClassHasRights, ClassLies, ComponentLies, Ground, IsMonitor, MonitorLies, ProcessLies, RightMeans, RightOf, activations, component_type, in_sight, lies, part_at, scope, whole, words_seen}
-use Rattle.cp_model_machine.specs.Left.{site}
+use Rattle.cp_model_machine.specs.Remaining.{site}
 use Rattle.cp_model_machine.specs.PartOf.{DataMeans}
 use Rattle.cp_model_machine.proofs.Heres.{Sees, lies_any, member_lies}
 use Rattle.cp_model_machine.proofs.Apart.{InHead}
@@ -53,7 +53,7 @@ mark_is G xs store words dm l n s m sort h =
 natural_same : (k : ℕ) → natural (pos k +ℤ pos 0) ≡ k
 natural_same k = Prim.grind (arith, ints)
 
-module _ (G : Ground) (s : State) (w : Outside) (before : List ℕ) (o : PrivateState) (i : Task) (l : List Task) (N : Now G s w before o i l) (sees : Sees G (in_sight G) s.store N.on.running.env) (I : StoreInvariant s.store) where
+module _ (G : Ground) (s : State) (w : StepContext) (before : List ℕ) (o : PrivateState) (i : Task) (l : List Task) (N : Now G s w before o i l) (sees : Sees G (in_sight G) s.store N.on.running.env) (I : StoreInvariant s.store) where
   abbrev here : Environment
   here = N.on.running.env
 

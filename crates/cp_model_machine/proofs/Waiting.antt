@@ -12,7 +12,7 @@ use Rattle.cp_law_typing.specs.SoundTypes.{SoundType}
 use Rattle.cp_law_typing.specs.WellTyped.{WellTyped, text_systems}
 use Rattle.cp_model_program.specs.Layout.{component_words}
 use Rattle.cp_model_program.specs.Sites.{BodyOf}
-use Rattle.cp_model_program.specs.StandsFor.{Apart, IsInText, MonitorStands, ProcessStands, StandsFor, system_of_monitor, system_of_process}
+use Rattle.cp_model_program.specs.IsProgramFor.{Apart, IsInText, MonitorRepresents, ProcessRepresents, IsProgramFor, system_of_monitor, system_of_process}
 use Rattle.cp_law_typing.proofs.ComponentNames.{IsNamed, each_found, is_named}
 use Rattle.std.specs.Prelude.{take}
 use Rattle.std.proofs.lemmas.Bool.{true≢false}
@@ -21,23 +21,23 @@ use Rattle.cp_model_machine.specs.Calling.{parameters_start}
 use Rattle.cp_model_machine.specs.Passing.{monitor_start}
 use Rattle.cp_model_machine.proofs.Finding.{some_is_not_none}
 use Rattle.cp_model_machine.proofs.KernelAround.{process_below}
-use Rattle.cp_model_machine.proofs.MonitorsThere.{stands_there, start_is, system_is}
+use Rattle.cp_model_machine.proofs.MonitorsThere.{represents_there, start_is, system_is}
 
 -- ---- the words
 
-module _ (G : Ground) (F : StandsFor G.program G.setup) where
-  pub process_stands : (r : ℕ) (y : System) → system_of_process G.setup r ≡ Some y → ProcessStands G.program F.texts G.setup r
-  process_stands r y is = let within = process_below G.setup r y is in F.processes r within.0 within.1
+module _ (G : Ground) (F : IsProgramFor G.program G.setup) where
+  pub process_represents : (r : ℕ) (y : System) → system_of_process G.setup r ≡ Some y → ProcessRepresents G.program F.texts G.setup r
+  process_represents r y is = let within = process_below G.setup r y is in F.processes r within.0 within.1
 
-  pub parameters_are : (r : ℕ) (P : ProcessStands G.program F.texts G.setup r) → parameters_start G.program r ≡ P.row.parameters
+  pub parameters_are : (r : ℕ) (P : ProcessRepresents G.program F.texts G.setup r) → parameters_start G.program r ≡ P.row.parameters
   parameters_are r P = λ i. elim (P.there i) as (λ z. ℕ) [ None ↦ 0 | Some x ↦ x.parameters ]
 
-  pub waits_apart : (r : ℕ) (P : ProcessStands G.program F.texts G.setup r) (m : ℕ) (y : System) → system_of_monitor G.setup m ≡ Some y
+  pub waits_apart : (r : ℕ) (P : ProcessRepresents G.program F.texts G.setup r) (m : ℕ) (y : System) → system_of_monitor G.setup m ≡ Some y
       → Apart (monitor_start G.program m) (component_words (scope G) y) P.row.parameters P.row.waiting
   waits_apart r P m y is = by (F.both_apart m r M P)
     where
-      M : MonitorStands G.program F.texts G.setup m
-      M = stands_there G.program G.setup F m y is
+      M : MonitorRepresents G.program F.texts G.setup m
+      M = represents_there G.program G.setup F m y is
 
       start : monitor_start G.program m ≡ M.row.start
       start = start_is G.program G.setup F m M
@@ -50,7 +50,7 @@ module _ (G : Ground) (F : StandsFor G.program G.setup) where
       by (inr h) = inr (omega (arith, h, start))
 
   -- The names of a process's variables are distinct.
-  pub process_names : (r : ℕ) (P : ProcessStands G.program F.texts G.setup r) → Distinct (permanent_variables (scope G) P.system)
+  pub process_names : (r : ℕ) (P : ProcessRepresents G.program F.texts G.setup r) → Distinct (permanent_variables (scope G) P.system)
   process_names r P = (F.units P.row.body P.unit (BodyOf P.system) P.unit_there P.body).1
 
 -- ---- the name of a process

@@ -18,18 +18,18 @@ use Rattle.cp_law_gates.proofs.Chains.{hierarchy}
 use Rattle.cp_model_machine.specs.Addresses.{Ground}
 use Rattle.cp_model_machine.specs.Chains.{ChainIsChain, StatesMakeHierarchies, chain_within, holder_asked, is_asker, waits_for}
 use Rattle.cp_model_machine.specs.InState.{IsIn}
-use Rattle.cp_model_machine.specs.KernelOf.{AreProcesses, GatesStand, StageMeans, kernel_ground}
-use Rattle.cp_model_machine.specs.KernelSteps.{Asking, Begun, Delayed, Fresh, Kernel, Stage, Unstarted, gate_of, stage_of}
+use Rattle.cp_model_machine.specs.KernelOf.{AreProcesses, GatesRepresent, StageMeans, kernel_ground}
+use Rattle.cp_model_machine.specs.KernelSteps.{Asking, Begun, Delayed, Fresh, Kernel, SchedulingState, Unstarted, gate_of, stage_of}
 use Rattle.cp_model_machine.specs.Machines.{Machine}
 use Rattle.cp_model_machine.proofs.Finding.{some_is_not_none}
 
-module _ (G : Ground) (monitors processes : ℕ) (s : State) (k : Kernel) (S : GatesStand G monitors processes s k)
+module _ (G : Ground) (monitors processes : ℕ) (s : State) (k : Kernel) (S : GatesRepresent G monitors processes s k)
     (listed : (m p : ℕ) → s.status p ≡ status.Asking m → is_in p (s.gates m).askers ≡ true) where
   -- The status and the stage wait for the same process, and both ask for a gate or neither does.
-  abbrev Alike : Status → Stage → Type 0
+  abbrev Alike : Status → SchedulingState → Type 0
   Alike x g = (meaning.holder_asked s x ≡ holder_asked k g) × (is_asking x ≡ is_asker g)
 
-  asks_same : (x : Status) (g : Stage) → StageMeans G x g → Alike x g
+  asks_same : (x : Status) (g : SchedulingState) → StageMeans G x g → Alike x g
   asks_same status.Unstarted Unstarted h = (refl, refl)
   asks_same status.Fresh Fresh h = (refl, refl)
   asks_same status.Ready Begun h = (refl, refl)
@@ -67,11 +67,11 @@ module _ (G : Ground) (monitors processes : ℕ) (s : State) (k : Kernel) (S : G
   all_alike zero = others_ask_none zero (λ h. omega (arith, h.0))
   all_alike (suc p) = by (slice_get k.stages p) refl
     where
-      by : (o : Option Stage) → slice_get k.stages p ≡ o → Alike (s.status (suc p)) (stage_of k.stages (suc p))
+      by : (o : Option SchedulingState) → slice_get k.stages p ≡ o → Alike (s.status (suc p)) (stage_of k.stages (suc p))
       by (Some g) e =
           asks_same (s.status (suc p)) (stage_of k.stages (suc p)) (S.stages (suc p) (omega arith) (omega (arith, slice_get_within k.stages p g e)))
       by None e =
-          subst (Alike (s.status (suc p))) (sym (ap (λ o. elim o as (λ z. Stage) [ None ↦ Begun | Some g ↦ g ]) e))
+          subst (Alike (s.status (suc p))) (sym (ap (λ o. elim o as (λ z. SchedulingState) [ None ↦ Begun | Some g ↦ g ]) e))
           (others_ask_none (suc p) (λ h. some_is_not_none _ (sym (slice_get-get_or k.stages p Begun (omega (arith, h.1, S.stage_count))) ∙ e)))
 
   waits_same : (p : ℕ) → meaning.holder_asked s (s.status p) ≡ waits_for k p
@@ -96,12 +96,12 @@ pub chain_is_chain : ChainIsChain
 chain_is_chain m setup s p I =
     let H : Hierarchy (type_place setup) (monitor_count setup) s = states_make_hierarchies m setup s I in
     let E = H.chains p in
-    let stand = I.kernel.gates_stand in (
+    let represent = I.kernel.gates_represent in (
       E,
-      chain_same (kernel_ground m.program I.stands.texts setup) (monitor_count setup) (process_count setup) s m.kernel stand H.listed
-          (suc (length m.kernel.gates)) p E.chain (omega (arith, E.short, stand.gate_count)) E.is,
+      chain_same (kernel_ground m.program I.represents.texts setup) (monitor_count setup) (process_count setup) s m.kernel represent H.listed
+          (suc (length m.kernel.gates)) p E.chain (omega (arith, E.short, represent.gate_count)) E.is,
     )
 
 pub asks_alike : (m : Machine) (setup : Setup) (s : State) → IsIn m setup s → (p : ℕ) → is_asking (s.status p) ≡ is_asker (stage_of m.kernel.stages p)
 asks_alike m setup s I =
-    asks_both (kernel_ground m.program I.stands.texts setup) (monitor_count setup) (process_count setup) s m.kernel I.kernel.gates_stand (states_make_hierarchies m setup s I).listed
+    asks_both (kernel_ground m.program I.represents.texts setup) (monitor_count setup) (process_count setup) s m.kernel I.kernel.gates_represent (states_make_hierarchies m setup s I).listed

@@ -13,7 +13,7 @@ use Rattle.cp_model.specs.States.{Setup}
 use Rattle.cp_model_program.specs.Programs.{Program}
 use Rattle.cp_model_program.specs.Layout.{Part, component_words, farther, head_words, local, member, member_part, natural, part, right}
 use Rattle.cp_model_program.specs.Sites.{UnitText}
-use Rattle.cp_model_program.specs.StandsFor.{Apart, system_of_monitor, system_of_process}
+use Rattle.cp_model_program.specs.IsProgramFor.{Apart, system_of_monitor, system_of_process}
 use Rattle.cp_model_machine.specs.PrivateStates as machine
 use Rattle.cp_model_machine.specs.Passing.{monitor_start, monitor_word}
 

@@ -5,7 +5,7 @@ use Rattle.cp_model.specs.declared.state.Fault.TheVariants as fault
 use Rattle.cp_model_program.specs.Terms.{Argument}
 use Rattle.cp_model_program.specs.Programs.{Call, CodeUnit, Program}
 use Rattle.cp_model_program.specs.Starts.{block, paste, carry_out, unset, word}
-use Rattle.cp_model_machine.specs.PrivateStates.{Acting, Effect, Enters, Frame, NoEffect, Opens, Outside, PrivateState, Starts, fault_in, go_to, private_outcome, guard, set_temp, set_word}
+use Rattle.cp_model_machine.specs.PrivateStates.{Acting, Effect, Enters, Frame, NoEffect, Opens, StepContext, PrivateState, Starts, fault_in, go_to, private_outcome, guard, set_temp, set_word}
 use Rattle.cp_model_machine.specs.Passing.{Called, component_called, monitor_called, pass_all, when_passed}
 
 -- ---- Frames
@@ -43,14 +43,14 @@ enter o c u call back =
     }
 
 -- There are enough own words and temps and a free frame for the unit, and its component exists.
-abbrev pub has_room : Outside → PrivateState → Call → CodeUnit → ℕ → Bool
+abbrev pub has_room : StepContext → PrivateState → Call → CodeUnit → ℕ → Bool
 has_room w o call u component =
     nat_lt (length o.frames) o.limit
     && (nat_le (o.base + call.words + u.words) w.own
     && (nat_le (o.temp + call.temps + u.temps) (length o.temps) && nat_le component (length o.words)))
 
 -- If the unit doesn't exist or has no room, nothing is done.
-abbrev pub with_unit : Program → Outside → PrivateState → Call → ℕ → (CodeUnit → Acting) → Acting
+abbrev pub with_unit : Program → StepContext → PrivateState → Call → ℕ → (CodeUnit → Acting) → Acting
 with_unit program w o call component go = elim (slice_get program.units call.routine) [
   | None ↦ private_outcome o
   | Some u ↦ if has_room w o call u component then go u else private_outcome o
@@ -66,7 +66,7 @@ gate_effect (suc g) f = f (suc g)
 abbrev pub start_words : ℕ → CodeUnit → PrivateState → PrivateState
 start_words base u o = record o { words = carry_out base u.starts o.words }
 
-abbrev pub call_step : Program → Outside → PrivateState → Call → Back → Acting
+abbrev pub call_step : Program → StepContext → PrivateState → Call → Back → Acting
 call_step program w o call back =
     let c = component_called program w o call.target in
     let to = o.base + call.words in
@@ -109,7 +109,7 @@ settle o from to count = record o { words = paste (to + 1) (block o.words (from 
 abbrev pub class_at : ℕ → Called
 class_at at = record { component = at; is_set = true; gate = 0 }
 
-abbrev pub init_class : Program → Outside → PrivateState → Call → ℕ → ℕ → Acting
+abbrev pub init_class : Program → StepContext → PrivateState → Call → ℕ → ℕ → Acting
 init_class program w o call at next =
     let from = o.base + call.words in
     with_unit program w o call at (λ u.
@@ -118,7 +118,7 @@ init_class program w o call at next =
     let q = set_word (settle p from at (length call.arguments)) at (pos 1) in
     private_outcome (enter q (class_at at) u call (record { counter = next; into = 0 })))))
 
-abbrev pub init_monitor : Program → Outside → PrivateState → Call → ℕ → ℕ → Acting
+abbrev pub init_monitor : Program → StepContext → PrivateState → Call → ℕ → ℕ → Acting
 init_monitor program w o call m next =
     let c = monitor_called program w m in
     let from = o.base + call.words in
@@ -132,7 +132,7 @@ abbrev pub parameters_start : Program → ℕ → ℕ
 parameters_start program r = elim (slice_get program.processes (r - 1)) [ None ↦ 0 | Some x ↦ x.parameters ]
 
 -- The parameters wait for the process among the shared words.
-abbrev pub init_process : Program → Outside → PrivateState → ℕ → List Argument → ℕ → ℕ → Acting
+abbrev pub init_process : Program → StepContext → PrivateState → ℕ → List Argument → ℕ → ℕ → Acting
 init_process program w o r xs words next =
     let from = o.base + words in
     let to = w.own + parameters_start program r in

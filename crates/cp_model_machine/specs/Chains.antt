@@ -8,13 +8,13 @@ use Rattle.cp_model.specs.States.{Setup, State, monitor_count, numbers_from, pro
 use Rattle.cp_law_typing.specs.TypePlaces.{type_place}
 use Rattle.cp_law_gates.specs.Hierarchy.{EndingChain, Hierarchy}
 use Rattle.cp_model_program.specs.Programs.{Program}
-use Rattle.cp_model_program.specs.StandsFor.{StandsFor}
+use Rattle.cp_model_program.specs.IsProgramFor.{IsProgramFor}
 use Rattle.cp_model_machine.specs.InState.{IsIn, NoneFresh}
-use Rattle.cp_model_machine.specs.KernelSteps.{Asking, Kernel, Stage, gate_of, stage_of}
+use Rattle.cp_model_machine.specs.KernelSteps.{Asking, Kernel, SchedulingState, gate_of, stage_of}
 use Rattle.cp_model_machine.specs.Machines.{Machine, first_machine, phased_rounds}
 use Rattle.cp_model_machine.specs.Reports.{machine_report}
 
-abbrev pub holder_asked : Kernel → Stage → Option ℕ
+abbrev pub holder_asked : Kernel → SchedulingState → Option ℕ
 holder_asked k (Asking m) = holding_process (gate_of k.gates m).holder
 holder_asked k _ = None
 
@@ -35,7 +35,7 @@ chain k p = chain_within (suc (length k.gates)) k (Some p)
 
 -- ---- Lines
 
-abbrev pub is_asker : Stage → Bool
+abbrev pub is_asker : SchedulingState → Bool
 is_asker (Asking m) = true
 is_asker _ = false
 
@@ -84,6 +84,6 @@ ReportHasChains = (m : Machine) (setup : Setup) (s : State) → IsIn m setup s �
 -- So it is, `rounds` rounds after the start, that of one processor.
 abbrev pub RunHasChains : Type 0
 RunHasChains =
-    (program : Program) (setup : Setup) (n rounds : ℕ) → StandsFor program setup
+    (program : Program) (setup : Setup) (n rounds : ℕ) → IsProgramFor program setup
     → HasReportWithChains (phased_rounds n (processes setup) rounds (first_machine program setup.tick setup.inputs)) setup
     (run setup n rounds (start setup))

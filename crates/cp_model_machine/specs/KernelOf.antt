@@ -8,7 +8,7 @@ use Rattle.cp_model.specs.Types.{Queue}
 use Rattle.cp_model_program.specs.Programs.{Program}
 use Rattle.cp_model_program.specs.Sites.{UnitText}
 use Rattle.cp_model_machine.specs.Addresses.{Ground, OwnWords, lies}
-use Rattle.cp_model_machine.specs.KernelSteps.{Asking, Begun, Delayed, Fresh, Kernel, Stage, Unstarted, gate_of, stage_of}
+use Rattle.cp_model_machine.specs.KernelSteps.{Asking, Begun, Delayed, Fresh, Kernel, SchedulingState, Unstarted, gate_of, stage_of}
 use Rattle.cp_model_machine.specs.PartOf.{DataMeans}
 
 -- The ground in which the shared words are the only words.
@@ -28,7 +28,7 @@ is_shared (OfMonitor m) = true
 is_shared _ = false
 
 -- What the kernel knows of the status of a process. A queue is given by the place of its word.
-abbrev pub StageMeans : Ground → Status → Stage → Type 0
+abbrev pub StageMeans : Ground → Status → SchedulingState → Type 0
 StageMeans G status.Unstarted Unstarted = Unit {0}
 StageMeans G status.Fresh Fresh = Unit {0}
 StageMeans G (status.Asking m) (Asking k) = m ≡ k
@@ -45,7 +45,7 @@ AreProcesses n [] = Unit {0}
 AreProcesses n (p ∷ ps) = (1 ≤ p) × (p ≤ n) × AreProcesses n ps
 
 -- The gates and stages of a kernel are those of a state.
-pub record GatesStand (G : Ground) (monitors processes : ℕ) (s : State) (k : Kernel) : Type 0 where
+pub record GatesRepresent (G : Ground) (monitors processes : ℕ) (s : State) (k : Kernel) : Type 0 where
   pub gate_count : length k.gates ≡ monitors
   pub stage_count : length k.stages ≡ processes
   pub gates : (m : ℕ) → gate_of k.gates m ≡ s.gates m
@@ -56,5 +56,5 @@ pub record GatesStand (G : Ground) (monitors processes : ℕ) (s : State) (k : K
 -- the monitors.
 pub record KernelOf (program : Program) (texts : List UnitText) (setup : Setup) (s : State) (k : Kernel) : Type 0 where
   pub word_count : length k.shared ≡ program.shared
-  pub gates_stand : GatesStand (kernel_ground program texts setup) (monitor_count setup) (process_count setup) s k
+  pub gates_represent : GatesRepresent (kernel_ground program texts setup) (monitor_count setup) (process_count setup) s k
   pub data_means : DataMeans (kernel_ground program texts setup) [] is_shared s.store k.shared

@@ -3,27 +3,27 @@ use Rattle.std.specs.Prelude.{◌-◌, ℕ, zero, suc, ℤ, Bool, true, false, i
 use Rattle.cp_model.specs.States.{Free, Gate, HeldBy, Holder, Unset}
 use Rattle.cp_model_program.specs.Layout.{natural}
 use Rattle.cp_model_program.specs.Programs.{Operation, Program}
-use Rattle.cp_model_machine.specs.PrivateStates.{Acting, Continues, Delays, Effect, Enters, Leaves, NoEffect, Opens, Outside, PrivateState, Starts, is_running}
+use Rattle.cp_model_machine.specs.PrivateStates.{Acting, Continues, Delays, Effect, Enters, Leaves, NoEffect, Opens, StepContext, PrivateState, Starts, is_running}
 use Rattle.cp_model_machine.specs.Steps.{is_held, is_kernel_operation, operation_of, step_with}
 
 -- What the kernel knows of a process. A delayed process waits in the queue whose word is the shared
 -- word `queue`.
-pub data Stage : Type 0 where
-  Unstarted Fresh Begun : Stage
-  Asking : (m : ℕ) → Stage
-  Delayed : (m queue : ℕ) → Stage
+pub data SchedulingState : Type 0 where
+  Unstarted Fresh Begun : SchedulingState
+  Asking : (m : ℕ) → SchedulingState
+  Delayed : (m queue : ℕ) → SchedulingState
 
 pub record Kernel : Type 0 where
   pub shared : List ℤ
   pub gates : List Gate
-  pub stages : List Stage
+  pub stages : List SchedulingState
 
 -- Monitors and processes have numbers from 1 on.
 abbrev pub gate_of : List Gate → ℕ → Gate
 gate_of gs zero = record { holder = Unset; askers = [] }
 gate_of gs (suc m) = elim (slice_get gs m) [ None ↦ record { holder = Unset; askers = [] } | Some g ↦ g ]
 
-abbrev pub stage_of : List Stage → ℕ → Stage
+abbrev pub stage_of : List SchedulingState → ℕ → SchedulingState
 stage_of gs zero = Begun
 stage_of gs (suc p) = elim (slice_get gs p) [ None ↦ Begun | Some g ↦ g ]
 
@@ -31,7 +31,7 @@ abbrev pub is_set : Holder → Bool
 is_set Unset = false
 is_set _ = true
 
-abbrev pub is_started : Stage → Bool
+abbrev pub is_started : SchedulingState → Bool
 is_started Unstarted = false
 is_started _ = true
 
@@ -40,10 +40,10 @@ is_started _ = true
 abbrev pub set_gate : ℕ → Holder → List ℕ → Kernel → Kernel
 set_gate m h askers k = record k { gates = slice_set k.gates (m - 1) (record { holder = h; askers = askers }) }
 
-abbrev pub set_stage : ℕ → Stage → Kernel → Kernel
+abbrev pub set_stage : ℕ → SchedulingState → Kernel → Kernel
 set_stage p g k = record k { stages = slice_set k.stages (p - 1) g }
 
-abbrev pub resume_stage : Stage → Stage
+abbrev pub resume_stage : SchedulingState → SchedulingState
 resume_stage (Asking m) = Begun
 resume_stage (Delayed m q) = Begun
 resume_stage g = g
@@ -67,7 +67,7 @@ abbrev pub resume : ℕ → ℕ → Kernel → Kernel
 resume m zero k = pass_on m k
 resume m (suc r) k = make_ready (suc r) (set_gate m (HeldBy (suc r)) (gate_of k.gates m).askers k)
 
-abbrev pub start_process : ℕ → Stage → Kernel → Kernel
+abbrev pub start_process : ℕ → SchedulingState → Kernel → Kernel
 start_process r Unstarted k = set_stage r Fresh k
 start_process r g k = k
 
@@ -88,7 +88,7 @@ pub record Turning : Type 0 where
   pub kernel : Kernel
   pub own : PrivateState
 
-abbrev pub outside : ℕ → Turning → Outside
+abbrev pub outside : ℕ → Turning → StepContext
 outside clock x = record {
   clock = clock;
   own = length x.own.words;
@@ -106,7 +106,7 @@ part_words own x r = record {
   own = record r.0 { words = take own r.0.words };
 }
 
-abbrev pub is_begun : Stage → Bool
+abbrev pub is_begun : SchedulingState → Bool
 is_begun Begun = true
 is_begun _ = false
 

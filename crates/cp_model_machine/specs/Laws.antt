@@ -8,7 +8,7 @@ use Rattle.cp_model.specs.States.{Setup, State, process_count, running_clock}
 use Rattle.cp_model.specs.Turns as meaning
 use Rattle.cp_model_program.specs.Programs as code
 use Rattle.cp_model_program.specs.Programs.{Program}
-use Rattle.cp_model_program.specs.StandsFor.{StandsFor}
+use Rattle.cp_model_program.specs.IsProgramFor.{IsProgramFor}
 use Rattle.cp_model_machine.specs.PrivateStates.{PrivateState}
 use Rattle.cp_model_machine.specs.Steps.{private_step, private_steps}
 use Rattle.cp_model_machine.specs.Addresses.{Ground, OwnWords}
@@ -18,7 +18,7 @@ use Rattle.cp_model_machine.specs.KernelOf.{KernelOf}
 use Rattle.cp_model_machine.specs.Machines.{first_machine, first_part, wake_one}
 use Rattle.cp_model_machine.specs.Beginning.{Begins}
 
-abbrev pub ground_of : (program : Program) (setup : Setup) → StandsFor program setup → (p own : ℕ) → Ground
+abbrev pub ground_of : (program : Program) (setup : Setup) → IsProgramFor program setup → (p own : ℕ) → Ground
 ground_of program setup F p own = record {
   program = program;
   texts = F.texts;
@@ -33,7 +33,7 @@ ground_of program setup F p own = record {
 -- state of `p` after the meaning's private step, even if neither has one.
 abbrev pub PrivateStepIsStep : Type 0
 PrivateStepIsStep =
-    (program : Program) (setup : Setup) (F : StandsFor program setup) (p own : ℕ)
+    (program : Program) (setup : Setup) (F : IsProgramFor program setup) (p own : ℕ)
     → (s : State) (before : List ℕ) (o : PrivateState)
     → let G = ground_of program setup F p own in
     Invariant s → PartOf G s before o
@@ -42,7 +42,7 @@ PrivateStepIsStep =
 -- The same for a turn of `n` steps, which ends early if the next step isn't private.
 abbrev pub PrivateTurnIsTurn : Type 0
 PrivateTurnIsTurn =
-    (program : Program) (setup : Setup) (F : StandsFor program setup) (p own n : ℕ)
+    (program : Program) (setup : Setup) (F : IsProgramFor program setup) (p own n : ℕ)
     → (s : State) (before : List ℕ) (o : PrivateState)
     → let G = ground_of program setup F p own in
     Invariant s → PartOf G s before o
@@ -53,7 +53,7 @@ PrivateTurnIsTurn =
 -- first is ready to begin there.
 abbrev pub StartIsPart : Type 0
 StartIsPart =
-    (program : Program) (setup : Setup) (F : StandsFor program setup) (p : ℕ) (x : code.Process)
+    (program : Program) (setup : Setup) (F : IsProgramFor program setup) (p : ℕ) (x : code.Process)
     → 1 ≤ p → p ≤ process_count setup → slice_get program.processes (p - 1) ≡ Some x
     → let o = first_part program setup.inputs p x in
     let G = ground_of program setup F p (length o.words) in
@@ -62,13 +62,13 @@ StartIsPart =
 -- The first kernel is that of the start, whatever the tick and the inputs.
 abbrev pub StartIsKernel : Type 0
 StartIsKernel =
-    (program : Program) (setup : Setup) (F : StandsFor program setup) (tick : ℕ) (inputs : ℕ → List ℕ)
+    (program : Program) (setup : Setup) (F : IsProgramFor program setup) (tick : ℕ) (inputs : ℕ → List ℕ)
     → KernelOf program F.texts setup (start setup) (first_machine program tick inputs).kernel
 
 -- ---- Kernel steps
 
 -- The kernel is that of the state, and the private state is that of `p`, whose turn it is.
-pub record TurningOf (program : Program) (setup : Setup) (F : StandsFor program setup) (p own : ℕ) (s : State) (before : List ℕ) (x : Turning) : Type 0 where
+pub record TurningOf (program : Program) (setup : Setup) (F : IsProgramFor program setup) (p own : ℕ) (s : State) (before : List ℕ) (x : Turning) : Type 0 where
   pub part : PartOf (ground_of program setup F p own) s before x.own
   pub kernel : KernelOf program F.texts setup s x.kernel
 
@@ -76,7 +76,7 @@ pub record TurningOf (program : Program) (setup : Setup) (F : StandsFor program 
 -- machine and of the meaning, even if neither has one.
 abbrev pub KernelStepIsStep : Type 0
 KernelStepIsStep =
-    (program : Program) (setup : Setup) (F : StandsFor program setup) (p own : ℕ)
+    (program : Program) (setup : Setup) (F : IsProgramFor program setup) (p own : ℕ)
     → (s : State) (before : List ℕ) (x : Turning)
     → Invariant s → 1 ≤ p → p ≤ process_count setup → TurningOf program setup F p own s before x
     → TurningOf program setup F p own (meaning.kernel_step setup s p) before
@@ -85,7 +85,7 @@ KernelStepIsStep =
 -- The same for a turn.
 abbrev pub KernelTurnIsTurn : Type 0
 KernelTurnIsTurn =
-    (program : Program) (setup : Setup) (F : StandsFor program setup) (p own n : ℕ)
+    (program : Program) (setup : Setup) (F : IsProgramFor program setup) (p own n : ℕ)
     → (s : State) (before : List ℕ) (x : Turning)
     → Invariant s → 1 ≤ p → p ≤ process_count setup → TurningOf program setup F p own s before x
     → TurningOf program setup F p own (meaning.kernel_turn setup n s p) before
@@ -96,7 +96,7 @@ KernelTurnIsTurn =
 -- A kernel turn of `p` keeps the private state of another process right.
 abbrev pub KernelTurnKeepsParts : Type 0
 KernelTurnKeepsParts =
-    (program : Program) (setup : Setup) (F : StandsFor program setup) (p own q others n : ℕ)
+    (program : Program) (setup : Setup) (F : IsProgramFor program setup) (p own q others n : ℕ)
     → (s : State) (before : List ℕ) (x : Turning) (past : List ℕ) (o : PrivateState)
     → p ≢ q → Invariant s → 1 ≤ p → p ≤ process_count setup → TurningOf program setup F p own s before x
     → let G = ground_of program setup F q others in
@@ -106,7 +106,7 @@ KernelTurnKeepsParts =
 -- not.
 abbrev pub KernelTurnKeepsBegins : Type 0
 KernelTurnKeepsBegins =
-    (program : Program) (setup : Setup) (F : StandsFor program setup) (p own q others n : ℕ)
+    (program : Program) (setup : Setup) (F : IsProgramFor program setup) (p own q others n : ℕ)
     → (s : State) (before : List ℕ) (x : Turning) (past : List ℕ) (o : PrivateState)
     → p ≢ q → Invariant s → 1 ≤ p → p ≤ process_count setup → 1 ≤ q → q ≤ process_count setup
     → TurningOf program setup F p own s before x
@@ -117,7 +117,7 @@ KernelTurnKeepsBegins =
 -- A private turn of `p` keeps the private state of another process right.
 abbrev pub PrivateTurnKeepsParts : Type 0
 PrivateTurnKeepsParts =
-    (program : Program) (setup : Setup) (F : StandsFor program setup) (p q others n : ℕ)
+    (program : Program) (setup : Setup) (F : IsProgramFor program setup) (p q others n : ℕ)
     → (s : State) (past : List ℕ) (o : PrivateState)
     → p ≢ q → Invariant s
     → let G = ground_of program setup F q others in
@@ -126,7 +126,7 @@ PrivateTurnKeepsParts =
 -- A private turn also keeps the kernel right.
 abbrev pub PrivateTurnKeepsKernel : Type 0
 PrivateTurnKeepsKernel =
-    (program : Program) (setup : Setup) (F : StandsFor program setup) (p n : ℕ) (s : State) (k : Kernel)
+    (program : Program) (setup : Setup) (F : IsProgramFor program setup) (p n : ℕ) (s : State) (k : Kernel)
     → Invariant s → KernelOf program F.texts setup s k → KernelOf program F.texts setup (meaning.private_turn setup n s p) k
 
 -- ---- Between turns
@@ -134,7 +134,7 @@ PrivateTurnKeepsKernel =
 -- What a process wrote can move from its private state to its transcript.
 abbrev pub OutputMoves : Type 0
 OutputMoves =
-    (program : Program) (setup : Setup) (F : StandsFor program setup) (p own : ℕ)
+    (program : Program) (setup : Setup) (F : IsProgramFor program setup) (p own : ℕ)
     → (s : State) (before : List ℕ) (o : PrivateState)
     → let G = ground_of program setup F p own in
     PartOf G s before o → PartOf G s (before ++ o.output) (record o { output = [] })
@@ -142,7 +142,7 @@ OutputMoves =
 -- In a round whose number is a multiple of the tick, a process that waits wakes.
 abbrev pub WakingIsWaking : Type 0
 WakingIsWaking =
-    (program : Program) (setup : Setup) (F : StandsFor program setup) (p own : ℕ)
+    (program : Program) (setup : Setup) (F : IsProgramFor program setup) (p own : ℕ)
     → (s : State) (before : List ℕ) (o : PrivateState)
     → let G = ground_of program setup F p own in
     suc s.rounds % setup.tick ≡ 0 → PartOf G s before o → PartOf G (wake setup s) before (wake_one o)

@@ -5,7 +5,7 @@ pub mod Calling
 pub mod Steps
 pub mod Means
 pub mod Addresses
-pub mod Left
+pub mod Remaining
 pub mod PartOf
 pub mod KernelSteps
 pub mod Machines

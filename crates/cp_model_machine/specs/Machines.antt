@@ -6,7 +6,7 @@ use Rattle.cp_model_program.specs.Programs.{CodeUnit, Program}
 use Rattle.cp_model_program.specs.Starts.{block, paste, carry_out}
 use Rattle.cp_model_machine.specs.PrivateStates.{Activity, NotBegun, PrivateState, Running, Waiting}
 use Rattle.cp_model_machine.specs.Steps.{private_steps}
-use Rattle.cp_model_machine.specs.KernelSteps.{Begun, Fresh, Kernel, Stage, Turning, Unstarted, kernel_steps, stage_of}
+use Rattle.cp_model_machine.specs.KernelSteps.{Begun, Fresh, Kernel, SchedulingState, Turning, Unstarted, kernel_steps, stage_of}
 
 -- Private states and transcripts are listed by process. What a process writes stays in its private
 -- state until its kernel turn.
@@ -61,7 +61,7 @@ abbrev pub first_shared : List code.Monitor → List ℤ → List ℤ
 first_shared [] ws = ws
 first_shared (m ∷ ms) ws = first_shared ms (carry_out m.start m.starts ws)
 
-abbrev pub first_stages : List code.Process → List Stage
+abbrev pub first_stages : List code.Process → List SchedulingState
 first_stages [] = []
 first_stages (x ∷ xs) = Begun ∷ map (λ y. Unstarted) xs
 
@@ -126,14 +126,14 @@ begin_from program k o = elim (slice_get program.processes (o.number - 1)) [
       record o { activity = Running; words = paste 1 (block k.shared (suc x.parameters) (x.waiting - 1)) o.words }
 ]
 
-abbrev pub begin_if : Program → Kernel → PrivateState → Stage → PrivateState
+abbrev pub begin_if : Program → Kernel → PrivateState → SchedulingState → PrivateState
 begin_if program k o Fresh = begin_from program k o
 begin_if program k o _ = o
 
 abbrev pub begin_one : Program → Kernel → PrivateState → PrivateState
 begin_one program k o = begin_if program k o (stage_of k.stages o.number)
 
-abbrev pub next_stage : Stage → Stage
+abbrev pub next_stage : SchedulingState → SchedulingState
 next_stage Fresh = Begun
 next_stage g = g
 

@@ -19,8 +19,8 @@ use Rattle.cp_model_machine.specs.PrivateStates as machine
 use Rattle.cp_model_machine.specs.PrivateStates.{Activity, PrivateState}
 use Rattle.cp_model_machine.specs.Means.{CellMeans, ReferenceMeans}
 use Rattle.cp_model_machine.specs.Addresses.{Activation, AllHaveRights, ComponentLies, Ground, HasRights, RightMeans, activations, component_type, in_sight, lies, scope, whole}
-use Rattle.cp_model_machine.specs.Left as left
-use Rattle.cp_model_machine.specs.Left.{Left, Runs, held_below, innermost_gate}
+use Rattle.cp_model_machine.specs.Remaining as left
+use Rattle.cp_model_machine.specs.Remaining.{Remaining, Runs, held_below, innermost_gate}
 
 -- ---- Activations
 
@@ -108,7 +108,7 @@ pub record RunsAt (G : Ground) (c : Control) (k : List Task) : Type 0 where
   pub component : c.component ≡ running.component
   pub gate : c.gate ≡ innermost_gate (marked_monitors k)
   pub live : ℕ
-  pub left : Left G c.temps c.limit (held_below live c.temps running.temp) running c.frames c.counter running.unit.temps k
+  pub left : Remaining G c.temps c.limit (held_below live c.temps running.temp) running c.frames c.counter running.unit.temps k
   pub next_value : CallsBehind G live c.counter
 
 -- Where the components of the running routine and of its callers begin.
@@ -131,10 +131,10 @@ pub record RunsOn (G : Ground) (store : Store) (o : PrivateState) (k : List Task
   pub open words_mean use *
 
 -- The process runs or will run again.
-abbrev pub GoesOn : Activity → Type 0
-GoesOn machine.Running = Unit {0}
-GoesOn machine.Waiting = Unit {0}
-GoesOn _ = ⊥
+abbrev pub IsActive : Activity → Type 0
+IsActive machine.Running = Unit {0}
+IsActive machine.Waiting = Unit {0}
+IsActive _ = ⊥
 
 abbrev pub status_of : Activity → PrivateStatus
 status_of machine.NotBegun = NotBegun
@@ -154,4 +154,4 @@ pub record PartOf (G : Ground) (s : State) (before : List ℕ) (o : PrivateState
   pub count : length o.words ≡ whole G
   pub data_means : HasBegun (private_status (s.status G.p))
       → DataMeans G (activations o.base o.frames (s.continuation G.p)) (in_sight G) s.store o.words
-  pub runs_on : GoesOn o.activity → RunsOn G s.store o (s.continuation G.p)
+  pub runs_on : IsActive o.activity → RunsOn G s.store o (s.continuation G.p)

@@ -10,7 +10,7 @@ use Rattle.cp_model_program.specs.Programs.{Program}
 use Rattle.cp_model_program.specs.Layout.{natural}
 use Rattle.cp_model_program.specs.Starts.{block, paste, word}
 use Rattle.cp_model_machine.specs.Values.{place_of, value_of}
-use Rattle.cp_model_machine.specs.PrivateStates.{Acting, Outside, PrivateState, fault_in, set_word, view_of}
+use Rattle.cp_model_machine.specs.PrivateStates.{Acting, StepContext, PrivateState, fault_in, set_word, view_of}
 
 -- ---- Targets
 
@@ -24,7 +24,7 @@ pub record Called : Type 0 where
 abbrev pub monitor_start : Program → ℕ → ℕ
 monitor_start program m = elim (slice_get program.monitors (m - 1)) [ None ↦ 0 | Some x ↦ x.start ]
 
-abbrev pub monitor_called : Program → Outside → ℕ → Called
+abbrev pub monitor_called : Program → StepContext → ℕ → Called
 monitor_called program w m = record { component = w.own + monitor_start program m; is_set = w.is_set m; gate = m }
 
 abbrev pub class_called : PrivateState → ℕ → Called
@@ -34,7 +34,7 @@ class_called o at = record { component = at; is_set = not (same_integer (word o.
 abbrev pub class_right : PrivateState → ℕ → ℕ
 class_right o at = natural (pos (o.component + at) +ℤ word o.words (o.component + at))
 
-abbrev pub component_called : Program → Outside → PrivateState → Target → Called
+abbrev pub component_called : Program → StepContext → PrivateState → Target → Called
 component_called program w o target.Own = record { component = o.component; is_set = true; gate = 0 }
 component_called program w o (target.Class at) = class_called o (o.component + at)
 component_called program w o (target.ClassRight at) = class_called o (class_right o at)
@@ -87,7 +87,7 @@ pass_copy o at size from = record { own = record o { words = paste at (block o.w
 
 -- Passes an argument to a word that counts from `to`. The words from `to` on finally become those
 -- of a component or activation that begins at `home`.
-abbrev pub pass_one : Outside → ℕ → ℕ → PrivateState → Argument → Passing
+abbrev pub pass_one : StepContext → ℕ → ℕ → PrivateState → Argument → Passing
 pass_one w to home o (Value at low high e) =
     pass_result o (value_of (view_of w o) e) (λ n. pass_value o (to + at) low high n)
 pass_one w to home o (Copy at size from) =
@@ -99,7 +99,7 @@ pass_one w to home o (Right at t) = pass_word o (to + at) (right_word o (home + 
 abbrev pub unless_fault : Passing → (PrivateState → Passing) → Passing
 unless_fault p go = elim p.fault [ None ↦ go p.own | Some f ↦ p ]
 
-abbrev pub pass_all : Outside → ℕ → ℕ → List Argument → PrivateState → Passing
+abbrev pub pass_all : StepContext → ℕ → ℕ → List Argument → PrivateState → Passing
 pass_all w to home [] o = record { own = o; fault = None }
 pass_all w to home (x ∷ xs) o = unless_fault (pass_one w to home o x) (pass_all w to home xs)
 

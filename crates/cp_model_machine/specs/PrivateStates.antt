@@ -42,7 +42,7 @@ pub record PrivateState : Type 0 where
 -- What a step reads besides the private state: the clock, the number of the process's own words,
 -- and which monitors and processes have been initialised. Shared words that are in reach follow the
 -- own words.
-pub record Outside : Type 0 where
+pub record StepContext : Type 0 where
   pub clock : ℕ
   pub own : ℕ
   pub is_set : ℕ → Bool
@@ -58,7 +58,7 @@ pub data Effect : Type 0 where
 abbrev pub Acting : Type 0
 Acting = PrivateState × Effect
 
-abbrev pub view_of : Outside → PrivateState → View
+abbrev pub view_of : StepContext → PrivateState → View
 view_of w o = record {
   words = o.words;
   temps = o.temps;

@@ -18,7 +18,7 @@ use Rattle.cp_law_typing.specs.Words.{words}
 use Rattle.cp_model_program.specs.Layout.{head_words}
 use Rattle.cp_model_program.specs.Programs.{Program}
 use Rattle.cp_model_program.specs.Starts.{word}
-use Rattle.cp_model_machine.specs.KernelSteps.{Asking, Begun, Delayed, Fresh, Stage, Unstarted, gate_of, stage_of}
+use Rattle.cp_model_machine.specs.KernelSteps.{Asking, Begun, Delayed, Fresh, SchedulingState, Unstarted, gate_of, stage_of}
 use Rattle.cp_model_machine.specs.Machines.{Machine, transcript_of}
 use Rattle.cp_model_machine.specs.Means.{process_of_word}
 use Rattle.cp_model_machine.specs.Passing.{monitor_start}
@@ -100,7 +100,7 @@ activity_text Waiting = codes "waiting"
 activity_text Ended = codes "ended"
 activity_text (Faulted f) = codes "fault " ++ natural (fault_number f)
 
-abbrev pub stage_text : Setup → Program → Stage → Activity → Text
+abbrev pub stage_text : Setup → Program → SchedulingState → Activity → Text
 stage_text setup program Unstarted a = codes "unstarted"
 stage_text setup program Fresh a = codes "fresh"
 stage_text setup program Begun a = activity_text a

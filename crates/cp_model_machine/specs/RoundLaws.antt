@@ -7,7 +7,7 @@ use Rattle.cp_model.specs.Rounds.{Event}
 use Rattle.cp_model.specs.Start.{start}
 use Rattle.cp_model.specs.States.{Setup, State, process_count, processes}
 use Rattle.cp_model_program.specs.Programs.{Program}
-use Rattle.cp_model_program.specs.StandsFor.{StandsFor}
+use Rattle.cp_model_program.specs.IsProgramFor.{IsProgramFor}
 use Rattle.cp_model_machine.specs.InState.{IsIn, NoneFresh}
 use Rattle.cp_model_machine.specs.Machines.{Machine, end_round, first_machine, phased_round, phased_rounds}
 use Rattle.cp_model_machine.specs.Replays.{AreWithin, replay}
@@ -16,7 +16,7 @@ use Rattle.cp_model_machine.specs.Reports.{machine_report}
 -- The first machine is in the start of the meaning.
 abbrev pub StartIsIn : Type 0
 StartIsIn =
-    (program : Program) (setup : Setup) → StandsFor program setup
+    (program : Program) (setup : Setup) → IsProgramFor program setup
     → IsIn (first_machine program setup.tick setup.inputs) setup (start setup)
 
 -- A round with turns of `n` steps leads the machine to the state that the meaning's phased round
@@ -59,6 +59,6 @@ ReportIsReport =
 -- The report read from the machine `rounds` rounds after the start is that of one processor.
 abbrev pub RunIsReported : Type 0
 RunIsReported =
-    (program : Program) (setup : Setup) (n rounds : ℕ) → StandsFor program setup
+    (program : Program) (setup : Setup) (n rounds : ℕ) → IsProgramFor program setup
     → machine_report setup (phased_rounds n (processes setup) rounds (first_machine program setup.tick setup.inputs))
     ≡ report setup (meaning.run setup n rounds (start setup))

@@ -11,20 +11,20 @@ use Rattle.cp_model.specs.StandardCalls.{byte, next_input, next_place}
 use Rattle.cp_model.specs.StatementSteps.{is_past, next_counter}
 use Rattle.cp_model.specs.declared.state.Fault.TheVariants as fault
 use Rattle.cp_model_program.specs.Terms as target
-use Rattle.cp_model_program.specs.Terms.{Spot, Target, Term}
+use Rattle.cp_model_program.specs.Terms.{PlaceExpression, Target, Term}
 use Rattle.cp_model_program.specs.Programs as op
 use Rattle.cp_model_program.specs.Programs.{Counting, Operation, Program}
 use Rattle.cp_model_program.specs.Starts.{block, paste, word}
 use Rattle.cp_model_program.specs.Tables.{place_in}
 use Rattle.cp_model_machine.specs.Values.{place_of, root_place, value_of}
-use Rattle.cp_model_machine.specs.PrivateStates.{Acting, Continues, Delays, Ended, Leaves, Outside, PrivateState, Waiting, fault_in, go_to, is_running, private_outcome, guard, set_temp, set_word, view_of, with_result}
+use Rattle.cp_model_machine.specs.PrivateStates.{Acting, Continues, Delays, Ended, Leaves, StepContext, PrivateState, Waiting, fault_in, go_to, is_running, private_outcome, guard, set_temp, set_word, view_of, with_result}
 use Rattle.cp_model_machine.specs.Passing.{component_called}
 use Rattle.cp_model_machine.specs.Calling.{call_step, gate_effect, init_class, init_monitor, init_process, leave, return_with, with_frame}
 
-abbrev pub with_value : Outside → PrivateState → Term → (ℤ → Acting) → Acting
+abbrev pub with_value : StepContext → PrivateState → Term → (ℤ → Acting) → Acting
 with_value w o e go = with_result o (value_of (view_of w o) e) go
 
-abbrev pub with_place : Outside → PrivateState → Spot → (ℕ → Acting) → Acting
+abbrev pub with_place : StepContext → PrivateState → PlaceExpression → (ℕ → Acting) → Acting
 with_place w o s go = with_result o (place_of (view_of w o) s) go
 
 -- ---- Assignments
@@ -44,16 +44,16 @@ go_to_arm o None = fault_in o fault.NoLabel
 go_to_arm o (Some place) = private_outcome (go_to place o)
 
 -- Sets the variable and the two temps, and continues with the body.
-abbrev pub count_to : Outside → PrivateState → Counting → ℤ → ℤ → Acting
+abbrev pub count_to : StepContext → PrivateState → Counting → ℤ → ℤ → Acting
 count_to w o c n last =
     let counted = set_word o (root_place (view_of w o) c.variable) n in
     let temps = set_temp (set_temp counted (o.temp + c.temp) n) (o.temp + c.temp + 1) last in
     guard (within c.low c.high n) o fault.Range (private_outcome (go_to c.body temps))
 
-abbrev pub first_count : Outside → PrivateState → Counting → ℤ → ℤ → Acting
+abbrev pub first_count : StepContext → PrivateState → Counting → ℤ → ℤ → Acting
 first_count w o c n last = if is_past c.down n last then private_outcome (go_to c.next o) else count_to w o c n last
 
-abbrev pub next_count : Outside → PrivateState → Counting → ℤ → ℤ → Acting
+abbrev pub next_count : StepContext → PrivateState → Counting → ℤ → ℤ → Acting
 next_count w o c n last =
     if same_integer n last then private_outcome (go_to c.next o) else count_to w o c (next_counter c.down n) last
 
@@ -96,7 +96,7 @@ continue o at function =
 
 -- ---- All operations
 
-abbrev pub act : Program → Outside → PrivateState → Operation → Acting
+abbrev pub act : Program → StepContext → PrivateState → Operation → Acting
 act program w o (op.Set to low high value next) =
     with_place w o to (λ at. with_value w o value (λ n. set_within o low high at n next))
 act program w o (op.SetResult low high value next) =
@@ -156,12 +156,12 @@ is_private o (Some x) = if is_held o.gate then false else not (is_kernel_operati
 
 -- ---- Steps
 
-abbrev pub act_on : Program → Outside → PrivateState → Option Operation → Acting
+abbrev pub act_on : Program → StepContext → PrivateState → Option Operation → Acting
 act_on program w o None = private_outcome o
 act_on program w o (Some x) = act program w o x
 
 -- A private step reads nothing of the kernel.
-abbrev pub alone : ℕ → PrivateState → Outside
+abbrev pub alone : ℕ → PrivateState → StepContext
 alone clock o = record { clock = clock; own = length o.words; is_set = λ m. false; is_started = λ r. true }
 
 -- One step if the next one is private, and otherwise nothing.
@@ -178,5 +178,5 @@ private_steps program clock zero o = o
 private_steps program clock (suc n) o = private_steps program clock n (private_step program clock o)
 
 -- One step of a running process, with the shared words in reach.
-abbrev pub step_with : Program → Outside → PrivateState → Acting
+abbrev pub step_with : Program → StepContext → PrivateState → Acting
 step_with program w o = act_on program w o (operation_of program o)

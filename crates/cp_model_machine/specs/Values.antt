@@ -6,7 +6,7 @@ use Rattle.cp_model.specs.Integers.{same_integer}
 use Rattle.cp_model.specs.Places.{within}
 use Rattle.cp_model.specs.declared.state.Fault.{Fault}
 use Rattle.cp_model.specs.declared.state.Fault.TheVariants as fault
-use Rattle.cp_model_program.specs.Terms.{Binary, Element, Empty, Item, Local, Made, Member, Negative, Not, Number, Realtime, Root, Rooted, Spot, Standard, Term, Through}
+use Rattle.cp_model_program.specs.Terms.{Binary, Element, Empty, Item, Local, Made, Member, Negative, Not, Number, Realtime, Root, Rooted, PlaceExpression, Standard, Term, Through}
 use Rattle.cp_model_program.specs.Functions.{in_range, standard, unless}
 use Rattle.cp_model_program.specs.Layout.{distance, natural}
 use Rattle.cp_model_program.specs.Starts.{word}
@@ -64,7 +64,7 @@ abbrev mutual
   value_of v (Empty s) = bind (place_of v s) (λ a. Ok (truth (int_le (word v.words a) (pos 0))))
   value_of v Realtime = in_range (pos v.clock)
 
-  pub place_of : View → Spot → Result ℕ Fault
+  pub place_of : View → PlaceExpression → Result ℕ Fault
   place_of v (Rooted r) = Ok (root_place v r)
   place_of v (Element s low high size plus e) =
       bind (place_of v s) (λ a. bind (value_of v e) (λ i.

@@ -11,7 +11,7 @@ use Rattle.cp_model_program.specs.Terms.{Empty, Standard}
 use Rattle.cp_model_program.specs.Layout.{local_words}
 use Rattle.cp_model_program.specs.Sites.{first_parameter}
 use Rattle.cp_model_program.specs.Scopes.{Scope, environment}
-use Rattle.cp_model_program.specs.CodedTerms.{CodedArguments, CodedCall, CodedSpot, CodedTerm, argument_of, by_value, called_term, coded_arguments, coded_spot, coded_standard, coded_term, coded_variable, element_part, function_call, function_named, name_or_item, no_arguments, parameters_of, standard_term, used_term}
+use Rattle.cp_model_program.specs.CodedTerms.{CodedArguments, CodedCall, CodedPlaceExpression, CodedTerm, argument_of, by_value, called_term, coded_arguments, coded_place_expression, coded_standard, coded_term, coded_variable, element_part, function_call, function_named, name_or_item, no_arguments, parameters_of, standard_term, used_term}
 
 module _ (m : ℕ) where
   abbrev pub AllBelow : List CodedCall → Type 0
@@ -22,13 +22,13 @@ module _ (m : ℕ) where
   below_split [] ds h = (tt, h)
   below_split (c ∷ cs) ds h = let k : AllBelow cs × AllBelow ds = below_split cs ds h.1 in ((h.0, k.0), k.1)
 
-  name_fits : (scope : Scope) (d : a.Designator) (s : CodedSpot) (low : ℕ) → low ≤ m → (AllBelow s.calls → s.temps ≤ m)
+  name_fits : (scope : Scope) (d : a.Designator) (s : CodedPlaceExpression) (low : ℕ) → low ≤ m → (AllBelow s.calls → s.temps ≤ m)
       → AllBelow (name_or_item scope d s low).calls → (name_or_item scope d s low).temps ≤ m
   name_fits scope (a.Plain x) s low h k all = h
   name_fits scope (a.Part d x) s low h k all = k all
   name_fits scope (a.At d e) s low h k all = k all
 
-  element_fits : (g : GlobalScope) (t : ResolvedType) (s : CodedSpot) (i : CodedTerm) → (AllBelow s.calls → s.temps ≤ m)
+  element_fits : (g : GlobalScope) (t : ResolvedType) (s : CodedPlaceExpression) (i : CodedTerm) → (AllBelow s.calls → s.temps ≤ m)
       → (s.temps ≤ m → AllBelow i.calls → i.temps ≤ m) → AllBelow (element_part g t s i).calls → (element_part g t s i).temps ≤ m
   element_fits g (ArrayOf lower upper t) s i h k all = let both = below_split s.calls i.calls all in k (h both.0) both.1
   element_fits g (Simple b lower upper start) s i h k all = h all
@@ -37,18 +37,18 @@ module _ (m : ℕ) where
   element_fits g (ComponentOf r inner) s i h k all = h all
   element_fits g NoType s i h k all = h all
 
-  standard_fits : (x : Name) (b : BaseType) (t : CodedTerm) (s : CodedSpot) → (AllBelow t.calls → t.temps ≤ m) → (AllBelow s.calls → s.temps ≤ m)
+  standard_fits : (x : Name) (b : BaseType) (t : CodedTerm) (s : CodedPlaceExpression) → (AllBelow t.calls → t.temps ≤ m) → (AllBelow s.calls → s.temps ≤ m)
       → AllBelow (standard_term x b t s).calls → (standard_term x b t s).temps ≤ m
   standard_fits x b t s h k = go (bytes_eq x (codes "empty"))
     where
       made : Bool → CodedTerm
-      made c = if c then record { term = Empty s.spot; calls = s.calls; temps = s.temps } else record t { term = Standard (function_named x b) t.term }
+      made c = if c then record { term = Empty s.place_expression; calls = s.calls; temps = s.temps } else record t { term = Standard (function_named x b) t.term }
 
       go : (c : Bool) → AllBelow (made c).calls → (made c).temps ≤ m
       go true = k
       go false = h
 
-  value_fits : (g : GlobalScope) (type : ResolvedType) (at : ℕ) (t : CodedTerm) (s : CodedSpot) → (AllBelow t.calls → t.temps ≤ m) → (AllBelow s.calls → s.temps ≤ m)
+  value_fits : (g : GlobalScope) (type : ResolvedType) (at : ℕ) (t : CodedTerm) (s : CodedPlaceExpression) → (AllBelow t.calls → t.temps ≤ m) → (AllBelow s.calls → s.temps ≤ m)
       → AllBelow (by_value g type at t s).calls → (by_value g type at t s).temps ≤ m
   value_fits g (Simple b lower upper start) at t s h k = h
   value_fits g (ArrayOf lower upper u) at t s h k = k
@@ -57,7 +57,7 @@ module _ (m : ℕ) where
   value_fits g (ComponentOf r inner) at t s h k = k
   value_fits g NoType at t s h k = k
 
-  argument_fits : (g : GlobalScope) (b : Bool) (type : ResolvedType) (at : ℕ) (t : CodedTerm) (s : CodedSpot) → (AllBelow t.calls → t.temps ≤ m)
+  argument_fits : (g : GlobalScope) (b : Bool) (type : ResolvedType) (at : ℕ) (t : CodedTerm) (s : CodedPlaceExpression) → (AllBelow t.calls → t.temps ≤ m)
       → (AllBelow s.calls → s.temps ≤ m)
       → AllBelow (argument_of g (record { by_reference = b; type = type }) at t s).calls → (argument_of g (record { by_reference = b; type = type }) at t s).temps ≤ m
   argument_fits g true type at t s h k = k
@@ -67,7 +67,7 @@ module _ (m : ℕ) where
     call_fits : (c : Callee) (xs : CodedArguments) (low : ℕ) → AllBelow (function_call scope c xs low).calls → (function_call scope c xs low).temps ≤ m
     call_fits c xs low all = (below_split xs.calls _ all).1.0
 
-    use_fits : (d : a.Designator) (low : ℕ) (s : CodedSpot) (c : Option Callee) → low ≤ m → (AllBelow s.calls → s.temps ≤ m)
+    use_fits : (d : a.Designator) (low : ℕ) (s : CodedPlaceExpression) (c : Option Callee) → low ≤ m → (AllBelow s.calls → s.temps ≤ m)
         → AllBelow (used_term scope d low s c).calls → (used_term scope d low s c).temps ≤ m
     use_fits d low s None h k all = name_fits scope d s low h k all
     use_fits d low s (Some r) h k all = call_fits r (no_arguments low) low all
@@ -82,7 +82,7 @@ module _ (m : ℕ) where
       term_fits (a.Literal n) low h all = h
       term_fits (a.Letter n) low h all = h
       term_fits (a.Known b n) low h all = h
-      term_fits (a.Use d) low h all = use_fits d low (coded_spot scope d low) (callee (environment scope) d) h (spot_fits d low h) all
+      term_fits (a.Use d) low h all = use_fits d low (coded_place_expression scope d low) (callee (environment scope) d) h (place_expression_fits d low h) all
       term_fits (a.Call d es) low h all =
           called_fits low (coded_standard scope (name_of d) es low) (λ c. coded_arguments scope es (parameters_of scope c) (first_parameter c) low)
           (callee (environment scope) d) (standard_call_fits (name_of d) es low h) all
@@ -93,15 +93,15 @@ module _ (m : ℕ) where
           let both = below_split (coded_term scope e low).calls (coded_term scope f (coded_term scope e low).temps).calls all in
           term_fits f (coded_term scope e low).temps (term_fits e low h both.0) both.1
 
-      pub spot_fits : (d : a.Designator) (low : ℕ) → low ≤ m → AllBelow (coded_spot scope d low).calls → (coded_spot scope d low).temps ≤ m
-      spot_fits (a.Plain x) low h all = h
-      spot_fits (a.Part d x) low h all = spot_fits d low h all
-      spot_fits (a.At d e) low h all =
-          element_fits scope.globals (place_type (environment scope) d) (coded_spot scope d low) (coded_term scope e (coded_spot scope d low).temps)
-          (spot_fits d low h) (term_fits e (coded_spot scope d low).temps) all
+      pub place_expression_fits : (d : a.Designator) (low : ℕ) → low ≤ m → AllBelow (coded_place_expression scope d low).calls → (coded_place_expression scope d low).temps ≤ m
+      place_expression_fits (a.Plain x) low h all = h
+      place_expression_fits (a.Part d x) low h all = place_expression_fits d low h all
+      place_expression_fits (a.At d e) low h all =
+          element_fits scope.globals (place_type (environment scope) d) (coded_place_expression scope d low) (coded_term scope e (coded_place_expression scope d low).temps)
+          (place_expression_fits d low h) (term_fits e (coded_place_expression scope d low).temps) all
 
       pub variable_fits : (e : a.Expression) (low : ℕ) → low ≤ m → AllBelow (coded_variable scope e low).calls → (coded_variable scope e low).temps ≤ m
-      variable_fits (a.Use d) low h all = spot_fits d low h all
+      variable_fits (a.Use d) low h all = place_expression_fits d low h all
       variable_fits (a.Literal n) low h all = h
       variable_fits (a.Letter n) low h all = h
       variable_fits (a.Known b n) low h all = h

@@ -1,35 +1,35 @@
 mod Environments
 mod Found
 mod Standing
-mod NamesStand
+mod NamesRepresent
 mod Temps
 mod Fits
-pub mod StandardStand
-pub mod CallsStand
-mod SpotsStand
-mod TermsStand
-mod InitStand
-mod ResultStand
-mod TablesStand
-mod CodeStands
-mod UnitsStand
+pub mod StandardRepresent
+pub mod CallsRepresent
+mod PlaceExpressionsRepresent
+mod TermsRepresent
+mod InitRepresent
+mod ResultRepresent
+mod TablesRepresent
+mod CodeRepresents
+mod UnitsRepresent
 pub mod Pasting
 mod PlansWrite
 mod ArraysPlanned
 mod PartsPlanned
-mod PlansStand
+mod PlansRepresent
 mod PartsStart
-mod StartsStand
-mod ScopesStand
-mod SystemsStand
-mod DefinitionsStand
-mod RowsStand
+mod StartsRepresent
+mod ScopesRepresent
+mod SystemsRepresent
+mod DefinitionsRepresent
+mod RowsRepresent
 mod UnitTexts
-mod TextsStand
-pub mod KnownStand
-mod FactsStand
-mod OperationsStand
-mod AssignmentsStand
-mod ProceduresStand
+mod TextsRepresent
+pub mod KnownRepresent
+mod FactsRepresent
+mod OperationsRepresent
+mod AssignmentsRepresent
+mod ProceduresRepresent
 pub mod Example
 mod Negatives

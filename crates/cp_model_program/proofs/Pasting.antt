@@ -78,9 +78,9 @@ copies_length (suc k) xs = length-append xs (copies k xs) ∙ (omega (arith, cop
 -- more blocks like the one that is there
 pub repeated_is_paste : (at size k : ℕ) (xs ws : List ℤ) → length xs ≡ size → block ws at size ≡ xs → at + size + k * size ≤ length ws
     → repeat_block at size k ws ≡ paste (at + size) (copies k xs) ws
-repeated_is_paste at size zero xs ws is stands room = refl
-repeated_is_paste at size (suc k) xs ws is stands room =
-    ap (λ b. repeat_block (at + size) size k (paste (at + size) b ws)) stands
+repeated_is_paste at size zero xs ws is represents room = refl
+repeated_is_paste at size (suc k) xs ws is represents room =
+    ap (λ b. repeat_block (at + size) size k (paste (at + size) b ws)) represents
     ∙ repeated_is_paste (at + size) size k xs (paste (at + size) xs ws) is
     (ap (block (paste (at + size) xs ws) (at + size)) (sym is) ∙ block_of_paste (at + size) xs ws (omega (arith, room, is)))
     (omega (arith, room, paste_length (at + size) xs ws))

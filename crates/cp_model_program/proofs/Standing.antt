@@ -37,7 +37,7 @@ RoutineHere scope (Some r) = (routine_named r.name scope.system ≡ Some r) × R
 
 -- What is known about a component that is initialised: its body is compiled, and its parameters are
 -- simple values and rights with distinct names.
-pub record InitStands (scope : Scope) (program : Program) (texts : List UnitText) (before : List CodeUnit) (n : Component) : Type 0 where
+pub record InitRepresents (scope : Scope) (program : Program) (texts : List UnitText) (before : List CodeUnit) (n : Component) : Type 0 where
   pub body : UnitThere program texts before (body_of scope n) (BodyOf n.system)
   pub defined : List System
   pub each : Each (SystemParameter scope.globals defined n.system.sort) (declarations scope.globals n.system.parameters)
@@ -60,7 +60,7 @@ pub record Standing (scope : Scope) (program : Program) (texts : List UnitText) 
       → is_structured (place_type (environment_at scope at o) d) ≡ true → has_queues (place_type (environment_at scope at o) d) ≡ false
       → IsPlain (place_type (environment_at scope at o) d)
   pub inits : (at : Location) (o : Owner) (x : Name) (es : a.Expressions) (i : Initialises (place_at scope systems routines at o) x es)
-      → InitStands scope program texts before i.component
+      → InitRepresents scope program texts before i.component
   pub distinct : Distinct (permanent_variables scope.globals scope.system)
   pub reported : (x : Name) (v : Variable) (r : System) (inner : Members) → lookup x (declarations scope.globals scope.system.variables) ≡ Some v
       → v.type ≡ ComponentOf r inner → inner ≡ reported_members scope.globals r

@@ -6,7 +6,7 @@ use Rattle.cp_model.specs.Abstract.{Definition, Routine, System}
 use Rattle.cp_model.specs.States.{Setup}
 use Rattle.cp_law_typing.specs.Systems.{systems_of}
 use Rattle.cp_model_program.specs.Sites.{BodyOf, RoutineOf, UnitText}
-use Rattle.cp_model_program.specs.StandsFor.{IsInText, system_of_unit}
+use Rattle.cp_model_program.specs.IsProgramFor.{IsInText, system_of_unit}
 use Rattle.cp_model_program.specs.Compile.{definition_texts, system_texts, unit_texts}
 
 in_either : (xs ys : List UnitText) (n : ℕ) (t : UnitText) → slice_get (xs ++ ys) n ≡ Some t → (slice_get xs n ≡ Some t) ⊎ ((m : ℕ) × (slice_get ys m ≡ Some t))

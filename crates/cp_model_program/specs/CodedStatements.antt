@@ -21,7 +21,7 @@ use Rattle.cp_model_program.specs.Sites.{first_parameter}
 use Rattle.cp_model_program.specs.StatementsFor.{is_function}
 use Rattle.cp_model_program.specs.Tables.{arm_at}
 use Rattle.cp_model_program.specs.Scopes.{Scope, body_of, environment, local_in, root_named, target_of, unit_of}
-use Rattle.cp_model_program.specs.CodedTerms.{CodedArguments, CodedCall, CodedSpot, CodedTerm, call_of, coded_arguments, coded_spot, coded_term, coded_variable, init_arguments, parameters_of, root_or_first}
+use Rattle.cp_model_program.specs.CodedTerms.{CodedArguments, CodedCall, CodedPlaceExpression, CodedTerm, call_of, coded_arguments, coded_place_expression, coded_term, coded_variable, init_arguments, parameters_of, root_or_first}
 
 -- ---- Operations with their calls
 
@@ -73,16 +73,16 @@ high_of _ = pos 0
 abbrev pub set_result : ResolvedType → CodedTerm → ℕ → ℕ → Emitted
 set_result t e at next = with_calls e.calls (op.SetResult (low_of t) (high_of t) e.term next) at
 
-abbrev pub store : GlobalScope → ResolvedType → CodedSpot → CodedTerm → CodedSpot → ℕ → ℕ → Emitted
-store g (Simple b low high start) d e s at next = with_calls (d.calls ++ e.calls) (op.Set d.spot low high e.term next) at
-store g t d e s at next = with_calls (d.calls ++ s.calls) (op.CopyWords d.spot s.spot (words g t) next) at
+abbrev pub store : GlobalScope → ResolvedType → CodedPlaceExpression → CodedTerm → CodedPlaceExpression → ℕ → ℕ → Emitted
+store g (Simple b low high start) d e s at next = with_calls (d.calls ++ e.calls) (op.Set d.place_expression low high e.term next) at
+store g t d e s at next = with_calls (d.calls ++ s.calls) (op.CopyWords d.place_expression s.place_expression (words g t) next) at
 
 -- Sets the result or a variable.
 abbrev pub assign_by : Scope → a.Designator → a.Expression → ℕ → ℕ → ℕ → Bool → Emitted
 assign_by scope d e low at next true =
     set_result (place_type (environment scope) d) (coded_term scope e low) at next
 assign_by scope d e low at next false =
-    let to = coded_spot scope d low in
+    let to = coded_place_expression scope d low in
     store scope.globals (place_type (environment scope) d) to (coded_term scope e to.temps) (coded_variable scope e to.temps) at next
 
 -- ---- Calls and standard procedures
@@ -96,12 +96,12 @@ runs_function None = false
 runs_function (Some r) = is_function r.result
 
 -- The last case is `continue`.
-abbrev pub standard_procedure : Scope → Name → ResolvedType → CodedTerm → CodedSpot → ℕ → ℕ → Emitted
+abbrev pub standard_procedure : Scope → Name → ResolvedType → CodedTerm → CodedPlaceExpression → ℕ → ℕ → Emitted
 standard_procedure scope x t e s at next =
     if bytes_eq x (codes "display") then with_calls e.calls (op.Display e.term (is_char (base_of_type t)) next) at
-    else if bytes_eq x (codes "accept") then with_calls s.calls (op.Accept s.spot (low_of t) (high_of t) next) at
-    else if bytes_eq x (codes "delay") then with_calls s.calls (op.Delay s.spot next) at
-    else with_calls s.calls (op.Continue s.spot (runs_function scope.routine)) at
+    else if bytes_eq x (codes "accept") then with_calls s.calls (op.Accept s.place_expression (low_of t) (high_of t) next) at
+    else if bytes_eq x (codes "delay") then with_calls s.calls (op.Delay s.place_expression next) at
+    else with_calls s.calls (op.Continue s.place_expression (runs_function scope.routine)) at
 
 abbrev pub standard_statement : Scope → Name → a.Expressions → ℕ → ℕ → ℕ → Emitted
 standard_statement scope x a.NoExpression low at next = with_calls [] (op.Wait next) at

@@ -19,11 +19,11 @@ use Rattle.cp_model.specs.Expressions.{name_of}
 use Rattle.cp_law_typing.specs.StaticTypes.{expression_type, is_clock, place_type}
 use Rattle.cp_law_typing.specs.Words.{words}
 use Rattle.cp_model_program.specs.Terms as term
-use Rattle.cp_model_program.specs.Terms.{Abs, Argument, Binary, Chr, Copy, Element, Empty, Function, Item, Local, Made, Negative, Not, Number, Ord, Realtime, Reference, Right, Root, Rooted, Shift, Spot, Standard, Target, Term, Value}
+use Rattle.cp_model_program.specs.Terms.{Abs, Argument, Binary, Chr, Copy, Element, Empty, Function, Item, Local, Made, Negative, Not, Number, Ord, Realtime, Reference, Right, Root, Rooted, Shift, PlaceExpression, Standard, Target, Term, Value}
 use Rattle.cp_model_program.specs.Programs.{Call}
 use Rattle.cp_model_program.specs.Layout.{local_words, member, part, right}
 use Rattle.cp_model_program.specs.Sites.{first_parameter}
-use Rattle.cp_model_program.specs.TermsFor.{move_spot}
+use Rattle.cp_model_program.specs.TermsFor.{move_place_expression}
 use Rattle.cp_model_program.specs.Scopes.{Scope, environment, part_start, right_start, root_named, target_of, unit_of}
 
 -- ---- What is made
@@ -40,8 +40,8 @@ pub record CodedTerm : Type 0 where
   pub calls : List CodedCall
   pub temps : ℕ
 
-pub record CodedSpot : Type 0 where
-  pub spot : Spot
+pub record CodedPlaceExpression : Type 0 where
+  pub place_expression : PlaceExpression
   pub calls : List CodedCall
   pub temps : ℕ
 
@@ -58,8 +58,8 @@ pub record CodedArguments : Type 0 where
 abbrev pub lone_term : Term → ℕ → CodedTerm
 lone_term t low = record { term = t; calls = []; temps = low }
 
-abbrev pub lone_spot : Spot → ℕ → CodedSpot
-lone_spot s low = record { spot = s; calls = []; temps = low }
+abbrev pub lone_place_expression : PlaceExpression → ℕ → CodedPlaceExpression
+lone_place_expression s low = record { place_expression = s; calls = []; temps = low }
 
 abbrev pub no_arguments : ℕ → CodedArguments
 no_arguments low = record { arguments = []; calls = []; temps = low }
@@ -83,18 +83,18 @@ term_of_name scope x =
     if is_clock x then Realtime
     else variable_or_number (root_named scope x) (ordinal_or_zero (lookup x scope.globals.constants))
 
-abbrev pub name_or_item : Scope → a.Designator → CodedSpot → ℕ → CodedTerm
+abbrev pub name_or_item : Scope → a.Designator → CodedPlaceExpression → ℕ → CodedTerm
 name_or_item scope (a.Plain x) s low = lone_term (term_of_name scope x) low
-name_or_item scope d s low = record { term = Item s.spot; calls = s.calls; temps = s.temps }
+name_or_item scope d s low = record { term = Item s.place_expression; calls = s.calls; temps = s.temps }
 
 -- ---- Parts
 
-abbrev pub field_part : GlobalScope → ResolvedType → Name → CodedSpot → CodedSpot
-field_part g t x s = record s { spot = move_spot (part_start (part g t (ByName x ∷ []))) s.spot }
+abbrev pub field_part : GlobalScope → ResolvedType → Name → CodedPlaceExpression → CodedPlaceExpression
+field_part g t x s = record s { place_expression = move_place_expression (part_start (part g t (ByName x ∷ []))) s.place_expression }
 
-abbrev pub element_part : GlobalScope → ResolvedType → CodedSpot → CodedTerm → CodedSpot
+abbrev pub element_part : GlobalScope → ResolvedType → CodedPlaceExpression → CodedTerm → CodedPlaceExpression
 element_part g (ArrayOf low high t) s i =
-    record { spot = Element s.spot low high (words g t) 0 i.term; calls = s.calls ++ i.calls; temps = i.temps }
+    record { place_expression = Element s.place_expression low high (words g t) 0 i.term; calls = s.calls ++ i.calls; temps = i.temps }
 element_part g t s i = s
 
 -- ---- Operators and standard functions
@@ -111,23 +111,23 @@ function_named x b =
     else if bytes_eq x (codes "ord") then Ord
     else Chr
 
-abbrev pub standard_term : Name → BaseType → CodedTerm → CodedSpot → CodedTerm
+abbrev pub standard_term : Name → BaseType → CodedTerm → CodedPlaceExpression → CodedTerm
 standard_term x b t s =
     if bytes_eq x (codes "empty")
-    then record { term = Empty s.spot; calls = s.calls; temps = s.temps }
+    then record { term = Empty s.place_expression; calls = s.calls; temps = s.temps }
     else record t { term = Standard (function_named x b) t.term }
 
 -- ---- Arguments
 
 -- Arrays and records are copied.
-abbrev pub by_value : GlobalScope → ResolvedType → ℕ → CodedTerm → CodedSpot → CodedArgument
+abbrev pub by_value : GlobalScope → ResolvedType → ℕ → CodedTerm → CodedPlaceExpression → CodedArgument
 by_value g (Simple b low high start) at t s = record { argument = Value at low high t.term; calls = t.calls; temps = t.temps }
-by_value g type at t s = record { argument = Copy at (words g type) s.spot; calls = s.calls; temps = s.temps }
+by_value g type at t s = record { argument = Copy at (words g type) s.place_expression; calls = s.calls; temps = s.temps }
 
-abbrev pub argument_of : GlobalScope → Variable → ℕ → CodedTerm → CodedSpot → CodedArgument
+abbrev pub argument_of : GlobalScope → Variable → ℕ → CodedTerm → CodedPlaceExpression → CodedArgument
 argument_of g v at t s =
     if v.by_reference
-    then record { argument = Reference at s.spot; calls = s.calls; temps = s.temps }
+    then record { argument = Reference at s.place_expression; calls = s.calls; temps = s.temps }
     else by_value g v.type at t s
 
 abbrev pub with_argument : CodedArgument → CodedArguments → CodedArguments
@@ -147,7 +147,7 @@ abbrev pub parameters_of : Scope → Callee → List (Name × Variable)
 parameters_of scope c = declarations scope.globals c.routine.parameters
 
 -- A designator without arguments, by what it calls.
-abbrev pub used_term : Scope → a.Designator → ℕ → CodedSpot → Option Callee → CodedTerm
+abbrev pub used_term : Scope → a.Designator → ℕ → CodedPlaceExpression → Option Callee → CodedTerm
 used_term scope d low s None = name_or_item scope d s low
 used_term scope d low s (Some c) = function_call scope c (no_arguments low) low
 
@@ -163,7 +163,7 @@ abbrev mutual
   coded_term scope (a.Literal n) low = lone_term (Number (pos n)) low
   coded_term scope (a.Letter n) low = lone_term (Number (pos n)) low
   coded_term scope (a.Known b n) low = lone_term (Number n) low
-  coded_term scope (a.Use d) low = used_term scope d low (coded_spot scope d low) (callee (environment scope) d)
+  coded_term scope (a.Use d) low = used_term scope d low (coded_place_expression scope d low) (callee (environment scope) d)
   coded_term scope (a.Call d es) low =
       called_term scope low (coded_standard scope (name_of d) es low)
       (λ c. coded_arguments scope es (parameters_of scope c) (first_parameter c) low) (callee (environment scope) d)
@@ -172,18 +172,18 @@ abbrev mutual
   coded_term scope (a.Positive e) low = coded_term scope e low
   coded_term scope (a.Binary o e f) low = let t = coded_term scope e low in with_operator o t (coded_term scope f t.temps)
 
-  pub coded_spot : Scope → a.Designator → ℕ → CodedSpot
-  coded_spot scope (a.Plain x) low = lone_spot (Rooted (root_or_first (root_named scope x))) low
-  coded_spot scope (a.Part d x) low =
-      field_part scope.globals (place_type (environment scope) d) x (coded_spot scope d low)
-  coded_spot scope (a.At d e) low =
-      let s = coded_spot scope d low in
+  pub coded_place_expression : Scope → a.Designator → ℕ → CodedPlaceExpression
+  coded_place_expression scope (a.Plain x) low = lone_place_expression (Rooted (root_or_first (root_named scope x))) low
+  coded_place_expression scope (a.Part d x) low =
+      field_part scope.globals (place_type (environment scope) d) x (coded_place_expression scope d low)
+  coded_place_expression scope (a.At d e) low =
+      let s = coded_place_expression scope d low in
       element_part scope.globals (place_type (environment scope) d) s (coded_term scope e s.temps)
 
   -- The spot of an argument that is a variable.
-  pub coded_variable : Scope → a.Expression → ℕ → CodedSpot
-  coded_variable scope (a.Use d) low = coded_spot scope d low
-  coded_variable scope e low = lone_spot (Rooted (Local 0)) low
+  pub coded_variable : Scope → a.Expression → ℕ → CodedPlaceExpression
+  coded_variable scope (a.Use d) low = coded_place_expression scope d low
+  coded_variable scope e low = lone_place_expression (Rooted (Local 0)) low
 
   pub coded_standard : Scope → Name → a.Expressions → ℕ → CodedTerm
   coded_standard scope x a.NoExpression low = lone_term (Number (pos 0)) low

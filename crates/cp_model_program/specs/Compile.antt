@@ -13,7 +13,7 @@ use Rattle.cp_model_program.specs.Programs.{CodeUnit, Done, Operation, Program, 
 use Rattle.cp_model_program.specs.Layout.{activation_words, component_words}
 use Rattle.cp_model_program.specs.Sites.{BodyOf, RoutineOf, UnitText}
 use Rattle.cp_model_program.specs.StatementsFor.{is_function}
-use Rattle.cp_model_program.specs.StandsFor.{end_of}
+use Rattle.cp_model_program.specs.IsProgramFor.{end_of}
 use Rattle.cp_model_program.specs.Scopes.{Scope, declared_type, or_zero}
 use Rattle.cp_model_program.specs.CodedStatements.{Emitted, emitted}
 use Rattle.cp_model_program.specs.Plans.{plan_of_component, plan_of_routine}

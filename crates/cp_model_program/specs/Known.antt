@@ -19,7 +19,7 @@ use Rattle.cp_law_typing.specs.Magnitudes.{AreNegativesWithin}
 use Rattle.cp_law_typing.specs.Needs.{some_environment}
 use Rattle.cp_law_typing.specs.StaticTypes.{is_clock, place_type}
 use Rattle.cp_law_typing.specs.WellTyped.{TypedBodies, TypedSystem, WellTyped, text_systems}
-use Rattle.cp_model_program.specs.StandsFor.{StandsFor}
+use Rattle.cp_model_program.specs.IsProgramFor.{IsProgramFor}
 use Rattle.cp_model_program.specs.TermsFor.{IsPlain}
 use Rattle.cp_model_program.specs.Scopes.{Scope, declared_type, environment_at, groups_of}
 use Rattle.cp_model_program.specs.Compile.{compile}
@@ -130,7 +130,7 @@ pub record TextFacts (setup : Setup) : Type 0 where
 
 -- The program that the compiler makes of a text stands for it, whatever its input and its clock.
 abbrev pub HasProgram : s.Tree → Type 0
-HasProgram t = (setup : Setup) → setup.tree ≡ erase.abstract t → StandsFor (compile setup.tree) setup
+HasProgram t = (setup : Setup) → setup.tree ≡ erase.abstract t → IsProgramFor (compile setup.tree) setup
 
 -- The numbers of tokens have 16 bits. No rule says so about a tree, and the mark of an unset result
 -- has 32 bits.

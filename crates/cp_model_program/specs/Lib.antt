@@ -7,7 +7,7 @@ pub mod Sites
 pub mod TermsFor
 pub mod StatementsFor
 pub mod Starts
-pub mod StandsFor
+pub mod IsProgramFor
 pub mod Scopes
 pub mod CodedTerms
 pub mod CodedStatements

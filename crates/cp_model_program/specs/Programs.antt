@@ -3,7 +3,7 @@
 -- The place of an operation is its index in the program's list. An operation names the place to
 -- which it leads, so lists of statements, `begin` and `end` need no operations of their own.
 use Rattle.std.specs.Prelude.{ℕ, ℤ, Bool, List, Option}
-use Rattle.cp_model_program.specs.Terms.{Argument, Root, Spot, Target, Term}
+use Rattle.cp_model_program.specs.Terms.{Argument, Root, PlaceExpression, Target, Term}
 
 -- ---- Operations
 
@@ -40,9 +40,9 @@ pub record Counting : Type 0 where
 -- The bounds are those of the type of the variable that is written. `Function` puts the value of
 -- the call into a temp. `Return` and `Continue` say whether the routine is a function.
 pub data Operation : Type 0 where
-  Set : (to : Spot) (low high : ℤ) (value : Term) (next : ℕ) → Operation
+  Set : (to : PlaceExpression) (low high : ℤ) (value : Term) (next : ℕ) → Operation
   SetResult : (low high : ℤ) (value : Term) (next : ℕ) → Operation
-  CopyWords : (to from : Spot) (size next : ℕ) → Operation
+  CopyWords : (to from : PlaceExpression) (size next : ℕ) → Operation
   Test : (value : Term) (yes no : ℕ) → Operation
   Case : (value : Term) (table : Table) → Operation
   For : (counting : Counting) (first last : Term) → Operation
@@ -57,9 +57,9 @@ pub data Operation : Type 0 where
   EndBody : Operation
   End : Operation
   Display : (value : Term) (as_byte : Bool) (next : ℕ) → Operation
-  Accept : (to : Spot) (low high : ℤ) (next : ℕ) → Operation
-  Delay : (queue : Spot) (next : ℕ) → Operation
-  Continue : (queue : Spot) (function : Bool) → Operation
+  Accept : (to : PlaceExpression) (low high : ℤ) (next : ℕ) → Operation
+  Delay : (queue : PlaceExpression) (next : ℕ) → Operation
+  Continue : (queue : PlaceExpression) (function : Bool) → Operation
   Wait : (next : ℕ) → Operation
 
 -- ---- Units

@@ -19,10 +19,10 @@ use Rattle.cp_model_program.specs.Programs.{Call, Counting, Operation, Table}
 use Rattle.cp_model_program.specs.Layout.{local, member, right}
 use Rattle.cp_model_program.specs.Tables.{place_in}
 use Rattle.cp_model_program.specs.Sites.{BodyOf, Calls, IsNoClock, NamesVariable, Runs, Site, TargetFor, first_parameter, local_location, operation_at, parameters}
-use Rattle.cp_model_program.specs.TermsFor.{ArgumentsFor, IsPlainStructure, Knowns, SpotFor, TermFor, nothing_known}
+use Rattle.cp_model_program.specs.TermsFor.{ArgumentsFor, IsPlainStructure, Knowns, PlaceExpressionFor, TermFor, nothing_known}
 
-abbrev pub stands_at : Site → ℕ → Operation → Type 0
-stands_at site place o = operation_at site.program place ≡ Some o
+abbrev pub represents_at : Site → ℕ → Operation → Type 0
+represents_at site place o = operation_at site.program place ≡ Some o
 
 -- ---- Assignments
 
@@ -46,7 +46,7 @@ abbrev pub AssignsBy : Site → Knowns → a.Designator → a.Expression → Ope
 AssignsBy site K d e (op.Set to lower upper value n) place last next low =
     (b : BaseType) × (of : BaseType) × (start : ℤ) × (between : ℕ) × (middle : ℕ) × (n ≡ next)
     × (low ≤ middle) × (middle ≤ site.unit.temps)
-    × SpotFor site K d to (Simple b lower upper start) place between low middle
+    × PlaceExpressionFor site K d to (Simple b lower upper start) place between low middle
     × TermFor site K e value of between last middle site.unit.temps
 AssignsBy site K (a.Plain x) e (op.SetResult lower upper value n) place last next low =
     (of : BaseType) × (n ≡ next) × NamesResult site.env x lower upper
@@ -54,8 +54,8 @@ AssignsBy site K (a.Plain x) e (op.SetResult lower upper value n) place last nex
 AssignsBy site K d (a.Use e) (op.CopyWords to from size n) place last next low =
     (t : ResolvedType) × (between : ℕ) × (middle : ℕ) × (n ≡ next) × (low ≤ middle) × (middle ≤ site.unit.temps)
     × IsPlainStructure t × (size ≡ words site.env.globals t) × (callee site.env e ≡ None) × IsNoClock e
-    × SpotFor site K d to t place between low middle
-    × SpotFor site K e from t between last middle site.unit.temps
+    × PlaceExpressionFor site K d to t place between low middle
+    × PlaceExpressionFor site K e from t between last middle site.unit.temps
 AssignsBy site K d e _ place last next low = ⊥
 
 -- ---- Calls and standard procedures
@@ -92,12 +92,12 @@ PerformsBy site K (a.Plain x) (a.MoreExpressions e a.NoExpression) (op.Display v
     × TermFor site K e value b place last low site.unit.temps
 PerformsBy site K (a.Plain x) (a.MoreExpressions (a.Use d) a.NoExpression) (op.Accept to lower upper n) place last next low =
     (start : ℤ) × IsStandard site x Accepts × (n ≡ next) × (callee site.env d ≡ None)
-    × SpotFor site K d to (Simple Char lower upper start) place last low site.unit.temps
+    × PlaceExpressionFor site K d to (Simple Char lower upper start) place last low site.unit.temps
 PerformsBy site K (a.Plain x) (a.MoreExpressions (a.Use d) a.NoExpression) (op.Delay queue n) place last next low =
     IsStandard site x Delays × (n ≡ next) × (callee site.env d ≡ None)
-    × SpotFor site K d queue Queue place last low site.unit.temps
+    × PlaceExpressionFor site K d queue Queue place last low site.unit.temps
 PerformsBy site K (a.Plain x) (a.MoreExpressions (a.Use d) a.NoExpression) (op.Continue queue function) place last next low =
-    IsStandard site x Continues × (callee site.env d ≡ None) × SpotFor site K d queue Queue place last low site.unit.temps
+    IsStandard site x Continues × (callee site.env d ≡ None) × PlaceExpressionFor site K d queue Queue place last low site.unit.temps
     × ((f : Frame) × (site.env.frame ≡ Some f) × (function ≡ is_function f.routine.result))
 PerformsBy site K (a.Plain x) a.NoExpression (op.Wait n) place last next low =
     (callee site.env (a.Plain x) ≡ None) × (n ≡ next) × (place ≡ last)
@@ -167,33 +167,33 @@ abbrev mutual
   CodeFor site K (a.Seq s t) place next low =
       (middle : ℕ) × CodeFor site nothing_known s place middle low × CodeFor site nothing_known t middle next low
   CodeFor site K (a.Assign d e) place next low =
-      (last : ℕ) × (o : Operation) × stands_at site last o × AssignsBy site K d e o place last next low
+      (last : ℕ) × (o : Operation) × represents_at site last o × AssignsBy site K d e o place last next low
   CodeFor site K (a.Perform d es) place next low =
-      (last : ℕ) × (o : Operation) × stands_at site last o × PerformsBy site K d es o place last next low
+      (last : ℕ) × (o : Operation) × represents_at site last o × PerformsBy site K d es o place last next low
   CodeFor site K (a.If e s t) place next low =
-      (last : ℕ) × (c : Term) × (b : BaseType) × (yes' : ℕ) × (no' : ℕ) × stands_at site last (op.Test c yes' no')
+      (last : ℕ) × (c : Term) × (b : BaseType) × (yes' : ℕ) × (no' : ℕ) × represents_at site last (op.Test c yes' no')
       × TermFor site K e c b place last low site.unit.temps
       × CodeFor site nothing_known s yes' next low × CodeFor site nothing_known t no' next low
   CodeFor site K (a.Case e arms) place next low =
-      (last : ℕ) × (c : Term) × (b : BaseType) × (table : Table) × stands_at site last (op.Case c table)
+      (last : ℕ) × (c : Term) × (b : BaseType) × (table : Table) × represents_at site last (op.Case c table)
       × TermFor site K e c b place last low site.unit.temps
       × ((n : ℤ) → ArmFor site arms n (place_in table n) next low)
   CodeFor site K (a.While e s) place next low =
-      (last : ℕ) × (c : Term) × (b : BaseType) × (body : ℕ) × stands_at site last (op.Test c body next)
+      (last : ℕ) × (c : Term) × (b : BaseType) × (body : ℕ) × represents_at site last (op.Test c body next)
       × TermFor site nothing_known e c b place last low site.unit.temps × CodeFor site nothing_known s body place low
   CodeFor site K (a.Repeat s e) place next low =
-      (test : ℕ) × (last : ℕ) × (c : Term) × (b : BaseType) × stands_at site last (op.Test c next place)
+      (test : ℕ) × (last : ℕ) × (c : Term) × (b : BaseType) × represents_at site last (op.Test c next place)
       × TermFor site nothing_known e c b test last low site.unit.temps × CodeFor site nothing_known s place test low
   CodeFor site K (a.For x down e f s) place next low =
       (last : ℕ) × (c : Counting) × (from : Term) × (to : Term) × (b : BaseType) × (between : ℕ) × (middle : ℕ) × (test : ℕ)
-      × stands_at site last (op.For c from to) × stands_at site test (op.ForNext c) × Counts site x down c next low
+      × represents_at site last (op.For c from to) × represents_at site test (op.ForNext c) × Counts site x down c next low
       × (low ≤ middle) × (middle ≤ site.unit.temps)
       × TermFor site K e from b place between low middle × TermFor site K f to b between last middle site.unit.temps
       × CodeFor site nothing_known s c.body test (low + 2)
   CodeFor site K (a.Cycle s) place next low =
-      (body : ℕ) × stands_at site place (op.Cycle body) × CodeFor site nothing_known s body place low
+      (body : ℕ) × represents_at site place (op.Cycle body) × CodeFor site nothing_known s body place low
   CodeFor site K (a.Init x es) place next low =
-      (last : ℕ) × (o : Operation) × (n : Component) × stands_at site last o × (component_named site.env x ≡ Some n)
+      (last : ℕ) × (o : Operation) × (n : Component) × represents_at site last o × (component_named site.env x ≡ Some n)
       × InitsBy site K n es o place last next low
 
   -- The arm of a number is found at a place, or there is none.

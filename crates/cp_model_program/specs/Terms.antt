@@ -21,19 +21,19 @@ mutual
   pub data Term : Type 0 where
     Number : (n : ℤ) → Term
     Made : (temp : ℕ) → Term
-    Item : (s : Spot) → Term
+    Item : (s : PlaceExpression) → Term
     Not : (e : Term) → Term
     Negative : (e : Term) → Term
     Binary : (o : Operator) (x y : Term) → Term
     Standard : (f : Function) (e : Term) → Term
-    Empty : (s : Spot) → Term
+    Empty : (s : PlaceExpression) → Term
     Realtime : Term
 
   -- An element has the bounds of its array, its own size, and the distance of the wanted part
   -- within it.
-  pub data Spot : Type 0 where
-    Rooted : (root : Root) → Spot
-    Element : (of : Spot) (low high : ℤ) (size plus : ℕ) (index : Term) → Spot
+  pub data PlaceExpression : Type 0 where
+    Rooted : (root : Root) → PlaceExpression
+    Element : (of : PlaceExpression) (low high : ℤ) (size plus : ℕ) (index : Term) → PlaceExpression
 
 -- The component whose routine is called: the running one; a class that is a variable of the running
 -- one, or to which a word of it holds a right; or a monitor, by its number or by the number that a
@@ -49,6 +49,6 @@ pub data Target : Type 0 where
 -- a reference, or a right.
 pub data Argument : Type 0 where
   Value : (at : ℕ) (low high : ℤ) (e : Term) → Argument
-  Copy : (at size : ℕ) (from : Spot) → Argument
-  Reference : (at : ℕ) (to : Spot) → Argument
+  Copy : (at size : ℕ) (from : PlaceExpression) → Argument
+  Reference : (at : ℕ) (to : PlaceExpression) → Argument
   Right : (at : ℕ) (of : Target) → Argument

@@ -23,7 +23,7 @@ use Rattle.cp_law_typing.specs.Judgement.{has_queues, is_structured}
 use Rattle.cp_law_typing.specs.SoundTypes.{SoundType}
 use Rattle.cp_law_typing.specs.StaticTypes.{is_clock}
 use Rattle.cp_law_typing.specs.Words.{words}
-use Rattle.cp_model_program.specs.Terms.{Argument, Binary, Copy, Element, Empty, Function, Item, Local, Made, Member, Negative, Not, Number, Realtime, Reference, Root, Rooted, Spot, Standard, Term, Through, Value}
+use Rattle.cp_model_program.specs.Terms.{Argument, Binary, Copy, Element, Empty, Function, Item, Local, Made, Member, Negative, Not, Number, Realtime, Reference, Root, Rooted, PlaceExpression, Standard, Term, Through, Value}
 use Rattle.cp_model_program.specs.Programs as op
 use Rattle.cp_model_program.specs.Programs.{Call}
 use Rattle.cp_model_program.specs.Functions.{standard}
@@ -46,9 +46,9 @@ move_root n (Member at) = Member (at + n)
 move_root n (Through at plus) = Through at (plus + n)
 
 -- The spot `n` words further on.
-abbrev pub move_spot : ℕ → Spot → Spot
-move_spot n (Rooted r) = Rooted (move_root n r)
-move_spot n (Element s low high size plus e) = Element s low high size (plus + n) e
+abbrev pub move_place_expression : ℕ → PlaceExpression → PlaceExpression
+move_place_expression n (Rooted r) = Rooted (move_root n r)
+move_place_expression n (Element s low high size plus e) = Element s low high size (plus + n) e
 
 -- ---- Structured values
 
@@ -97,7 +97,7 @@ abbrev mutual
       × (parameters site c ≡ []) × (call.arguments ≡ []) × Answers site c b × (low ≤ t) × (t < high)
   TermFor site K (a.Use d) (Item s) b place next low high =
       (lower : ℤ) × (upper : ℤ) × (start : ℤ) × (callee site.env d ≡ None) × IsNoClock d
-      × SpotFor site K d s (Simple b lower upper start) place next low high
+      × PlaceExpressionFor site K d s (Simple b lower upper start) place next low high
   TermFor site K (a.Use (a.Plain x)) (Number n) b place next low high =
       (callee site.env (a.Plain x) ≡ None) × (is_clock x ≡ false) × (meaning site.env x ≡ IsConstant b n) × (place ≡ next)
   TermFor site K (a.Use (a.Plain x)) Realtime b place next low high =
@@ -111,7 +111,7 @@ abbrev mutual
       (of : BaseType) × (callee site.env (a.Plain x) ≡ None) × FunctionFor x f of b × TermFor site K e c of place next low high
   TermFor site K (a.Call (a.Plain x) (a.MoreExpressions (a.Use d) a.NoExpression)) (Empty s) b place next low high =
       (callee site.env (a.Plain x) ≡ None) × (callee site.env d ≡ None) × IsNoClock d × IsEmptyFunction x × (b ≡ Boolean)
-      × SpotFor site K d s Queue place next low high
+      × PlaceExpressionFor site K d s Queue place next low high
   TermFor site K (a.Not e) (Not c) b place next low high =
       (of : BaseType) × (b ≡ Boolean) × TermFor site K e c of place next low high
   TermFor site K (a.Negative e) (Negative c) b place next low high =
@@ -123,16 +123,16 @@ abbrev mutual
       × TermFor site K e c b1 place between low middle × TermFor site K f d b2 between next middle high
   TermFor site K _ _ b place next low high = ⊥
 
-  pub SpotFor : Site → Knowns → a.Designator → Spot → ResolvedType → ℕ → ℕ → ℕ → ℕ → Type 0
-  SpotFor site K (a.Plain x) (Rooted r) t place next low high = (place ≡ next) × NamesVariable site.env x r t
-  SpotFor site K (a.Part d x) s t place next low high =
-      (ms : Members) × (plus : ℕ) × (of : Spot) × (part site.env.globals (RecordOf ms) (ByName x ∷ []) ≡ Some (plus, t))
-      × (s ≡ move_spot plus of) × SpotFor site K d of (RecordOf ms) place next low high
-  SpotFor site K (a.At d e) (Element of lower upper size plus i) t place next low high =
+  pub PlaceExpressionFor : Site → Knowns → a.Designator → PlaceExpression → ResolvedType → ℕ → ℕ → ℕ → ℕ → Type 0
+  PlaceExpressionFor site K (a.Plain x) (Rooted r) t place next low high = (place ≡ next) × NamesVariable site.env x r t
+  PlaceExpressionFor site K (a.Part d x) s t place next low high =
+      (ms : Members) × (plus : ℕ) × (of : PlaceExpression) × (part site.env.globals (RecordOf ms) (ByName x ∷ []) ≡ Some (plus, t))
+      × (s ≡ move_place_expression plus of) × PlaceExpressionFor site K d of (RecordOf ms) place next low high
+  PlaceExpressionFor site K (a.At d e) (Element of lower upper size plus i) t place next low high =
       (b : BaseType) × (between : ℕ) × (middle : ℕ) × (size ≡ words site.env.globals t) × (plus ≡ 0)
       × (low ≤ middle) × (middle ≤ high)
-      × SpotFor site K d of (ArrayOf lower upper t) place between low middle × TermFor site K e i b between next middle high
-  SpotFor site K _ _ t place next low high = ⊥
+      × PlaceExpressionFor site K d of (ArrayOf lower upper t) place between low middle × TermFor site K e i b between next middle high
+  PlaceExpressionFor site K _ _ t place next low high = ⊥
 
   -- The arguments of a call are passed to its parameters, the first of which lies at `at` in the
   -- new activation.
@@ -146,11 +146,11 @@ abbrev mutual
   ArgumentsFor site K (p ∷ ps) (a.MoreExpressions (a.Use d) es) (Copy to size from ∷ xs) at place next low high =
       (between : ℕ) × (middle : ℕ) × (to ≡ at) × (p.1.by_reference ≡ false) × (size ≡ words site.env.globals p.1.type)
       × IsPlainStructure p.1.type × (callee site.env d ≡ None) × IsNoClock d × (low ≤ middle) × (middle ≤ high)
-      × SpotFor site K d from p.1.type place between low middle
+      × PlaceExpressionFor site K d from p.1.type place between low middle
       × ArgumentsFor site K ps es xs (at + local_words site.env.globals p.1) between next middle high
   ArgumentsFor site K (p ∷ ps) (a.MoreExpressions (a.Use d) es) (Reference to s ∷ xs) at place next low high =
       (between : ℕ) × (middle : ℕ) × (to ≡ at) × (p.1.by_reference ≡ true) × (callee site.env d ≡ None)
       × (low ≤ middle) × (middle ≤ high)
-      × SpotFor site K d s p.1.type place between low middle
+      × PlaceExpressionFor site K d s p.1.type place between low middle
       × ArgumentsFor site K ps es xs (at + local_words site.env.globals p.1) between next middle high
   ArgumentsFor site K _ _ _ at place next low high = ⊥

@@ -7,7 +7,7 @@ ghost use Rattle.cp_model_program.specs.Known.{AcceptedTextsHavePrograms, HasPro
 use crate::numbers::read_numbers;
 use cp_model::tree::Tree;
 
-/// The program that the compiler makes of an accepted text stands for it (`specs/StandsFor.antt`),
+/// The program that the compiler makes of an accepted text stands for it (`specs/IsProgramFor.antt`),
 /// provided that the numbers after a minus in its definitions are at most 65,535. This function has
 /// an empty body: a caller obtains the law as a fact by calling it.
 pub fn accepted_texts_have_programs()

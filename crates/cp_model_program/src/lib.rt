@@ -6,7 +6,7 @@
 //! - **The form.** `Terms` and `Programs` define the operations, one for each step of the meaning,
 //!   the units of code with what they need, and the words of components. `Layout` says where each
 //!   variable lies, `Starts` how words start, and `Tables` where a `case` leads.
-//! - **The relation.** `StandsFor` says when a program stands for a text. Its parts are `Sites`
+//! - **The relation.** `IsProgramFor` says when a program stands for a text. Its parts are `Sites`
 //!   (names, targets, calls), `TermsFor`, `StatementsFor` and `Starts`. It refers only to the
 //!   environments of the meaning, and to every place where a component may lie, so all components
 //!   of a system type share their code.

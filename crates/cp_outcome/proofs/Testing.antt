@@ -15,7 +15,7 @@ use Rattle.cp_inspect.specs.declared.state.ProcState.{ProcState}
 use Rattle.cp_inspect.specs.declared.state.ProcState.TheVariants as state
 use Rattle.cp_rounds.proofs.InStates.{process_count_is}
 use Rattle.cp_rounds.proofs.Shown.{state_shown}
-use Rattle.cp_outcome.specs.Verdicts.{TellsAll, all_pass, ended, has_ended, has_no_fault, sound}
+use Rattle.cp_outcome.specs.Verdicts.{ReportsAll, all_pass, ended, has_ended, has_no_fault, sound}
 
 -- ---- Two tests of a status, and what they are of a state
 
@@ -23,27 +23,27 @@ use Rattle.cp_outcome.specs.Verdicts.{TellsAll, all_pass, ended, has_ended, has_
 abbrev pub IsTestOf : (Status → Bool) → (ProcState → Bool) → Type 0
 IsTestOf f g = (G : Ground) (x : Status) (r : ProcState) → StatusMeans G x r → f x ≡ g r
 
-pub fault_is_told : IsTestOf has_no_fault sound
-fault_is_told G status.Unstarted state.Unstarted h = refl
-fault_is_told G status.Fresh state.Fresh h = refl
-fault_is_told G status.Ready state.Ready h = refl
-fault_is_told G status.Ended state.Ended h = refl
-fault_is_told G status.Waiting state.Waiting h = refl
-fault_is_told G (status.Asking m) (state.Asking k) h = refl
-fault_is_told G (status.Delayed m q) (state.Delayed k n) h = refl
-fault_is_told G (status.Faulted n) (state.Faulted f) h = refl
-fault_is_told G _ _ h = absurd h
+pub fault_is_reported : IsTestOf has_no_fault sound
+fault_is_reported G status.Unstarted state.Unstarted h = refl
+fault_is_reported G status.Fresh state.Fresh h = refl
+fault_is_reported G status.Ready state.Ready h = refl
+fault_is_reported G status.Ended state.Ended h = refl
+fault_is_reported G status.Waiting state.Waiting h = refl
+fault_is_reported G (status.Asking m) (state.Asking k) h = refl
+fault_is_reported G (status.Delayed m q) (state.Delayed k n) h = refl
+fault_is_reported G (status.Faulted n) (state.Faulted f) h = refl
+fault_is_reported G _ _ h = absurd h
 
-pub end_is_told : IsTestOf has_ended ended
-end_is_told G status.Unstarted state.Unstarted h = refl
-end_is_told G status.Fresh state.Fresh h = refl
-end_is_told G status.Ready state.Ready h = refl
-end_is_told G status.Ended state.Ended h = refl
-end_is_told G status.Waiting state.Waiting h = refl
-end_is_told G (status.Asking m) (state.Asking k) h = refl
-end_is_told G (status.Delayed m q) (state.Delayed k n) h = refl
-end_is_told G (status.Faulted n) (state.Faulted f) h = refl
-end_is_told G _ _ h = absurd h
+pub end_is_reported : IsTestOf has_ended ended
+end_is_reported G status.Unstarted state.Unstarted h = refl
+end_is_reported G status.Fresh state.Fresh h = refl
+end_is_reported G status.Ready state.Ready h = refl
+end_is_reported G status.Ended state.Ended h = refl
+end_is_reported G status.Waiting state.Waiting h = refl
+end_is_reported G (status.Asking m) (state.Asking k) h = refl
+end_is_reported G (status.Delayed m q) (state.Delayed k n) h = refl
+end_is_reported G (status.Faulted n) (state.Faulted f) h = refl
+end_is_reported G _ _ h = absurd h
 
 -- ---- All processes
 
@@ -77,9 +77,9 @@ module _ (f : Status → Bool) (g : ProcState → Bool) (test : IsTestOf f g) (m
   passes : (setup : Setup) (s : State) → IsIn (machine_of m) setup s → (p : ℕ) → 1 ≤ p → p ≤ process_count setup
       → f (s.status p) ≡ g (state_at (machine_of m) p)
   passes setup s I p first last =
-      test (kernel_ground (machine_of m).program I.stands.texts setup) (s.status p) (state_at (machine_of m) p) ((state_shown m p).shows setup s I first last)
+      test (kernel_ground (machine_of m).program I.represents.texts setup) (s.status p) (state_at (machine_of m) p) ((state_shown m p).shows setup s I first last)
 
-  pub all_do : (n : ℕ) → processes_of m ≤ n → PassBelow g m n → TellsAll f m true
+  pub all_do : (n : ℕ) → processes_of m ≤ n → PassBelow g m n → ReportsAll f m true
   all_do n most pass setup s I = all_yes f s 1 (process_count setup) each
     where
       each : (q : ℕ) → 1 ≤ q → q < 1 + process_count setup → f (s.status q) ≡ true
@@ -90,7 +90,7 @@ module _ (f : Status → Bool) (g : ProcState → Bool) (test : IsTestOf f g) (m
           passes setup s I (suc i) first (Prim.omega (arith, last))
           ∙ (ap (λ p. g (state_at (machine_of m) p)) (sym next) ∙ pass i (Prim.omega (arith, last, most, count)))
 
-  pub one_does_not : (i : ℕ) → i < processes_of m → g (state_at (machine_of m) (i + 1)) ≡ false → TellsAll f m false
+  pub one_does_not : (i : ℕ) → i < processes_of m → g (state_at (machine_of m) (i + 1)) ≡ false → ReportsAll f m false
   one_does_not i below h setup s I =
       let count = process_count_is m setup s I in
       let next : 1 + i ≡ i + 1 = Prim.omega arith in

@@ -49,5 +49,5 @@ abbrev pub IsVerdictOn : Machine → Verdict → Type 0
 IsVerdictOn m v = (setup : Setup) (s : State) → IsIn (machine_of m) setup s → verdict_of setup s ≡ v
 
 -- In every state that the machine is in, the answer says whether all processes pass the test.
-abbrev pub TellsAll : (Status → Bool) → Machine → Bool → Type 0
-TellsAll test m b = (setup : Setup) (s : State) → IsIn (machine_of m) setup s → all_pass test s (processes setup) ≡ b
+abbrev pub ReportsAll : (Status → Bool) → Machine → Bool → Type 0
+ReportsAll test m b = (setup : Setup) (s : State) → IsIn (machine_of m) setup s → all_pass test s (processes setup) ≡ b

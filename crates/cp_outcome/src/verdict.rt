@@ -1,7 +1,7 @@
 //! What became of the processes of a machine.
 
 ghost use Rattle.std.specs.Prelude.{◌≡◌};
-ghost use Rattle.cp_outcome.specs.Verdicts.{IsVerdictOn, TellsAll, ended, has_ended, has_no_fault, sound};
+ghost use Rattle.cp_outcome.specs.Verdicts.{IsVerdictOn, ReportsAll, ended, has_ended, has_no_fault, sound};
 
 use cp_inspect::state::ProcState;
 use cp_rounds::machine::Machine;
@@ -32,7 +32,7 @@ fn is_ended(state: ProcState) -> bool
 }
 
 fn none_has_faulted(machine: &Machine) -> bool
-    ensures { TellsAll has_no_fault machine.now result }
+    ensures { ReportsAll has_no_fault machine.now result }
 {
     for i in 0..machine.processes() {
         if !is_sound(machine.state(i as u32 + 1)) {
@@ -43,7 +43,7 @@ fn none_has_faulted(machine: &Machine) -> bool
 }
 
 fn all_have_ended(machine: &Machine) -> bool
-    ensures { TellsAll has_ended machine.now result }
+    ensures { ReportsAll has_ended machine.now result }
 {
     for i in 0..machine.processes() {
         if !is_ended(machine.state(i as u32 + 1)) {

@@ -2,7 +2,7 @@
 
 use crate::names::Subject;
 use crate::piece::{Extent, push_piece};
-use crate::standing::{ProcessStanding, Site};
+use crate::snapshot::{ProcessSnapshot, Site};
 use cp_inspect::status::fault_number;
 use cp_model::state::Fault;
 use cp_output::page::Page;
@@ -33,7 +33,7 @@ fn extent_of(site: Site) -> Extent {
 
 impl<'t> Subject<'_, 't> {
     /// Adds a fault that stopped a process.
-    pub(crate) fn push_fault(&self, page: &mut Page, process: &ProcessStanding, fault: Fault) {
+    pub(crate) fn push_fault(&self, page: &mut Page, process: &ProcessSnapshot, fault: Fault) {
         page.text("fault ");
         page.number(fault_number(fault) as usize);
         self.push_origin(page, process);

@@ -2,9 +2,9 @@
 
 use crate::parts::Parts;
 use crate::rights::Rights;
-use crate::standing::{ProcessStanding, Standing};
+use crate::snapshot::{ProcessSnapshot, StatusSnapshot};
 use cp_compile_symbols::{Field, Tables, TypeRow};
-use cp_inspect::roster::Roster;
+use cp_inspect::component_table::ComponentTable;
 use cp_model::token::Token;
 use cp_model::tree::{Statement, System, Tree};
 use cp_output::page::Page;
@@ -19,7 +19,7 @@ pub struct Source<'r, 't> {
     pub tree: &'t Tree,
     pub tables: &'r Tables<'t>,
     /// Where all stand in the machine.
-    pub standing: &'r Standing,
+    pub snapshot: &'r StatusSnapshot,
 }
 
 /// What the text of a machine says.
@@ -27,10 +27,10 @@ pub struct Source<'r, 't> {
 pub(crate) struct Subject<'r, 't> {
     pub(crate) alloc: Global,
     pub(crate) text: &'r [u8],
-    pub(crate) standing: &'r Standing,
+    pub(crate) snapshot: &'r StatusSnapshot,
     /// The tokens of the text, if a process has faulted.
     pub(crate) tokens: Vec<Token>,
-    pub(crate) roster: Roster<'t>,
+    pub(crate) component_table: ComponentTable<'t>,
     /// The statements of the initial process that contain no others.
     pub(crate) statements: Vec<&'t Statement>,
     pub(crate) rights: Rights<'t>,
@@ -60,8 +60,12 @@ fn types_of<'t>(
 }
 
 // The tokens of a text, if a process has faulted.
-fn tokens_of(alloc: Global, text: &[u8], standing: &Standing) -> Result<Vec<Token>, AllocError> {
-    if !standing.has_fault() {
+fn tokens_of(
+    alloc: Global,
+    text: &[u8],
+    snapshot: &StatusSnapshot,
+) -> Result<Vec<Token>, AllocError> {
+    if !snapshot.has_fault() {
         return Ok(Vec::new(alloc));
     }
     match scan(alloc, text) {
@@ -77,19 +81,24 @@ impl<'r, 't> Subject<'r, 't> {
             bytes,
             tree,
             tables,
-            standing,
+            snapshot,
         } = source;
-        let roster = Roster::of(alloc, tables)?;
+        let component_table = ComponentTable::of(alloc, tables)?;
         let mut parts = Parts::new(alloc);
         parts.add(&tree.body.statements)?;
-        let rights = Rights::of(alloc, tables, &parts.statements, roster.monitors.len())?;
+        let rights = Rights::of(
+            alloc,
+            tables,
+            &parts.statements,
+            component_table.monitors.len(),
+        )?;
         Ok(Subject {
             alloc,
             text: bytes,
-            standing,
-            tokens: tokens_of(alloc, bytes, standing)?,
-            types: types_of(alloc, tables, &roster.monitors)?,
-            roster,
+            snapshot,
+            tokens: tokens_of(alloc, bytes, snapshot)?,
+            types: types_of(alloc, tables, &component_table.monitors)?,
+            component_table,
             statements: parts.statements,
             rights,
         })
@@ -106,7 +115,7 @@ impl<'r, 't> Subject<'r, 't> {
     }
 
     /// Adds where in the text the operation comes from at which a process is.
-    pub(crate) fn push_origin(&self, page: &mut Page, process: &ProcessStanding) {
+    pub(crate) fn push_origin(&self, page: &mut Page, process: &ProcessSnapshot) {
         if let Some(at) = process.at {
             page.text(" at ");
             self.push_place(page, at);

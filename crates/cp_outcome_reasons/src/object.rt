@@ -4,7 +4,7 @@ ghost use Rattle.std.specs.Prelude.{IfOk};
 ghost use Rattle.cp_output_formats.specs.Json.{IsJsonLine};
 
 use crate::names::{Source, Subject};
-use crate::standing::ProcessStanding;
+use crate::snapshot::ProcessSnapshot;
 use crate::states::word_of;
 use cp_output::page::Page;
 use cp_output::position::Position;
@@ -36,7 +36,7 @@ struct OutcomeObject<'a> {
 
 impl<'t> Subject<'_, 't> {
     // Why a process is where it is, unless it has ended.
-    fn reason(&self, process: &ProcessStanding) -> Result<Option<String>, AllocError> {
+    fn reason(&self, process: &ProcessSnapshot) -> Result<Option<String>, AllocError> {
         if process.has_ended() {
             return Ok(None);
         }
@@ -46,9 +46,9 @@ impl<'t> Subject<'_, 't> {
         Ok(Some(String::from_utf8_lossy(self.alloc, &reason)?))
     }
 
-    fn process_object(&self, process: &ProcessStanding) -> Result<ProcessObject, AllocError> {
+    fn process_object(&self, process: &ProcessSnapshot) -> Result<ProcessObject, AllocError> {
         let position = process.at.map(|at| Position::of(self.text, at));
-        let name = self.roster.process_name(process.number);
+        let name = self.component_table.process_name(process.number);
         Ok(ProcessObject {
             process: process.number,
             name: String::from_utf8_lossy(self.alloc, name)?,
@@ -62,7 +62,7 @@ impl<'t> Subject<'_, 't> {
     // All processes, by number.
     fn process_objects(&self) -> Result<Vec<ProcessObject>, AllocError> {
         let mut all = Vec::new(self.alloc);
-        for process in &self.standing.processes {
+        for process in &self.snapshot.processes {
             all.push(self.process_object(process)?)?;
         }
         Ok(all)
@@ -81,7 +81,7 @@ pub fn object(alloc: Global, source: Source<'_, '_>, verdict: &str) -> Result<Ve
     let subject = Subject::of(alloc, source)?;
     let outcome = OutcomeObject {
         verdict,
-        round: subject.standing.rounds,
+        round: subject.snapshot.rounds,
         processes: subject.process_objects()?,
     };
     line(alloc, &outcome)

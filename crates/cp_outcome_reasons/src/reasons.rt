@@ -2,7 +2,7 @@
 
 use crate::names::{Source, Subject};
 use crate::queues::entries_that_continue;
-use crate::standing::{ProcessStanding, Site};
+use crate::snapshot::{ProcessSnapshot, Site};
 use crate::starts::places_of_init;
 use cp_inspect::state::ProcState;
 use cp_model::tree::Identifier;
@@ -39,10 +39,10 @@ impl<'t> Subject<'_, 't> {
         entries: &[&Identifier],
         other: u32,
     ) -> Result<Vec<u32>, AllocError> {
-        let processes = self.standing.processes.len();
+        let processes = self.snapshot.processes.len();
         let can = self.rights.callers(monitor as usize, entries, processes)?;
         let mut callers = Vec::new(self.alloc);
-        for process in &self.standing.processes {
+        for process in &self.snapshot.processes {
             let calls = matches!(can.get(process.number as usize), Some(true));
             if calls && process.number != other && process.is_alive() {
                 callers.push(process.number)?;
@@ -57,7 +57,7 @@ impl<'t> Subject<'_, 't> {
         }
         for (index, number) in callers.iter().enumerate() {
             page.text(separator(index, callers.len()));
-            page.bytes(self.roster.process_name(*number));
+            page.bytes(self.component_table.process_name(*number));
         }
     }
 
@@ -73,7 +73,7 @@ impl<'t> Subject<'_, 't> {
         page.text("; only ");
         for (index, entry) in entries.iter().enumerate() {
             page.text(separator(index, entries.len()));
-            page.bytes(self.roster.monitor_name(monitor));
+            page.bytes(self.component_table.monitor_name(monitor));
             page.text(".");
             page.bytes(entry.name.as_bytes());
         }
@@ -92,7 +92,7 @@ impl<'t> Subject<'_, 't> {
         &self,
         page: &mut Page,
         monitor: u32,
-        process: &ProcessStanding,
+        process: &ProcessSnapshot,
     ) -> Result<(), AllocError> {
         let Some(of) = self.monitor_type(monitor) else {
             return Ok(());
@@ -108,7 +108,7 @@ impl<'t> Subject<'_, 't> {
 
     fn push_queue(&self, page: &mut Page, monitor: u32, queue: &[u8]) {
         page.text("delayed in ");
-        page.bytes(self.roster.monitor_name(monitor));
+        page.bytes(self.component_table.monitor_name(monitor));
         page.text(".");
         page.bytes(queue);
     }
@@ -116,7 +116,7 @@ impl<'t> Subject<'_, 't> {
     fn push_delay(
         &self,
         page: &mut Page,
-        process: &ProcessStanding,
+        process: &ProcessSnapshot,
         monitor: u32,
     ) -> Result<(), AllocError> {
         self.push_queue(page, monitor, &process.queue);
@@ -126,7 +126,7 @@ impl<'t> Subject<'_, 't> {
 
     // Adds why the holder of a gate doesn't leave the monitor, if it can't.
     fn push_why_held(&self, page: &mut Page, holder: u32) {
-        let Some(process) = self.standing.process(holder) else {
+        let Some(process) = self.snapshot.process(holder) else {
             return;
         };
         match process.state {
@@ -136,20 +136,20 @@ impl<'t> Subject<'_, 't> {
             }
             ProcState::Asking(monitor) => {
                 page.text(", which asks for ");
-                page.bytes(self.roster.monitor_name(monitor));
+                page.bytes(self.component_table.monitor_name(monitor));
             }
             ProcState::Faulted(_) => page.text(", which has faulted"),
             _ => {}
         }
     }
 
-    fn push_asking(&self, page: &mut Page, process: &ProcessStanding, monitor: u32) {
+    fn push_asking(&self, page: &mut Page, process: &ProcessSnapshot, monitor: u32) {
         page.text("asks for ");
-        page.bytes(self.roster.monitor_name(monitor));
+        page.bytes(self.component_table.monitor_name(monitor));
         self.push_origin(page, process);
-        if let Holder::Process(holder) = self.standing.holder_of(monitor) {
+        if let Holder::Process(holder) = self.snapshot.holder_of(monitor) {
             page.text(", held by ");
-            page.bytes(self.roster.process_name(holder));
+            page.bytes(self.component_table.process_name(holder));
             self.push_why_held(page, holder);
         }
     }
@@ -163,7 +163,7 @@ impl<'t> Subject<'_, 't> {
 
     // Adds which `init` starts a process that hasn't been started.
     fn push_unstarted(&self, page: &mut Page, number: u32) -> Result<(), AllocError> {
-        let name = self.roster.process_name(number);
+        let name = self.component_table.process_name(number);
         let places = places_of_init(self.alloc, &self.statements, name)?;
         let (lead, end) = match places.len() {
             0 => ("never started; no init names it", ""),
@@ -176,12 +176,12 @@ impl<'t> Subject<'_, 't> {
         Ok(())
     }
 
-    fn push_waiting(&self, page: &mut Page, process: &ProcessStanding) {
+    fn push_waiting(&self, page: &mut Page, process: &ProcessSnapshot) {
         page.text("waits for the clock");
         self.push_origin(page, process);
     }
 
-    fn push_ready(&self, page: &mut Page, process: &ProcessStanding) {
+    fn push_ready(&self, page: &mut Page, process: &ProcessSnapshot) {
         page.text(match process.site {
             Site::EndOfRoutine => "ready at the end of the routine",
             Site::EndOfBody => "ready at the end of the body",
@@ -194,7 +194,7 @@ impl<'t> Subject<'_, 't> {
     pub(crate) fn push_why(
         &self,
         page: &mut Page,
-        process: &ProcessStanding,
+        process: &ProcessSnapshot,
     ) -> Result<(), AllocError> {
         match process.state {
             ProcState::Unstarted => self.push_unstarted(page, process.number)?,
@@ -209,14 +209,14 @@ impl<'t> Subject<'_, 't> {
     }
 
     // Adds the line of a process, unless it has ended.
-    fn push_reason(&self, page: &mut Page, process: &ProcessStanding) -> Result<(), AllocError> {
+    fn push_reason(&self, page: &mut Page, process: &ProcessSnapshot) -> Result<(), AllocError> {
         if process.has_ended() {
             return Ok(());
         }
         page.text("process ");
         page.number(process.number as usize);
         page.text(" ");
-        page.bytes(self.roster.process_name(process.number));
+        page.bytes(self.component_table.process_name(process.number));
         page.text(": ");
         self.push_why(page, process)?;
         page.text("\n");
@@ -233,7 +233,7 @@ impl<'t> Subject<'_, 't> {
 pub fn reasons(alloc: Global, source: Source<'_, '_>) -> Result<Vec<u8>, AllocError> {
     let subject = Subject::of(alloc, source)?;
     let mut page = Page::new(alloc);
-    for process in &subject.standing.processes {
+    for process in &subject.snapshot.processes {
         subject.push_reason(&mut page, process)?;
     }
     page.finish()

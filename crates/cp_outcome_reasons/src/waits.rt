@@ -5,7 +5,7 @@ ghost use Rattle.std.specs.Prelude.{◌≡◌, ◌<◌, IfOk, length};
 ghost use Rattle.cp_outcome_reasons.specs.Graphs.{graph};
 
 use crate::names::{Source, Subject};
-use crate::standing::ProcessStanding;
+use crate::snapshot::ProcessSnapshot;
 use crate::states::word_of;
 use cp_inspect::state::ProcState;
 use cp_output::page::Page;
@@ -19,18 +19,18 @@ impl<'t> Subject<'_, 't> {
         if number == 1 {
             return b"initial process";
         }
-        self.roster.process_name(number)
+        self.component_table.process_name(number)
     }
 
     // Adds a process, unless it has ended.
-    fn add_process(&self, page: &mut Page, process: &ProcessStanding) {
+    fn add_process(&self, page: &mut Page, process: &ProcessSnapshot) {
         if process.has_ended() {
             return;
         }
         page.text("  ");
         push_node(page, self.node_of(process.number));
         page.text(" [label=\"");
-        page.bytes(self.roster.process_name(process.number));
+        page.bytes(self.component_table.process_name(process.number));
         page.text("\\n");
         page.text(word_of(process.state));
         page.text("\", shape=ellipse];\n");
@@ -38,7 +38,7 @@ impl<'t> Subject<'_, 't> {
 
     fn add_monitor(&self, page: &mut Page, monitor: u32) {
         page.text("  ");
-        push_node(page, self.roster.monitor_name(monitor));
+        push_node(page, self.component_table.monitor_name(monitor));
         page.text(" [shape=box];\n");
     }
 
@@ -47,12 +47,12 @@ impl<'t> Subject<'_, 't> {
         push_arrow(
             page,
             self.node_of(process),
-            self.roster.monitor_name(monitor),
+            self.component_table.monitor_name(monitor),
         );
     }
 
     // Adds what a process waits for.
-    fn add_wait(&self, page: &mut Page, process: &ProcessStanding) {
+    fn add_wait(&self, page: &mut Page, process: &ProcessSnapshot) {
         match process.state {
             ProcState::Asking(monitor) => {
                 self.push_wait(page, process.number, monitor);
@@ -72,7 +72,7 @@ impl<'t> Subject<'_, 't> {
         if let Holder::Process(number) = holder {
             push_arrow(
                 page,
-                self.roster.monitor_name(monitor),
+                self.component_table.monitor_name(monitor),
                 self.node_of(number),
             );
             page.text(";\n");
@@ -80,27 +80,27 @@ impl<'t> Subject<'_, 't> {
     }
 
     fn add_processes(&self, page: &mut Page) {
-        for process in &self.standing.processes {
+        for process in &self.snapshot.processes {
             self.add_process(page, process);
         }
     }
 
     fn add_monitors(&self, page: &mut Page) {
-        for monitor in &self.standing.monitors {
-            if self.standing.is_used(monitor) {
+        for monitor in &self.snapshot.monitors {
+            if self.snapshot.is_used(monitor) {
                 self.add_monitor(page, monitor.number);
             }
         }
     }
 
     fn add_waits(&self, page: &mut Page) {
-        for process in &self.standing.processes {
+        for process in &self.snapshot.processes {
             self.add_wait(page, process);
         }
     }
 
     fn add_holders(&self, page: &mut Page) {
-        for monitor in &self.standing.monitors {
+        for monitor in &self.snapshot.monitors {
             self.add_holder(page, monitor.number, monitor.holder);
         }
     }

@@ -12,5 +12,5 @@ abbrev pub quoted : List ℕ → List ℕ
 quoted bytes = codes "`" ++ bytes ++ codes "`"
 
 -- A line and a column.
-abbrev pub told_position : ℕ → ℕ → List ℕ
-told_position line column = natural line ++ codes ":" ++ natural column
+abbrev pub reported_position : ℕ → ℕ → List ℕ
+reported_position line column = natural line ++ codes ":" ++ natural column

@@ -2,7 +2,7 @@
 
 ghost use Rattle.std.specs.Prelude.{◌≡◌, IfErr, IfOk, IfSome, None, Some};
 ghost use Rattle.cp_model.specs.Decimal.{natural};
-ghost use Rattle.cp_output.specs.Pages.{quoted, told_position, with_added};
+ghost use Rattle.cp_output.specs.Pages.{quoted, reported_position, with_added};
 
 use crate::position::Position;
 use cp_base_digits::decimal::push_natural;
@@ -101,7 +101,7 @@ impl Page {
     /// Adds a line and a column.
     pub fn position(&mut self, position: Position)
         ensures { IfSome self.new
-            (λ new. with_added self.old (told_position position.line position.column) ≡ Some new) }
+            (λ new. with_added self.old (reported_position position.line position.column) ≡ Some new) }
     {
         self.number(position.line);
         self.bytes(b":");

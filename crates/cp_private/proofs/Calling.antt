@@ -8,15 +8,15 @@ use Rattle.cp_model.specs.declared.state.Fault.{Fault}
 use Rattle.cp_model.specs.declared.state.Fault.TheVariants as fault
 use Rattle.cp_model_program.specs.Programs.{Call, CodeUnit, Program}
 use Rattle.cp_model_program.specs.Starts.{word}
-use Rattle.cp_model_machine.specs.PrivateStates.{Acting, Enters, Opens, Outside, PrivateState, fault_in, private_outcome, guard, set_word}
+use Rattle.cp_model_machine.specs.PrivateStates.{Acting, Enters, Opens, StepContext, PrivateState, fault_in, private_outcome, guard, set_word}
 use Rattle.cp_model_machine.specs.Calling.{Back, class_at, enter, gate_effect, has_room, settle, start_words, with_unit}
 use Rattle.cp_model_machine.specs.Passing.{Called, Passing, pass_all, when_passed}
 
 -- The component is at the address `at`, and the arguments belong to the words at `home`. If the test
 -- fails, the process faults, and otherwise `done` follows the passing of arguments.
-pub record Attempt : Type 0 where
+pub record FastPath : Type 0 where
   pub program : Program
-  pub outside : Outside
+  pub outside : StepContext
   pub own : PrivateState
   pub call : Call
   pub at : ℕ
@@ -25,39 +25,39 @@ pub record Attempt : Type 0 where
   pub refusal : Fault
   pub done : CodeUnit → PrivateState → Acting
 
-abbrev pub IsFor : Attempt → CodeUnit → Type 0
+abbrev pub IsFor : FastPath → CodeUnit → Type 0
 IsFor a u = (go : CodeUnit → Acting) → with_unit a.program a.outside a.own a.call a.at go ≡ go u
 
-abbrev pub IsForNone : Attempt → Type 0
+abbrev pub IsForNone : FastPath → Type 0
 IsForNone a = (go : CodeUnit → Acting) → with_unit a.program a.outside a.own a.call a.at go ≡ private_outcome a.own
 
-abbrev pub all_passed : Attempt → Passing
+abbrev pub all_passed : FastPath → Passing
 all_passed a = pass_all a.outside (a.own.base + a.call.words) a.home a.call.arguments a.own
 
-abbrev tested : Attempt → CodeUnit → Acting
+abbrev tested : FastPath → CodeUnit → Acting
 tested a u = guard a.test a.own a.refusal (when_passed (all_passed a) (a.done u))
 
-abbrev pub end_of : Attempt → Acting
+abbrev pub end_of : FastPath → Acting
 end_of a = with_unit a.program a.outside a.own a.call a.at (tested a)
 
 -- ---- How it ends
 
-pub unfound : (a : Attempt) → IsForNone a → private_outcome a.own ≡ end_of a
+pub unfound : (a : FastPath) → IsForNone a → private_outcome a.own ≡ end_of a
 unfound a none = sym (none (tested a))
 
-pub refused : (a : Attempt) (u : CodeUnit) → IsFor a u → a.test ≡ false → fault_in a.own a.refusal ≡ end_of a
+pub refused : (a : FastPath) (u : CodeUnit) → IsFor a u → a.test ≡ false → fault_in a.own a.refusal ≡ end_of a
 refused a u there fails =
     sym (there (tested a) ∙ ap (λ b. guard b a.own a.refusal (when_passed (all_passed a) (a.done u))) fails)
 
-pub passed : (a : Attempt) (u : CodeUnit) (p : Passing) → IsFor a u → a.test ≡ true → p ≡ all_passed a → when_passed p (a.done u) ≡ end_of a
+pub passed : (a : FastPath) (u : CodeUnit) (p : Passing) → IsFor a u → a.test ≡ true → p ≡ all_passed a → when_passed p (a.done u) ≡ end_of a
 passed a u p there holds is =
     ap (λ q. when_passed q (a.done u)) is
     ∙ sym (there (tested a) ∙ ap (λ b. guard b a.own a.refusal (when_passed (all_passed a) (a.done u))) holds)
 
-module _ (program : Program) (w : Outside) (o : PrivateState) (call : Call) where
+module _ (program : Program) (w : StepContext) (o : PrivateState) (call : Call) where
   -- ---- The three that there are
 
-  abbrev pub call_of : Back → Called → Attempt
+  abbrev pub call_of : Back → Called → FastPath
   call_of back c = record {
     program = program;
     outside = w;
@@ -70,7 +70,7 @@ module _ (program : Program) (w : Outside) (o : PrivateState) (call : Call) wher
     done = λ u p. (enter (start_words (o.base + call.words) u p) c u call back, gate_effect c.gate Enters);
   }
 
-  abbrev pub init_of_class : ℕ → ℕ → Attempt
+  abbrev pub init_of_class : ℕ → ℕ → FastPath
   init_of_class next at = record {
     program = program;
     outside = w;
@@ -84,7 +84,7 @@ module _ (program : Program) (w : Outside) (o : PrivateState) (call : Call) wher
         (enter (set_word (settle p (o.base + call.words) at (length call.arguments)) at (pos 1)) (class_at at) u call (record { counter = next; into = 0 }));
   }
 
-  abbrev pub init_of_monitor : ℕ → ℕ → Called → Attempt
+  abbrev pub init_of_monitor : ℕ → ℕ → Called → FastPath
   init_of_monitor next m c = record {
     program = program;
     outside = w;

@@ -14,14 +14,14 @@ use Rattle.cp_model.specs.Reach.{in_reach}
 use Rattle.cp_model.specs.States.{Setup, State}
 use Rattle.cp_model.specs.Turns as meaning
 use Rattle.cp_model_program.specs.Programs.{Program}
-use Rattle.cp_model_program.specs.StandsFor.{StandsFor}
+use Rattle.cp_model_program.specs.IsProgramFor.{IsProgramFor}
 use Rattle.cp_model_machine.specs.Addresses.{Ground}
 use Rattle.cp_model_machine.specs.KernelSteps.{needs_kernel}
 use Rattle.cp_model_machine.specs.Laws.{ground_of}
-use Rattle.cp_model_machine.specs.Left.{innermost_gate}
-use Rattle.cp_model_machine.specs.PartOf.{GoesOn, PartOf, RunsOn, status_of}
+use Rattle.cp_model_machine.specs.Remaining.{innermost_gate}
+use Rattle.cp_model_machine.specs.PartOf.{IsActive, PartOf, RunsOn, status_of}
 use Rattle.cp_model_machine.specs.PrivateStates as machine
-use Rattle.cp_model_machine.specs.PrivateStates.{Outside, PrivateState}
+use Rattle.cp_model_machine.specs.PrivateStates.{StepContext, PrivateState}
 use Rattle.cp_model_machine.specs.Steps as steps
 use Rattle.cp_model_machine.specs.Steps.{alone, operation_of}
 use Rattle.cp_model_machine.proofs.Deciding.{ready_steps}
@@ -39,12 +39,12 @@ reach_own p (OfProcess q) h = h
 reach_own p (OfActivation q d) h = h
 reach_own p (OfMonitor m) h = absurd (true≢false (sym h))
 
-module _ (program : Program) (setup : Setup) (F : StandsFor program setup) (p own : ℕ) (s : State) (before : List ℕ) (o : PrivateState) (I : Invariant s)
+module _ (program : Program) (setup : Setup) (F : IsProgramFor program setup) (p own : ℕ) (s : State) (before : List ℕ) (o : PrivateState) (I : Invariant s)
     (part : PartOf (ground_of program setup F p own) s before o) where
   abbrev G : Ground
   G = ground_of program setup F p own
 
-  abbrev w : Outside
+  abbrev w : StepContext
   w = alone (realtime (clock_of G s)) o
 
   same : (x : Status) → s.status p ≡ x → private_status x ≡ status_of o.activity
@@ -54,11 +54,11 @@ module _ (program : Program) (setup : Setup) (F : StandsFor program setup) (p ow
   running is = running_is o.activity (subst IsRunning (same stage.Ready is) tt)
 
   on : s.status p ≡ stage.Ready → RunsOn G s.store o (s.continuation p)
-  on is = part.runs_on (subst GoesOn (sym (running is)) tt)
+  on is = part.runs_on (subst IsActive (sym (running is)) tt)
 
   -- What the machine says of a process that runs.
-  abbrev told : Bool → Bool → Kind
-  told held of_kernel = if (if held then false else not of_kernel) then kind.Private else (if (if held then true else of_kernel) then kind.Kernel else kind.None)
+  abbrev reported : Bool → Bool → Kind
+  reported held of_kernel = if (if held then false else not of_kernel) then kind.Private else (if (if held then true else of_kernel) then kind.Kernel else kind.None)
 
   -- It holds no gate.
   ready_free : (is : s.status p ≡ stage.Ready) → marked_monitors (s.continuation p) ≡ [] → meaning.kind s p ≡ meaning_kind (kind_of program o)
@@ -67,18 +67,18 @@ module _ (program : Program) (setup : Setup) (F : StandsFor program setup) (p ow
       ready_steps G s w before o F refl part I (record { clock = refl; own = part.count }) (λ q h. reach_own p q (ap (λ z. in_reach p z q) (sym marks) ∙ h))
       (s.continuation p) refl is (on is) in
       let gate : o.gate ≡ 0 = (on is).gate ∙ ap innermost_gate marks in
-      let computed : kind_of program o ≡ told false (steps.is_kernel_operation stepped.operation) =
+      let computed : kind_of program o ≡ reported false (steps.is_kernel_operation stepped.operation) =
       (λ i. if machine.is_running (running is i)
       then (if steps.is_private o (stepped.there i) then kind.Private else (if needs_kernel o (stepped.there i) then kind.Kernel else kind.None))
       else kind.None)
-      ∙ ap (λ g. told (steps.is_held g) (steps.is_kernel_operation stepped.operation)) gate in
+      ∙ ap (λ g. reported (steps.is_held g) (steps.is_kernel_operation stepped.operation)) gate in
       let defined : meaning.kind s p ≡ (if steps.is_kernel_operation stepped.operation then meaning.Kernel else meaning.Private) =
       ap (λ z. meaning.kind_of z (s.continuation p)) is
       ∙ (ap (λ ms. if (elim ms as (λ z. Bool) [ [] ↦ false | m ∷ rest ↦ true ]) || is_kernel_action (action (s.continuation p)) then meaning.Kernel else meaning.Private) marks
       ∙ ap (λ b. if b then meaning.Kernel else meaning.Private) stepped.same_kind) in
       defined ∙ (by (steps.is_kernel_operation stepped.operation) ∙ ap meaning_kind (sym computed))
     where
-      by : (b : Bool) → (if b then meaning.Kernel else meaning.Private) ≡ meaning_kind (told false b)
+      by : (b : Bool) → (if b then meaning.Kernel else meaning.Private) ≡ meaning_kind (reported false b)
       by true = refl
       by false = refl
 
@@ -93,7 +93,7 @@ module _ (program : Program) (setup : Setup) (F : StandsFor program setup) (p ow
           → (if steps.is_private o (operation_of program o) then kind.Private else (if needs_kernel o (operation_of program o) then kind.Kernel else kind.None)) ≡ kind.Kernel
       gated held = elim (operation_of program o) as (λ x. (if steps.is_private o x then kind.Private else (if needs_kernel o x then kind.Kernel else kind.None)) ≡ kind.Kernel) [
         | None ↦ ap (λ b. if b then kind.Kernel else kind.None) held
-        | Some x ↦ ap (λ b. told b (steps.is_kernel_operation x)) held
+        | Some x ↦ ap (λ b. reported b (steps.is_kernel_operation x)) held
       ]
 
   -- It holds a gate.
@@ -125,7 +125,7 @@ module _ (program : Program) (setup : Setup) (F : StandsFor program setup) (p ow
       inside : (ms : List ℕ) → marked_monitors (s.continuation p) ≡ ms → is_in_monitor (s.continuation p) ≡ true → kind_of program o ≡ kind.Kernel
       inside [] marks there = absurd (true≢false (sym there ∙ ap (λ ns. elim ns as (λ z. Bool) [ [] ↦ false | n ∷ rest ↦ true ]) marks))
       inside (m ∷ ms) marks there =
-          held_is_kernel runs (gate_is_held G s.store o (s.continuation p) m ms (part.runs_on (subst GoesOn (sym runs) tt)) marks)
+          held_is_kernel runs (gate_is_held G s.store o (s.continuation p) m ms (part.runs_on (subst IsActive (sym runs) tt)) marks)
 
   -- It doesn't run.
   still : (x : Status) → s.status p ≡ x → meaning.kind_of x (s.continuation p) ≡ meaning.NoStep → (IsRunning (private_status x) → ⊥) → meaning.kind s p ≡ meaning_kind (kind_of program o)

@@ -7,7 +7,7 @@ use Rattle.cp_model_machine.specs.KernelSteps as plain
 use Rattle.cp_model_machine.specs.PrivateStates.{Effect}
 use Rattle.cp_private.specs.Promises.{beside}
 use Rattle.cp_private.specs.States as states
-use Rattle.cp_private.specs.declared.outside.Outside.{Outside}
+use Rattle.cp_private.specs.declared.outside.StepContext.{StepContext}
 use Rattle.cp_private.specs.declared.private.Private.{Private}
 
 pub parted_as : (k : plain.Kernel) (x y : Private) (input : List ℕ) (shared : List ℤ) (e : Effect)
@@ -29,7 +29,7 @@ pub step_due : (program : Program) (clock : ℕ) (x : plain.Turning) → plain.i
 step_due program clock x due = rw due refl
 
 -- A step with the kernel's words in reach, parted again, is the kernel's step.
-pub kernel_step_made : (program : Program) (w : Outside) (k : plain.Kernel) (x y : Private) (shared after : List ℤ) (e : Effect)
+pub kernel_step_made : (program : Program) (w : StepContext) (k : plain.Kernel) (x y : Private) (shared after : List ℤ) (e : Effect)
     → (states.join y w.input.now after, e) ≡ step_with program (states.outside_of w (length x.memory.words.items)) (states.join x w.input.now shared)
     → length y.memory.words.items ≡ length x.memory.words.items
     → k.shared ≡ shared

@@ -7,7 +7,7 @@ use Rattle.cp_model_machine.specs.PrivateStates.{PrivateState, is_running}
 use Rattle.cp_model_machine.specs.KernelSteps as kernel
 use Rattle.cp_model_machine.specs.Steps.{act, act_on, alone, is_private, operation_of, private_step}
 use Rattle.cp_private.specs.States.{IsAlone, holder_of, join, outside_of, private_of, stage_of}
-use Rattle.cp_private.specs.declared.outside.Outside.{Outside}
+use Rattle.cp_private.specs.declared.outside.StepContext.{StepContext}
 use Rattle.cp_private.specs.declared.private.Private.{Private}
 
 pub private_joined : (x : Private) (input : List ℕ) → private_of x input ≡ join x input []
@@ -21,7 +21,7 @@ all_started : (r : ℕ) → kernel.is_started (stage_of [] r) ≡ true
 all_started zero = refl
 all_started (suc r) = refl
 
-pub outside_alone : (w : Outside) (x : Private) (input : List ℕ) → IsAlone w
+pub outside_alone : (w : StepContext) (x : Private) (input : List ℕ) → IsAlone w
     → outside_of w (length x.memory.words.items) ≡ alone w.clock (private_of x input)
 outside_alone w x input A =
     let own = length x.memory.words.items in
@@ -39,7 +39,7 @@ stepped program clock o x there running private =
     ∙ ap (λ b. if b then after (Some x) else o) private
 
 -- The same, of what the code's private states stand for.
-pub private_acted : (program : Program) (w : Outside) (old new : Private) (input : List ℕ) (x : Operation) → IsAlone w
+pub private_acted : (program : Program) (w : StepContext) (old new : Private) (input : List ℕ) (x : Operation) → IsAlone w
     → operation_of program (private_of old input) ≡ Some x → is_running (private_of old input).activity ≡ true
     → is_private (private_of old input) (Some x) ≡ true
     → join new input [] ≡ (act program (outside_of w (length old.memory.words.items)) (join old input []) x).0

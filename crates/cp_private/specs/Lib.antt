@@ -5,7 +5,7 @@ pub mod Calls
 pub mod Kinds
 pub mod Promises
 pub mod Resting
-pub mod Quick
+pub mod FastStep
 pub mod Assigning
 pub mod Plans
 pub mod Lending

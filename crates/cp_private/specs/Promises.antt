@@ -8,7 +8,7 @@ use Rattle.cp_model.specs.Start.{start}
 use Rattle.cp_model.specs.States.{Setup, State, process_count, running_clock}
 use Rattle.cp_model.specs.Turns as meaning
 use Rattle.cp_model_program.specs.Programs as code
-use Rattle.cp_model_program.specs.StandsFor.{StandsFor}
+use Rattle.cp_model_program.specs.IsProgramFor.{IsProgramFor}
 use Rattle.cp_model_machine.specs.Beginning.{Begins}
 use Rattle.cp_model_machine.specs.KernelSteps.{Kernel, Turning, apply_effect, is_due, outside}
 use Rattle.cp_model_machine.specs.Laws.{TurningOf, ground_of}
@@ -19,14 +19,14 @@ use Rattle.cp_private.specs.States.{effect, outside_of, private_of}
 use Rattle.cp_private.specs.declared.effect.Effect.{Effect}
 use Rattle.cp_private.specs.declared.kind.Kind.{Kind}
 use Rattle.cp_private.specs.declared.kind.Kind.TheVariants as kind
-use Rattle.cp_private.specs.declared.outside.Outside.{Outside}
+use Rattle.cp_private.specs.declared.outside.StepContext.{StepContext}
 use Rattle.cp_private.specs.declared.private.Private.{Private}
 
 -- y is the part of the process after its private step, for every state of which x is the part. The
 -- invariant of references and rights holds again.
 abbrev pub MakesStep : Program → Private → Private → List ℕ → ℕ → Type 0
 MakesStep program x y input clock =
-    (setup : Setup) (F : StandsFor (view.program program) setup) (p own : ℕ) (s : State) (before : List ℕ)
+    (setup : Setup) (F : IsProgramFor (view.program program) setup) (p own : ℕ) (s : State) (before : List ℕ)
     → let G = ground_of (view.program program) setup F p own in
     Invariant s → clock ≡ realtime (running_clock setup s) → PartOf G s before (private_of x input)
     → PartOf G (meaning.private_step setup s p) before (private_of y input) × Invariant (meaning.private_step setup s p)
@@ -34,7 +34,7 @@ MakesStep program x y input clock =
 -- The same for a turn.
 abbrev pub MakesTurn : Program → ℕ → Private → Private → List ℕ → ℕ → Type 0
 MakesTurn program n x y input clock =
-    (setup : Setup) (F : StandsFor (view.program program) setup) (p own : ℕ) (s : State) (before : List ℕ)
+    (setup : Setup) (F : IsProgramFor (view.program program) setup) (p own : ℕ) (s : State) (before : List ℕ)
     → let G = ground_of (view.program program) setup F p own in
     Invariant s → clock ≡ realtime (running_clock setup s) → PartOf G s before (private_of x input)
     → PartOf G (meaning.private_turn setup n s p) before (private_of y input) × Invariant (meaning.private_turn setup n s p)
@@ -46,9 +46,9 @@ beside k x input = record { kernel = k; own = private_of x input }
 -- For every kernel with these shared words, of which the step reads what it reads of others: if both
 -- are those of a state and the step is the kernel's, then the effect that is left to the kernel
 -- makes them those of the state after the meaning's kernel step. The invariant holds again.
-abbrev pub MakesKernelStep : Program → Outside → Private → List ℤ → Private → List ℤ → Effect → Type 0
+abbrev pub MakesKernelStep : Program → StepContext → Private → List ℤ → Private → List ℤ → Effect → Type 0
 MakesKernelStep program w x shared y after e =
-    (setup : Setup) (F : StandsFor (view.program program) setup) (p own : ℕ) (s : State) (before : List ℕ) (k : Kernel)
+    (setup : Setup) (F : IsProgramFor (view.program program) setup) (p own : ℕ) (s : State) (before : List ℕ) (k : Kernel)
     → k.shared ≡ shared
     → outside_of w (length x.memory.words.items) ≡ outside w.clock (beside k x w.input.now)
     → is_due (view.program program) (beside k x w.input.now) ≡ true
@@ -62,7 +62,7 @@ MakesKernelStep program w x shared y after e =
 -- ready to begin if p isn't the initial process.
 abbrev pub IsAtStart : Program → ℕ → Private → Type 0
 IsAtStart program p x =
-    (setup : Setup) (F : StandsFor (view.program program) setup)
+    (setup : Setup) (F : IsProgramFor (view.program program) setup)
     → let o = private_of x (setup.inputs p) in
     let G = ground_of (view.program program) setup F p (length o.words) in
     PartOf G (start setup) [] o × ((k : Kernel) → 2 ≤ p → Begins G (start setup) k o)
@@ -71,7 +71,7 @@ IsAtStart program p x =
 -- for every state of which x is the part.
 abbrev pub Wakes : Private → Private → Type 0
 Wakes x y =
-    (program : code.Program) (setup : Setup) (F : StandsFor program setup) (p own : ℕ)
+    (program : code.Program) (setup : Setup) (F : IsProgramFor program setup) (p own : ℕ)
     → (s : State) (before input : List ℕ)
     → let G = ground_of program setup F p own in
     suc s.rounds % setup.tick ≡ 0 → PartOf G s before (private_of x input) → PartOf G (wake setup s) before (private_of y input)
@@ -85,9 +85,9 @@ meaning_kind kind.None = meaning.NoStep
 -- In each state of which x is the part, k is the kind of the process's next step. Of a process that
 -- asks or is delayed, which only the kernel knows, k is the kind of the step that it makes when it
 -- goes on.
-abbrev pub TellsKind : Program → Private → List ℕ → Kind → Type 0
-TellsKind program x input k =
-    (setup : Setup) (F : StandsFor (view.program program) setup) (p own : ℕ) (s : State) (before : List ℕ)
+abbrev pub ReportsKind : Program → Private → List ℕ → Kind → Type 0
+ReportsKind program x input k =
+    (setup : Setup) (F : IsProgramFor (view.program program) setup) (p own : ℕ) (s : State) (before : List ℕ)
     → let G = ground_of (view.program program) setup F p own in
     Invariant s → PartOf G s before (private_of x input)
     → ((IsBlocked (s.status p) → ⊥) → meaning.kind s p ≡ meaning_kind k) × (IsBlocked (s.status p) → k ≡ kind.Kernel)

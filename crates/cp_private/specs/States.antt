@@ -10,10 +10,10 @@ use Rattle.cp_private.specs.declared.effect.Effect.{Effect}
 use Rattle.cp_private.specs.declared.effect.Effect.TheVariants as effect_case
 use Rattle.cp_private.specs.declared.outside.Holder.{Holder}
 use Rattle.cp_private.specs.declared.outside.Holder.TheVariants as holder_case
-use Rattle.cp_private.specs.declared.outside.Stage.{Stage}
-use Rattle.cp_private.specs.declared.outside.Stage.TheVariants as stage_case
+use Rattle.cp_private.specs.declared.outside.SchedulingState.{SchedulingState}
+use Rattle.cp_private.specs.declared.outside.SchedulingState.TheVariants as stage_case
 use Rattle.cp_private.specs.declared.outside.Gate.{Gate}
-use Rattle.cp_private.specs.declared.outside.Outside.{Outside}
+use Rattle.cp_private.specs.declared.outside.StepContext.{StepContext}
 use Rattle.cp_private.specs.declared.private.Activity.{Activity}
 use Rattle.cp_private.specs.declared.private.Activity.TheVariants as activity_case
 use Rattle.cp_private.specs.declared.private.Frame.{Frame}
@@ -83,7 +83,7 @@ holder (holder_case.Process p) = model.HeldBy p
 abbrev pub gate : Gate → model.Gate
 gate g = record { holder = holder g.holder; askers = g.askers.items }
 
-abbrev pub stage : Stage → kernel.Stage
+abbrev pub stage : SchedulingState → kernel.SchedulingState
 stage stage_case.Unstarted = kernel.Unstarted
 stage stage_case.Fresh = kernel.Fresh
 stage stage_case.Begun = kernel.Begun
@@ -100,15 +100,15 @@ abbrev pub holder_of : List Gate → ℕ → model.Holder
 holder_of gs zero = model.Unset
 holder_of gs (suc m) = holder_or_none (slice_get gs m)
 
-abbrev pub stage_or_none : Option Stage → kernel.Stage
+abbrev pub stage_or_none : Option SchedulingState → kernel.SchedulingState
 stage_or_none None = kernel.Begun
 stage_or_none (Some g) = stage g
 
-abbrev pub stage_of : List Stage → ℕ → kernel.Stage
+abbrev pub stage_of : List SchedulingState → ℕ → kernel.SchedulingState
 stage_of gs zero = kernel.Begun
 stage_of gs (suc r) = stage_or_none (slice_get gs r)
 
-abbrev pub outside_of : Outside → ℕ → plain.Outside
+abbrev pub outside_of : StepContext → ℕ → plain.StepContext
 outside_of w own = record {
   clock = w.clock;
   own = own;
@@ -117,7 +117,7 @@ outside_of w own = record {
 }
 
 -- Nothing of the kernel is read.
-pub record IsAlone (w : Outside) : Type 0 where
+pub record IsAlone (w : StepContext) : Type 0 where
   pub gates : w.gates.now ≡ []
   pub stages : w.stages.now ≡ []
 
@@ -127,7 +127,7 @@ pub record IsReady (x : Private) : Type 0 where
   pub free : x.gate ≡ 0
 
 -- The process runs as before, and holds the same gate.
-pub record Stands (old new : Private) : Type 0 where
+pub record Represents (old new : Private) : Type 0 where
   pub activity : new.activity ≡ old.activity
   pub gate : new.gate ≡ old.gate
 
@@ -149,6 +149,6 @@ outcome o (Err f) = fault_in o f
 
 -- The step leads from one state and its shared words to the other, as the function `go` of the
 -- outside and the state says.
-abbrev pub IsStep : Private → List ℤ → Outside → Private → List ℤ → Result Effect Fault → (plain.Outside → PrivateState → Acting) → Type 0
+abbrev pub IsStep : Private → List ℤ → StepContext → Private → List ℤ → Result Effect Fault → (plain.StepContext → PrivateState → Acting) → Type 0
 IsStep x shared w y after result go =
     outcome (join y w.input.now after) result ≡ go (outside_of w (length x.memory.words.items)) (join x w.input.now shared)

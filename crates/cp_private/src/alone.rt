@@ -3,15 +3,15 @@
 ghost use Rattle.std.specs.Prelude.{◌≡◌};
 ghost use Rattle.cp_private.specs.States.{IsAlone};
 
-use crate::outside::Outside;
+use crate::outside::StepContext;
 
-impl<'a> Outside<'a> {
-    pub(crate) fn alone(input: &'a [u8], clock: u64) -> Outside<'a>
+impl<'a> StepContext<'a> {
+    pub(crate) fn alone(input: &'a [u8], clock: u64) -> StepContext<'a>
         ensures alone { IsAlone result }
         ensures input { result.input.now ≡ input.now }
         ensures clock { result.clock ≡ clock }
     {
-        Outside {
+        StepContext {
             clock,
             input,
             gates: &[],

@@ -8,16 +8,16 @@ ghost use Rattle.cp_model_machine.specs.Steps as plain;
 ghost use Rattle.cp_model_machine.specs.PrivateStates.{go_to, private_outcome};
 ghost use Rattle.cp_private.specs.Assigning.{assign};
 ghost use Rattle.cp_private.specs.Keeping.{IsAddressable, KeepsOwn, KeepsRest};
-ghost use Rattle.cp_private.specs.States.{IsStep, Stands, join, outcome};
+ghost use Rattle.cp_private.specs.States.{IsStep, Represents, join, outcome};
 ghost use Rattle.cp_program.specs.Reaches.{cap_place};
 ghost use Rattle.cp_program.specs.View as view;
 
 use crate::effect::Effect;
-use crate::outside::Outside;
+use crate::outside::StepContext;
 use crate::private::Private;
 use cp_model::state::Fault;
 use cp_program::operation::{Assignment, Table};
-use cp_program::term::{Root, Spot, Term};
+use cp_program::term::{PlaceExpression, Root, Term};
 
 impl Private {
     // The address may be capped to the largest `usize`.
@@ -34,7 +34,7 @@ impl Private {
             → outcome (join self.new input shared.new) result ≡ assign assignment.now
             (join self.old input shared.old) place n }
         ensures kept { KeepsRest self.old shared.old self.new shared.new }
-        ensures stands { Stands self.old self.new }
+        ensures represents { Represents self.old self.new }
     {
         if !assignment.bounds.contain(n) {
             return Err(Fault::Range);
@@ -48,16 +48,16 @@ impl Private {
     pub(crate) fn set(
         &mut self,
         shared: &mut [i32],
-        outside: &Outside,
-        to: &Spot,
+        outside: &StepContext,
+        to: &PlaceExpression,
         assignment: &Assignment,
     ) -> Result<Effect, Fault>
         requires { IsAddressable shared.old }
         ensures step { IsStep self.old shared.old outside.now self.new shared.new result
-            (λ w o. plain.with_place w o (view.spot to.now) (λ at. plain.with_value w o
+            (λ w o. plain.with_place w o (view.place_expression to.now) (λ at. plain.with_value w o
             (view.term assignment.now.value) (λ n. assign assignment.now o at n))) }
         ensures kept { KeepsRest self.old shared.old self.new shared.new }
-        ensures stands { Stands self.old self.new }
+        ensures represents { Represents self.old self.new }
     {
         let at = self.place(shared, outside, to)?;
         let n = self.evaluate(shared, outside, &assignment.value)?;
@@ -69,7 +69,7 @@ impl Private {
     pub(crate) fn set_root(
         &mut self,
         shared: &mut [i32],
-        outside: &Outside,
+        outside: &StepContext,
         root: Root,
         assignment: &Assignment,
     ) -> Result<Effect, Fault>
@@ -88,7 +88,7 @@ impl Private {
     pub(crate) fn set_result(
         &mut self,
         shared: &mut [i32],
-        outside: &Outside,
+        outside: &StepContext,
         assignment: &Assignment,
     ) -> Result<Effect, Fault>
         requires { IsAddressable shared.old }
@@ -105,16 +105,16 @@ impl Private {
     pub(crate) fn copy_words(
         &mut self,
         shared: &mut [i32],
-        outside: &Outside,
-        to: &Spot,
-        from: &Spot,
+        outside: &StepContext,
+        to: &PlaceExpression,
+        from: &PlaceExpression,
         size: u32,
         next: u32,
     ) -> Result<Effect, Fault>
         requires { IsAddressable shared.old }
         ensures step { IsStep self.old shared.old outside.now self.new shared.new result
-            (λ w o. plain.with_place w o (view.spot to.now) (λ at. plain.with_place w o
-            (view.spot from.now) (λ b. plain.copy_words o at b size next))) }
+            (λ w o. plain.with_place w o (view.place_expression to.now) (λ at. plain.with_place w o
+            (view.place_expression from.now) (λ b. plain.copy_words o at b size next))) }
         ensures kept { KeepsRest self.old shared.old self.new shared.new }
     {
         let at = self.place(shared, outside, to)?;
@@ -128,7 +128,7 @@ impl Private {
     pub(crate) fn test(
         &mut self,
         shared: &[i32],
-        outside: &Outside,
+        outside: &StepContext,
         value: &Term,
         yes: u32,
         no: u32,
@@ -147,7 +147,7 @@ impl Private {
     pub(crate) fn choose(
         &mut self,
         shared: &[i32],
-        outside: &Outside,
+        outside: &StepContext,
         value: &Term,
         table: &Table,
     ) -> Result<Effect, Fault>
@@ -172,7 +172,7 @@ impl Private {
     pub(crate) fn go_to(
         &mut self,
         shared: &[i32],
-        outside: &Outside,
+        outside: &StepContext,
         next: u32,
     ) -> Result<Effect, Fault>
         ensures step { IsStep self.old shared.now outside.now self.new shared.now result

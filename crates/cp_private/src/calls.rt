@@ -13,7 +13,7 @@ ghost use Rattle.cp_program.specs.View.{plans_of};
 use crate::called::Back;
 use crate::effect::Effect;
 use crate::frames::enters;
-use crate::outside::Outside;
+use crate::outside::StepContext;
 use crate::passing::Destination;
 use crate::private::Private;
 use cp_model::state::Fault;
@@ -32,7 +32,7 @@ impl Private {
     // Whether own words, temps and a frame are left for the unit, and its component exists.
     fn has_room(&self, shared: &[i32], call: &Call, unit: &CodeUnit, component: usize) -> bool
         requires { IsAddressable shared.now }
-        ensures value { (plans : List StartPlan) (w : states.Outside) (input : List ℕ)
+        ensures value { (plans : List StartPlan) (w : states.StepContext) (input : List ℕ)
             → w.own ≡ length self.now.memory.words.items
             → result ≡ plain.has_room w (join self.now input shared.now) (view.call call.now)
             (view.code_unit plans unit.now) component }
@@ -69,7 +69,7 @@ impl Private {
         component: usize,
     ) -> Option<&'a CodeUnit>
         requires { IsAddressable shared.now }
-        ensures unit { (w : states.Outside) (input : List ℕ)
+        ensures unit { (w : states.StepContext) (input : List ℕ)
             → w.own ≡ length self.now.memory.words.items
             → let o = join self.now input shared.now in MatchOption result
             ((go : PlainUnit → states.Acting) → plain.with_unit (view.program program.now) w o
@@ -93,7 +93,7 @@ impl Private {
         &mut self,
         program: &Program,
         shared: &mut [i32],
-        outside: &Outside,
+        outside: &StepContext,
         call: &Call,
         link: Back,
     ) -> Result<Effect, Fault>
@@ -126,7 +126,7 @@ impl Private {
         &mut self,
         program: &Program,
         shared: &mut [i32],
-        outside: &Outside,
+        outside: &StepContext,
         call: &Call,
         link: Back,
     ) -> Result<Effect, Fault>

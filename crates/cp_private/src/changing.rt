@@ -3,7 +3,7 @@
 ghost use Rattle.std.specs.Prelude.{◌≡◌, ◌<◌, ◌^◌, ℕ, ℤ, List};
 ghost use Rattle.cp_model_program.specs.Starts.{block, paste, carry_out};
 ghost use Rattle.cp_private.specs.Keeping.{ChangesOnlyWords, IsAddressable, KeepsOwn};
-ghost use Rattle.cp_private.specs.States.{Stands, join};
+ghost use Rattle.cp_private.specs.States.{Represents, join};
 ghost use Rattle.cp_model_machine.specs.PrivateStates as plain;
 ghost use Rattle.cp_program.specs.Reaches.{cap_place};
 ghost use Rattle.cp_program.specs.View as view;
@@ -22,7 +22,7 @@ impl Private {
             → join self.new input shared.new ≡ plain.set_word (join self.old input shared.old)
             place n }
         ensures kept { ChangesOnlyWords self.old shared.old self.new shared.new }
-        ensures stands { Stands self.old self.new }
+        ensures represents { Represents self.old self.new }
     {
         words::write(&mut self.memory.words, shared, at, n);
     }
@@ -33,7 +33,7 @@ impl Private {
             → join self.new input shared ≡ plain.set_temp
             (join self.old input shared) at n }
         ensures kept { KeepsOwn self.old self.new }
-        ensures stands { Stands self.old self.new }
+        ensures represents { Represents self.old self.new }
     {
         if at < self.memory.temps.len() {
             self.memory.temps[at] = n;
@@ -47,7 +47,7 @@ impl Private {
             → let o = join self.old input shared.old in join self.new input shared.new
             ≡ record o { words = paste i (block o.words j count) o.words } }
         ensures kept { ChangesOnlyWords self.old shared.old self.new shared.new }
-        ensures stands { Stands self.old self.new }
+        ensures represents { Represents self.old self.new }
     {
         words::copy(&mut self.memory.words, shared, to, from, count);
     }

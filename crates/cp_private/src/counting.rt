@@ -10,7 +10,7 @@ ghost use Rattle.cp_model_machine.specs.Steps as plain;
 ghost use Rattle.cp_program.specs.View as view;
 
 use crate::effect::Effect;
-use crate::outside::Outside;
+use crate::outside::StepContext;
 use crate::private::Private;
 use cp_model::state::Fault;
 use cp_program::operation::Counting;
@@ -32,7 +32,7 @@ impl Private {
     fn count_to(
         &mut self,
         shared: &mut [i32],
-        outside: &Outside,
+        outside: &StepContext,
         counting: &Counting,
         n: i32,
         last: i32,
@@ -58,7 +58,7 @@ impl Private {
     pub(crate) fn count_from(
         &mut self,
         shared: &mut [i32],
-        outside: &Outside,
+        outside: &StepContext,
         counting: &Counting,
         first: &Term,
         last: &Term,
@@ -83,7 +83,7 @@ impl Private {
     pub(crate) fn count_on(
         &mut self,
         shared: &mut [i32],
-        outside: &Outside,
+        outside: &StepContext,
         counting: &Counting,
     ) -> Result<Effect, Fault>
         requires { IsAddressable shared.old }

@@ -9,7 +9,7 @@ ghost use Rattle.cp_program.specs.View as view;
 
 use crate::called::{Back, Called};
 use crate::effect::Effect;
-use crate::outside::Outside;
+use crate::outside::StepContext;
 use crate::passing::Destination;
 use crate::private::Private;
 use cp_model::state::Fault;
@@ -44,7 +44,7 @@ impl Private {
         &mut self,
         program: &Program,
         shared: &mut [i32],
-        outside: &Outside,
+        outside: &StepContext,
         call: &Call,
         next: u32,
     ) -> Result<Effect, Fault>
@@ -85,7 +85,7 @@ impl Private {
         &mut self,
         program: &Program,
         shared: &mut [i32],
-        outside: &Outside,
+        outside: &StepContext,
         call: &Call,
         next: u32,
     ) -> Result<Effect, Fault>
@@ -122,7 +122,7 @@ impl Private {
         &mut self,
         program: &Program,
         shared: &mut [i32],
-        outside: &Outside,
+        outside: &StepContext,
         process: u32,
         arguments: &[Argument],
         words: u32,

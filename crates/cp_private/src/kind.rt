@@ -2,7 +2,7 @@
 
 ghost use Rattle.std.specs.Prelude.{◌≡◌, ℕ, List};
 ghost use Rattle.cp_private.specs.Kinds.{kind_of};
-ghost use Rattle.cp_private.specs.Promises.{TellsKind};
+ghost use Rattle.cp_private.specs.Promises.{ReportsKind};
 ghost use Rattle.cp_private.specs.States.{private_of};
 ghost use Rattle.cp_program.specs.View as view;
 
@@ -43,7 +43,7 @@ fn kind_at_counter(program: &Program, private: &Private) -> Kind
 pub fn next_kind(program: &Program, private: &Private) -> Kind
     ensures kind { (input : List ℕ) → result ≡ kind_of (view.program program.now)
         (private_of private.now input) }
-    ensures meaning { (input : List ℕ) → TellsKind program.now private.now input result }
+    ensures meaning { (input : List ℕ) → ReportsKind program.now private.now input result }
 {
     kind_at_counter(program, private)
 }

@@ -8,14 +8,14 @@
 //! `specs/Keeping.antt`. By the law of cp_model_machine, private steps and turns are those of the
 //! meaning (`specs/Promises.antt`).
 //!
-//! - `private`, `making`, `resident`: the private state, how it is made, copied and read, and its
+//! - `private`, `making`, `private_box`: the private state, how it is made, copied and read, and its
 //!   place in memory.
 //! - `outside`, `alone`, `effect`: what else a step reads, and what it leaves to the kernel.
 //! - `words`, `changing`, `reading`, `frames`: words, temps and frames.
 //! - `plans`, `starting`: how words start.
 //! - `assignments`, `counting`, `standards`, `targets`, `passing`, `called`, `calls`, `returns`,
 //!   `initialisation`: the steps of operations.
-//! - `quick`: the commonest steps, made in registers.
+//! - `fast_step`: the commonest steps, made in registers.
 //! - `step`, `turns`, `kind`, `resting`: a step of any operation, turns, whether the next step
 //!   is private or the kernel's, and processes that have no private step to make.
 #![tactic(auto)]
@@ -27,6 +27,7 @@ mod calls;
 mod changing;
 mod counting;
 pub mod effect;
+mod fast_step;
 mod frames;
 mod initialisation;
 pub mod kind;
@@ -35,9 +36,8 @@ pub mod outside;
 mod passing;
 mod plans;
 pub mod private;
-mod quick;
+pub mod private_box;
 mod reading;
-pub mod resident;
 mod resting;
 mod returns;
 mod standards;

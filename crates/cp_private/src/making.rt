@@ -20,7 +20,7 @@ use smallvec::SmallVec;
 use std::alloc::{AllocError, Global};
 
 /// A process has fewer words, and fewer temps, than this.
-const TOO_MANY: usize = 1 << 30;
+const WORD_COUNT_LIMIT: usize = 1 << 30;
 
 // The number of words that are left free after those of a process, so that no cache line holds
 // words of two processes, which may run at the same time.
@@ -91,7 +91,7 @@ impl Private {
         let needs = needs_of(program, process.body);
         let count = process.words as usize + needs.words as usize;
         let temps = needs.temps as usize;
-        if TOO_MANY <= count || TOO_MANY <= temps || TOO_MANY <= p {
+        if WORD_COUNT_LIMIT <= count || WORD_COUNT_LIMIT <= temps || WORD_COUNT_LIMIT <= p {
             return Err(AllocError);
         }
         Ok(Private {

@@ -20,7 +20,7 @@ pub struct Gate {
 
 /// What the kernel knows of a process.
 #[derive(Clone, Copy, Debug, PartialEq, Eq)]
-pub enum Stage {
+pub enum SchedulingState {
     Unstarted,
     /// Started in the current round.
     Fresh,
@@ -33,12 +33,12 @@ pub enum Stage {
 
 /// What else a step reads: the clock, the input of the process, and what the kernel knows.
 #[derive(Clone, Copy)]
-pub struct Outside<'a> {
+pub struct StepContext<'a> {
     /// The seconds since the start.
     pub clock: u64,
     pub input: &'a [u8],
     /// The gates of monitors by number, from 1.
     pub gates: &'a [Gate],
     /// What the kernel knows of processes, by number, from 1.
-    pub stages: &'a [Stage],
+    pub stages: &'a [SchedulingState],
 }

@@ -10,12 +10,12 @@ ghost use Rattle.cp_model_machine.specs.Values.{place_of, value_of};
 ghost use Rattle.cp_program.specs.Reaches.{cap_place};
 ghost use Rattle.cp_program.specs.View as view;
 
-use crate::outside::Outside;
+use crate::outside::StepContext;
 use crate::private::Private;
 use cp_model::state::Fault;
 use cp_program::bounds::Bounds;
 use cp_program::operation::{Argument, Target};
-use cp_program::term::{Spot, Term};
+use cp_program::term::{PlaceExpression, Term};
 
 /// Where arguments are put: the address of the first word there, and the address of the first
 /// word of the activation or component that they belong to in the end.
@@ -33,7 +33,7 @@ impl Private {
     fn pass_value(
         &mut self,
         shared: &mut [i32],
-        outside: &Outside,
+        outside: &StepContext,
         to: usize,
         far: &u32,
         bounds: &Bounds,
@@ -59,16 +59,16 @@ impl Private {
     fn pass_copy(
         &mut self,
         shared: &mut [i32],
-        outside: &Outside,
+        outside: &StepContext,
         at: usize,
         size: u32,
-        from: &Spot,
+        from: &PlaceExpression,
     ) -> Result<(), Fault>
         requires shared { IsAddressable shared.old }
         requires at { at < 2 ^ 36 }
         ensures step { (own : ℕ) → let o = join self.old outside.now.input.now shared.old in
             passing_of (join self.new outside.now.input.now shared.new) result ≡ plain.pass_result o
-            (place_of (view_of (outside_of outside.now own) o) (view.spot from.now))
+            (place_of (view_of (outside_of outside.now own) o) (view.place_expression from.now))
             (λ a. plain.pass_copy o at size a) }
         ensures kept { ChangesOnlyWords self.old shared.old self.new shared.new }
     {
@@ -94,15 +94,15 @@ impl Private {
     fn pass_reference(
         &mut self,
         shared: &mut [i32],
-        outside: &Outside,
+        outside: &StepContext,
         at: usize,
-        to: &Spot,
+        to: &PlaceExpression,
     ) -> Result<(), Fault>
         requires shared { IsAddressable shared.old }
         requires at { at < 2 ^ 36 }
         ensures step { (own : ℕ) → let o = join self.old outside.now.input.now shared.old in
             passing_of (join self.new outside.now.input.now shared.new) result ≡ plain.pass_result o
-            (place_of (view_of (outside_of outside.now own) o) (view.spot to.now))
+            (place_of (view_of (outside_of outside.now own) o) (view.place_expression to.now))
             (λ a. plain.pass_word o at (plain.reference_word o a)) }
         ensures kept { ChangesOnlyWords self.old shared.old self.new shared.new }
     {
@@ -130,7 +130,7 @@ impl Private {
     fn pass_any(
         &mut self,
         shared: &mut [i32],
-        outside: &Outside,
+        outside: &StepContext,
         destination: Destination,
         argument: &Argument,
     ) -> Result<(), Fault>
@@ -149,9 +149,10 @@ impl Private {
             Argument::Copy { at, size, from } => {
                 self.pass_copy(shared, outside, to + *at as usize, *size, from)
             }
-            Argument::Reference { at, to: spot } => {
-                self.pass_reference(shared, outside, to + *at as usize, spot)
-            }
+            Argument::Reference {
+                at,
+                to: place_expression,
+            } => { self.pass_reference(shared, outside, to + *at as usize, place_expression) }
             Argument::Right { at, of } => {
                 let far = *at as usize;
                 self.pass_right(shared, to + far, home + far, *of);
@@ -166,7 +167,7 @@ impl Private {
     pub(crate) fn pass_all(
         &mut self,
         shared: &mut [i32],
-        outside: &Outside,
+        outside: &StepContext,
         destination: Destination,
         arguments: &[Argument],
     ) -> Result<(), Fault>

@@ -9,17 +9,17 @@ ghost use Rattle.cp_model_machine.specs.Values.{place_of, value_of};
 ghost use Rattle.cp_program.specs.Reaches.{cap_place, capped_result, view_of};
 ghost use Rattle.cp_program.specs.View as view;
 
-use crate::outside::Outside;
+use crate::outside::StepContext;
 use crate::private::Private;
 use crate::words;
 use cp_model::state::Fault;
 use cp_program::reach::{OwnWords, Reach};
-use cp_program::term::{Spot, Term};
+use cp_program::term::{PlaceExpression, Term};
 
 impl Private {
     /// Returns what evaluation reads.
     #[inline(always)]
-    pub(crate) fn reach<'a>(&'a self, shared: &'a [i32], outside: &Outside) -> Reach<'a>
+    pub(crate) fn reach<'a>(&'a self, shared: &'a [i32], outside: &StepContext) -> Reach<'a>
         requires { IsAddressable shared.now }
         ensures { (input : List ℕ) (own : ℕ) → view_of result ≡ plain.view_of
             (outside_of outside.now own) (join self.now input shared.now) }
@@ -43,7 +43,7 @@ impl Private {
 
     // Terms that go deeper, or have a fault, are rare enough for a call and a result in memory.
     #[inline(never)]
-    fn deep_value(&self, shared: &[i32], outside: &Outside, term: &Term) -> Result<i32, Fault>
+    fn deep_value(&self, shared: &[i32], outside: &StepContext, term: &Term) -> Result<i32, Fault>
         requires { IsAddressable shared.now }
         ensures { (input : List ℕ) (own : ℕ) → result ≡ value_of
             (plain.view_of (outside_of outside.now own) (join self.now input shared.now))
@@ -53,13 +53,18 @@ impl Private {
     }
 
     #[inline(never)]
-    fn deep_place(&self, shared: &[i32], outside: &Outside, spot: &Spot) -> Result<usize, Fault>
+    fn deep_place(
+        &self,
+        shared: &[i32],
+        outside: &StepContext,
+        place_expression: &PlaceExpression,
+    ) -> Result<usize, Fault>
         requires { IsAddressable shared.now }
         ensures { (input : List ℕ) (own : ℕ) → result ≡ capped_result (place_of
             (plain.view_of (outside_of outside.now own) (join self.now input shared.now))
-            (view.spot spot.now)) }
+            (view.place_expression place_expression.now)) }
     {
-        spot.place(&self.reach(shared, outside))
+        place_expression.place(&self.reach(shared, outside))
     }
 
     /// Returns the value of a term.
@@ -67,7 +72,7 @@ impl Private {
     pub(crate) fn evaluate(
         &self,
         shared: &[i32],
-        outside: &Outside,
+        outside: &StepContext,
         term: &Term,
     ) -> Result<i32, Fault>
         requires { IsAddressable shared.now }
@@ -80,7 +85,7 @@ impl Private {
         if !shared.is_empty() {
             return term.value_here(&self.reach(shared, outside));
         }
-        match term.near_argument::<OwnWords>(&self.memory, shared) {
+        match term.fast_argument::<OwnWords>(&self.memory, shared) {
             Some(n) => Ok(n),
             None => self.deep_value(shared, outside, term),
         }
@@ -92,20 +97,20 @@ impl Private {
     pub(crate) fn place(
         &self,
         shared: &[i32],
-        outside: &Outside,
-        spot: &Spot,
+        outside: &StepContext,
+        place_expression: &PlaceExpression,
     ) -> Result<usize, Fault>
         requires { IsAddressable shared.now }
         ensures { (input : List ℕ) (own : ℕ) → result ≡ capped_result (place_of
             (plain.view_of (outside_of outside.now own) (join self.now input shared.now))
-            (view.spot spot.now)) }
+            (view.place_expression place_expression.now)) }
     {
         if !shared.is_empty() {
-            return spot.place(&self.reach(shared, outside));
+            return place_expression.place(&self.reach(shared, outside));
         }
-        match spot.near_place::<OwnWords>(&self.memory, shared) {
+        match place_expression.fast_place::<OwnWords>(&self.memory, shared) {
             Some(at) => Ok(at),
-            None => self.deep_place(shared, outside, spot),
+            None => self.deep_place(shared, outside, place_expression),
         }
     }
 }

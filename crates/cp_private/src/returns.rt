@@ -9,10 +9,10 @@ ghost use Rattle.cp_program.specs.View as view;
 
 use crate::effect::Effect;
 use crate::frames::leaves;
-use crate::outside::Outside;
+use crate::outside::StepContext;
 use crate::private::Private;
 use cp_model::state::Fault;
-use cp_program::term::Spot;
+use cp_program::term::PlaceExpression;
 
 impl Private {
     /// Returns from the running routine. It is a fault if a function has set no result.
@@ -20,7 +20,7 @@ impl Private {
     pub(crate) fn leave_routine(
         &mut self,
         shared: &[i32],
-        outside: &Outside,
+        outside: &StepContext,
         function: bool,
     ) -> Result<Effect, Fault>
         requires { IsAddressable shared.now }
@@ -38,7 +38,11 @@ impl Private {
     }
 
     /// Ends the body of a component.
-    pub(crate) fn end_body(&mut self, shared: &[i32], outside: &Outside) -> Result<Effect, Fault>
+    pub(crate) fn end_body(
+        &mut self,
+        shared: &[i32],
+        outside: &StepContext,
+    ) -> Result<Effect, Fault>
         requires { IsAddressable shared.now }
         ensures step { IsStep self.old shared.now outside.now self.new shared.now result
             (λ w o. calling.with_frame o o.frames (λ f fs. (
@@ -59,13 +63,13 @@ impl Private {
     pub(crate) fn leave_by_continue(
         &mut self,
         shared: &mut [i32],
-        outside: &Outside,
-        queue: &Spot,
+        outside: &StepContext,
+        queue: &PlaceExpression,
         function: bool,
     ) -> Result<Effect, Fault>
         requires { IsAddressable shared.old }
         ensures step { IsStep self.old shared.old outside.now self.new shared.new result
-            (λ w o. plain.with_place w o (view.spot queue.now) (λ at. plain.continue o at
+            (λ w o. plain.with_place w o (view.place_expression queue.now) (λ at. plain.continue o at
             function)) }
         ensures kept { KeepsRest self.old shared.old self.new shared.new }
     {

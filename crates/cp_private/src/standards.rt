@@ -11,11 +11,11 @@ ghost use Rattle.cp_model_machine.specs.Steps as plain;
 ghost use Rattle.cp_program.specs.View as view;
 
 use crate::effect::Effect;
-use crate::outside::Outside;
+use crate::outside::StepContext;
 use crate::private::{Activity, Private};
 use cp_model::state::Fault;
 use cp_program::bounds::Bounds;
-use cp_program::term::{Spot, Term};
+use cp_program::term::{PlaceExpression, Term};
 use itoa::Buffer;
 
 // Returns a character as its byte.
@@ -63,7 +63,7 @@ impl Private {
     pub(crate) fn display(
         &mut self,
         shared: &[i32],
-        outside: &Outside,
+        outside: &StepContext,
         value: &Term,
         as_byte: bool,
         next: u32,
@@ -88,14 +88,14 @@ impl Private {
     pub(crate) fn accept(
         &mut self,
         shared: &mut [i32],
-        outside: &Outside,
-        to: &Spot,
+        outside: &StepContext,
+        to: &PlaceExpression,
         bounds: Bounds,
         next: u32,
     ) -> Result<Effect, Fault>
         requires { IsAddressable shared.old }
         ensures step { IsStep self.old shared.old outside.now self.new shared.new result
-            (λ w o. plain.with_place w o (view.spot to.now) (λ at. plain.accept o at bounds.low
+            (λ w o. plain.with_place w o (view.place_expression to.now) (λ at. plain.accept o at bounds.low
             bounds.high next)) }
         ensures kept { KeepsRest self.old shared.old self.new shared.new }
     {
@@ -114,13 +114,13 @@ impl Private {
     pub(crate) fn delay(
         &mut self,
         shared: &mut [i32],
-        outside: &Outside,
-        queue: &Spot,
+        outside: &StepContext,
+        queue: &PlaceExpression,
         next: u32,
     ) -> Result<Effect, Fault>
         requires { IsAddressable shared.old }
         ensures step { IsStep self.old shared.old outside.now self.new shared.new result
-            (λ w o. plain.with_place w o (view.spot queue.now) (λ at. plain.delay o at next)) }
+            (λ w o. plain.with_place w o (view.place_expression queue.now) (λ at. plain.delay o at next)) }
         ensures kept { KeepsRest self.old shared.old self.new shared.new }
     {
         let at = self.place(shared, outside, queue)?;
@@ -148,7 +148,7 @@ impl Private {
     pub(crate) fn wait(
         &mut self,
         shared: &[i32],
-        outside: &Outside,
+        outside: &StepContext,
         next: u32,
     ) -> Result<Effect, Fault>
         ensures step { IsStep self.old shared.now outside.now self.new shared.now result
@@ -162,7 +162,7 @@ impl Private {
     }
 
     /// Ends the process.
-    pub(crate) fn end(&mut self, shared: &[i32], outside: &Outside) -> Result<Effect, Fault>
+    pub(crate) fn end(&mut self, shared: &[i32], outside: &StepContext) -> Result<Effect, Fault>
         ensures step { IsStep self.old shared.now outside.now self.new shared.now result
             (λ w o. private_outcome (record o { activity = states.Ended })) }
         ensures kept { KeepsOwn self.old self.new }

@@ -13,9 +13,9 @@ ghost use Rattle.cp_program.specs.View as view;
 
 use crate::called::Back;
 use crate::effect::Effect;
-use crate::outside::Outside;
+use crate::fast_step::FastPath;
+use crate::outside::StepContext;
 use crate::private::{Activity, Private};
-use crate::quick::Attempt;
 use cp_model::state::Fault;
 use cp_program::operation::{Call, Operation, Target};
 use cp_program::program::Program;
@@ -31,7 +31,7 @@ impl Private {
         operation: &Operation,
         program: &Program,
         shared: &mut [i32],
-        outside: &Outside,
+        outside: &StepContext,
     ) -> Result<Effect, Fault>
         requires shared { IsAddressable shared.old }
         requires room { HasRoomFor self.old 1 }
@@ -107,7 +107,7 @@ impl Private {
         operation: &Operation,
         program: &Program,
         shared: &mut [i32],
-        outside: &Outside,
+        outside: &StepContext,
     ) -> Effect
         requires shared { IsAddressable shared.old }
         requires room { HasRoomFor self.old 1 }
@@ -152,7 +152,13 @@ impl Private {
     // Makes a private call. Returns whether one more step may be private. Within the loop over
     // steps it would take registers from all other steps.
     #[inline(never)]
-    fn take_call(&mut self, program: &Program, outside: &Outside, call: &Call, link: Back) -> bool
+    fn take_call(
+        &mut self,
+        program: &Program,
+        outside: &StepContext,
+        call: &Call,
+        link: Back,
+    ) -> bool
         requires { IsReady self.old }
         ensures step { let w = outside_of outside.now (length self.old.memory.words.items) in
             let input = outside.now.input.now in join self.new input []
@@ -174,7 +180,12 @@ impl Private {
     // Makes the next step of a process that is ready, which is that of the operation, if the step
     // is private. Returns whether one more step may be private.
     #[inline(always)]
-    fn take_step_of(&mut self, operation: &Operation, program: &Program, outside: &Outside) -> bool
+    fn take_step_of(
+        &mut self,
+        operation: &Operation,
+        program: &Program,
+        outside: &StepContext,
+    ) -> bool
         requires alone { IsAlone outside.now }
         requires ready { IsReady self.old }
         requires room { HasRoomFor self.old 1 }
@@ -202,7 +213,7 @@ impl Private {
         &mut self,
         operation: &Operation,
         program: &Program,
-        outside: &Outside,
+        outside: &StepContext,
     ) -> bool
         requires alone { IsAlone outside.now }
         requires ready { IsReady self.old }
@@ -223,7 +234,12 @@ impl Private {
 
     // The same for an operation that calls.
     #[inline(always)]
-    fn take_call_of(&mut self, operation: &Operation, program: &Program, outside: &Outside) -> bool
+    fn take_call_of(
+        &mut self,
+        operation: &Operation,
+        program: &Program,
+        outside: &StepContext,
+    ) -> bool
         requires alone { IsAlone outside.now }
         requires ready { IsReady self.old }
         requires room { HasRoomFor self.old 1 }
@@ -255,7 +271,7 @@ impl Private {
     /// Makes the next step of a process that is ready, if the step is private. Returns whether one
     /// more step may be private.
     #[inline(always)]
-    pub(crate) fn take_step(&mut self, program: &Program, outside: &Outside) -> bool
+    pub(crate) fn take_step(&mut self, program: &Program, outside: &StepContext) -> bool
         requires alone { IsAlone outside.now }
         requires ready { IsReady self.old }
         requires room { HasRoomFor self.old 1 }
@@ -273,15 +289,15 @@ impl Private {
         }
         let operation = program.operation_at(self.counter);
         if let Operation::Return { function } = operation {
-            return match self.return_quickly(&[], *function) {
+            return match self.return_fast(&[], *function) {
                 Some(_) => true,
                 None => self.take_rare_step(operation, program, outside),
             };
         }
-        match self.take_quick_step::<OwnWords>(&mut [], operation) {
-            Attempt::Made => true,
-            Attempt::Calls => self.take_call_of(operation, program, outside),
-            Attempt::Rare => self.take_rare_step(operation, program, outside),
+        match self.take_fast_step::<OwnWords>(&mut [], operation) {
+            FastPath::Made => true,
+            FastPath::Calls => self.take_call_of(operation, program, outside),
+            FastPath::Rare => self.take_rare_step(operation, program, outside),
         }
     }
 }

@@ -10,12 +10,12 @@ ghost use Rattle.cp_model_machine.specs.Passing as plain;
 ghost use Rattle.cp_program.specs.View as view;
 
 use crate::called::Called;
-use crate::outside::{Holder, Outside, Stage};
+use crate::outside::{Holder, SchedulingState, StepContext};
 use crate::private::Private;
 use cp_program::operation::Target;
 use cp_program::program::Program;
 
-impl<'a> Outside<'a> {
+impl<'a> StepContext<'a> {
     // Whether the monitor has been initialised.
     fn is_set(&self, monitor: u32) -> bool
         ensures { result ≡ kernel.is_set (holder_of self.now.gates.now monitor) }
@@ -37,7 +37,7 @@ impl<'a> Outside<'a> {
             return true;
         }
         match self.stages.get(process as usize - 1) {
-            Some(Stage::Unstarted) => false,
+            Some(SchedulingState::Unstarted) => false,
             _ => true,
         }
     }
@@ -107,7 +107,7 @@ impl Private {
     pub(crate) fn monitor_callee(
         &self,
         program: &Program,
-        outside: &Outside,
+        outside: &StepContext,
         monitor: u32,
     ) -> Called
         ensures { called_of result ≡ plain.monitor_called (view.program program.now)
@@ -126,7 +126,7 @@ impl Private {
         &self,
         program: &Program,
         shared: &[i32],
-        outside: &Outside,
+        outside: &StepContext,
         target: Target,
     ) -> Called
         requires { IsAddressable shared.now }

@@ -3,17 +3,17 @@
 ghost use Rattle.std.specs.Prelude.{◌≡◌, ◌≢◌, ◌≤◌, ◌+◌, ◌*◌, None, IfSome, length, vec_capacity, vec_len};
 ghost use Rattle.cp_private.specs.Keeping.{IsAddressable, KeepsRest, KeepsRestButOutput};
 ghost use Rattle.cp_private.specs.Promises.{MakesKernelStep, MakesStep, MakesTurn};
-ghost use Rattle.cp_private.specs.Quick.{Makes, Stays, left_by};
-ghost use Rattle.cp_private.specs.declared.turns.Tried.TheVariants as tried_case;
+ghost use Rattle.cp_private.specs.FastStep.{Makes, Stays, left_by};
+ghost use Rattle.cp_private.specs.declared.turns.FastKernelPath.TheVariants as fast_kernel_path_case;
 ghost use Rattle.cp_private.specs.Rooms.{HasRoomFor, KeepsRoom};
 ghost use Rattle.cp_private.specs.States.{IsAlone, effect, join, outside_of, private_of};
 ghost use Rattle.cp_model_machine.specs.Steps as plain;
 ghost use Rattle.cp_program.specs.View as view;
 
 use crate::effect::Effect;
-use crate::outside::Outside;
+use crate::fast_step::FastPath;
+use crate::outside::StepContext;
 use crate::private::Private;
-use crate::quick::Attempt;
 use cp_base_config::turn::Turn;
 use cp_model::law::invariant;
 use cp_model_machine::law;
@@ -24,7 +24,7 @@ use cp_program::reach::AllWords;
 // Makes `count` steps, as long as the next one is private. It isn't inlined: in a function with
 // more than this loop LLVM leaves tests of the steps' own results.
 #[inline(never)]
-fn take_steps(program: &Program, private: &mut Private, outside: &Outside, count: u32)
+fn take_steps(program: &Program, private: &mut Private, outside: &StepContext, count: u32)
     requires alone { IsAlone outside.now }
     requires room { HasRoomFor private.old count }
     ensures steps { private_of private.new outside.now.input.now ≡ plain.private_steps
@@ -52,7 +52,7 @@ pub fn private_step(program: &Program, private: &mut Private, input: &[u8], cloc
     ensures number { private.new.number ≡ private.old.number }
     ensures room { KeepsRoom private.old private.new }
 {
-    take_steps(program, private, &Outside::alone(input, clock), 1);
+    take_steps(program, private, &StepContext::alone(input, clock), 1);
     law::private_steps();
     invariant();
 }
@@ -71,7 +71,7 @@ pub fn private_turn(program: &Program, private: &mut Private, input: &[u8], cloc
     take_steps(
         program,
         private,
-        &Outside::alone(input, clock),
+        &StepContext::alone(input, clock),
         turn.steps(),
     );
     law::private_steps();
@@ -79,7 +79,12 @@ pub fn private_turn(program: &Program, private: &mut Private, input: &[u8], cloc
 }
 
 // Makes the step of the next operation, if there is one.
-fn act(program: &Program, private: &mut Private, shared: &mut [i32], outside: &Outside) -> Effect
+fn act(
+    program: &Program,
+    private: &mut Private,
+    shared: &mut [i32],
+    outside: &StepContext,
+) -> Effect
     requires shared { IsAddressable shared.old }
     requires room { HasRoomFor private.old 1 }
     ensures step { let w = outside_of outside.now (length private.old.memory.words.items) in
@@ -99,7 +104,7 @@ pub fn step(
     program: &Program,
     private: &mut Private,
     shared: &mut [i32],
-    outside: &Outside,
+    outside: &StepContext,
 ) -> Effect
     requires shared { IsAddressable shared.old }
     requires room { HasRoomFor private.old 1 }
@@ -117,7 +122,7 @@ pub fn step(
 
 /// What became of a step that was tried in registers, of a process that holds a gate.
 #[derive(Clone, Copy)]
-pub enum Tried {
+pub enum FastKernelPath {
     /// The step was made, and the process holds the same gate.
     Made,
     /// The step was made: the routine returned, and left this gate, or none if the number is 0.
@@ -128,29 +133,33 @@ pub enum Tried {
 
 /// Makes the next step of a process that holds a gate, if the step takes no more than registers.
 #[inline(always)]
-pub fn step_in_registers(program: &Program, private: &mut Private, shared: &mut [i32]) -> Tried
+pub fn step_in_registers(
+    program: &Program,
+    private: &mut Private,
+    shared: &mut [i32],
+) -> FastKernelPath
     requires shared { IsAddressable shared.old }
     requires held { private.old.gate ≢ 0 }
     ensures step { IfSome (left_by result)
         (Makes (plain.step_with (view.program program.now)) private.old shared.old private.new
         shared.new) }
     ensures same { left_by result ≡ None → Stays private.old shared.old private.new shared.new }
-    ensures held { result ≡ tried_case.Made → private.new.gate ≡ private.old.gate }
+    ensures held { result ≡ fast_kernel_path_case.Made → private.new.gate ≡ private.old.gate }
     ensures activity { private.new.activity ≡ private.old.activity }
     ensures kept { KeepsRest private.old shared.old private.new shared.new }
 {
     if !program.has_operation(private.counter) {
-        return Tried::NotMade;
+        return FastKernelPath::NotMade;
     }
     let operation = program.operation_at(private.counter);
     if let Operation::Return { function } = operation {
-        return match private.return_quickly(shared, *function) {
-            Some(gate) => Tried::Returned(gate),
-            None => Tried::NotMade,
+        return match private.return_fast(shared, *function) {
+            Some(gate) => FastKernelPath::Returned(gate),
+            None => FastKernelPath::NotMade,
         };
     }
-    match private.take_quick_step::<AllWords>(shared, operation) {
-        Attempt::Made => Tried::Made,
-        Attempt::Calls | Attempt::Rare => Tried::NotMade,
+    match private.take_fast_step::<AllWords>(shared, operation) {
+        FastPath::Made => FastKernelPath::Made,
+        FastPath::Calls | FastPath::Rare => FastKernelPath::NotMade,
     }
 }

@@ -7,18 +7,18 @@ use Rattle.cp_model.specs.Places.{within}
 use Rattle.cp_model_program.specs.Functions.{unless}
 use Rattle.cp_model_program.specs.Layout.{distance}
 use Rattle.cp_model_program.specs.Terms as plain
-use Rattle.cp_model_program.specs.TermsFor.{move_spot}
+use Rattle.cp_model_program.specs.TermsFor.{move_place_expression}
 use Rattle.cp_model_program.specs.Starts.{word}
 use Rattle.cp_model_machine.specs.Values.{View, apply, bind, place_of, root_place, value_of}
 use Rattle.cp_program.specs.declared.term.Operand.{Operand}
 use Rattle.cp_program.specs.declared.term.Root.{Root}
 use Rattle.cp_program.specs.declared.term.Term.{Term, out-Term, roll-Term}
-use Rattle.cp_program.specs.declared.term.Spot.{Spot, out-Spot, roll-Spot}
+use Rattle.cp_program.specs.declared.term.PlaceExpression.{PlaceExpression, out-PlaceExpression, roll-PlaceExpression}
 use Rattle.cp_program.specs.declared.term.Index.{Index, out-Index, roll-Index}
 use Rattle.cp_program.specs.declared.term.Application.{Application}
-use Rattle.cp_program.specs.declared.term.Application.TheFolds.{fold-roll-Index, fold-roll-Spot, fold-roll-Term, fold_out-Index, fold_out-Spot, fold_out-Term}
+use Rattle.cp_program.specs.declared.term.Application.TheFolds.{fold-roll-Index, fold-roll-PlaceExpression, fold-roll-Term, fold_out-Index, fold_out-PlaceExpression, fold_out-Term}
 use Rattle.cp_program.specs.Reaches.{apply_operation, cap_place, capped_result, chain_value, elements_place, offset_of}
-use Rattle.cp_program.specs.View.{After, Before, PlainApplication, PlainIndex, application, application_layer, applied_to, chain_of, elements_of, index, index_layer, operand, operand_layer, root, spot, spot_layer, term, term_layer}
+use Rattle.cp_program.specs.View.{After, Before, PlainApplication, PlainIndex, application, application_layer, applied_to, chain_of, elements_of, index, index_layer, operand, operand_layer, root, place_expression, place_expression_layer, term, term_layer}
 
 -- The value of a chain is computed from its first operand and then from the others.
 pub value_chain : (v : View) (e : plain.Term) (xs : List PlainApplication)
@@ -44,7 +44,7 @@ value_chain v e (Before o left ∷ os) = value_chain v (plain.Binary o (plain.It
     before (Err f) = refl
 
 -- The place of an element is the place of the whole, moved on as far as the indices lead.
-pub place_elements : (v : View) (s : plain.Spot) (is : List PlainIndex)
+pub place_elements : (v : View) (s : plain.PlaceExpression) (is : List PlainIndex)
     → place_of v (elements_of s is) ≡ bind (place_of v s) (λ at. elements_place v at is)
 place_elements v s [] = keep (place_of v s)
   where
@@ -53,15 +53,15 @@ place_elements v s [] = keep (place_of v s)
     keep (Err f) = refl
 place_elements v s (i ∷ is) = place_elements v (plain.Element s i.low i.high i.size i.plus i.value) is ∙ after (place_of v s)
   where
-    move_spot : (b : Bool) (a far : ℕ) → bind (unless b fault.Index (a + far)) (λ c. elements_place v c is)
+    move_place_expression : (b : Bool) (a far : ℕ) → bind (unless b fault.Index (a + far)) (λ c. elements_place v c is)
         ≡ bind (unless b fault.Index far) (λ k. elements_place v (a + k) is)
-    move_spot true a far = refl
-    move_spot false a far = refl
+    move_place_expression true a far = refl
+    move_place_expression false a far = refl
 
     last : (r : Result ℤ Fault) (a : ℕ)
         → bind (bind r (λ n. unless (within i.low i.high n) fault.Index (a + (distance i.low n * i.size + i.plus)))) (λ b. elements_place v b is)
         ≡ bind r (λ n. bind (offset_of i n) (λ k. elements_place v (a + k) is))
-    last (Ok y) a = move_spot (within i.low i.high y) a (distance i.low y * i.size + i.plus)
+    last (Ok y) a = move_place_expression (within i.low i.high y) a (distance i.low y * i.size + i.plus)
     last (Err f) a = refl
 
     after : (r : Result ℕ Fault)
@@ -91,13 +91,13 @@ elements_capped v a b (i ∷ is) h = by (value_of v i.value) (λ k. elements_cap
     by (Err f) rest = refl
 
 pub term_is : (t : Term) → term t ≡ chain_of (operand (out-Term t).first) (map application (out-Term t).rest.items)
-term_is = fold_out-Term PlainApplication plain.Term PlainIndex plain.Spot plain.Term application_layer operand_layer index_layer spot_layer term_layer
+term_is = fold_out-Term PlainApplication plain.Term PlainIndex plain.PlaceExpression plain.Term application_layer operand_layer index_layer place_expression_layer term_layer
 
-pub spot_is : (s : Spot) → spot s ≡ elements_of (plain.Rooted (root (out-Spot s).root)) (map index (out-Spot s).indices.items)
-spot_is = fold_out-Spot PlainApplication plain.Term PlainIndex plain.Spot plain.Term application_layer operand_layer index_layer spot_layer term_layer
+pub place_expression_is : (s : PlaceExpression) → place_expression s ≡ elements_of (plain.Rooted (root (out-PlaceExpression s).root)) (map index (out-PlaceExpression s).indices.items)
+place_expression_is = fold_out-PlaceExpression PlainApplication plain.Term PlainIndex plain.PlaceExpression plain.Term application_layer operand_layer index_layer place_expression_layer term_layer
 
 pub index_is : (i : Index) → index i ≡ (let x = out-Index i in record { low = x.low; high = x.high; size = x.size; plus = x.plus; value = term x.value })
-index_is = fold_out-Index PlainApplication plain.Term PlainIndex plain.Spot plain.Term application_layer operand_layer index_layer spot_layer term_layer
+index_is = fold_out-Index PlainApplication plain.Term PlainIndex plain.PlaceExpression plain.Term application_layer operand_layer index_layer place_expression_layer term_layer
 
 -- ---- Chains that grow
 
@@ -105,29 +105,29 @@ pub chain_more : (e : plain.Term) (xs : List PlainApplication) (x : PlainApplica
 chain_more e [] x = refl
 chain_more e (y ∷ ys) x = chain_more (applied_to e y) ys x
 
-pub elements_more : (s : plain.Spot) (is : List PlainIndex) (i : PlainIndex)
+pub elements_more : (s : plain.PlaceExpression) (is : List PlainIndex) (i : PlainIndex)
     → elements_of s (is ++ i ∷ []) ≡ plain.Element (elements_of s is) i.low i.high i.size i.plus i.value
 elements_more s [] i = refl
 elements_more s (j ∷ js) i = elements_more (plain.Element s j.low j.high j.size j.plus j.value) js i
 
 pub term_rolled : (first : Operand) (rest : Vec Application Global)
     → term (roll-Term (record { first = first; rest = rest })) ≡ chain_of (operand first) (map application rest.items)
-term_rolled first rest = fold-roll-Term PlainApplication plain.Term PlainIndex plain.Spot plain.Term application_layer operand_layer index_layer spot_layer term_layer _
+term_rolled first rest = fold-roll-Term PlainApplication plain.Term PlainIndex plain.PlaceExpression plain.Term application_layer operand_layer index_layer place_expression_layer term_layer _
 
-pub spot_rolled : (r : Root) (is : Vec Index Global)
-    → spot (roll-Spot (record { root = r; indices = is })) ≡ elements_of (plain.Rooted (root r)) (map index is.items)
-spot_rolled r is = fold-roll-Spot PlainApplication plain.Term PlainIndex plain.Spot plain.Term application_layer operand_layer index_layer spot_layer term_layer _
+pub place_expression_rolled : (r : Root) (is : Vec Index Global)
+    → place_expression (roll-PlaceExpression (record { root = r; indices = is })) ≡ elements_of (plain.Rooted (root r)) (map index is.items)
+place_expression_rolled r is = fold-roll-PlaceExpression PlainApplication plain.Term PlainIndex plain.PlaceExpression plain.Term application_layer operand_layer index_layer place_expression_layer term_layer _
 
 pub index_rolled : (low high : ℤ) (size plus : ℕ) (value : Term)
     → index (roll-Index (record { low = low; high = high; size = size; plus = plus; value = value }))
     ≡ record { low = low; high = high; size = size; plus = plus; value = term value }
 index_rolled low high size plus value =
-    fold-roll-Index PlainApplication plain.Term PlainIndex plain.Spot plain.Term application_layer operand_layer index_layer spot_layer term_layer _
+    fold-roll-Index PlainApplication plain.Term PlainIndex plain.PlaceExpression plain.Term application_layer operand_layer index_layer place_expression_layer term_layer _
 
 -- The last index can lead further on.
-pub elements_moved : (n : ℕ) (s : plain.Spot) (xs : List Index) (j : ℕ) (y d : Index) → suc j ≡ length xs
+pub elements_moved : (n : ℕ) (s : plain.PlaceExpression) (xs : List Index) (j : ℕ) (y d : Index) → suc j ≡ length xs
     → index y ≡ (let i = index (get_or xs j d) in record { low = i.low; high = i.high; size = i.size; plus = i.plus + n; value = i.value })
-    → elements_of s (map index (set xs j y)) ≡ move_spot n (elements_of s (map index xs))
+    → elements_of s (map index (set xs j y)) ≡ move_place_expression n (elements_of s (map index xs))
 elements_moved n s [] j y d h e = absurd (omega arith)
 elements_moved n s (x ∷ []) zero y d h e = ap (λ i. plain.Element s i.low i.high i.size i.plus i.value) e
 elements_moved n s (x ∷ []) (suc j) y d h e = absurd (omega arith)

@@ -13,10 +13,10 @@ use Rattle.cp_program.specs.declared.term.Function.TheVariants as function_case
 use Rattle.cp_program.specs.declared.term.Operand.{Operand}
 use Rattle.cp_program.specs.declared.term.Application.{Application}
 use Rattle.cp_program.specs.declared.term.Index.{Index}
-use Rattle.cp_program.specs.declared.term.Spot.{Spot}
+use Rattle.cp_program.specs.declared.term.PlaceExpression.{PlaceExpression}
 use Rattle.cp_program.specs.declared.term.Term.{Term}
-use Rattle.cp_program.specs.declared.term.Application.TheOpen.{Application-F, Index-F, Operand-F, Spot-F, Term-F}
-use Rattle.cp_program.specs.declared.term.Application.TheFolds.{fold-Application, fold-Index, fold-Operand, fold-Spot, fold-Term}
+use Rattle.cp_program.specs.declared.term.Application.TheOpen.{Application-F, Index-F, Operand-F, PlaceExpression-F, Term-F}
+use Rattle.cp_program.specs.declared.term.Application.TheFolds.{fold-Application, fold-Index, fold-Operand, fold-PlaceExpression, fold-Term}
 use Rattle.cp_program.specs.declared.operation.Target.{Target}
 use Rattle.cp_program.specs.declared.operation.Target.TheVariants as target_case
 use Rattle.cp_program.specs.declared.operation.Argument.{Argument}
@@ -72,11 +72,11 @@ chain_of e [] = e
 chain_of e (x ∷ xs) = chain_of (applied_to e x) xs
 
 -- The element of an element, and so on, one for each index.
-abbrev pub elements_of : plain.Spot → List PlainIndex → plain.Spot
+abbrev pub elements_of : plain.PlaceExpression → List PlainIndex → plain.PlaceExpression
 elements_of s [] = s
 elements_of s (i ∷ is) = elements_of (plain.Element s i.low i.high i.size i.plus i.value) is
 
-abbrev pub operand_layer : Operand-F PlainApplication plain.Term PlainIndex plain.Spot plain.Term → plain.Term
+abbrev pub operand_layer : Operand-F PlainApplication plain.Term PlainIndex plain.PlaceExpression plain.Term → plain.Term
 operand_layer (Operand-F.Number n) = plain.Number n
 operand_layer (Operand-F.Made temp) = plain.Made temp
 operand_layer (Operand-F.Local at) = plain.Item (plain.Rooted (plain.Local at))
@@ -97,7 +97,7 @@ local at = plain.Item (plain.Rooted (plain.Local at))
 abbrev pub member : ℕ → plain.Term
 member at = plain.Item (plain.Rooted (plain.Member at))
 
-abbrev pub application_layer : Application-F PlainApplication plain.Term PlainIndex plain.Spot plain.Term → PlainApplication
+abbrev pub application_layer : Application-F PlainApplication plain.Term PlainIndex plain.PlaceExpression plain.Term → PlainApplication
 application_layer (Application-F.AddNumber n) = After a.Add (plain.Number n)
 application_layer (Application-F.SubtractNumber n) = After a.Subtract (plain.Number n)
 application_layer (Application-F.MultiplyNumber n) = After a.Multiply (plain.Number n)
@@ -117,29 +117,29 @@ application_layer (Application-F.LocalBefore o at) = Before (operator_of o) (pla
 application_layer (Application-F.MemberBefore o at) = Before (operator_of o) (plain.Member at)
 application_layer (Application-F.WithOperand o x) = After (operator_of o) x
 
-abbrev pub index_layer : Index-F PlainApplication plain.Term PlainIndex plain.Spot plain.Term → PlainIndex
+abbrev pub index_layer : Index-F PlainApplication plain.Term PlainIndex plain.PlaceExpression plain.Term → PlainIndex
 index_layer i = record { low = i.low; high = i.high; size = i.size; plus = i.plus; value = i.value }
 
-abbrev pub spot_layer : Spot-F PlainApplication plain.Term PlainIndex plain.Spot plain.Term → plain.Spot
-spot_layer s = elements_of (plain.Rooted (root s.root)) s.indices.items
+abbrev pub place_expression_layer : PlaceExpression-F PlainApplication plain.Term PlainIndex plain.PlaceExpression plain.Term → plain.PlaceExpression
+place_expression_layer s = elements_of (plain.Rooted (root s.root)) s.indices.items
 
-abbrev pub term_layer : Term-F PlainApplication plain.Term PlainIndex plain.Spot plain.Term → plain.Term
+abbrev pub term_layer : Term-F PlainApplication plain.Term PlainIndex plain.PlaceExpression plain.Term → plain.Term
 term_layer t = chain_of t.first t.rest.items
 
 abbrev pub operand : Operand → plain.Term
-operand = fold-Operand PlainApplication plain.Term PlainIndex plain.Spot plain.Term application_layer operand_layer index_layer spot_layer term_layer
+operand = fold-Operand PlainApplication plain.Term PlainIndex plain.PlaceExpression plain.Term application_layer operand_layer index_layer place_expression_layer term_layer
 
 abbrev pub application : Application → PlainApplication
-application = fold-Application PlainApplication plain.Term PlainIndex plain.Spot plain.Term application_layer operand_layer index_layer spot_layer term_layer
+application = fold-Application PlainApplication plain.Term PlainIndex plain.PlaceExpression plain.Term application_layer operand_layer index_layer place_expression_layer term_layer
 
 abbrev pub index : Index → PlainIndex
-index = fold-Index PlainApplication plain.Term PlainIndex plain.Spot plain.Term application_layer operand_layer index_layer spot_layer term_layer
+index = fold-Index PlainApplication plain.Term PlainIndex plain.PlaceExpression plain.Term application_layer operand_layer index_layer place_expression_layer term_layer
 
-abbrev pub spot : Spot → plain.Spot
-spot = fold-Spot PlainApplication plain.Term PlainIndex plain.Spot plain.Term application_layer operand_layer index_layer spot_layer term_layer
+abbrev pub place_expression : PlaceExpression → plain.PlaceExpression
+place_expression = fold-PlaceExpression PlainApplication plain.Term PlainIndex plain.PlaceExpression plain.Term application_layer operand_layer index_layer place_expression_layer term_layer
 
 abbrev pub term : Term → plain.Term
-term = fold-Term PlainApplication plain.Term PlainIndex plain.Spot plain.Term application_layer operand_layer index_layer spot_layer term_layer
+term = fold-Term PlainApplication plain.Term PlainIndex plain.PlaceExpression plain.Term application_layer operand_layer index_layer place_expression_layer term_layer
 
 -- ---- Operations
 
@@ -152,8 +152,8 @@ target (target_case.MonitorRight at) = plain.MonitorRight at
 
 abbrev pub argument : Argument → plain.Argument
 argument (argument_case.Value at b t) = plain.Value at b.low b.high (term t)
-argument (argument_case.Copy at size from) = plain.Copy at size (spot from)
-argument (argument_case.Reference at to) = plain.Reference at (spot to)
+argument (argument_case.Copy at size from) = plain.Copy at size (place_expression from)
+argument (argument_case.Reference at to) = plain.Reference at (place_expression to)
 argument (argument_case.Right at of) = plain.Right at (target of)
 
 abbrev pub call : Call → code.Call
@@ -180,16 +180,16 @@ counting c = record {
   next = c.next;
 }
 
-abbrev pub assignment : plain.Spot → Assignment → code.Operation
+abbrev pub assignment : plain.PlaceExpression → Assignment → code.Operation
 assignment to x = code.Set to x.bounds.low x.bounds.high (term x.value) x.next
 
 abbrev pub operation : Operation → code.Operation
-operation (operation_case.Set to x) = assignment (spot to) x
+operation (operation_case.Set to x) = assignment (place_expression to) x
 operation (operation_case.SetLocal at x) = assignment (plain.Rooted (plain.Local at)) x
 operation (operation_case.SetMember at x) = assignment (plain.Rooted (plain.Member at)) x
 operation (operation_case.SetResult x) =
     code.SetResult x.bounds.low x.bounds.high (term x.value) x.next
-operation (operation_case.CopyWords to from size next) = code.CopyWords (spot to) (spot from) size next
+operation (operation_case.CopyWords to from size next) = code.CopyWords (place_expression to) (place_expression from) size next
 operation (operation_case.Test value yes' no') = code.Test (term value) yes' no'
 operation (operation_case.Case value t) = code.Case (term value) (table t)
 operation (operation_case.For c first last) = code.For (counting c) (term first) (term last)
@@ -205,9 +205,9 @@ operation (operation_case.InitProcess process arguments words next) =
 operation operation_case.EndBody = code.EndBody
 operation operation_case.End = code.End
 operation (operation_case.Display value as_byte next) = code.Display (term value) as_byte next
-operation (operation_case.Accept to b next) = code.Accept (spot to) b.low b.high next
-operation (operation_case.Delay queue next) = code.Delay (spot queue) next
-operation (operation_case.Continue queue function) = code.Continue (spot queue) function
+operation (operation_case.Accept to b next) = code.Accept (place_expression to) b.low b.high next
+operation (operation_case.Delay queue next) = code.Delay (place_expression queue) next
+operation (operation_case.Continue queue function) = code.Continue (place_expression queue) function
 operation (operation_case.Wait next) = code.Wait next
 
 -- ---- Plans

@@ -14,7 +14,7 @@ ghost use Rattle.cp_program.specs.View as view;
 use crate::arithmetic::{apply, in_range, standard, truth};
 use crate::memory::{natural, word};
 use crate::reach::Reach;
-use crate::term::{Application, Index, Operand, Root, Spot, Term};
+use crate::term::{Application, Index, Operand, PlaceExpression, Root, Term};
 use cp_model::ordinals::LAST_INTEGER;
 use cp_model::state::Fault;
 use cp_model::tree::Operator;
@@ -287,7 +287,7 @@ fn place_of_element(from: usize, indices: &[Index], reach: &Reach) -> Result<usi
     Ok(at)
 }
 
-impl Spot {
+impl PlaceExpression {
     /// The place of a variable or of a part of one. A place that is too large is returned as the
     /// greatest `usize`.
     ///
@@ -298,7 +298,7 @@ impl Spot {
     #[inline(always)]
     pub fn place(&self, reach: &Reach) -> Result<usize, Fault>
         ensures { result ≡ capped_result
-            (values.place_of (view_of reach.now) (view.spot self.now)) }
+            (values.place_of (view_of reach.now) (view.place_expression self.now)) }
     {
         let from = reach.root_place(self.root);
         if self.indices.is_empty() {
@@ -311,7 +311,7 @@ impl Spot {
     #[cycle(value)]
     #[inline(never)]
     fn word(&self, reach: &Reach) -> Result<i32, Fault>
-        ensures { result ≡ values.value_of (view_of reach.now) (terms.Item (view.spot self.now)) }
+        ensures { result ≡ values.value_of (view_of reach.now) (terms.Item (view.place_expression self.now)) }
     {
         Ok(reach.word(self.place(reach)?))
     }

@@ -16,7 +16,7 @@ ghost use Rattle.cp_program.specs.View as view;
 
 use crate::arithmetic::truth;
 use crate::reach::{Memory, Words};
-use crate::term::{Application, Index, Operand, Root, Spot, Term};
+use crate::term::{Application, Index, Operand, PlaceExpression, Root, Term};
 
 impl Operand {
     // The value of a flat operand.
@@ -27,22 +27,22 @@ impl Operand {
     {
         match self {
             Operand::Number(n) => Some(*n),
-            Operand::Local(at) => memory.near_local::<W>(shared, *at),
-            Operand::Member(at) => memory.near_member::<W>(shared, *at),
+            Operand::Local(at) => memory.fast_local::<W>(shared, *at),
+            Operand::Member(at) => memory.fast_member::<W>(shared, *at),
             _ => None,
         }
     }
 
     // The value of a near operand.
     #[inline(always)]
-    fn near_value<W: Words>(&self, memory: &Memory, shared: &[i32]) -> Option<i32>
+    fn fast_value<W: Words>(&self, memory: &Memory, shared: &[i32]) -> Option<i32>
         ensures { (clock : ℕ) → IfSome result (λ n. values.value_of
             (view_with memory.now shared.now clock) (view.operand self.now) ≡ Ok n) }
     {
         match self {
             Operand::Number(n) => Some(*n),
-            Operand::Local(at) => memory.near_local::<W>(shared, *at),
-            Operand::Member(at) => memory.near_member::<W>(shared, *at),
+            Operand::Local(at) => memory.fast_local::<W>(shared, *at),
+            Operand::Member(at) => memory.fast_member::<W>(shared, *at),
             _ => self.further_value::<W>(memory, shared),
         }
     }
@@ -61,7 +61,7 @@ impl Operand {
         }
     }
 
-    // The same of the rarer ones. It isn't inlined, so that `near_value` of terms is small enough
+    // The same of the rarer ones. It isn't inlined, so that `fast_value` of terms is small enough
     // to be.
     #[inline(never)]
     fn rarer_value<W: Words>(&self, memory: &Memory, shared: &[i32]) -> Option<i32>
@@ -71,8 +71,8 @@ impl Operand {
         match self {
             Operand::Through { parameter, plus } => {
                 let (parameter, plus) = (*parameter, *plus);
-                let at = memory.near_root_place::<W>(shared, Root::Through { parameter, plus })?;
-                memory.near_word::<W>(shared, at)
+                let at = memory.fast_root_place::<W>(shared, Root::Through { parameter, plus })?;
+                memory.fast_word::<W>(shared, at)
             }
             Operand::Not(t) => Some(truth(t.flat_value::<W>(memory, shared)? == 0)),
             _ => None,
@@ -118,7 +118,7 @@ fn flat_value_of_chain<W: Words>(
 
 // The value of a chain whose first operands have the value `first`, if the others are near.
 #[inline(always)]
-fn near_value_of_chain<W: Words>(
+fn fast_value_of_chain<W: Words>(
     first: i32,
     rest: &[Application],
     memory: &Memory,
@@ -129,7 +129,7 @@ fn near_value_of_chain<W: Words>(
 {
     let mut n = first;
     for x in rest {
-        n = x.near_value_after::<W>(n, memory, shared)?;
+        n = x.fast_value_after::<W>(n, memory, shared)?;
     }
     Some(n)
 }
@@ -156,7 +156,7 @@ impl Term {
 
     /// Evaluates a term, if its operands are near.
     #[inline(always)]
-    pub fn near_value<W: Words>(&self, memory: &Memory, shared: &[i32]) -> Option<i32>
+    pub fn fast_value<W: Words>(&self, memory: &Memory, shared: &[i32]) -> Option<i32>
         ensures { (clock : ℕ) → IfSome result (λ n. values.value_of
             (view_with memory.now shared.now clock) (view.term self.now) ≡ Ok n) }
     {
@@ -164,21 +164,21 @@ impl Term {
         // no option to look into afterwards.
         let first = match &self.first {
             Operand::Number(n) => *n,
-            Operand::Local(at) => memory.near_local::<W>(shared, *at)?,
-            Operand::Member(at) => memory.near_member::<W>(shared, *at)?,
+            Operand::Local(at) => memory.fast_local::<W>(shared, *at)?,
+            Operand::Member(at) => memory.fast_member::<W>(shared, *at)?,
             Operand::Made(temp) => memory.made(*temp),
             _ => self.first.further_value::<W>(memory, shared)?,
         };
-        near_value_of_chain::<W>(first, &self.rest, memory, shared)
+        fast_value_of_chain::<W>(first, &self.rest, memory, shared)
     }
 
     // The value of a term whose operands are near, found by a call.
     #[inline(never)]
-    fn near_value_apart<W: Words>(&self, memory: &Memory, shared: &[i32]) -> Option<i32>
+    fn fast_value_apart<W: Words>(&self, memory: &Memory, shared: &[i32]) -> Option<i32>
         ensures { (clock : ℕ) → IfSome result (λ n. values.value_of
             (view_with memory.now shared.now clock) (view.term self.now) ≡ Ok n) }
     {
-        self.near_value::<W>(memory, shared)
+        self.fast_value::<W>(memory, shared)
     }
 
     // The same. Most such terms are flat and have one operator: these need no loop, and save no
@@ -190,21 +190,21 @@ impl Term {
     {
         match self.flat_value_here::<W>(memory, shared) {
             Some(n) => Some(n),
-            None => self.near_value_apart::<W>(memory, shared),
+            None => self.fast_value_apart::<W>(memory, shared),
         }
     }
 
-    /// Does the same as `near_value`. It takes less room where it is inlined, and a call if there
+    /// Does the same as `fast_value`. It takes less room where it is inlined, and a call if there
     /// are operators.
     #[inline(always)]
-    pub fn near_argument<W: Words>(&self, memory: &Memory, shared: &[i32]) -> Option<i32>
+    pub fn fast_argument<W: Words>(&self, memory: &Memory, shared: &[i32]) -> Option<i32>
         ensures { (clock : ℕ) → IfSome result (λ n. values.value_of
             (view_with memory.now shared.now clock) (view.term self.now) ≡ Ok n) }
     {
         if !self.rest.is_empty() {
             return self.value_apart::<W>(memory, shared);
         }
-        self.first.near_value::<W>(memory, shared)
+        self.first.fast_value::<W>(memory, shared)
     }
 }
 
@@ -231,8 +231,8 @@ impl Index {
             return None;
         }
         match self.value.first {
-            Operand::Local(at) => memory.near_local::<W>(shared, at),
-            Operand::Member(at) => memory.near_member::<W>(shared, at),
+            Operand::Local(at) => memory.fast_local::<W>(shared, at),
+            Operand::Member(at) => memory.fast_member::<W>(shared, at),
             _ => None,
         }
     }
@@ -288,7 +288,7 @@ fn flat_place_of_element<W: Words>(
 
 // The same. Most indices are words, which need no call.
 #[inline(always)]
-fn near_place_of_element<W: Words>(
+fn fast_place_of_element<W: Words>(
     from: usize,
     indices: &[Index],
     memory: &Memory,
@@ -309,32 +309,32 @@ fn near_place_of_element<W: Words>(
     Some(at)
 }
 
-impl Spot {
+impl PlaceExpression {
     #[inline(always)]
     fn place_of_indices<W: Words>(&self, memory: &Memory, shared: &[i32]) -> Option<usize>
         ensures { (clock : ℕ) → IfSome result (λ at. values.place_of
-            (view_with memory.now shared.now clock) (view.spot self.now) ≡ Ok at) }
+            (view_with memory.now shared.now clock) (view.place_expression self.now) ≡ Ok at) }
     {
-        let from = memory.near_root_place::<W>(shared, self.root)?;
-        near_place_of_element::<W>(from, &self.indices, memory, shared)
+        let from = memory.fast_root_place::<W>(shared, self.root)?;
+        fast_place_of_element::<W>(from, &self.indices, memory, shared)
     }
 
     #[inline(never)]
     fn flat_place<W: Words>(&self, memory: &Memory, shared: &[i32]) -> Option<usize>
         ensures { (clock : ℕ) → IfSome result (λ at. values.place_of
-            (view_with memory.now shared.now clock) (view.spot self.now) ≡ Ok at) }
+            (view_with memory.now shared.now clock) (view.place_expression self.now) ≡ Ok at) }
     {
         self.place_of_indices::<W>(memory, shared)
     }
 
     /// The place of a variable or of a part of one, if the spot is flat.
     #[inline(always)]
-    pub fn near_place<W: Words>(&self, memory: &Memory, shared: &[i32]) -> Option<usize>
+    pub fn fast_place<W: Words>(&self, memory: &Memory, shared: &[i32]) -> Option<usize>
         ensures { (clock : ℕ) → IfSome result (λ at. values.place_of
-            (view_with memory.now shared.now clock) (view.spot self.now) ≡ Ok at) }
+            (view_with memory.now shared.now clock) (view.place_expression self.now) ≡ Ok at) }
     {
         if self.indices.is_empty() {
-            return memory.near_root_place::<W>(shared, self.root);
+            return memory.fast_root_place::<W>(shared, self.root);
         }
         self.flat_place::<W>(memory, shared)
     }
@@ -343,9 +343,9 @@ impl Spot {
     #[inline(never)]
     fn flat_word<W: Words>(&self, memory: &Memory, shared: &[i32]) -> Option<i32>
         ensures { (clock : ℕ) → IfSome result (λ n. values.value_of
-            (view_with memory.now shared.now clock) (terms.Item (view.spot self.now)) ≡ Ok n) }
+            (view_with memory.now shared.now clock) (terms.Item (view.place_expression self.now)) ≡ Ok n) }
     {
         let at = self.place_of_indices::<W>(memory, shared)?;
-        memory.near_word::<W>(shared, at)
+        memory.fast_word::<W>(shared, at)
     }
 }

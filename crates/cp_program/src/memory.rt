@@ -33,7 +33,7 @@ pub(crate) fn natural(n: i32) -> usize
 impl Memory {
     // The word at a place, if it is found.
     #[inline(always)]
-    pub(crate) fn near_word<W: Words>(&self, shared: &[i32], at: usize) -> Option<i32>
+    pub(crate) fn fast_word<W: Words>(&self, shared: &[i32], at: usize) -> Option<i32>
         ensures { IfSome result
             (λ n. starts.word (self.now.words.items ++ shared.now) at ≡ n) }
     {
@@ -60,20 +60,20 @@ impl Memory {
 
     // The value of a word of the activation, if it is found.
     #[inline(always)]
-    pub(crate) fn near_local<W: Words>(&self, shared: &[i32], at: u32) -> Option<i32>
+    pub(crate) fn fast_local<W: Words>(&self, shared: &[i32], at: u32) -> Option<i32>
         ensures { (clock : ℕ) → IfSome result (λ n. values.value_of
             (view_with self.now shared.now clock) (view.local at) ≡ Ok n) }
     {
-        self.near_word::<W>(shared, self.local(at))
+        self.fast_word::<W>(shared, self.local(at))
     }
 
     // The value of a word of the component, if it is found.
     #[inline(always)]
-    pub(crate) fn near_member<W: Words>(&self, shared: &[i32], at: u32) -> Option<i32>
+    pub(crate) fn fast_member<W: Words>(&self, shared: &[i32], at: u32) -> Option<i32>
         ensures { (clock : ℕ) → IfSome result (λ n. values.value_of
             (view_with self.now shared.now clock) (view.member at) ≡ Ok n) }
     {
-        self.near_word::<W>(shared, self.member(at))
+        self.fast_word::<W>(shared, self.member(at))
     }
 
     // The temp with this number, counted from the first temp of the running activation.
@@ -86,7 +86,7 @@ impl Memory {
 
     /// The place where a variable begins, if the word that leads there is found.
     #[inline(always)]
-    pub fn near_root_place<W: Words>(&self, shared: &[i32], root: Root) -> Option<usize>
+    pub fn fast_root_place<W: Words>(&self, shared: &[i32], root: Root) -> Option<usize>
         ensures { (clock : ℕ) → IfSome result (λ at. values.root_place
             (view_with self.now shared.now clock) (view.root root) ≡ at) }
     {
@@ -94,7 +94,7 @@ impl Memory {
             Root::Local(at) => Some(self.local(at)),
             Root::Member(at) => Some(self.member(at)),
             Root::Through { parameter, plus } => {
-                Some(natural(self.near_word::<W>(shared, self.local(parameter))?) + plus as usize)
+                Some(natural(self.fast_word::<W>(shared, self.local(parameter))?) + plus as usize)
             }
         }
     }

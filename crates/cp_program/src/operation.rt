@@ -7,7 +7,7 @@ ghost use Rattle.cp_program.specs.View as view;
 
 use crate::arms::Arms;
 use crate::bounds::Bounds;
-use crate::term::{Root, Spot, Term};
+use crate::term::{PlaceExpression, Root, Term};
 
 /// The component whose routine is called.
 #[derive(Clone, Copy)]
@@ -28,11 +28,25 @@ pub enum Target {
 #[derive(Drop)]
 pub enum Argument {
     /// A value, which must lie within the bounds.
-    Value { at: u32, bounds: Bounds, term: Term },
+    Value {
+        at: u32,
+        bounds: Bounds,
+        term: Term,
+    },
     /// A copy of `size` words.
-    Copy { at: u32, size: u32, from: Spot },
-    Reference { at: u32, to: Spot },
-    Right { at: u32, of: Target },
+    Copy {
+        at: u32,
+        size: u32,
+        from: PlaceExpression,
+    },
+    Reference {
+        at: u32,
+        to: PlaceExpression,
+    },
+    Right {
+        at: u32,
+        of: Target,
+    },
 }
 
 /// A call of a unit. The new activation begins `words` words after the caller's first word, and the
@@ -79,7 +93,7 @@ pub struct Assignment {
 #[derive(Drop)]
 pub enum Operation {
     Set {
-        to: Spot,
+        to: PlaceExpression,
         assignment: Assignment,
     },
     /// Sets a word of the activation.
@@ -95,8 +109,8 @@ pub enum Operation {
     /// Sets the result of the running function.
     SetResult(Assignment),
     CopyWords {
-        to: Spot,
-        from: Spot,
+        to: PlaceExpression,
+        from: PlaceExpression,
         size: u32,
         next: u32,
     },
@@ -153,16 +167,16 @@ pub enum Operation {
         next: u32,
     },
     Accept {
-        to: Spot,
+        to: PlaceExpression,
         bounds: Bounds,
         next: u32,
     },
     Delay {
-        queue: Spot,
+        queue: PlaceExpression,
         next: u32,
     },
     Continue {
-        queue: Spot,
+        queue: PlaceExpression,
         function: bool,
     },
     Wait {
@@ -173,8 +187,8 @@ pub enum Operation {
 impl Operation {
     /// The assignment to a variable. One to a whole variable of the activation or of the component
     /// has a form of its own, since most are.
-    pub fn set(to: Spot, assignment: Assignment) -> Operation
-        ensures { view.operation result ≡ code.Set (view.spot to) assignment.bounds.low
+    pub fn set(to: PlaceExpression, assignment: Assignment) -> Operation
+        ensures { view.operation result ≡ code.Set (view.place_expression to) assignment.bounds.low
             assignment.bounds.high (view.term assignment.value) assignment.next }
     {
         match (to.root, to.indices.is_empty()) {

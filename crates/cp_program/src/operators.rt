@@ -64,22 +64,22 @@ impl Application {
             Application::MultiplyNumber(n) => product(left, *n),
             Application::DivideNumber(divisor) => divisor.quotient(left),
             Application::ModuloNumber(divisor) => Some(divisor.remainder(left)),
-            Application::AddLocal(at) => sum(left, memory.near_local::<W>(shared, *at)?),
-            Application::AddMember(at) => sum(left, memory.near_member::<W>(shared, *at)?),
+            Application::AddLocal(at) => sum(left, memory.fast_local::<W>(shared, *at)?),
+            Application::AddMember(at) => sum(left, memory.fast_member::<W>(shared, *at)?),
             Application::SubtractLocal(at) => difference(
                 left,
-                memory.near_local::<W>(shared, *at)?,
+                memory.fast_local::<W>(shared, *at)?,
             ),
             Application::SubtractMember(at) => {
-                difference(left, memory.near_member::<W>(shared, *at)?)
+                difference(left, memory.fast_member::<W>(shared, *at)?)
             }
-            Application::MultiplyLocal(at) => product(left, memory.near_local::<W>(shared, *at)?),
-            Application::MultiplyMember(at) => product(left, memory.near_member::<W>(shared, *at)?),
+            Application::MultiplyLocal(at) => product(left, memory.fast_local::<W>(shared, *at)?),
+            Application::MultiplyMember(at) => product(left, memory.fast_member::<W>(shared, *at)?),
             Application::LocalBefore(operator, at) => {
-                difference_of(*operator, memory.near_local::<W>(shared, *at)?, left)
+                difference_of(*operator, memory.fast_local::<W>(shared, *at)?, left)
             }
             Application::MemberBefore(operator, at) => {
-                difference_of(*operator, memory.near_member::<W>(shared, *at)?, left)
+                difference_of(*operator, memory.fast_member::<W>(shared, *at)?, left)
             }
             _ => None,
         }
@@ -106,12 +106,12 @@ impl Application {
             Application::WithLocal(operator, at) => Some(Operands {
                 operator: *operator,
                 left,
-                right: memory.near_local::<W>(shared, *at)?,
+                right: memory.fast_local::<W>(shared, *at)?,
             }),
             Application::WithMember(operator, at) => Some(Operands {
                 operator: *operator,
                 left,
-                right: memory.near_member::<W>(shared, *at)?,
+                right: memory.fast_member::<W>(shared, *at)?,
             }),
             Application::WithMade(operator, temp) => Some(Operands {
                 operator: *operator,
@@ -120,12 +120,12 @@ impl Application {
             }),
             Application::LocalBefore(operator, at) => Some(Operands {
                 operator: *operator,
-                left: memory.near_local::<W>(shared, *at)?,
+                left: memory.fast_local::<W>(shared, *at)?,
                 right: left,
             }),
             Application::MemberBefore(operator, at) => Some(Operands {
                 operator: *operator,
-                left: memory.near_member::<W>(shared, *at)?,
+                left: memory.fast_member::<W>(shared, *at)?,
                 right: left,
             }),
             _ => None,
@@ -134,7 +134,7 @@ impl Application {
 
     // The same, if the operand is near.
     #[inline(always)]
-    fn near_operands<W: Words>(
+    fn fast_operands<W: Words>(
         &self,
         left: i32,
         memory: &Memory,
@@ -173,7 +173,7 @@ impl Application {
 
     // The same, if the operand is near.
     #[inline(always)]
-    pub(crate) fn near_value_after<W: Words>(
+    pub(crate) fn fast_value_after<W: Words>(
         &self,
         left: i32,
         memory: &Memory,
@@ -184,7 +184,7 @@ impl Application {
     {
         match self.arithmetic_value_after::<W>(left, memory, shared) {
             Some(n) => Some(n),
-            None => self.near_operands::<W>(left, memory, shared)?.apply(),
+            None => self.fast_operands::<W>(left, memory, shared)?.apply(),
         }
     }
 }

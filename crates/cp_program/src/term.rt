@@ -6,7 +6,7 @@
 
 ghost use Rattle.std.specs.Prelude.{◌≡◌, ◌++◌, ◌∷◌, [], IfOk, IfSome, OnOk};
 ghost use Rattle.cp_model_program.specs.Terms as plain;
-ghost use Rattle.cp_model_program.specs.TermsFor.{move_spot, move_root};
+ghost use Rattle.cp_model_program.specs.TermsFor.{move_place_expression, move_root};
 ghost use Rattle.cp_model.specs.Erase.{operator_of};
 ghost use Rattle.cp_program.specs.View as view;
 
@@ -51,13 +51,13 @@ pub enum Operand {
     /// activation points.
     Through { parameter: u32, plus: u32 },
     /// The word at a place.
-    Item(Box<Spot>),
+    Item(Box<PlaceExpression>),
     Nested(Box<Term>),
     Not(Box<Term>),
     Negative(Box<Term>),
     Standard(Function, Box<Term>),
     /// Whether a queue is empty.
-    Empty(Box<Spot>),
+    Empty(Box<PlaceExpression>),
     Realtime,
 }
 
@@ -107,7 +107,7 @@ pub struct Index {
 /// The place of a variable or of a part of one.
 #[cycle(terms)]
 #[derive(Drop)]
-pub struct Spot {
+pub struct PlaceExpression {
     pub root: Root,
     pub indices: Vec<Index>,
 }
@@ -154,23 +154,29 @@ impl Root {
     }
 }
 
-impl Spot {
+impl PlaceExpression {
     /// The spot of a whole variable.
-    pub fn variable(alloc: Global, root: Root) -> Spot
-        ensures { view.spot result ≡ plain.Rooted (view.root root) }
+    pub fn variable(alloc: Global, root: Root) -> PlaceExpression
+        ensures { view.place_expression result ≡ plain.Rooted (view.root root) }
     {
-        Spot {
+        PlaceExpression {
             root,
             indices: Vec::new(alloc),
         }
     }
 
     /// The spot of an element of this spot.
-    pub fn element(self, low: i32, high: i32, size: u32, value: Term) -> Result<Spot, AllocError>
+    pub fn element(
+        self,
+        low: i32,
+        high: i32,
+        size: u32,
+        value: Term,
+    ) -> Result<PlaceExpression, AllocError>
         ensures { IfOk result
-            (λ s. view.spot s ≡ plain.Element (view.spot self) low high size 0 (view.term value)) }
+            (λ s. view.place_expression s ≡ plain.Element (view.place_expression self) low high size 0 (view.term value)) }
     {
-        let Spot { root, mut indices } = self;
+        let PlaceExpression { root, mut indices } = self;
         let index = Index {
             low,
             high,
@@ -179,16 +185,16 @@ impl Spot {
             value,
         };
         push_exactly(&mut indices, index)?;
-        Ok(Spot { root, indices })
+        Ok(PlaceExpression { root, indices })
     }
 
     /// The spot `words` words further on, if its offset fits in 32 bits.
-    pub fn advance(self, words: u32) -> Option<Spot>
-        ensures { IfSome result (λ s. view.spot s ≡ move_spot words (view.spot self)) }
+    pub fn advance(self, words: u32) -> Option<PlaceExpression>
+        ensures { IfSome result (λ s. view.place_expression s ≡ move_place_expression words (view.place_expression self)) }
     {
-        let Spot { root, mut indices } = self;
+        let PlaceExpression { root, mut indices } = self;
         if indices.is_empty() {
-            return Some(Spot {
+            return Some(PlaceExpression {
                 root: root.advance(words)?,
                 indices,
             });
@@ -196,7 +202,7 @@ impl Spot {
         let last = indices.len() - 1;
         let index = &mut indices[last];
         index.plus = index.plus.checked_add(words)?;
-        Some(Spot { root, indices })
+        Some(PlaceExpression { root, indices })
     }
 }
 
@@ -294,18 +300,18 @@ impl Term {
     }
 
     /// The word at a place.
-    pub fn item(alloc: Global, spot: Spot) -> Result<Term, AllocError>
-        ensures { IfOk result (λ t. view.term t ≡ plain.Item (view.spot spot)) }
+    pub fn item(alloc: Global, place_expression: PlaceExpression) -> Result<Term, AllocError>
+        ensures { IfOk result (λ t. view.term t ≡ plain.Item (view.place_expression place_expression)) }
     {
-        if spot.indices.is_empty() {
-            return Ok(Term::variable(alloc, spot.root));
+        if place_expression.indices.is_empty() {
+            return Ok(Term::variable(alloc, place_expression.root));
         }
-        Ok(Term::lone(alloc, Operand::Item(Box::new(alloc, spot)?)))
+        Ok(Term::lone(alloc, Operand::Item(Box::new(alloc, place_expression)?)))
     }
 
     /// Whether a queue is empty.
-    pub fn empty(alloc: Global, queue: Spot) -> Result<Term, AllocError>
-        ensures { IfOk result (λ t. view.term t ≡ plain.Empty (view.spot queue)) }
+    pub fn empty(alloc: Global, queue: PlaceExpression) -> Result<Term, AllocError>
+        ensures { IfOk result (λ t. view.term t ≡ plain.Empty (view.place_expression queue)) }
     {
         Ok(Term::lone(alloc, Operand::Empty(Box::new(alloc, queue)?)))
     }

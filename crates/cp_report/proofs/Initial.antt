@@ -13,7 +13,7 @@ use Rattle.cp_model_program.specs.Layout.{head_words}
 use Rattle.cp_model_machine.specs.Machines.{Machine}
 use Rattle.cp_model_machine.specs.Reports.{monitors_lines, processes_lines}
 use Rattle.cp_compile_symbols.specs.Standing.{AreMembers}
-use Rattle.cp_compile_symbols.specs.Texts.{TablesStand}
+use Rattle.cp_compile_symbols.specs.Texts.{TablesRepresent}
 use Rattle.cp_compile_symbols.specs.Variables.{AreDeclared, declared_entry, variables_of}
 use Rattle.cp_compile_symbols.specs.declared.tables.Tables.{Tables}
 use Rattle.cp_compile_symbols.specs.declared.types.Types.{Types}
@@ -39,15 +39,15 @@ module _ (setup : Setup) (text : tree.Tree) (is : setup.tree ≡ erase.abstract 
   pub initial_declared : initial_variables setup ≡ variables_of (globals setup.tree) text.variables.items
   initial_declared = ap (λ t. declarations (globals setup.tree) t.initial.variables) is
 
-  pub listed : (tables : Tables) (z : Sort) (es : List (Name × ℕ)) → TablesStand (globals setup.tree) tables text
+  pub listed : (tables : Tables) (z : Sort) (es : List (Name × ℕ)) → TablesRepresent (globals setup.tree) tables text
       → Lists tables.types z (map declared_entry tables.initial.variables.items) es → AreListed tables.types es (components_of setup z)
-  listed tables z es stand lists =
-      lists (initial_variables setup) (subst (AreDeclared tables.types (map declared_entry tables.initial.variables.items)) (sym initial_declared) stand.initial.variables)
+  listed tables z es represent lists =
+      lists (initial_variables setup) (subst (AreDeclared tables.types (map declared_entry tables.initial.variables.items)) (sym initial_declared) represent.initial.variables)
 
-pub report_told : (setup : Setup) (m : Machine) (rounds : ℕ) (initial out a b d e : Text) → rounds ≡ m.rounds → a ≡ out ++ rounds_line rounds → b ≡ a ++ initial
+pub report_reported : (setup : Setup) (m : Machine) (rounds : ℕ) (initial out a b d e : Text) → rounds ≡ m.rounds → a ≡ out ++ rounds_line rounds → b ≡ a ++ initial
     → d ≡ b ++ processes_lines setup m 2 (components_of setup Process) → e ≡ d ++ monitors_lines setup m 1 (components_of setup Monitor)
     → e ≡ out ++ (rounds_line m.rounds ++ (initial ++ (processes_lines setup m 2 (components_of setup Process) ++ monitors_lines setup m 1 (components_of setup Monitor))))
-report_told setup m rounds initial out a b d e made first second third fourth =
+report_reported setup m rounds initial out a b d e made first second third fourth =
     let ps = processes_lines setup m 2 (components_of setup Process) in
     let ms = monitors_lines setup m 1 (components_of setup Monitor) in
     fourth

@@ -1,7 +1,7 @@
-pub mod LinesTold
+pub mod LinesReported
 pub mod Numbers
-pub mod ProcessesTold
-pub mod MonitorsTold
+pub mod ProcessesReported
+pub mod MonitorsReported
 pub mod Initial
-pub mod ChainsTold
-pub mod StatesTold
+pub mod ChainsReported
+pub mod StatesReported

@@ -9,17 +9,17 @@ use Rattle.cp_model.specs.declared.tree.Tree as tree
 use Rattle.cp_model_machine.specs.Chains.{report_with_chains}
 use Rattle.cp_model_machine.specs.Machines as plain
 use Rattle.cp_model_machine.specs.Reports.{machine_report}
-use Rattle.cp_compile_symbols.specs.Texts.{TablesStand}
+use Rattle.cp_compile_symbols.specs.Texts.{TablesRepresent}
 use Rattle.cp_compile_symbols.specs.declared.tables.Tables.{Tables}
 
 -- The bytes are the report that is read off the machine, for a text that has these tables.
 abbrev pub IsReport : Tables → plain.Machine → Text → Type 0
 IsReport tables m bytes =
-    (setup : Setup) (text : tree.Tree) → setup.tree ≡ erase.abstract (view.tree text) → TablesStand (globals setup.tree) tables text
+    (setup : Setup) (text : tree.Tree) → setup.tree ≡ erase.abstract (view.tree text) → TablesRepresent (globals setup.tree) tables text
     → bytes ≡ machine_report setup m
 
 -- The same, with the lines of chains after the report.
 abbrev pub IsReportWithChains : Tables → plain.Machine → Text → Type 0
 IsReportWithChains tables m bytes =
-    (setup : Setup) (text : tree.Tree) → setup.tree ≡ erase.abstract (view.tree text) → TablesStand (globals setup.tree) tables text
+    (setup : Setup) (text : tree.Tree) → setup.tree ≡ erase.abstract (view.tree text) → TablesRepresent (globals setup.tree) tables text
     → bytes ≡ report_with_chains setup m

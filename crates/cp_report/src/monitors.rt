@@ -1,14 +1,14 @@
 //! The lines of monitors.
 
 ghost use Rattle.std.specs.Prelude.{◌≡◌, OnOk};
-ghost use Rattle.cp_report.specs.Subjects.{TellsMonitor, TellsMonitors};
+ghost use Rattle.cp_report.specs.Subjects.{ReportsMonitor, ReportsMonitors};
 
 use crate::gates::push_gate_line;
 use crate::subject::Subject;
 use cp_compile_symbols::small_number;
 use cp_inspect::place::monitor_start;
-use cp_inspect::telling::Telling;
 use cp_inspect::walk::Walk;
+use cp_inspect::walk_output::WalkOutput;
 use std::alloc::AllocError;
 
 impl<'r, 'm, 't> Subject<'r, 'm, 't> {
@@ -21,19 +21,19 @@ impl<'r, 'm, 't> Subject<'r, 'm, 't> {
         name: &[u8],
         row: usize,
     ) -> Result<(), AllocError>
-        ensures { OnOk result (TellsMonitor self.entry number name.now row
+        ensures { OnOk result (ReportsMonitor self.entry number name.now row
             out.old.items out.new.items) }
     {
         let askers = self.machine.askers(number);
         push_gate_line(out, name, self.machine.gate(number), askers)?;
         let start = monitor_start(self.machine.program(), number as usize);
-        let lines = Telling::Lines(self.machine.kernel().all_words());
+        let lines = WalkOutput::Lines(self.machine.kernel().all_words());
         walk.component(self.tables, &lines, out, row, start)
     }
 
     /// Reports all monitors by number.
     pub(crate) fn push_monitors(self, walk: &mut Walk, out: &mut Vec<u8>) -> Result<(), AllocError>
-        ensures { OnOk result (TellsMonitors self.entry out.old.items out.new.items) }
+        ensures { OnOk result (ReportsMonitors self.entry out.old.items out.new.items) }
     {
         for (index, monitor) in self.monitors.iter().enumerate() {
             let number = small_number(index + 1)?;

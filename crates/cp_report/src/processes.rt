@@ -2,21 +2,21 @@
 
 ghost use Rattle.std.specs.Prelude.{◌≡◌, OnOk, map};
 ghost use Rattle.cp_compile_symbols.specs.Standing.{entry};
-ghost use Rattle.cp_report.specs.Subjects.{TellsFront, TellsInitial, TellsStatus};
-ghost use Rattle.cp_report.specs.Subjects.{TellsProcess, TellsProcesses};
+ghost use Rattle.cp_report.specs.Subjects.{ReportsFront, ReportsInitial, ReportsStatus};
+ghost use Rattle.cp_report.specs.Subjects.{ReportsProcess, ReportsProcesses};
 
 use crate::lines::{push_title, push_transcript_line};
 use crate::subject::Subject;
 use cp_compile_symbols::{Field, small_number};
 use cp_inspect::status::push_state;
-use cp_inspect::telling::Telling;
 use cp_inspect::walk::Walk;
+use cp_inspect::walk_output::WalkOutput;
 use std::alloc::AllocError;
 
 impl<'r, 'm, 't> Subject<'r, 'm, 't> {
     // Adds the status of a process.
     fn push_status(self, walk: &mut Walk, out: &mut Vec<u8>, number: u32) -> Result<(), AllocError>
-        ensures { OnOk result (TellsStatus self.entry number out.old.items out.new.items) }
+        ensures { OnOk result (ReportsStatus self.entry number out.old.items out.new.items) }
     {
         let program = self.machine.program();
         let state = self.machine.state(number);
@@ -31,7 +31,7 @@ impl<'r, 'm, 't> Subject<'r, 'm, 't> {
         number: u32,
         name: &[u8],
     ) -> Result<(), AllocError>
-        ensures { OnOk result (TellsFront self.entry number name.now out.old.items out.new.items) }
+        ensures { OnOk result (ReportsFront self.entry number name.now out.old.items out.new.items) }
     {
         push_title(out, number, name)?;
         self.push_status(walk, out, number)?;
@@ -49,26 +49,26 @@ impl<'r, 'm, 't> Subject<'r, 'm, 't> {
         name: &[u8],
         row: usize,
     ) -> Result<(), AllocError>
-        ensures { OnOk result (TellsProcess self.entry number name.now row
+        ensures { OnOk result (ReportsProcess self.entry number name.now row
             out.old.items out.new.items) }
     {
         let Some(private) = self.machine.private(number as usize) else {
             return Ok(());
         };
         self.push_front(walk, out, number, name)?;
-        let lines = Telling::Lines(private.all_words());
+        let lines = WalkOutput::Lines(private.all_words());
         walk.component(self.tables, &lines, out, row, 0)
     }
 
     /// Reports the initial process, whose number is 1.
     pub(crate) fn push_initial(self, walk: &mut Walk, out: &mut Vec<u8>) -> Result<(), AllocError>
-        ensures { OnOk result (TellsInitial self.entry out.old.items out.new.items) }
+        ensures { OnOk result (ReportsInitial self.entry out.old.items out.new.items) }
     {
         let Some(private) = self.machine.private(1) else {
             return Ok(());
         };
         self.push_front(walk, out, 1, b"initial")?;
-        let lines = Telling::Lines(private.all_words());
+        let lines = WalkOutput::Lines(private.all_words());
         walk.initial(self.tables, &lines, out)
     }
 
@@ -79,7 +79,7 @@ impl<'r, 'm, 't> Subject<'r, 'm, 't> {
         out: &mut Vec<u8>,
         processes: &[Field],
     ) -> Result<(), AllocError>
-        ensures { OnOk result (TellsProcesses self.entry (map entry processes.now)
+        ensures { OnOk result (ReportsProcesses self.entry (map entry processes.now)
             out.old.items out.new.items) }
     {
         for (index, process) in processes.iter().enumerate() {

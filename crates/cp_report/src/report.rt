@@ -3,14 +3,14 @@
 ghost use Rattle.std.specs.Prelude.{OnOk, IfOk, map};
 ghost use Rattle.cp_rounds.specs.Views.{machine_of};
 ghost use Rattle.cp_compile_symbols.specs.Standing.{entry};
-ghost use Rattle.cp_report.specs.Subjects.{TellsAll};
+ghost use Rattle.cp_report.specs.Subjects.{ReportsAll};
 ghost use Rattle.cp_report.specs.WholeReports.{IsReport, IsReportWithChains};
 
 use crate::chains::push_chains;
 use crate::lines::push_rounds;
 use crate::subject::Subject;
 use cp_compile_symbols::Field;
-use cp_inspect::roster::Roster;
+use cp_inspect::component_table::ComponentTable;
 use cp_inspect::walk::Walk;
 use cp_rounds::machine::Machine;
 use std::alloc::{AllocError, Global};
@@ -23,7 +23,7 @@ impl<'r, 'm, 't> Subject<'r, 'm, 't> {
         out: &mut Vec<u8>,
         processes: &[Field],
     ) -> Result<(), AllocError>
-        ensures { OnOk result (TellsAll self.entry (map entry processes.now)
+        ensures { OnOk result (ReportsAll self.entry (map entry processes.now)
             out.old.items out.new.items) }
     {
         push_rounds(out, self.machine.rounds())?;
@@ -43,15 +43,15 @@ pub fn report(alloc: Global, machine: &Machine) -> Result<Vec<u8>, AllocError>
         (λ bytes. IsReport machine.now.tables.now (machine_of machine.now) bytes.items) }
 {
     let tables = machine.tables();
-    let roster = Roster::of(alloc, tables)?;
+    let component_table = ComponentTable::of(alloc, tables)?;
     let subject = Subject {
         tables,
         machine,
-        monitors: &roster.monitors,
+        monitors: &component_table.monitors,
     };
     let mut walk = Walk::new(alloc, 0);
     let mut bytes = Vec::new(alloc);
-    subject.push_all(&mut walk, &mut bytes, &roster.processes)?;
+    subject.push_all(&mut walk, &mut bytes, &component_table.processes)?;
     Ok(bytes)
 }
 

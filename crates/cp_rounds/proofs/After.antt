@@ -8,10 +8,10 @@ use Rattle.cp_rounds.specs.declared.machine.Machine.{Machine}
 use Rattle.cp_rounds.proofs.Rounds.{rounds_after}
 
 pub text_kept : (a : Machine) → KeepsText a a
-text_kept a = record { setting = refl; tables = refl }
+text_kept a = record { config = refl; tables = refl }
 
 pub text_kept_more : (a b c : Machine) → KeepsText a b → KeepsText b c → KeepsText a c
-text_kept_more a b c first then = record { setting = then.setting ∙ first.setting; tables = then.tables ∙ first.tables }
+text_kept_more a b c first then = record { config = then.config ∙ first.config; tables = then.tables ∙ first.tables }
 
 pub after_none : (t : ℕ) (a : Machine) → IsAfter t 0 a a
 after_none t a = record { made = refl; processes = refl; rounds = Prim.omega arith; text = text_kept a }

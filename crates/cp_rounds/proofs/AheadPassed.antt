@@ -3,7 +3,7 @@ use Rattle.std.specs.Prelude.{◌≡◌, ◌≤◌, ◌<◌, ◌+◌, ◌-◌, �
 use Rattle.std.proofs.Common.{sym, ◌∙◌, ap, subst, arith}
 use Rattle.std.proofs.lemmas.List.{length-map}
 use native.Mathlib.Nat.{mul-le-mul_right}
-use Rattle.cp_model_ahead.specs.Ahead.{StandAhead, with_turns}
+use Rattle.cp_model_ahead.specs.Ahead.{AreRunAhead, with_turns}
 use Rattle.cp_model_ahead.proofs.Passing.{round_passed}
 use Rattle.cp_kernel.specs.KernelOf.{kernel_of, transcripts_of}
 use Rattle.cp_kernel.specs.Turns.{parts_of}
@@ -16,7 +16,7 @@ use Rattle.cp_private.specs.States as states
 use Rattle.cp_private.specs.declared.private.Private.{Private}
 use Rattle.cp_rounds_handoff.specs.Inputs.{input_of}
 use Rattle.cp_rounds_handoff.specs.Turned.{with_turn_taken}
-use Rattle.cp_rounds_handoff.specs.declared.setting.Setting.{Setting}
+use Rattle.cp_rounds_handoff.specs.declared.config.MachineConfig.{MachineConfig}
 use Rattle.cp_rounds.specs.Ahead.{IsReadyAhead, PartsAhead, turns_ahead}
 use Rattle.cp_rounds.proofs.AheadPasses.{has_made_one, round_is}
 use Rattle.cp_rounds.proofs.AheadTurns.{fewer_bytes}
@@ -26,8 +26,8 @@ use Rattle.cp_rounds.proofs.Rounds.{turned_count}
 
 module _ (t p : ℕ) (k : plain.Kernel) (ts : List (List ℕ)) (ys : List PrivateState) (stages : length k.stages ≤ p) where
   -- The next round of a machine, of whose private turns as many are made as f tells.
-  next_passed : (m : Machine) (f : ℕ → ℕ) → p ≡ length m.parts → ((i : ℕ) → i < p → 1 ≤ f i) → StandAhead t (m.rounds + 1) (with_turn_taken t m) f k ts ys
-      → let next = phased_round t (numbers_from 1 p) m in StandAhead t (next.rounds + 1) (with_turn_taken t next) (λ i. f i - 1) k ts ys
+  next_passed : (m : Machine) (f : ℕ → ℕ) → p ≡ length m.parts → ((i : ℕ) → i < p → 1 ≤ f i) → AreRunAhead t (m.rounds + 1) (with_turn_taken t m) f k ts ys
+      → let next = phased_round t (numbers_from 1 p) m in AreRunAhead t (next.rounds + 1) (with_turn_taken t next) (λ i. f i - 1) k ts ys
   next_passed m f parts all was =
       let taken : Machine = with_turn_taken t m in
       let next : Machine = phased_round t (numbers_from 1 p) m in
@@ -39,17 +39,17 @@ module _ (t p : ℕ) (k : plain.Kernel) (ts : List (List ℕ)) (ys : List Privat
       (λ i here none. let some = all i (omega (arith, here, count)) in omega (arith, some, none)) time in
       let turned : end_round (kernel_turns t taken (numbers_from 1 (length taken.parts))) ≡ next =
       ap (λ (n : ℕ). end_round (kernel_turns t taken (numbers_from 1 n))) count ∙ sym (round_is t p m parts) in
-      subst (λ (r : ℕ). StandAhead t r (with_turn_taken t next) (λ i. f i - 1) k ts ys) later
-      (subst (λ (u : Machine). StandAhead t (suc (m.rounds + 1)) (with_turns t u) (λ i. f i - 1) k ts ys) turned passed)
+      subst (λ (r : ℕ). AreRunAhead t r (with_turn_taken t next) (λ i. f i - 1) k ts ys) later
+      (subst (λ (u : Machine). AreRunAhead t (suc (m.rounds + 1)) (with_turns t u) (λ i. f i - 1) k ts ys) turned passed)
 
   pub all_passed : (n : ℕ) (m : Machine) (f : ℕ → ℕ) → p ≡ length m.parts → ((i : ℕ) → i < p → n ≤ f i)
-      → StandAhead t (m.rounds + 1) (with_turn_taken t m) f k ts ys
-      → StandAhead t (m.rounds + (n + 1)) (with_turn_taken t (phased_rounds t (numbers_from 1 p) n m)) (λ i. f i - n) k ts ys
+      → AreRunAhead t (m.rounds + 1) (with_turn_taken t m) f k ts ys
+      → AreRunAhead t (m.rounds + (n + 1)) (with_turn_taken t (phased_rounds t (numbers_from 1 p) n m)) (λ i. f i - n) k ts ys
   all_passed zero m f parts all was =
       let rounds : m.rounds + 1 ≡ m.rounds + (zero + 1) = omega arith in
       let same : (i : ℕ) → f i ≡ f i - zero = λ i. omega arith in
-      subst (λ (r : ℕ). StandAhead t r (with_turn_taken t m) (λ i. f i - zero) k ts ys) rounds
-      (subst (λ (h : ℕ → ℕ). StandAhead t (m.rounds + 1) (with_turn_taken t m) h k ts ys) (λ j i. same i j) was)
+      subst (λ (r : ℕ). AreRunAhead t r (with_turn_taken t m) (λ i. f i - zero) k ts ys) rounds
+      (subst (λ (h : ℕ → ℕ). AreRunAhead t (m.rounds + 1) (with_turn_taken t m) h k ts ys) (λ j i. same i j) was)
   all_passed (suc n) m f parts all was =
       let next : Machine = phased_round t (numbers_from 1 p) m in
       let made = has_made_one t p m parts in
@@ -58,11 +58,11 @@ module _ (t p : ℕ) (k : plain.Kernel) (ts : List (List ℕ)) (ys : List Privat
       let rounds : next.rounds + (n + 1) ≡ m.rounds + (suc n + 1) = (let was = made.rounds in omega (arith, was)) in
       let same : (i : ℕ) → (f i - 1) - n ≡ f i - suc n = λ i. omega arith in
       let last : Machine = with_turn_taken t (phased_rounds t (numbers_from 1 p) n next) in
-      subst (λ (r : ℕ). StandAhead t r last (λ i. f i - suc n) k ts ys) rounds
-      (subst (λ (h : ℕ → ℕ). StandAhead t (next.rounds + (n + 1)) last h k ts ys) (λ j i. same i j) rest)
+      subst (λ (r : ℕ). AreRunAhead t r last (λ i. f i - suc n) k ts ys) rounds
+      (subst (λ (h : ℕ → ℕ). AreRunAhead t (next.rounds + (n + 1)) last h k ts ys) (λ j i. same i j) rest)
 
 -- The private states and the kernel, if all processes are n turns ahead, are those n rounds later.
-pub rounds_passed : (g : Setting) (t n : ℕ) (m : Machine) (ns ms : List ℕ) (ys : List Private) (k : Kernel) → length k.stages.items ≡ length ys
+pub rounds_passed : (g : MachineConfig) (t n : ℕ) (m : Machine) (ns ms : List ℕ) (ys : List Private) (k : Kernel) → length k.stages.items ≡ length ys
     → ((i : ℕ) → i < length ys → n ≤ turns_ahead ns i) → ((i : ℕ) → turns_ahead ms i ≡ turns_ahead ns i - n)
     → PartsAhead g t (m.rounds + 1) (with_turn_taken t m) ns ys k
     → PartsAhead g t (m.rounds + (n + 1)) (with_turn_taken t (phased_rounds t (numbers_from 1 (length ys)) n m)) ms ys k
@@ -71,7 +71,7 @@ rounds_passed g t n m ns ms ys k count all less was =
     let parts : length ys ≡ length m.parts = sym (parts_count inputs 1 ys) ∙ (was.ahead.count ∙ turned_count t m) in
     let stages = length-map k.stages.items states.stage in
     let last : Machine = with_turn_taken t (phased_rounds t (numbers_from 1 (length ys)) n m) in
-    subst (λ (f : ℕ → ℕ). StandAhead t (m.rounds + (n + 1)) last f (kernel_of k) (transcripts_of k) (parts_of inputs 1 ys)) (λ j i. sym (less i) j)
+    subst (λ (f : ℕ → ℕ). AreRunAhead t (m.rounds + (n + 1)) last f (kernel_of k) (transcripts_of k) (parts_of inputs 1 ys)) (λ j i. sym (less i) j)
     (all_passed t (length ys) (kernel_of k) (transcripts_of k) (parts_of inputs 1 ys) (omega (arith, stages, count)) n m (turns_ahead ns) parts all was)
 
 -- And there is room for the rounds after those.

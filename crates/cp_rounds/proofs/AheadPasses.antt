@@ -3,7 +3,7 @@ use Rattle.std.specs.Prelude.{◌≡◌, ◌≢◌, ◌≤◌, ◌<◌, ◌+◌,
 use Rattle.std.proofs.Common.{sym, ◌∙◌, ap, subst, arith, ⊎_elim}
 use Rattle.std.proofs.lemmas.List.{length-map}
 use native.Mathlib.Nat.{suc-mul}
-use Rattle.cp_model_ahead.specs.Ahead.{HaveTurned, StandAhead}
+use Rattle.cp_model_ahead.specs.Ahead.{HaveTurned, AreRunAhead}
 use Rattle.cp_model_ahead.proofs.Rounds as ahead
 use Rattle.cp_kernel.specs.KernelOf.{HasRoomForAskers, kernel_of, transcripts_of}
 use Rattle.cp_kernel.specs.Turns.{parts_of}
@@ -16,10 +16,10 @@ use Rattle.cp_private.specs.States.{private_of}
 use Rattle.cp_private.specs.declared.private.Private.{Private}
 use Rattle.cp_program.specs.View as view
 use Rattle.cp_rounds_handoff.specs.Inputs.{input_at, input_of}
-use Rattle.cp_rounds_handoff.specs.Tasks.{HasRoomLeft}
-use Rattle.cp_rounds_handoff.specs.Turned.{moment_of, take_turn, with_turn_taken}
-use Rattle.cp_rounds_handoff.specs.declared.moment.Moment.{Moment}
-use Rattle.cp_rounds_handoff.specs.declared.setting.Setting.{Setting}
+use Rattle.cp_rounds_handoff.specs.Tasks.{HasRoom}
+use Rattle.cp_rounds_handoff.specs.Turned.{round_time_of, take_turn, with_turn_taken}
+use Rattle.cp_rounds_handoff.specs.declared.round_time.RoundTime.{RoundTime}
+use Rattle.cp_rounds_handoff.specs.declared.config.MachineConfig.{MachineConfig}
 use Rattle.cp_rounds_handoff.proofs.Lists.{below_or, below_or_from, got_at, got_below, got_set, zero_or}
 use Rattle.cp_rounds.specs.Ahead.{IsReadyAhead, IsTime, PartsAhead, turns_ahead}
 use Rattle.cp_rounds.specs.MachineOf.{machine_with}
@@ -32,18 +32,18 @@ use Rattle.cp_rounds.proofs.Rounds.{Remains, private_turns_made, rounds_after, t
 -- ---- Private turns
 
 -- What the private turn of a process makes of its private state, if it is so many turns ahead.
-pub record HasTurned (g : Setting) (t : ℕ) (moment : Moment) (most i n : ℕ) (y z : Private) : Type 0 where
+pub record HasTurned (g : MachineConfig) (t : ℕ) (round_time : RoundTime) (most i n : ℕ) (y z : Private) : Type 0 where
   pub still : n ≢ 0 → z ≡ y
-  pub turned : n ≡ 0 → private_of z (input_at g.inputs.items i) ≡ take_turn (view.program g.program) t moment (private_of y (input_at g.inputs.items i))
+  pub turned : n ≡ 0 → private_of z (input_at g.inputs.items i) ≡ take_turn (view.program g.program) t round_time (private_of y (input_at g.inputs.items i))
   pub number : z.number ≡ y.number
   pub length : vec_len z.output ≤ vec_len y.output + most
   pub capacity : vec_capacity y.output ≤ vec_capacity z.output
 
 -- The private turns of the processes below index i are made.
-pub record HaveTurnedBelow (g : Setting) (t : ℕ) (moment : Moment) (most i : ℕ) (ns : List ℕ) (ys : List Private) (ms : List ℕ) (zs : List Private) : Type 0 where
+pub record HaveTurnedBelow (g : MachineConfig) (t : ℕ) (round_time : RoundTime) (most i : ℕ) (ns : List ℕ) (ys : List Private) (ms : List ℕ) (zs : List Private) : Type 0 where
   pub count : length zs ≡ length ys
   pub turns : length ms ≡ length ns
-  pub made : (j : ℕ) (y z : Private) → j < i → slice_get ys j ≡ Some y → slice_get zs j ≡ Some z → HasTurned g t moment most j (turns_ahead ns j) y z
+  pub made : (j : ℕ) (y z : Private) → j < i → slice_get ys j ≡ Some y → slice_get zs j ≡ Some z → HasTurned g t round_time most j (turns_ahead ns j) y z
   pub less : (j : ℕ) → j < i → turns_ahead ms j ≡ turns_ahead ns j - 1
   pub rest : (j : ℕ) → i ≤ j → slice_get zs j ≡ slice_get ys j
   pub left : (j : ℕ) → i ≤ j → turns_ahead ms j ≡ turns_ahead ns j
@@ -71,8 +71,8 @@ set_turns_here [] i n h = absurd (omega (arith, h))
 set_turns_here (m ∷ ns) zero n h = refl
 set_turns_here (m ∷ ns) (suc i) n h = set_turns_here ns i n (omega (arith, h))
 
-module _ (g : Setting) (t : ℕ) (moment : Moment) (most : ℕ) where
-  pub none_turned : (ns : List ℕ) (ys : List Private) → HaveTurnedBelow g t moment most 0 ns ys ns ys
+module _ (g : MachineConfig) (t : ℕ) (round_time : RoundTime) (most : ℕ) where
+  pub none_turned : (ns : List ℕ) (ys : List Private) → HaveTurnedBelow g t round_time most 0 ns ys ns ys
   none_turned ns ys = record {
     count = refl;
     turns = refl;
@@ -84,8 +84,8 @@ module _ (g : Setting) (t : ℕ) (moment : Moment) (most : ℕ) where
 
   -- With that of the process at an index.
   pub one_turned : (i : ℕ) (ns : List ℕ) (ys : List Private) (ms : List ℕ) (zs : List Private) (n : ℕ) (y z : Private) → i < length ms
-      → slice_get zs i ≡ Some y → n ≡ turns_ahead ms i - 1 → HasTurned g t moment most i (turns_ahead ms i) y z
-      → HaveTurnedBelow g t moment most i ns ys ms zs → HaveTurnedBelow g t moment most (i + 1) ns ys (slice_set ms i n) (slice_set zs i z)
+      → slice_get zs i ≡ Some y → n ≡ turns_ahead ms i - 1 → HasTurned g t round_time most i (turns_ahead ms i) y z
+      → HaveTurnedBelow g t round_time most i ns ys ms zs → HaveTurnedBelow g t round_time most (i + 1) ns ys (slice_set ms i n) (slice_set zs i z)
   one_turned i ns ys ms zs n y z within here is turn was = record {
     count = set_length zs i z ∙ was.count;
     turns = set_length ms i n ∙ was.turns;
@@ -93,10 +93,10 @@ module _ (g : Setting) (t : ℕ) (moment : Moment) (most : ℕ) where
         (λ (h : (j ≡ i) × (z ≡ w)).
         let from : i ≤ i = omega arith in
         let same : y ≡ x = same_some y x (sym here ∙ (was.rest i from ∙ (ap (slice_get ys) (sym h.0) ∙ e))) in
-        subst (λ (k : ℕ). HasTurned g t moment most k (turns_ahead ns k) x w) (sym h.0)
-        (subst (λ (v : Private). HasTurned g t moment most i (turns_ahead ns i) x v) h.1
-        (subst (λ (v : Private). HasTurned g t moment most i (turns_ahead ns i) v z) same
-        (subst (λ (k : ℕ). HasTurned g t moment most i k y z) (was.left i from) turn))))
+        subst (λ (k : ℕ). HasTurned g t round_time most k (turns_ahead ns k) x w) (sym h.0)
+        (subst (λ (v : Private). HasTurned g t round_time most i (turns_ahead ns i) x v) h.1
+        (subst (λ (v : Private). HasTurned g t round_time most i (turns_ahead ns i) v z) same
+        (subst (λ (k : ℕ). HasTurned g t round_time most i k y z) (was.left i from) turn))))
         (λ (h : (j ≢ i) × (slice_get zs j ≡ Some w)). let apart = h.0 in was.made j x w (omega (arith, below, apart)) e h.1)
         (got_set zs i j z w f);
     less = λ j below. ⊎_elim
@@ -111,15 +111,15 @@ module _ (g : Setting) (t : ℕ) (moment : Moment) (most : ℕ) where
   }
 
   -- The machine after the private turns of all.
-  pub all_turned : (m : Machine) → IsTime g m moment → (i : ℕ) (ns : List ℕ) (ys : List Private) (ms : List ℕ) (zs : List Private) (k : Kernel) → length ys ≤ i
-      → length ns ≡ length ys → HaveTurnedBelow g t moment most i ns ys ms zs → PartsAhead g t m.rounds m ns ys k
+  pub all_turned : (m : Machine) → IsTime g m round_time → (i : ℕ) (ns : List ℕ) (ys : List Private) (ms : List ℕ) (zs : List Private) (k : Kernel) → length ys ≤ i
+      → length ns ≡ length ys → HaveTurnedBelow g t round_time most i ns ys ms zs → PartsAhead g t m.rounds m ns ys k
       → PartsAhead g t (m.rounds + 1) (with_turn_taken t m) ms zs k
   all_turned m time i ns ys ms zs k end turns all was =
       let inputs = input_of g.inputs.items in
       let next : suc m.rounds ≡ m.rounds + 1 = omega arith in
       let made = ahead.private_turns_made t m.rounds m (turns_ahead ns) (kernel_of k) (transcripts_of k) (parts_of inputs 1 ys) was refl (parts_of inputs 1 zs) have in
       subst (λ (r : ℕ). PartsAhead g t r (with_turn_taken t m) ms zs k) next
-      (subst (λ (n : ℕ → ℕ). StandAhead t (suc m.rounds) (with_turn_taken t m) n (kernel_of k) (transcripts_of k) (parts_of inputs 1 zs)) (λ j p. sym (less p) j) made)
+      (subst (λ (n : ℕ → ℕ). AreRunAhead t (suc m.rounds) (with_turn_taken t m) n (kernel_of k) (transcripts_of k) (parts_of inputs 1 zs)) (λ j p. sym (less p) j) made)
     where
       less : (j : ℕ) → turns_ahead ms j ≡ turns_ahead ns j - 1
       less j = ⊎_elim (λ (h : j < i). all.less j h)
@@ -128,7 +128,7 @@ module _ (g : Setting) (t : ℕ) (moment : Moment) (most : ℕ) where
 
       turned : (j : ℕ) (o p : PrivateState) → turns_ahead ns j ≡ 0 → slice_get (parts_of (input_of g.inputs.items) 1 ys) j ≡ Some o
           → slice_get (parts_of (input_of g.inputs.items) 1 zs) j ≡ Some p
-          → p ≡ take_turn m.program t (moment_of m.tick m.rounds) o
+          → p ≡ take_turn m.program t (round_time_of m.tick m.rounds) o
       turned j o p none e f =
           let y = part_of g.inputs.items ys j o e in
           let z = part_of g.inputs.items zs j p f in
@@ -157,9 +157,9 @@ module _ (g : Setting) (t : ℕ) (moment : Moment) (most : ℕ) where
 
 -- ---- Room for them
 
-pub ready_next : (g : Setting) (t : ℕ) (moment : Moment) (most later i : ℕ) (ns : List ℕ) (ys : List Private) (ms : List ℕ) (zs : List Private) (k : Kernel)
-    → length ys ≤ i → HaveTurnedBelow g t moment most i ns ys ms zs → IsReadyAhead most (suc later) (length ys) ns ys k → IsReadyAhead most later 0 ms zs k
-ready_next g t moment most later i ns ys ms zs k end all was = record {
+pub ready_next : (g : MachineConfig) (t : ℕ) (round_time : RoundTime) (most later i : ℕ) (ns : List ℕ) (ys : List Private) (ms : List ℕ) (zs : List Private) (k : Kernel)
+    → length ys ≤ i → HaveTurnedBelow g t round_time most i ns ys ms zs → IsReadyAhead most (suc later) (length ys) ns ys k → IsReadyAhead most later 0 ms zs k
+ready_next g t round_time most later i ns ys ms zs k end all was = record {
   stages = was.stages ∙ sym all.count;
   turns = all.turns ∙ (was.turns ∙ sym all.count);
   numbers = λ j z e. let y = old j z e in (turn j z e).number ∙ was.numbers j y.0 y.1;
@@ -179,7 +179,7 @@ ready_next g t moment most later i ns ys ms zs k end all was = record {
       let long = turned.length in
       let kept = turned.capacity in
       omega (arith, none, wide, long, kept))
-      (λ (h : turns_ahead ns j ≢ 0). subst (HasRoomLeft most true) (sym (turned.still h)) (was.room j y.0 y.1))
+      (λ (h : turns_ahead ns j ≢ 0). subst (HasRoom most true) (sym (turned.still h)) (was.room j y.0 y.1))
       (zero_or (turns_ahead ns j));
   wide = λ j z e.
       let y = old j z e in
@@ -209,7 +209,7 @@ ready_next g t moment most later i ns ys ms zs k end all was = record {
     old : (j : ℕ) (z : Private) → slice_get zs j ≡ Some z → (y : Private) × (slice_get ys j ≡ Some y)
     old j z e = got_at ys j (inside j z e)
 
-    turn : (j : ℕ) (z : Private) (e : slice_get zs j ≡ Some z) → HasTurned g t moment most j (turns_ahead ns j) (old j z e).0 z
+    turn : (j : ℕ) (z : Private) (e : slice_get zs j ≡ Some z) → HasTurned g t round_time most j (turns_ahead ns j) (old j z e).0 z
     turn j z e = let below = inside j z e in all.made j (old j z e).0 z (omega (arith, below, end)) (old j z e).1 e
 
     askers : (length ys - length ys) + suc later * length ys ≡ (length zs - 0) + later * length zs
@@ -265,7 +265,7 @@ one_more t p n m all =
     rounds_after t n 1 (numbers_from 1 p) m ∙ round_is t p (phased_rounds t (numbers_from 1 p) n m) (all ∙ sym (has_made t p n m all).count)
 
 -- Once nobody is ahead, the private states and the kernel are those after all rounds.
-pub all_rounds_made : (g : Setting) (t rounds n : ℕ) (xs : List Private) (k : Kernel) (ys : List Private) (k1 : Kernel) (ns : List ℕ) (zs : List Private)
+pub all_rounds_made : (g : MachineConfig) (t rounds n : ℕ) (xs : List Private) (k : Kernel) (ys : List Private) (k1 : Kernel) (ns : List ℕ) (zs : List Private)
     (k2 : Kernel)
     → AreSame xs k ys k1 → ((i : ℕ) → turns_ahead ns i ≡ 0)
     → PartsAhead g t (rounds + n) (phased_rounds t (numbers_from 1 (length ys)) n (machine_with g rounds ys k1)) ns zs k2

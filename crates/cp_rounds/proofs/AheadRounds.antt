@@ -4,7 +4,7 @@ use Rattle.std.specs.Prelude.{◌≡◌, ◌≢◌, ◌≤◌, ◌<◌, ◌+◌,
 use Rattle.std.specs.Global.{Global}
 use Rattle.std.proofs.Common.{sym, ◌∙◌, ap, subst, arith, ⊎_elim}
 use Rattle.std.proofs.lemmas.List.{length-map}
-use Rattle.cp_model_ahead.specs.Ahead.{StandAhead}
+use Rattle.cp_model_ahead.specs.Ahead.{AreRunAhead}
 use Rattle.cp_model_ahead.proofs.Rounds as ahead
 use Rattle.cp_kernel.specs.KernelOf.{Bytes, HasRoomForAskers, HasRoomForBytes, kernel_of, transcripts_of, turning}
 use Rattle.cp_kernel.proofs.Asking.{room_kept}
@@ -19,10 +19,10 @@ use Rattle.cp_private.specs.States.{private_of}
 use Rattle.cp_private.specs.declared.private.Private.{Private}
 use Rattle.cp_program.specs.View as view
 use Rattle.cp_rounds_handoff.specs.Inputs.{input_at, input_of}
-use Rattle.cp_rounds_handoff.specs.Tasks.{HasRoomLeft, IsWide}
-use Rattle.cp_rounds_handoff.specs.Turned.{moment_of}
-use Rattle.cp_rounds_handoff.specs.declared.moment.Moment.{Moment}
-use Rattle.cp_rounds_handoff.specs.declared.setting.Setting.{Setting}
+use Rattle.cp_rounds_handoff.specs.Tasks.{HasRoom, IsWide}
+use Rattle.cp_rounds_handoff.specs.Turned.{round_time_of}
+use Rattle.cp_rounds_handoff.specs.declared.round_time.RoundTime.{RoundTime}
+use Rattle.cp_rounds_handoff.specs.declared.config.MachineConfig.{MachineConfig}
 use Rattle.cp_rounds_handoff.proofs.Lists.{below_or, got_at, got_below, got_set, mapped_get}
 use Rattle.cp_rounds.specs.Ahead.{IsReadyAhead, IsTime, PartsAhead, turns_ahead}
 use Rattle.cp_rounds.specs.Ends.{RoundEnds}
@@ -44,7 +44,7 @@ parts_set inputs p (suc i) (y ∷ ys) z =
     ap (λ (l : List PrivateState). private_of y (inputs p) ∷ l)
     (parts_set inputs (suc p) i ys z ∙ ap (λ (q : ℕ). slice_set (parts_of inputs (suc p) ys) i (private_of z (inputs q))) at)
 
-module _ (g : Setting) (t rounds : ℕ) (m : Machine) (ns : List ℕ) where
+module _ (g : MachineConfig) (t rounds : ℕ) (m : Machine) (ns : List ℕ) where
   -- The machine after the kernel turns of the processes below an index.
   abbrev pub after : ℕ → Machine
   after i = kernel_turns t m (numbers_from 1 i)
@@ -70,17 +70,17 @@ module _ (g : Setting) (t rounds : ℕ) (m : Machine) (ns : List ℕ) where
       was
 
   -- The kernel turn of another process.
-  pub turn_made_ahead : (moment : Moment) → IsTime g m moment → (i : ℕ) (ys : List Private) (k k' : Kernel) (y z : Private) → slice_get ys i ≡ Some y
-      → y.number ≡ suc i → turns_ahead ns i ≡ 0 → IsTurned (view.program g.program) moment.clock t k k' y z (input_at g.inputs.items i)
+  pub turn_made_ahead : (round_time : RoundTime) → IsTime g m round_time → (i : ℕ) (ys : List Private) (k k' : Kernel) (y z : Private) → slice_get ys i ≡ Some y
+      → y.number ≡ suc i → turns_ahead ns i ≡ 0 → IsTurned (view.program g.program) round_time.clock t k k' y z (input_at g.inputs.items i)
       → PartsAhead g t rounds (after i) ns ys k → PartsAhead g t rounds (after (i + 1)) ns (slice_set ys i z) k'
-  turn_made_ahead moment time i ys k k' y z e number none turn was =
+  turn_made_ahead round_time time i ys k k' y z e number none turn was =
       let o = there i ys k y e was in
       let kept : Remains m (after i) = turns_remain t i m in
       let input = input_at g.inputs.items i in
       let own : PrivateState = private_of y input in
-      let x : Turning = kernel_steps (view.program g.program) moment.clock t (turning k y input) in
-      let clocks : moment.clock ≡ clock (after i) =
-      ap (λ (w : Moment). w.clock) (time.time ∙ (λ j. moment_of (sym kept.tick j) (sym kept.rounds j))) in
+      let x : Turning = kernel_steps (view.program g.program) round_time.clock t (turning k y input) in
+      let clocks : round_time.clock ≡ clock (after i) =
+      ap (λ (w : RoundTime). w.clock) (time.time ∙ (λ j. round_time_of (sym kept.tick j) (sym kept.rounds j))) in
       let x_is : x ≡ kernel_steps (after i).program (clock (after i)) t (record { kernel = kernel_of k; own = own }) =
       (λ j. kernel_steps (sym (kept.program ∙ time.program) j) (clocks j) t (turning k y input)) in
       let made = ahead.kernel_turn_made t rounds (after i) (turns_ahead ns) (kernel_of k) (transcripts_of k) (parts_of (input_of g.inputs.items) 1 ys) was i o.0 own
@@ -95,12 +95,12 @@ module _ (g : Setting) (t rounds : ℕ) (m : Machine) (ns : List ℕ) where
       parts_set (input_of g.inputs.items) 1 i ys z
       ∙ ap (slice_set (parts_of (input_of g.inputs.items) 1 ys) i) (ap (private_of z) there' ∙ turn.own) in
       subst (λ (u : Machine). PartsAhead g t rounds u ns (slice_set ys i z) k') (sym (next_turn i))
-      (subst (λ (q : List PrivateState). StandAhead t rounds (kernel_turn t (after i) (suc i)) (turns_ahead ns) (kernel_of k') (transcripts_of k') q) (sym parts)
+      (subst (λ (q : List PrivateState). AreRunAhead t rounds (kernel_turn t (after i) (suc i)) (turns_ahead ns) (kernel_of k') (transcripts_of k') q) (sym parts)
       (subst (λ (ts : List (List ℕ)).
-      StandAhead t rounds (kernel_turn t (after i) (suc i)) (turns_ahead ns) (kernel_of k') ts (slice_set (parts_of (input_of g.inputs.items) 1 ys) i (record x.own { output = [] })))
+      AreRunAhead t rounds (kernel_turn t (after i) (suc i)) (turns_ahead ns) (kernel_of k') ts (slice_set (parts_of (input_of g.inputs.items) 1 ys) i (record x.own { output = [] })))
       (sym transcripts)
       (subst (λ q.
-      StandAhead t rounds (kernel_turn t (after i) (suc i)) (turns_ahead ns) q
+      AreRunAhead t rounds (kernel_turn t (after i) (suc i)) (turns_ahead ns) q
       (slice_set (transcripts_of k) i (transcript_of (transcripts_of k) (suc i) ++ x.own.output))
       (slice_set (parts_of (input_of g.inputs.items) 1 ys) i (record x.own { output = [] })))
       (sym turn.kernel) made)))
@@ -112,10 +112,10 @@ module _ (g : Setting) (t rounds : ℕ) (m : Machine) (ns : List ℕ) where
       let inputs = input_of g.inputs.items in
       let made = ahead.round_end t rounds m (turns_ahead ns) (kernel_of k) (transcripts_of k) (parts_of inputs 1 ys) was in
       let parts = ends.parts inputs ∙ (λ j. map (begin_one (sym program j) (kernel_of k)) (parts_of inputs 1 ys)) in
-      (subst (λ (q : List PrivateState). StandAhead t rounds (end_round m) (turns_ahead ns) (kernel_of k') (transcripts_of k') q) (sym parts)
-      (subst (λ (ts : List (List ℕ)). StandAhead t rounds (end_round m) (turns_ahead ns) (kernel_of k') ts (map (begin_one m.program (kernel_of k)) (parts_of inputs 1 ys)))
+      (subst (λ (q : List PrivateState). AreRunAhead t rounds (end_round m) (turns_ahead ns) (kernel_of k') (transcripts_of k') q) (sym parts)
+      (subst (λ (ts : List (List ℕ)). AreRunAhead t rounds (end_round m) (turns_ahead ns) (kernel_of k') ts (map (begin_one m.program (kernel_of k)) (parts_of inputs 1 ys)))
       (sym ends.transcripts)
-      (subst (λ q. StandAhead t rounds (end_round m) (turns_ahead ns) q (transcripts_of k) (map (begin_one m.program (kernel_of k)) (parts_of inputs 1 ys)))
+      (subst (λ q. AreRunAhead t rounds (end_round m) (turns_ahead ns) q (transcripts_of k) (map (begin_one m.program (kernel_of k)) (parts_of inputs 1 ys)))
       (sym ends.kernel) made)))
 
 -- ---- Room
@@ -165,7 +165,7 @@ module _ (most later i : ℕ) (ns : List ℕ) (ys : List Private) (k : Kernel) (
             (asking ((length ys - (i + 1)) + later * length ys)
             (subst (HasRoomForAskers k) one_more was.asking));
         room = λ j w e. ⊎_elim
-            (λ (h : (j ≡ i) × (z ≡ w)). let wide = was.wide i y here in subst (HasRoomLeft most true) h.1 (omega (arith, none, capacity, wide)))
+            (λ (h : (j ≡ i) × (z ≡ w)). let wide = was.wide i y here in subst (HasRoom most true) h.1 (omega (arith, none, capacity, wide)))
             (λ (h : (j ≢ i) × (slice_get ys j ≡ Some w)). was.room j w h.1)
             (got_set ys i j z w e);
         wide = λ j w e. ⊎_elim
@@ -209,7 +209,7 @@ output_of xs ys same i y e =
       (x.1, same_some y.output x.0.output (sym (mapped_get output ys i y e) ∙ (ap (λ l. slice_get l i) same ∙ mapped_get output xs i x.0 x.1))),
     )
 
-pub ready_ended : (most later : ℕ) (ns : List ℕ) (g : Setting) (ys zs : List Private) (k k' : Kernel) → RoundEnds g ys k zs k'
+pub ready_ended : (most later : ℕ) (ns : List ℕ) (g : MachineConfig) (ys zs : List Private) (k k' : Kernel) → RoundEnds g ys k zs k'
     → IsReadyAhead most later (length ys) ns ys k → IsReadyAhead most later (length zs) ns zs k'
 ready_ended most later ns g ys zs k k' ends was = record {
   stages = ends.stages ∙ (was.stages ∙ sym ends.count);

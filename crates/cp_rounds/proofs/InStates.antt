@@ -41,14 +41,14 @@ same_start program tick f g same =
 
 pub is_started : (program : Program) (tick : ℕ) (inputs : List Bytes) (m : Machine) → StartIsIn → machine_of m ≡ first_machine program tick (input_of inputs)
     → IsStarted program tick inputs m
-is_started program tick inputs m law made setup stands ticks given =
+is_started program tick inputs m law made setup represents ticks given =
     let same : machine_of m ≡ first_machine program setup.tick setup.inputs =
     made ∙ (ap (λ n. first_machine program n (input_of inputs)) (sym ticks) ∙ same_start program setup.tick (input_of inputs) setup.inputs given) in
-    subst (λ o. IsIn o setup (start setup)) (sym same) (law program setup stands)
+    subst (λ o. IsIn o setup (start setup)) (sym same) (law program setup represents)
 
 -- A machine has as many processes as the text.
 pub process_count_is : (m : Machine) (setup : Setup) (s : State) → IsIn (machine_of m) setup s → processes_of m ≡ process_count setup
-process_count_is m setup s I = sym (parts_count (input_of m.setting.inputs.items) 1 m.parts.privates.items) ∙ I.part_count
+process_count_is m setup s I = sym (parts_count (input_of m.config.inputs.items) 1 m.parts.privates.items) ∙ I.part_count
 
 pub makes_round : (t : ℕ) (old : Machine) (m : plain.Machine) → RoundIsRound → m ≡ plain.phased_round t (numbers_from 1 (processes_of old)) (machine_of old)
     → (setup : Setup) (s : State) → IsIn (machine_of old) setup s → IsIn m setup (meaning.phased_round setup t s)

@@ -15,11 +15,11 @@ use Rattle.cp_model_machine.specs.PrivateStates.{PrivateState}
 use Rattle.cp_program.specs.View as view
 use Rattle.cp_kernel.specs.Turns.{IsTurned, parts_of}
 use Rattle.cp_rounds_handoff.specs.Inputs.{input_at, input_of}
-use Rattle.cp_rounds_handoff.specs.Turned.{moment_of, take_turn, with_turn_taken}
-use Rattle.cp_rounds_handoff.specs.declared.setting.Setting.{Setting}
+use Rattle.cp_rounds_handoff.specs.Turned.{round_time_of, take_turn, with_turn_taken}
+use Rattle.cp_rounds_handoff.specs.declared.config.MachineConfig.{MachineConfig}
 use Rattle.cp_rounds_handoff.proofs.Lists.{got_below, got_left, got_snoc, mapped_get, none_some}
 use Rattle.cp_rounds.specs.Ends.{RoundEnds}
-use Rattle.cp_rounds.specs.Made.{Stands, TurnsMade}
+use Rattle.cp_rounds.specs.Made.{Represents, TurnsMade}
 use Rattle.cp_rounds.specs.MachineOf.{machine_with}
 use Rattle.cp_rounds.specs.Runs.{AreSame, RoundsMade, TurnsTaken}
 use Rattle.cp_model_ahead.proofs.Turns.{set_apart}
@@ -88,12 +88,12 @@ module _ (t : ℕ) (m : Machine) (inputs : List Bytes) where
   }
 
 -- With the kernel turn of the process at an index made as well.
-turn_stands : (t : ℕ) (m : Machine) (inputs : List Bytes) (i : ℕ) (ys zs : List Private) (y z : Private) (k k' : Kernel)
+turn_represents : (t : ℕ) (m : Machine) (inputs : List Bytes) (i : ℕ) (ys zs : List Private) (y z : Private) (k k' : Kernel)
     → slice_get m.parts i ≡ Some (private_of y (input_at inputs i)) → y.number ≡ suc i
     → IsTurned m.program (clock m) t k k' y z (input_at inputs i)
     → ((j : ℕ) (x : Private) → slice_get zs j ≡ Some x → ((j ≡ i) × (z ≡ x)) ⊎ ((j ≢ i) × (slice_get ys j ≡ Some x)))
-    → Stands m inputs ys k → Stands (kernel_turn t m (suc i)) inputs zs k'
-turn_stands t m inputs i ys zs y z k k' here number take_turn each was =
+    → Represents m inputs ys k → Represents (kernel_turn t m (suc i)) inputs zs k'
+turn_represents t m inputs i ys zs y z k k' here number take_turn each was =
     let o : PrivateState = private_of y (input_at inputs i) in
     let after : Turning = kernel_steps m.program (clock m) t (record { kernel = m.kernel; own = o }) in
     let new : PrivateState = record after.own { output = [] } in
@@ -117,7 +117,7 @@ turn_stands t m inputs i ys zs y z k k' here number take_turn each was =
     (λ (h : (j ≢ i) × (slice_get ys j ≡ Some x)).
     set_apart m.parts (suc i - 1) j new (λ f. h.0 (f ∙ at)) ∙ was.parts j x h.1)
     (each j x e) in
-    subst (λ (u : Machine). Stands u inputs zs k') (sym next)
+    subst (λ (u : Machine). Represents u inputs zs k') (sym next)
     (record { kernel = take_turn.kernel ∙ ap (λ (w : Turning). w.kernel) same; transcripts = transcripts; parts = parts })
 
 pub turn_made : (t : ℕ) (m : Machine) (inputs : List Bytes) (i : ℕ) (ys zs : List Private) (y z : Private) (k k' : Kernel)
@@ -130,8 +130,8 @@ turn_made t m inputs i ys zs y z k k' here number take_turn each was =
     subst (λ (c : ℕ). IsTurned (kernel_turns t m (numbers_from 1 i)).program c t k k' y z (input_at inputs i))
     (λ j. suc (sym kept.rounds j) / sym kept.tick j)
     (subst (λ (program : Program). IsTurned program (clock m) t k k' y z (input_at inputs i)) (sym kept.program) take_turn) in
-    subst (λ (u : Machine). Stands u inputs zs k') (sym (turns_next t i m))
-    (turn_stands t (kernel_turns t m (numbers_from 1 i)) inputs i ys zs y z k k' (was.parts i y here) number turned' each was)
+    subst (λ (u : Machine). Represents u inputs zs k') (sym (turns_next t i m))
+    (turn_represents t (kernel_turns t m (numbers_from 1 i)) inputs i ys zs y z k k' (was.parts i y here) number turned' each was)
 
 -- ---- Both turns of one process more
 
@@ -140,21 +140,21 @@ got_last [] x = refl
 got_last (z ∷ xs) x = got_last xs x
 
 -- The item at an index once the private turns are made.
-pub turned_at : (g : Setting) (t rounds i : ℕ) (xs : List Private) (k : Kernel) (x y : Private) → slice_get xs i ≡ Some x
+pub turned_at : (g : MachineConfig) (t rounds i : ℕ) (xs : List Private) (k : Kernel) (x y : Private) → slice_get xs i ≡ Some x
     → private_of y (input_at g.inputs.items i)
-    ≡ take_turn (view.program g.program) t (moment_of g.tick.rounds rounds) (private_of x (input_at g.inputs.items i))
+    ≡ take_turn (view.program g.program) t (round_time_of g.tick.rounds rounds) (private_of x (input_at g.inputs.items i))
     → slice_get (with_turn_taken t (machine_with g rounds xs k)).parts i ≡ Some (private_of y (input_at g.inputs.items i))
 turned_at g t rounds i xs k x y here is =
-    mapped_get (take_turn (view.program g.program) t (moment_of g.tick.rounds rounds)) (parts_of (input_of g.inputs.items) 1 xs) i
+    mapped_get (take_turn (view.program g.program) t (round_time_of g.tick.rounds rounds)) (parts_of (input_of g.inputs.items) 1 xs) i
     (private_of x (input_at g.inputs.items i)) (part_at g.inputs.items i xs x here)
     ∙ ap (λ (o : PrivateState). Some o) (sym is)
 
-process_made : (g : Setting) (t rounds : ℕ) (xs : List Private) (k0 : Kernel) (ys : List Private) (x y z : Private) (k k' : Kernel)
+process_made : (g : MachineConfig) (t rounds : ℕ) (xs : List Private) (k0 : Kernel) (ys : List Private) (x y z : Private) (k k' : Kernel)
     → slice_get xs (length ys) ≡ Some x
     → private_of y (input_at g.inputs.items (length ys))
-    ≡ take_turn (view.program g.program) t (moment_of g.tick.rounds rounds) (private_of x (input_at g.inputs.items (length ys)))
+    ≡ take_turn (view.program g.program) t (round_time_of g.tick.rounds rounds) (private_of x (input_at g.inputs.items (length ys)))
     → y.number ≡ suc (length ys)
-    → IsTurned (view.program g.program) (moment_of g.tick.rounds rounds).clock t k k' y z (input_at g.inputs.items (length ys))
+    → IsTurned (view.program g.program) (round_time_of g.tick.rounds rounds).clock t k k' y z (input_at g.inputs.items (length ys))
     → TurnsTaken g t rounds xs k0 ys k → TurnsTaken g t rounds xs k0 (ys ++ z ∷ []) k'
 process_made g t rounds xs k0 ys x y z k k' here is number turn was =
     let m : Machine = with_turn_taken t (machine_with g rounds xs k0) in
@@ -182,20 +182,20 @@ process_made g t rounds xs k0 ys x y z k k' here is number turn was =
     taken)
 
 -- The same at an index, before which both turns are made.
-pub process_made_at : (g : Setting) (t rounds : ℕ) (xs : List Private) (k0 : Kernel) (i : ℕ) (ys : List Private) (x y z : Private) (k k' : Kernel)
+pub process_made_at : (g : MachineConfig) (t rounds : ℕ) (xs : List Private) (k0 : Kernel) (i : ℕ) (ys : List Private) (x y z : Private) (k k' : Kernel)
     → i ≡ length ys → slice_get xs i ≡ Some x
     → private_of y (input_at g.inputs.items i)
-    ≡ take_turn (view.program g.program) t (moment_of g.tick.rounds rounds) (private_of x (input_at g.inputs.items i))
+    ≡ take_turn (view.program g.program) t (round_time_of g.tick.rounds rounds) (private_of x (input_at g.inputs.items i))
     → y.number ≡ suc i
-    → IsTurned (view.program g.program) (moment_of g.tick.rounds rounds).clock t k k' y z (input_at g.inputs.items i)
+    → IsTurned (view.program g.program) (round_time_of g.tick.rounds rounds).clock t k k' y z (input_at g.inputs.items i)
     → TurnsTaken g t rounds xs k0 ys k → TurnsTaken g t rounds xs k0 (ys ++ z ∷ []) k'
 process_made_at g t rounds xs k0 i ys x y z k k' at here is number turn was =
     process_made g t rounds xs k0 ys x y z k k'
     (subst (λ (n : ℕ). slice_get xs n ≡ Some x) at here)
     (subst (λ (n : ℕ). private_of y (input_at g.inputs.items n)
-    ≡ take_turn (view.program g.program) t (moment_of g.tick.rounds rounds) (private_of x (input_at g.inputs.items n))) at is)
+    ≡ take_turn (view.program g.program) t (round_time_of g.tick.rounds rounds) (private_of x (input_at g.inputs.items n))) at is)
     (number ∙ ap suc at)
-    (subst (λ (n : ℕ). IsTurned (view.program g.program) (moment_of g.tick.rounds rounds).clock t k k' y z (input_at g.inputs.items n)) at turn)
+    (subst (λ (n : ℕ). IsTurned (view.program g.program) (round_time_of g.tick.rounds rounds).clock t k k' y z (input_at g.inputs.items n)) at turn)
     was
 
 -- ---- Whole rounds
@@ -212,7 +212,7 @@ same_machine a b p t k o ts r = λ i. record {
 }
 
 -- All turns of a round are made.
-all_turns : (g : Setting) (t rounds : ℕ) (xs : List Private) (k0 : Kernel) (zs : List Private) (k : Kernel) → length zs ≡ length xs
+all_turns : (g : MachineConfig) (t rounds : ℕ) (xs : List Private) (k0 : Kernel) (zs : List Private) (k : Kernel) → length zs ≡ length xs
     → TurnsTaken g t rounds xs k0 zs k
     → machine_with g rounds zs k ≡ kernel_turns t (with_turn_taken t (machine_with g rounds xs k0)) (numbers_from 1 (length xs))
 all_turns g t rounds xs k0 zs k count made =
@@ -226,7 +226,7 @@ all_turns g t rounds xs k0 zs k count made =
     ∙ ap (λ (q : ℕ). kernel_turns t m (numbers_from 1 q)) count
 
 -- A round, with its end.
-pub round_made : (g : Setting) (t rounds : ℕ) (xs : List Private) (k0 : Kernel) (zs : List Private) (k : Kernel) (ws : List Private) (k' : Kernel)
+pub round_made : (g : MachineConfig) (t rounds : ℕ) (xs : List Private) (k0 : Kernel) (zs : List Private) (k : Kernel) (ws : List Private) (k' : Kernel)
     → length zs ≡ length xs → TurnsTaken g t rounds xs k0 zs k → RoundEnds g zs k ws k'
     → machine_with g (rounds + 1) ws k' ≡ phased_round t (numbers_from 1 (length xs)) (machine_with g rounds xs k0)
 round_made g t rounds xs k0 zs k ws k' count made ends =
@@ -239,31 +239,31 @@ round_made g t rounds xs k0 zs k ws k' count made ends =
 
 -- ---- Nothing made
 
-pub none_taken : (g : Setting) (t rounds : ℕ) (xs ys : List Private) (k : Kernel) → length ys ≡ 0 → TurnsTaken g t rounds xs k ys k
+pub none_taken : (g : MachineConfig) (t rounds : ℕ) (xs ys : List Private) (k : Kernel) → length ys ≡ 0 → TurnsTaken g t rounds xs k ys k
 none_taken g t rounds xs [] k none = none_made t (with_turn_taken t (machine_with g rounds xs k)) g.inputs.items k refl refl
 none_taken g t rounds xs (y ∷ ys) k none = absurd (Prim.omega (arith, none))
 
 -- Other room changes nothing.
-pub same_machine_with : (g : Setting) (rounds : ℕ) (xs : List Private) (k : Kernel) (ys : List Private) (k' : Kernel) → AreSame xs k ys k'
+pub same_machine_with : (g : MachineConfig) (rounds : ℕ) (xs : List Private) (k : Kernel) (ys : List Private) (k' : Kernel) → AreSame xs k ys k'
     → machine_with g rounds ys k' ≡ machine_with g rounds xs k
 same_machine_with g rounds xs k ys k' same =
     same_machine (machine_with g rounds ys k') (machine_with g rounds xs k) refl refl same.kernel (same.parts (input_of g.inputs.items)) same.transcripts refl
 
-pub no_round_made : (g : Setting) (t rounds : ℕ) (xs : List Private) (k : Kernel) (ys : List Private) (k' : Kernel) → AreSame xs k ys k'
+pub no_round_made : (g : MachineConfig) (t rounds : ℕ) (xs : List Private) (k : Kernel) (ys : List Private) (k' : Kernel) → AreSame xs k ys k'
     → RoundsMade g t rounds 0 xs k ys k'
 no_round_made g t rounds xs k ys k' same =
     let none : rounds + 0 ≡ rounds = Prim.omega arith in
     ap (λ (n : ℕ). machine_with g n ys k') none ∙ same_machine_with g rounds xs k ys k' same
 
 -- Turns that begin with another kernel of the same content.
-pub same_start : (g : Setting) (t rounds : ℕ) (xs : List Private) (k k1 : Kernel) (ys : List Private) (k' : Kernel) → kernel_of k1 ≡ kernel_of k
+pub same_start : (g : MachineConfig) (t rounds : ℕ) (xs : List Private) (k k1 : Kernel) (ys : List Private) (k' : Kernel) → kernel_of k1 ≡ kernel_of k
     → transcripts_of k1 ≡ transcripts_of k → TurnsTaken g t rounds xs k1 ys k' → TurnsTaken g t rounds xs k ys k'
 same_start g t rounds xs k k1 ys k' e f made =
     subst (λ (m : Machine). TurnsMade t (with_turn_taken t m) g.inputs.items (length ys) ys k')
     (same_machine (machine_with g rounds xs k1) (machine_with g rounds xs k) refl refl e refl f refl) made
 
 -- A round made after more room was reserved.
-pub one_round_made : (g : Setting) (t rounds : ℕ) (xs : List Private) (k : Kernel) (ys : List Private) (k1 : Kernel) (zs : List Private) (k2 : Kernel)
+pub one_round_made : (g : MachineConfig) (t rounds : ℕ) (xs : List Private) (k : Kernel) (ys : List Private) (k1 : Kernel) (zs : List Private) (k2 : Kernel)
     (ws : List Private) (k' : Kernel)
     → AreSame xs k ys k1 → length zs ≡ length ys → TurnsTaken g t rounds ys k1 zs k2 → RoundEnds g zs k2 ws k'
     → RoundsMade g t rounds 1 xs k ws k'
@@ -271,7 +271,7 @@ one_round_made g t rounds xs k ys k1 zs k2 ws k' same count made ends =
     round_made g t rounds ys k1 zs k2 ws k' count made ends
     ∙ (λ i. phased_round t (numbers_from 1 (same.count i)) (same_machine_with g rounds xs k ys k1 same i))
 
-pub more_rounds_made : (g : Setting) (t rounds m n : ℕ) (xs ys zs : List Private) (k1 k2 k3 : Kernel) → length ys ≡ length xs
+pub more_rounds_made : (g : MachineConfig) (t rounds m n : ℕ) (xs ys zs : List Private) (k1 k2 k3 : Kernel) → length ys ≡ length xs
     → RoundsMade g t rounds m xs k1 ys k2 → RoundsMade g t (rounds + m) n ys k2 zs k3 → RoundsMade g t rounds (m + n) xs k1 zs k3
 more_rounds_made g t rounds m n xs ys zs k1 k2 k3 count first then =
     let all : rounds + (m + n) ≡ (rounds + m) + n = Prim.omega arith in

@@ -20,9 +20,9 @@ use Rattle.cp_model_machine.specs.Steps.{private_steps}
 use Rattle.cp_program.specs.View as view
 use Rattle.cp_rounds_handoff.specs.Inputs.{input_at, input_of}
 use Rattle.cp_rounds_handoff.specs.Numbers.{AreNumbered}
-use Rattle.cp_rounds_handoff.specs.Turned.{moment_of, woken}
-use Rattle.cp_rounds_handoff.specs.declared.moment.Moment.{Moment}
-use Rattle.cp_rounds_handoff.specs.declared.setting.Setting.{Setting}
+use Rattle.cp_rounds_handoff.specs.Turned.{round_time_of, woken}
+use Rattle.cp_rounds_handoff.specs.declared.round_time.RoundTime.{RoundTime}
+use Rattle.cp_rounds_handoff.specs.declared.config.MachineConfig.{MachineConfig}
 use Rattle.cp_rounds_handoff.proofs.Lists.{each_more, got_at, got_below}
 use Rattle.cp_rounds.specs.Ends.{RoundEnds}
 use Rattle.cp_rounds.specs.MachineOf.{machine_with}
@@ -89,7 +89,7 @@ wake_is false m = λ i. record m { parts = sym (map-id m.parts) i }
 
 -- ---- Steps after one another
 
-module _ (g : Setting) (w : Moment) where
+module _ (g : MachineConfig) (w : RoundTime) where
   pub none_lead : (xs : List Private) (k : Kernel) → Leads g w (λ m. m) xs xs k k
   none_lead xs k = record { made = λ rounds e. refl; numbers = λ h. h; count = refl; stages = refl }
 
@@ -117,7 +117,7 @@ module _ (g : Setting) (w : Moment) where
   start_leads xs ys k k' all kernel transcripts = record {
     made = λ rounds e.
         let m : Machine = machine_with g rounds xs k in
-        let time : nat_eq (suc rounds % g.tick.rounds) 0 ≡ w.wakes = ap (λ (v : Moment). v.wakes) (sym e) in
+        let time : nat_eq (suc rounds % g.tick.rounds) 0 ≡ w.wakes = ap (λ (v : RoundTime). v.wakes) (sym e) in
         same_machine (machine_with g rounds ys k') (record m { parts = map (woken w.wakes) m.parts }) refl refl kernel
         (woken_parts w.wakes (input_of g.inputs.items) 1 xs ys all.count all.each) transcripts refl
         ∙ (sym (wake_is w.wakes m) ∙ ap (λ (b : Bool). cond b (record m { parts = map wake_one m.parts }) m) (sym time));
@@ -139,7 +139,7 @@ parts_set inputs p (suc i) (x ∷ xs) z =
     ap (λ (l : List PrivateState). private_of x (inputs p) ∷ l)
     (parts_set inputs (suc p) i xs z ∙ ap (λ (q : ℕ). slice_set (parts_of inputs (suc p) xs) i (private_of z (inputs q))) at)
 
-part_set : (g : Setting) (i : ℕ) (xs : List Private) (z : Private)
+part_set : (g : MachineConfig) (i : ℕ) (xs : List Private) (z : Private)
     → parts_of (input_of g.inputs.items) 1 (slice_set xs i z)
     ≡ slice_set (parts_of (input_of g.inputs.items) 1 xs) i (private_of z (input_at g.inputs.items i))
 part_set g i xs z =
@@ -149,14 +149,14 @@ part_set g i xs z =
 
 -- ---- Events
 
-module _ (g : Setting) (w : Moment) (p : ℕ) (xs : List Private) (k : Kernel) (x y : Private) (here : slice_get xs (p - 1) ≡ Some x) where
+module _ (g : MachineConfig) (w : RoundTime) (p : ℕ) (xs : List Private) (k : Kernel) (x y : Private) (here : slice_get xs (p - 1) ≡ Some x) where
   pub step_leads : StepsInto (view.program g.program) w.clock x y (input_at g.inputs.items (p - 1))
       → Leads g w (λ m. private_turn 1 m p) xs (slice_set xs (p - 1) y) k k
   step_leads steps = record {
     made = λ rounds e.
         let m : Machine = machine_with g rounds xs k in
         let o : PrivateState = private_of x (input_at g.inputs.items (p - 1)) in
-        let time : w.clock ≡ clock m = ap (λ (v : Moment). v.clock) e in
+        let time : w.clock ≡ clock m = ap (λ (v : RoundTime). v.clock) e in
         let next = private_turn_is 1 m p o (part_at g.inputs.items (p - 1) xs x here) in
         let stepped : ℕ → PrivateState = λ c. private_steps (view.program g.program) c 1 o in
         same_machine (machine_with g rounds (slice_set xs (p - 1) y) k) (record m { parts = slice_set m.parts (p - 1) (stepped (clock m)) }) refl refl refl
@@ -173,7 +173,7 @@ module _ (g : Setting) (w : Moment) (p : ℕ) (xs : List Private) (k : Kernel) (
     made = λ rounds e.
         let m : Machine = machine_with g rounds xs k in
         let o : PrivateState = private_of x (input_at g.inputs.items (p - 1)) in
-        let time : w.clock ≡ clock m = ap (λ (v : Moment). v.clock) e in
+        let time : w.clock ≡ clock m = ap (λ (v : RoundTime). v.clock) e in
         let T : ℕ → Turning = λ c. kernel_steps (view.program g.program) c t (record { kernel = kernel_of k; own = o }) in
         let next = kernel_turn_is t m p o (part_at g.inputs.items (p - 1) xs x here) in
         let own : private_of y (input_at g.inputs.items (p - 1)) ≡ record (T (clock m)).own { output = [] } =
@@ -218,7 +218,7 @@ process_within n [] i d all inside = absurd (Prim.omega arith)
 process_within n (e ∷ events) zero d all inside = (all.0, all.1)
 process_within n (e ∷ events) (suc i) d all inside = process_within n events i d all.2 (Prim.omega (arith, inside))
 
-pub one_more_leads : (g : Setting) (w : Moment) (t : ℕ) (events : List Event) (i : ℕ) (d : Event) (xs ys zs : List Private) (k k1 k2 : Kernel)
+pub one_more_leads : (g : MachineConfig) (w : RoundTime) (t : ℕ) (events : List Event) (i : ℕ) (d : Event) (xs ys zs : List Private) (k k1 k2 : Kernel)
     → i < length events
     → Leads g w (λ m. fold (event t) m (take i events)) xs ys k k1
     → Leads g w (λ m. event t m (get_or events i d)) ys zs k1 k2
@@ -228,15 +228,15 @@ one_more_leads g w t events i d xs ys zs k k1 k2 inside before this =
     (λ m. sym (fold_more (event t) m events i d inside))
     (leads_then g w (λ m. fold (event t) m (take i events)) (λ m. event t m (get_or events i d)) xs ys zs k k1 k2 before this)
 
-pub all_lead : (g : Setting) (w : Moment) (t : ℕ) (events : List Event) (i : ℕ) (xs ys : List Private) (k k' : Kernel) → length events ≤ i
+pub all_lead : (g : MachineConfig) (w : RoundTime) (t : ℕ) (events : List Event) (i : ℕ) (xs ys : List Private) (k k' : Kernel) → length events ≤ i
     → Leads g w (λ m. fold (event t) m (take i events)) xs ys k k' → Leads g w (λ m. fold (event t) m events) xs ys k k'
 all_lead g w t events i xs ys k k' past was =
     leads_as g w (λ m. fold (event t) m (take i events)) (λ m. fold (event t) m events) xs ys k k' (λ m. ap (fold (event t) m) (take_all i events past)) was
 
 -- ---- The end
 
-pub replay_ends : (g : Setting) (w : Moment) (rounds : ℕ) (next : Machine → Machine) (xs ys zs : List Private) (k k1 k2 : Kernel)
-    → w ≡ moment_of g.tick.rounds rounds → Leads g w next xs ys k k1 → RoundEnds g ys k1 zs k2
+pub replay_ends : (g : MachineConfig) (w : RoundTime) (rounds : ℕ) (next : Machine → Machine) (xs ys zs : List Private) (k k1 k2 : Kernel)
+    → w ≡ round_time_of g.tick.rounds rounds → Leads g w next xs ys k k1 → RoundEnds g ys k1 zs k2
     → machine_with g (rounds + 1) zs k2 ≡ end_round (next (machine_with g rounds xs k))
 replay_ends g w rounds next xs ys zs k k1 k2 time led ends =
     same_machine (machine_with g (rounds + 1) zs k2) (end_round (machine_with g rounds ys k1)) refl refl ends.kernel (ends.parts (input_of g.inputs.items))

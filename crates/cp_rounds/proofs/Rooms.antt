@@ -41,17 +41,17 @@ pub moved_stages : (k after : Kernel) (p : ℕ) (written : List ℕ) → Moves k
 moved_stages k after p written moves =
     let old = k.facts.1 in
     let new = after.facts.1 in
-    let told = length-map k.transcripts.items (λ (v : Bytes). v.items) in
-    let told' = length-map after.transcripts.items (λ (v : Bytes). v.items) in
+    let reported = length-map k.transcripts.items (λ (v : Bytes). v.items) in
+    let reported' = length-map after.transcripts.items (λ (v : Bytes). v.items) in
     let same = ap length moves.transcripts ∙ set_length (transcripts_of k) (p - 1) _ in
-    Prim.omega (arith, old, new, told, told', same)
+    Prim.omega (arith, old, new, reported, reported', same)
 
 pub same_stages : (k after : Kernel) → kernel_of after ≡ kernel_of k → length after.stages.items ≡ length k.stages.items
 same_stages k after e =
-    let told = length-map k.stages.items states.stage in
-    let told' = length-map after.stages.items states.stage in
+    let reported = length-map k.stages.items states.stage in
+    let reported' = length-map after.stages.items states.stage in
     let same : length (map states.stage after.stages.items) ≡ length (map states.stage k.stages.items) = ap (λ (q : plain.Kernel). length q.stages) e in
-    Prim.omega (arith, told, told', same)
+    Prim.omega (arith, reported, reported', same)
 
 -- ---- Other room
 
@@ -96,8 +96,8 @@ numbers_kept xs ys same all i y e =
 pub ended_stages : (k after : Kernel) → kernel_of after ≡ record (kernel_of k) { stages = map next_stage (kernel_of k).stages }
     → length after.stages.items ≡ length k.stages.items
 ended_stages k after e =
-    let told = length-map k.stages.items states.stage in
-    let told' = length-map after.stages.items states.stage in
+    let reported = length-map k.stages.items states.stage in
+    let reported' = length-map after.stages.items states.stage in
     let next = length-map (map states.stage k.stages.items) next_stage in
     let same : length (map states.stage after.stages.items) ≡ length (map next_stage (map states.stage k.stages.items)) = ap (λ (q : plain.Kernel). length q.stages) e in
-    Prim.omega (arith, told, told', next, same)
+    Prim.omega (arith, reported, reported', next, same)

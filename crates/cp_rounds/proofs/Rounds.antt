@@ -9,7 +9,7 @@ use Rattle.cp_model_machine.specs.KernelSteps.{kernel_steps}
 use Rattle.cp_model_machine.specs.Machines.{Machine, after_kernel_turn, clock, kernel_turn, kernel_turns, phased_round, phased_rounds, private_turn, private_turns, wake, wake_one}
 use Rattle.cp_model_machine.specs.PrivateStates.{PrivateState}
 use Rattle.cp_model_machine.specs.Steps.{private_steps}
-use Rattle.cp_rounds_handoff.specs.Turned.{moment_of, take_turn, with_turn_taken, woken}
+use Rattle.cp_rounds_handoff.specs.Turned.{round_time_of, take_turn, with_turn_taken, woken}
 
 -- ---- Lists
 
@@ -163,4 +163,4 @@ rounds_after t (suc m) n ps a =
     ap (λ (q : ℕ). phased_rounds t ps q a) e ∙ rounds_after t m n ps (phased_round t ps a)
 
 pub turned_count : (t : ℕ) (m : Machine) → length (with_turn_taken t m).parts ≡ length m.parts
-turned_count t m = length-map m.parts (take_turn m.program t (moment_of m.tick m.rounds))
+turned_count t m = length-map m.parts (take_turn m.program t (round_time_of m.tick m.rounds))

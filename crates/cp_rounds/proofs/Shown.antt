@@ -12,12 +12,12 @@ use Rattle.cp_model.specs.Stores as store
 use Rattle.cp_model.specs.StateViews.{fault_number}
 use Rattle.cp_model.specs.Types.{ArrayOf, ComponentOf, NoType, Queue, RecordOf, ResolvedType, Simple}
 use Rattle.cp_model_program.specs.Programs.{Program}
-use Rattle.cp_model_program.specs.StandsFor.{StandsFor}
+use Rattle.cp_model_program.specs.IsProgramFor.{IsProgramFor}
 use Rattle.cp_model_program.specs.Starts.{word}
 use Rattle.cp_model_machine.specs.Addresses.{Activation, Ground, in_sight, lies, sees, OwnWords}
 use Rattle.cp_model_machine.specs.InState.{IsIn}
 use Rattle.cp_model_machine.specs.KernelOf.{StageMeans, kernel_ground}
-use Rattle.cp_model_machine.specs.KernelSteps.{Asking, Begun, Delayed, Fresh, Stage, Unstarted, gate_of, stage_of}
+use Rattle.cp_model_machine.specs.KernelSteps.{Asking, Begun, Delayed, Fresh, SchedulingState, Unstarted, gate_of, stage_of}
 use Rattle.cp_model_machine.specs.Laws.{ground_of}
 use Rattle.cp_model_machine.specs.Means.{CellMeans}
 use Rattle.cp_model_machine.specs.PartOf.{DataMeans, status_of}
@@ -51,7 +51,7 @@ few_numbered (x ∷ xs) numbers =
     Prim.omega (arith, number, small)
 
 -- The status of a process, case by case, by what the kernel knows and by its activity.
-status_shown : (G : Ground) (x : Status) (y : Stage) (a : Activity) → StageMeans G x y → private_status x ≡ status_of a → StatusMeans G x (state_of y a)
+status_shown : (G : Ground) (x : Status) (y : SchedulingState) (a : Activity) → StageMeans G x y → private_status x ≡ status_of a → StatusMeans G x (state_of y a)
 status_shown G status.Unstarted Unstarted a h e = tt
 status_shown G status.Fresh Fresh a h e = tt
 status_shown G (status.Asking m) (Asking k) a h e = h
@@ -101,15 +101,15 @@ there m setup s I p first last =
     got_at (machine_of m).parts (p - 1) (Prim.omega (arith, first, last, count))
 
 status_is : (m : Machine) (p : ℕ) (setup : Setup) (s : State) (I : IsIn (machine_of m) setup s) → 1 ≤ p → p ≤ process_count setup
-    → StatusMeans (kernel_ground (machine_of m).program I.stands.texts setup) (s.status p) (state_at (machine_of m) p)
+    → StatusMeans (kernel_ground (machine_of m).program I.represents.texts setup) (s.status p) (state_at (machine_of m) p)
 status_is m p setup s I first last =
     let o = there m setup s I p first last in
-    let G = kernel_ground (machine_of m).program I.stands.texts setup in
+    let G = kernel_ground (machine_of m).program I.represents.texts setup in
     let stage = stage_of (machine_of m).kernel.stages p in
-    let count = I.kernel.gates_stand.stage_count in
+    let count = I.kernel.gates_represent.stage_count in
     let seen : activity_at (machine_of m) p ≡ o.0.activity = ap (λ r. elim r as (λ x. Activity) [ None ↦ machine.Ended | Some q ↦ q.activity ]) o.1 in
     subst (λ a. StatusMeans G (s.status p) (state_of stage a)) (sym seen)
-    (status_shown G (s.status p) stage o.0.activity (I.kernel.gates_stand.stages p first (Prim.omega (arith, last, count))) (I.parts p o.0 first o.1).part.status)
+    (status_shown G (s.status p) stage o.0.activity (I.kernel.gates_represent.stages p first (Prim.omega (arith, last, count))) (I.parts p o.0 first o.1).part.status)
 
 pub state_shown : (m : Machine) (p : ℕ) → ShowsState m p (state_at (machine_of m) p)
 state_shown m p = record { shows = status_is m p }
@@ -117,15 +117,15 @@ state_shown m p = record { shows = status_is m p }
 -- ---- Gates
 
 pub holder_shown : (m : Machine) (k : ℕ) → ShowsHolder m k (gate_of (machine_of m).kernel.gates k).holder
-holder_shown m k setup s I = sym (ap (λ (g : Gate). g.holder) (I.kernel.gates_stand.gates k))
+holder_shown m k setup s I = sym (ap (λ (g : Gate). g.holder) (I.kernel.gates_represent.gates k))
 
 pub askers_shown : (m : Machine) (k : ℕ) → ShowsAskers m k (gate_of (machine_of m).kernel.gates k).askers
-askers_shown m k setup s I = sym (ap (λ (g : Gate). g.askers) (I.kernel.gates_stand.gates k))
+askers_shown m k setup s I = sym (ap (λ (g : Gate). g.askers) (I.kernel.gates_represent.gates k))
 
 -- ---- Values
 
 -- No variable of a process lies in an activation, so it lies alike whatever the process runs.
-lies_alike : (program : Program) (setup : Setup) (F : StandsFor program setup) (p own : ℕ) (xs : List Activation) (path : Path) (at : ℕ) (t : ResolvedType)
+lies_alike : (program : Program) (setup : Setup) (F : IsProgramFor program setup) (p own : ℕ) (xs : List Activation) (path : Path) (at : ℕ) (t : ResolvedType)
     → lies (ground_of program setup F p 0) [] (location_of (owner.Process p) path) ≡ Some (at, t)
     → lies (ground_of program setup F p own) xs (location_of (owner.Process p) path) ≡ Some (at, t)
 lies_alike program setup F p own xs [] at t h = absurd (none_some (at, t) h)
@@ -134,10 +134,10 @@ lies_alike program setup F p own xs (ByName x ∷ path) at t h = h
 
 module _ (m : Machine) (setup : Setup) (s : State) (I : IsIn (machine_of m) setup s) where
   abbrev ground : List ℤ → ℕ → Ground
-  ground ws p = ground_of (machine_of m).program setup I.stands p (length ws)
+  ground ws p = ground_of (machine_of m).program setup I.represents p (length ws)
 
   -- A word of a process means what the store holds.
-  own_cell : (p at : ℕ) (path : Path) (t : ResolvedType) → IsOwner setup s (owner.Process p) → LiesAt (machine_of m).program setup I.stands (owner.Process p) at path t
+  own_cell : (p at : ℕ) (path : Path) (t : ResolvedType) → IsOwner setup s (owner.Process p) → LiesAt (machine_of m).program setup I.represents (owner.Process p) at path t
       → CellMeans t (s.store (location_of (owner.Process p) path)) (word_of (machine_of m) (owner.Process p) at)
   own_cell p at path t is lie =
       subst (λ ws. CellMeans t (s.store (location_of (owner.Process p) path)) (word ws at)) (sym words) (by (s.status p) refl)
@@ -153,7 +153,7 @@ module _ (m : Machine) (setup : Setup) (s : State) (I : IsIn (machine_of m) setu
 
       from : (xs : List Activation) → DataMeans (ground o.0.words p) xs (in_sight (ground o.0.words p)) s.store o.0.words → CellMeans t (s.store (location_of (owner.Process p) path)) (word o.0.words at)
       from xs D =
-          D.cells (location_of (owner.Process p) path) at t mine (lies_alike (machine_of m).program setup I.stands p (length o.0.words) xs path at t lie)
+          D.cells (location_of (owner.Process p) path) at t mine (lies_alike (machine_of m).program setup I.represents p (length o.0.words) xs path at t lie)
 
       begun : HasBegun (private_status (s.status p)) → CellMeans t (s.store (location_of (owner.Process p) path)) (word o.0.words at)
       begun h = from _ ((I.parts p o.0 is.0 o.1).part.data_means h)
@@ -168,7 +168,7 @@ module _ (m : Machine) (setup : Setup) (s : State) (I : IsIn (machine_of m) setu
       by (status.Delayed k q) e = begun (subst (λ y. HasBegun (private_status y)) (sym e) tt)
       by (status.Faulted n) e = begun (subst (λ y. HasBegun (private_status y)) (sym e) tt)
 
-  cell : (w : Owner) (at : ℕ) (path : Path) (t : ResolvedType) → IsOwner setup s w → LiesAt (machine_of m).program setup I.stands w at path t
+  cell : (w : Owner) (at : ℕ) (path : Path) (t : ResolvedType) → IsOwner setup s w → LiesAt (machine_of m).program setup I.represents w at path t
       → CellMeans t (s.store (location_of w path)) (word_of (machine_of m) w at)
   cell (owner.Process p) at path t is lie = own_cell p at path t is lie
   cell (owner.Monitor k) at path t is lie = I.kernel.data_means.cells (location_of (owner.Monitor k) path) (monitor_start (machine_of m).program k + at) t refl lie
@@ -188,7 +188,7 @@ held kind.Queue (ComponentOf y ms) n v k h = absurd k
 held kind.Queue NoType n v k h = absurd k
 
 value_is : (m : Machine) (place : Place) (setup : Setup) (s : State) (I : IsIn (machine_of m) setup s) (path : Path) (t : ResolvedType) → IsOwner setup s place.owner
-    → IsKindOf place.kind t → LiesAt (machine_of m).program setup I.stands place.owner place.at path t
+    → IsKindOf place.kind t → LiesAt (machine_of m).program setup I.represents place.owner place.at path t
     → IsValue t (value_at (machine_of m) place) (s.store (location_of place.owner path))
 value_is m place setup s I path t is fits lie =
     held place.kind t (word_of (machine_of m) place.owner place.at) (s.store (location_of place.owner path)) fits (cell m setup s I place.owner place.at path t is lie)

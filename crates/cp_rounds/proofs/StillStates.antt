@@ -9,7 +9,7 @@ use Rattle.cp_model_machine.specs.Addresses.{Ground}
 use Rattle.cp_model_machine.specs.InState.{IsIn}
 use Rattle.cp_model_machine.specs.KernelOf.{StageMeans, kernel_ground}
 use Rattle.cp_model_machine.specs.KernelSteps as kernel
-use Rattle.cp_model_machine.specs.KernelSteps.{Stage, stage_of}
+use Rattle.cp_model_machine.specs.KernelSteps.{SchedulingState, stage_of}
 use Rattle.cp_model_machine.specs.PartOf.{status_of}
 use Rattle.cp_model_machine.specs.PrivateStates as machine
 use Rattle.cp_model_machine.specs.PrivateStates.{Activity}
@@ -29,7 +29,7 @@ use Rattle.cp_rounds_handoff.specs.Inputs.{input_at, input_of}
 use Rattle.cp_rounds_handoff.proofs.Lists.{got_at, got_below}
 use Rattle.cp_rounds.specs.MachineOf.{machine_with}
 use Rattle.cp_rounds.specs.Runs.{AreSame}
-use Rattle.cp_rounds.specs.Stillness.{Advances, NoneStillBefore, RestBelow, RestsAt, TellsStill, goes_on, moves}
+use Rattle.cp_rounds.specs.Stillness.{Advances, NoneStillBefore, RestBelow, RestsAt, ReportsStill, is_active, moves}
 use Rattle.cp_rounds.specs.Views.{IsAfter, machine_of, processes_of}
 use Rattle.cp_rounds.specs.declared.machine.Machine.{Machine}
 use Rattle.cp_rounds.proofs.After.{after_more}
@@ -38,14 +38,14 @@ use Rattle.cp_rounds.proofs.Made.{part_at, parts_count, same_machine_with}
 
 -- ---- One process
 
-status_moves : (G : Ground) (x : Status) (y : Stage) (a : Activity) → StageMeans G x y → private_status x ≡ status_of a → can_move x ≡ moves y a
+status_moves : (G : Ground) (x : Status) (y : SchedulingState) (a : Activity) → StageMeans G x y → private_status x ≡ status_of a → can_move x ≡ moves y a
 status_moves G status.Unstarted kernel.Unstarted a h e = refl
 status_moves G status.Fresh kernel.Fresh a h e = refl
 status_moves G (status.Asking m) (kernel.Asking k) a h e = refl
 status_moves G (status.Delayed m q) (kernel.Delayed k n) a h e = refl
 status_moves G status.Ready kernel.Begun a h e = by a e
   where
-    by : (z : Activity) → ◌≡◌ {A = PrivateStatus} parts.Running (status_of z) → true ≡ goes_on z
+    by : (z : Activity) → ◌≡◌ {A = PrivateStatus} parts.Running (status_of z) → true ≡ is_active z
     by machine.Running e = refl
     by machine.Waiting e = refl
     by machine.NotBegun e = absurd (cc)
@@ -53,7 +53,7 @@ status_moves G status.Ready kernel.Begun a h e = by a e
     by (machine.Faulted f) e = absurd (cc)
 status_moves G status.Waiting kernel.Begun a h e = by a e
   where
-    by : (z : Activity) → ◌≡◌ {A = PrivateStatus} parts.Sleeping (status_of z) → true ≡ goes_on z
+    by : (z : Activity) → ◌≡◌ {A = PrivateStatus} parts.Sleeping (status_of z) → true ≡ is_active z
     by machine.Running e = refl
     by machine.Waiting e = refl
     by machine.NotBegun e = absurd (cc)
@@ -61,7 +61,7 @@ status_moves G status.Waiting kernel.Begun a h e = by a e
     by (machine.Faulted f) e = absurd (cc)
 status_moves G status.Ended kernel.Begun a h e = by a e
   where
-    by : (z : Activity) → ◌≡◌ {A = PrivateStatus} parts.Finished (status_of z) → false ≡ goes_on z
+    by : (z : Activity) → ◌≡◌ {A = PrivateStatus} parts.Finished (status_of z) → false ≡ is_active z
     by machine.Running e = absurd (cc)
     by machine.Waiting e = absurd (cc)
     by machine.NotBegun e = refl
@@ -69,7 +69,7 @@ status_moves G status.Ended kernel.Begun a h e = by a e
     by (machine.Faulted f) e = refl
 status_moves G (status.Faulted n) kernel.Begun a h e = by a e
   where
-    by : (z : Activity) → ◌≡◌ {A = PrivateStatus} (parts.Failed n) (status_of z) → false ≡ goes_on z
+    by : (z : Activity) → ◌≡◌ {A = PrivateStatus} (parts.Failed n) (status_of z) → false ≡ is_active z
     by machine.Running e = absurd (cc)
     by machine.Waiting e = absurd (cc)
     by machine.NotBegun e = refl
@@ -101,7 +101,7 @@ module _ (m : Machine) (setup : Setup) (s : State) (I : IsIn (machine_of m) setu
   xs = m.parts.privates.items
 
   count : length xs ≡ process_count setup
-  count = sym (parts_count (input_of m.setting.inputs.items) 1 xs) ∙ I.part_count
+  count = sym (parts_count (input_of m.config.inputs.items) 1 xs) ∙ I.part_count
 
   moves_as : (i : ℕ) (x : Private) → slice_get xs i ≡ Some x
       → can_move (s.status (suc i)) ≡ moves (stage_of (kernel_of m.parts.kernel).stages (suc i)) (activity x.activity)
@@ -109,11 +109,11 @@ module _ (m : Machine) (setup : Setup) (s : State) (I : IsIn (machine_of m) setu
       let place : i ≡ suc i - 1 = Prim.omega arith in
       let below = got_below xs i x here in
       let all = count in
-      let stages = I.kernel.gates_stand.stage_count in
-      let own = I.parts (suc i) (private_of x (input_at m.setting.inputs.items i)) (Prim.omega arith)
-      (subst (λ k. slice_get (machine_of m).parts k ≡ Some (private_of x (input_at m.setting.inputs.items i))) place (part_at m.setting.inputs.items i xs x here)) in
-      status_moves (kernel_ground (machine_of m).program I.stands.texts setup) (s.status (suc i)) (stage_of (kernel_of m.parts.kernel).stages (suc i)) (activity x.activity)
-      (I.kernel.gates_stand.stages (suc i) (Prim.omega arith) (Prim.omega (arith, below, all, stages))) own.part.status
+      let stages = I.kernel.gates_represent.stage_count in
+      let own = I.parts (suc i) (private_of x (input_at m.config.inputs.items i)) (Prim.omega arith)
+      (subst (λ k. slice_get (machine_of m).parts k ≡ Some (private_of x (input_at m.config.inputs.items i))) place (part_at m.config.inputs.items i xs x here)) in
+      status_moves (kernel_ground (machine_of m).program I.represents.texts setup) (s.status (suc i)) (stage_of (kernel_of m.parts.kernel).stages (suc i)) (activity x.activity)
+      (I.kernel.gates_represent.stages (suc i) (Prim.omega arith) (Prim.omega (arith, below, all, stages))) own.part.status
 
   still_if : RestBelow m (length xs) → is_still setup s ≡ true
   still_if rest = all_rest s 1 (process_count setup) each
@@ -133,8 +133,8 @@ module _ (m : Machine) (setup : Setup) (s : State) (I : IsIn (machine_of m) setu
       let all = count in
       one_moves s 1 (process_count setup) (suc i) (Prim.omega arith) (Prim.omega (arith, below, all)) (moves_as i x here ∙ h)
 
-pub tell_still : (m : Machine) → RestBelow m (processes_of m) → TellsStill m true
-tell_still m rest setup s I = still_if m setup s I rest
+pub report_still : (m : Machine) → RestBelow m (processes_of m) → ReportsStill m true
+report_still m rest setup s I = still_if m setup s I rest
 
 -- ---- The process that is tested next
 
@@ -143,8 +143,8 @@ module _ (m : Machine) (i : ℕ) (x : Private) (here : slice_get m.parts.private
       ≡ moves (stage_of (kernel_of m.parts.kernel).stages (suc i)) (activity x.activity)
   numbered = ap (λ n. moves (stage_of (kernel_of m.parts.kernel).stages n) (activity x.activity)) (m.parts.numbers i x here)
 
-  pub tell_moving : moves (stage_of (kernel_of m.parts.kernel).stages x.number) (activity x.activity) ≡ true → TellsStill m false
-  tell_moving h setup s I = moving_if m setup s I i x here (sym numbered ∙ h)
+  pub report_moving : moves (stage_of (kernel_of m.parts.kernel).stages x.number) (activity x.activity) ≡ true → ReportsStill m false
+  report_moving h setup s I = moving_if m setup s I i x here (sym numbered ∙ h)
 
   pub rests_more : moves (stage_of (kernel_of m.parts.kernel).stages x.number) (activity x.activity) ≡ false → RestBelow m i → RestBelow m (i + 1)
   rests_more h rest k below = by (nat_lt k i) refl
@@ -170,7 +170,7 @@ not_before more setup t k n s below last = by (is_still setup (run setup t k s))
         let all : k + (n - k) ≡ n = Prim.omega (arith, below) in
         absurd (true≢false (sym (more setup t k (n - k) s e) ∙ (ap (λ j. is_still setup (run setup t j s)) all ∙ last)))
 
-none_before : RoundsAreRun → StillAfterMoreRounds → (t d n : ℕ) (old new : Machine) → IsAfter t d old new → TellsStill new false → n ≤ suc d
+none_before : RoundsAreRun → StillAfterMoreRounds → (t d n : ℕ) (old new : Machine) → IsAfter t d old new → ReportsStill new false → n ≤ suc d
     → NoneStillBefore t n old
 none_before law more t d n old new after still most setup s I k below =
     not_before more setup t k d s (Prim.omega (arith, most, below)) (still setup (run setup t d s) (makes_rounds t d old new law after.made setup s I))
@@ -179,7 +179,7 @@ pub none_at_first : (t : ℕ) (m : Machine) → NoneStillBefore t 0 m
 none_at_first t m setup s I k below = absurd (Prim.omega (arith, below))
 
 -- The machine isn't still after d rounds and then advances by n.
-pub none_in_advance : RoundsAreRun → StillAfterMoreRounds → (t d n : ℕ) (old mid new : Machine) → 0 < n → IsAfter t d old mid → TellsStill mid false
+pub none_in_advance : RoundsAreRun → StillAfterMoreRounds → (t d n : ℕ) (old mid new : Machine) → 0 < n → IsAfter t d old mid → ReportsStill mid false
     → Advances t n true mid new → NoneStillBefore t (d + n) old
 none_in_advance law more t d zero old mid new some after still made = absurd (Prim.omega (arith, some))
 none_in_advance law more t d (suc zero) old mid new some after still made = none_before law more t d (d + 1) old mid after still (Prim.omega arith)
@@ -189,12 +189,12 @@ none_in_advance law more t d (suc (suc n)) old mid new some after still made =
 
 -- A machine that is put back as it was.
 pub put_back : (t : ℕ) (old new : Machine) → AreSame old.parts.privates.items old.parts.kernel new.parts.privates.items new.parts.kernel
-    → new.rounds ≡ old.rounds → new.setting ≡ old.setting → new.tables ≡ old.tables → IsAfter t 0 old new
-put_back t old new same rounds setting tables =
-    let back = same_machine_with old.setting old.rounds old.parts.privates.items old.parts.kernel new.parts.privates.items new.parts.kernel same in
+    → new.rounds ≡ old.rounds → new.config ≡ old.config → new.tables ≡ old.tables → IsAfter t 0 old new
+put_back t old new same rounds config tables =
+    let back = same_machine_with old.config old.rounds old.parts.privates.items old.parts.kernel new.parts.privates.items new.parts.kernel same in
     record {
-      made = (λ i. machine_with (setting i) (rounds i) new.parts.privates.items new.parts.kernel) ∙ back;
+      made = (λ i. machine_with (config i) (rounds i) new.parts.privates.items new.parts.kernel) ∙ back;
       processes = same.count;
       rounds = Prim.omega (arith, rounds);
-      text = record { setting = setting; tables = tables };
+      text = record { config = config; tables = tables };
     }

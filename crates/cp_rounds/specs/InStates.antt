@@ -1,7 +1,7 @@
 -- What the calls of a machine make of the states of the meaning that the machine is in.
 use Rattle.std.specs.Prelude.{◌≡◌, ◌≤◌, ℕ, List, length}
 use Rattle.cp_model_program.specs.Programs.{Program}
-use Rattle.cp_model_program.specs.StandsFor.{StandsFor}
+use Rattle.cp_model_program.specs.IsProgramFor.{IsProgramFor}
 use Rattle.cp_kernel.specs.KernelOf.{Bytes}
 use Rattle.cp_model.specs.Orders.{IsLawful}
 use Rattle.cp_model.specs.Rounds.{Event, phased_round, replay_round, run, sequential_round}
@@ -19,7 +19,7 @@ HaveInputs program inputs setup = (p : ℕ) → 1 ≤ p → p ≤ length program
 -- It is in the start state of each text that the program stands for.
 abbrev pub IsStarted : Program → ℕ → List Bytes → Machine → Type 0
 IsStarted program tick inputs m =
-    (setup : Setup) → StandsFor program setup → setup.tick ≡ tick → HaveInputs program inputs setup → IsIn (machine_of m) setup (start setup)
+    (setup : Setup) → IsProgramFor program setup → setup.tick ≡ tick → HaveInputs program inputs setup → IsIn (machine_of m) setup (start setup)
 
 -- Whatever state it was in, it is now in the state that a phased round with turns of t steps leads
 -- to.

@@ -7,10 +7,10 @@ use Rattle.cp_private.specs.declared.private.Private.{Private}
 use Rattle.cp_model_machine.specs.Machines as plain
 use Rattle.cp_program.specs.View as view
 use Rattle.cp_rounds_handoff.specs.Inputs.{input_of}
-use Rattle.cp_rounds_handoff.specs.declared.setting.Setting.{Setting}
+use Rattle.cp_rounds_handoff.specs.declared.config.MachineConfig.{MachineConfig}
 
 -- The machine with this setting after `rounds` rounds, with these private states by number, from 1.
-abbrev pub machine_with : Setting → ℕ → List Private → Kernel → plain.Machine
+abbrev pub machine_with : MachineConfig → ℕ → List Private → Kernel → plain.Machine
 machine_with g rounds xs k = record {
   program = view.program g.program;
   tick = g.tick.rounds;

@@ -9,7 +9,7 @@ use Rattle.cp_model_machine.specs.Machines.{Machine, kernel_turns}
 use Rattle.cp_rounds_handoff.specs.Inputs.{input_at}
 
 -- The kernel and the first private states of the machine m are these.
-pub record Stands (m : Machine) (inputs : List Bytes) (ys : List Private) (k : Kernel) : Type 0 where
+pub record Represents (m : Machine) (inputs : List Bytes) (ys : List Private) (k : Kernel) : Type 0 where
   pub kernel : kernel_of k ≡ m.kernel
   pub transcripts : transcripts_of k ≡ m.transcripts
   pub parts : (i : ℕ) (y : Private) → slice_get ys i ≡ Some y → slice_get m.parts i ≡ Some (private_of y (input_at inputs i))
@@ -17,7 +17,7 @@ pub record Stands (m : Machine) (inputs : List Bytes) (ys : List Private) (k : K
 -- The same for m, whose private turns are made, after the kernel turns of the processes below index
 -- `from`.
 abbrev pub TurnsMade : ℕ → Machine → List Bytes → ℕ → List Private → Kernel → Type 0
-TurnsMade t m inputs from ys k = Stands (kernel_turns t m (numbers_from 1 from)) inputs ys k
+TurnsMade t m inputs from ys k = Represents (kernel_turns t m (numbers_from 1 from)) inputs ys k
 
 -- The kernel has room for what processes write and for the askers, in so many rounds. A turn of either
 -- kind writes at most `most` bytes.

@@ -8,7 +8,7 @@ use Rattle.cp_model.specs.Types.{Queue}
 use Rattle.cp_model_machine.specs.Addresses.{Ground, lies}
 use Rattle.cp_model_machine.specs.InState.{IsIn}
 use Rattle.cp_model_machine.specs.KernelOf.{kernel_ground}
-use Rattle.cp_model_machine.specs.KernelSteps.{Asking, Begun, Delayed, Fresh, Stage, Unstarted, stage_of}
+use Rattle.cp_model_machine.specs.KernelSteps.{Asking, Begun, Delayed, Fresh, SchedulingState, Unstarted, stage_of}
 use Rattle.cp_model_machine.specs.Machines as plain
 use Rattle.cp_model_machine.specs.PrivateStates as activity
 use Rattle.cp_model_machine.specs.PrivateStates.{Activity}
@@ -18,7 +18,7 @@ use Rattle.cp_inspect.specs.declared.state.ProcState.{ProcState}
 use Rattle.cp_inspect.specs.declared.state.ProcState.TheVariants as state
 
 -- The state of a process with this stage and this activity.
-abbrev pub state_of : Stage → Activity → ProcState
+abbrev pub state_of : SchedulingState → Activity → ProcState
 state_of Unstarted a = state.Unstarted
 state_of Fresh a = state.Fresh
 state_of (Asking m) a = state.Asking m
@@ -51,4 +51,4 @@ StatusMeans G _ _ = ⊥
 -- In each state that the machine is in, the status of process p is this state.
 pub record ShowsState (m : Machine) (p : ℕ) (r : ProcState) : Type 0 where
   pub shows : (setup : Setup) (s : State) (I : IsIn (machine_of m) setup s) → 1 ≤ p → p ≤ process_count setup
-      → StatusMeans (kernel_ground (machine_of m).program I.stands.texts setup) (s.status p) r
+      → StatusMeans (kernel_ground (machine_of m).program I.represents.texts setup) (s.status p) r

@@ -10,9 +10,9 @@ use Rattle.cp_model_machine.specs.Machines as plain
 use Rattle.cp_model_machine.specs.Machines.{transcript_of}
 use Rattle.cp_model_machine.specs.Steps.{private_steps}
 use Rattle.cp_rounds_handoff.specs.Numbers.{AreNumbered}
-use Rattle.cp_rounds_handoff.specs.Turned.{moment_of, woken}
-use Rattle.cp_rounds_handoff.specs.declared.moment.Moment.{Moment}
-use Rattle.cp_rounds_handoff.specs.declared.setting.Setting.{Setting}
+use Rattle.cp_rounds_handoff.specs.Turned.{round_time_of, woken}
+use Rattle.cp_rounds_handoff.specs.declared.round_time.RoundTime.{RoundTime}
+use Rattle.cp_rounds_handoff.specs.declared.config.MachineConfig.{MachineConfig}
 use Rattle.cp_rounds.specs.MachineOf.{machine_with}
 
 -- Each private state of ys is the one of xs at its index, woken in a round in which the processes
@@ -42,8 +42,8 @@ pub record TurnsInto (program : Program) (clock t p : ℕ) (k after : Kernel) (x
   pub stages : length after.stages.items ≡ length k.stages.items
 
 -- At this time, xs and k become ys and k', as `next` says of the machine.
-pub record Leads (g : Setting) (w : Moment) (next : plain.Machine → plain.Machine) (xs ys : List Private) (k k' : Kernel) : Type 0 where
-  pub made : (rounds : ℕ) → w ≡ moment_of g.tick.rounds rounds → machine_with g rounds ys k' ≡ next (machine_with g rounds xs k)
+pub record Leads (g : MachineConfig) (w : RoundTime) (next : plain.Machine → plain.Machine) (xs ys : List Private) (k k' : Kernel) : Type 0 where
+  pub made : (rounds : ℕ) → w ≡ round_time_of g.tick.rounds rounds → machine_with g rounds ys k' ≡ next (machine_with g rounds xs k)
   pub numbers : AreNumbered xs → AreNumbered ys
   pub count : length ys ≡ length xs
   pub stages : length k'.stages.items ≡ length k.stages.items

@@ -9,9 +9,9 @@ use Rattle.cp_private.specs.States.{private_of}
 use Rattle.cp_private.specs.declared.private.Private.{Private}
 use Rattle.cp_model_machine.specs.Machines.{phased_rounds}
 use Rattle.cp_rounds_handoff.specs.Numbers.{AreNumbered}
-use Rattle.cp_rounds_handoff.specs.Tasks.{AreHere, AreLeft}
+use Rattle.cp_rounds_handoff.specs.Tasks.{AreHere, AreInPlace}
 use Rattle.cp_rounds_handoff.specs.Turned.{with_turn_taken}
-use Rattle.cp_rounds_handoff.specs.declared.setting.Setting.{Setting}
+use Rattle.cp_rounds_handoff.specs.declared.config.MachineConfig.{MachineConfig}
 use Rattle.cp_rounds.specs.Made.{IsReadyFor, TurnsMade}
 use Rattle.cp_rounds.specs.MachineOf.{machine_with}
 use Rattle.cp_rounds.specs.declared.parts.Parts.{Parts}
@@ -36,7 +36,7 @@ pub record AreSame (xs : List Private) (k : Kernel) (ys : List Private) (k' : Ke
 pub record IsOpened (most : ℕ) (wakes alone : Bool) (rounds : ℕ) (xs : List Private) (k : Kernel) (start ys : List Private) (k' : Kernel) : Type 0 where
   pub same : AreSame xs k start k'
   pub ready : IsReadyFor most rounds start k'
-  pub left : AreLeft wakes 0 start ys
+  pub left : AreInPlace wakes 0 start ys
   pub here : AreHere alone 0 start ys
   pub count : length ys ≡ length start
 
@@ -44,15 +44,15 @@ pub record IsOpened (most : ℕ) (wakes alone : Bool) (rounds : ℕ) (xs : List 
 
 -- In the round after the first `rounds` rounds, the processes of ys have made both turns. xs and k
 -- are those at the start of the round.
-abbrev pub TurnsTaken : Setting → ℕ → ℕ → List Private → Kernel → List Private → Kernel → Type 0
+abbrev pub TurnsTaken : MachineConfig → ℕ → ℕ → List Private → Kernel → List Private → Kernel → Type 0
 TurnsTaken g t rounds xs k ys k' = TurnsMade t (with_turn_taken t (machine_with g rounds xs k)) g.inputs.items (length ys) ys k'
 
 -- n more rounds are made after the first `rounds` rounds.
-abbrev pub RoundsMade : Setting → ℕ → ℕ → ℕ → List Private → Kernel → List Private → Kernel → Type 0
+abbrev pub RoundsMade : MachineConfig → ℕ → ℕ → ℕ → List Private → Kernel → List Private → Kernel → Type 0
 RoundsMade g t rounds n xs k ys k' =
     machine_with g (rounds + n) ys k' ≡ phased_rounds t (numbers_from 1 (length xs)) n (machine_with g rounds xs k)
 
-abbrev pub PartsAfter : Setting → ℕ → ℕ → ℕ → Parts → Parts → Type 0
+abbrev pub PartsAfter : MachineConfig → ℕ → ℕ → ℕ → Parts → Parts → Type 0
 PartsAfter g t rounds n before after = RoundsMade g t rounds n before.privates.items before.kernel after.privates.items after.kernel
 
 -- ---- Cells

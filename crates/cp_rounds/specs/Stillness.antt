@@ -2,7 +2,7 @@
 use Rattle.std.specs.Prelude.{◌≡◌, ◌<◌, ℕ, suc, Bool, false, true, Some, slice_get}
 use Rattle.cp_kernel.specs.KernelOf.{kernel_of}
 use Rattle.cp_model_machine.specs.InState.{IsIn}
-use Rattle.cp_model_machine.specs.KernelSteps.{Begun, Fresh, Stage, stage_of}
+use Rattle.cp_model_machine.specs.KernelSteps.{Begun, Fresh, SchedulingState, stage_of}
 use Rattle.cp_model_machine.specs.PrivateStates.{Activity, Running, Waiting}
 use Rattle.cp_model.specs.Rounds.{run}
 use Rattle.cp_model.specs.States.{Setup, State}
@@ -13,14 +13,14 @@ use Rattle.cp_rounds.specs.declared.machine.Machine.{Machine}
 use Rattle.cp_law_stillness.specs.Stillness.{is_still}
 
 -- A process that has begun can move if it runs or waits for the clock.
-abbrev pub goes_on : Activity → Bool
-goes_on Running = true
-goes_on Waiting = true
-goes_on _ = false
+abbrev pub is_active : Activity → Bool
+is_active Running = true
+is_active Waiting = true
+is_active _ = false
 
-abbrev pub moves : Stage → Activity → Bool
+abbrev pub moves : SchedulingState → Activity → Bool
 moves Fresh a = true
-moves Begun a = goes_on a
+moves Begun a = is_active a
 moves _ a = false
 
 -- The process at index i of the machine's processes can't move.
@@ -34,8 +34,8 @@ abbrev pub RestBelow : Machine → ℕ → Type 0
 RestBelow m n = (i : ℕ) → i < n → RestsAt m i
 
 -- Each state that the machine is in is still, or none is.
-abbrev pub TellsStill : Machine → Bool → Type 0
-TellsStill m b = (setup : Setup) (s : State) → IsIn (machine_of m) setup s → is_still setup s ≡ b
+abbrev pub ReportsStill : Machine → Bool → Type 0
+ReportsStill m b = (setup : Setup) (s : State) → IsIn (machine_of m) setup s → is_still setup s ≡ b
 
 -- In no state that the machine is in are the first n states of its rounds still.
 abbrev pub NoneStillBefore : ℕ → ℕ → Machine → Type 0
@@ -44,5 +44,5 @@ NoneStillBefore t n m = (setup : Setup) (s : State) → IsIn (machine_of m) setu
 -- The machine has made the rounds and, if there is more than one of them, isn't still. Or it is as
 -- it was.
 abbrev pub Advances : ℕ → ℕ → Bool → Machine → Machine → Type 0
-Advances t n true old new = IsAfter t n old new × (1 < n → TellsStill new false)
+Advances t n true old new = IsAfter t n old new × (1 < n → ReportsStill new false)
 Advances t n false old new = IsAfter t 0 old new

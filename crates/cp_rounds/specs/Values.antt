@@ -6,7 +6,7 @@ use Rattle.cp_model.specs.States.{Setup, State, process_count}
 use Rattle.cp_model.specs.Stores as store
 use Rattle.cp_model.specs.Types.{Queue, ResolvedType, Simple}
 use Rattle.cp_model_program.specs.Programs.{Program}
-use Rattle.cp_model_program.specs.StandsFor.{StandsFor}
+use Rattle.cp_model_program.specs.IsProgramFor.{IsProgramFor}
 use Rattle.cp_model_program.specs.Starts.{word}
 use Rattle.cp_model_machine.specs.Addresses.{lies}
 use Rattle.cp_model_machine.specs.InState.{IsIn}
@@ -52,7 +52,7 @@ location_of (owner.Process p) path = record { owner = OfProcess p; path = path }
 location_of (owner.Monitor k) path = record { owner = OfMonitor k; path = path }
 
 -- The variable of the owner with this path and this type lies at an address among its words.
-abbrev pub LiesAt : (program : Program) (setup : Setup) → StandsFor program setup → Owner → ℕ → Path → ResolvedType → Type 0
+abbrev pub LiesAt : (program : Program) (setup : Setup) → IsProgramFor program setup → Owner → ℕ → Path → ResolvedType → Type 0
 LiesAt program setup F (owner.Process p) at path t = lies (ground_of program setup F p 0) [] (location_of (owner.Process p) path) ≡ Some (at, t)
 LiesAt program setup F (owner.Monitor k) at path t =
     lies (kernel_ground program F.texts setup) [] (location_of (owner.Monitor k) path) ≡ Some (monitor_start program k + at, t)
@@ -66,4 +66,4 @@ IsOwner setup s (owner.Monitor k) = Unit {0}
 -- In each state that the machine is in, each variable that lies at the place has this value.
 pub record ShowsValue (m : Machine) (place : Place) (v : Value) : Type 0 where
   pub shows : (setup : Setup) (s : State) (I : IsIn (machine_of m) setup s) (path : Path) (t : ResolvedType) → IsOwner setup s place.owner → IsKindOf place.kind t
-      → LiesAt (machine_of m).program setup I.stands place.owner place.at path t → IsValue t v (s.store (location_of place.owner path))
+      → LiesAt (machine_of m).program setup I.represents place.owner place.at path t → IsValue t v (s.store (location_of place.owner path))

@@ -3,14 +3,14 @@ use Rattle.std.specs.Prelude.{◌≡◌, ◌+◌, ◌-◌, ℕ, ℤ, List, [], N
 use Rattle.cp_model.specs.States.{numbers_from}
 use Rattle.cp_model_machine.specs.Machines as plain
 use Rattle.cp_rounds.specs.MachineOf.{machine_with}
-use Rattle.cp_rounds.specs.declared.halted.Halted.{Halted}
+use Rattle.cp_rounds.specs.declared.finished_machine.FinishedMachine.{FinishedMachine}
 use Rattle.cp_rounds.specs.declared.machine.Machine.{Machine}
 
 abbrev pub machine_of : Machine → plain.Machine
-machine_of m = machine_with m.setting m.rounds m.parts.privates.items m.parts.kernel
+machine_of m = machine_with m.config m.rounds m.parts.privates.items m.parts.kernel
 
-abbrev pub halted_of : Halted → plain.Machine
-halted_of m = machine_with m.setting m.rounds m.parts.privates.items m.parts.kernel
+abbrev pub finished_machine_of : FinishedMachine → plain.Machine
+finished_machine_of m = machine_with m.config m.rounds m.parts.privates.items m.parts.kernel
 
 -- How many processes it has.
 abbrev pub processes_of : Machine → ℕ
@@ -18,7 +18,7 @@ processes_of m = length m.parts.privates.items
 
 -- The program and the tables of the text stay as they are.
 pub record KeepsText (before after : Machine) : Type 0 where
-  pub setting : after.setting ≡ before.setting
+  pub config : after.config ≡ before.config
   pub tables : after.tables ≡ before.tables
 
 -- The machine after n more rounds with turns of at most t steps.

@@ -8,35 +8,39 @@ ghost use Rattle.cp_private.specs.States.{private_of};
 ghost use Rattle.cp_program.specs.View as view;
 ghost use Rattle.cp_rounds_handoff.specs.Inputs.{input_at};
 ghost use Rattle.cp_rounds_handoff.specs.Turned.{take_turn, with_turn_taken};
-ghost use Rattle.cp_rounds.specs.Ahead.{IsReadyAhead, IsTime, PartsAhead, turns_ahead};
+ghost use Rattle.cp_rounds.specs.RunAheadTurns.{IsReadyAhead, IsTime, PartsAhead, turns_ahead};
 
 use crate::closing::close_round;
 use crate::finishing::kernel_turn_of;
 use crate::run::Run;
 use cp_kernel::kernel::Kernel;
-use cp_private::resident::Resident;
+use cp_private::private_box::PrivateBox;
 use cp_rounds_handoff::gate::TurnGate;
-use cp_rounds_handoff::moment::Moment;
+use cp_rounds_handoff::round_time::RoundTime;
 use cp_rounds_handoff::task::Course;
 use cp_rounds_handoff::turns::turn_in_place;
 use std::alloc::{AllocError, Global};
 
 /// How many turns processes are ahead of the round that is being made.
 #[derive(Drop)]
-pub(crate) struct Ahead {
+pub(crate) struct RunAheadTurns {
     /// The turns by index of process.
     pub(crate) turns: Vec<u32>,
     /// How many of the rounds come after this one.
     pub(crate) later: u32,
 }
 
-impl Ahead {
+impl RunAheadTurns {
     /// Returns that none of so many processes is ahead, in the first of several rounds.
     ///
     /// # Errors
     ///
     /// `AllocError` if memory runs out.
-    pub(crate) fn none(alloc: Global, processes: usize, later: u32) -> Result<Ahead, AllocError>
+    pub(crate) fn none(
+        alloc: Global,
+        processes: usize,
+        later: u32,
+    ) -> Result<RunAheadTurns, AllocError>
         ensures turns { IfOk result (λ ahead. length ahead.turns.items ≡ processes) }
         ensures later { IfOk result (λ ahead. ahead.later ≡ later) }
     {
@@ -44,7 +48,7 @@ impl Ahead {
         for _process in 0..processes {
             turns.push(0)?;
         }
-        Ok(Ahead { turns, later })
+        Ok(RunAheadTurns { turns, later })
     }
 
     // Returns how many turns all processes are ahead.
@@ -86,17 +90,17 @@ fn call_gate<'a, C: Course, G: TurnGate>(run: &Run<'a, C, G>, processes: usize) 
 /// are made: nothing is left to do in them. Returns how many these are.
 pub(crate) fn pass_rounds<'a, C: Course, G: TurnGate>(
     run: &Run<'a, C, G>,
-    ahead: &mut Ahead,
-    privates: &Vec<Resident>,
+    ahead: &mut RunAheadTurns,
+    privates: &Vec<PrivateBox>,
     kernel: &Kernel,
 ) -> u32
     requires room { IsReadyAhead C.most ahead.old.later 0 ahead.old.turns.items privates.now.items
         kernel.now }
     ensures parts { (m : plain.Machine)
-        → PartsAhead run.now.turns.setting.now run.now.turns.plan.turn.steps (m.rounds + 1)
+        → PartsAhead run.now.turns.config.now run.now.turns.plan.turn.steps (m.rounds + 1)
         (with_turn_taken run.now.turns.plan.turn.steps m) ahead.old.turns.items privates.now.items
         kernel.now
-        → PartsAhead run.now.turns.setting.now run.now.turns.plan.turn.steps
+        → PartsAhead run.now.turns.config.now run.now.turns.plan.turn.steps
         (m.rounds + (result + 1)) (with_turn_taken run.now.turns.plan.turn.steps
         (plain.phased_rounds run.now.turns.plan.turn.steps
         (numbers_from 1 (length privates.now.items)) result m)) ahead.new.turns.items
@@ -117,21 +121,21 @@ pub(crate) fn pass_rounds<'a, C: Course, G: TurnGate>(
 // in it.
 fn finish_at<'a, C: Course, G: TurnGate>(
     run: &Run<'a, C, G>,
-    moment: Moment,
-    ahead: &Ahead,
+    round_time: RoundTime,
+    ahead: &RunAheadTurns,
     index: usize,
-    privates: &mut Vec<Resident>,
+    privates: &mut Vec<PrivateBox>,
     kernel: &mut Kernel,
 )
     requires within { index < length privates.old.items }
     requires room { IsReadyAhead C.most ahead.now.later index ahead.now.turns.items
         privates.old.items kernel.old }
     ensures parts { (rounds : ℕ) (m : plain.Machine)
-        → IsTime run.now.turns.setting.now m moment
-        → PartsAhead run.now.turns.setting.now run.now.turns.plan.turn.steps rounds
+        → IsTime run.now.turns.config.now m round_time
+        → PartsAhead run.now.turns.config.now run.now.turns.plan.turn.steps rounds
         (plain.kernel_turns run.now.turns.plan.turn.steps m (numbers_from 1 index))
         ahead.now.turns.items privates.old.items kernel.old
-        → PartsAhead run.now.turns.setting.now run.now.turns.plan.turn.steps rounds
+        → PartsAhead run.now.turns.config.now run.now.turns.plan.turn.steps rounds
         (plain.kernel_turns run.now.turns.plan.turn.steps m (numbers_from 1 (index + 1)))
         ahead.now.turns.items privates.new.items kernel.new }
     ensures room { IsReadyAhead C.most ahead.now.later (index + 1) ahead.now.turns.items
@@ -142,24 +146,24 @@ fn finish_at<'a, C: Course, G: TurnGate>(
         run.turns.gate.kernel(index + 1);
         return;
     }
-    kernel_turn_of(run, moment, index + 1, &mut privates[index], kernel);
+    kernel_turn_of(run, round_time, index + 1, &mut privates[index], kernel);
 }
 
 /// Makes the kernel turns of a round, and ends it.
 pub(crate) fn finish_round<'a, C: Course, G: TurnGate>(
     run: &Run<'a, C, G>,
-    moment: Moment,
-    ahead: &Ahead,
-    privates: &mut Vec<Resident>,
+    round_time: RoundTime,
+    ahead: &RunAheadTurns,
+    privates: &mut Vec<PrivateBox>,
     kernel: &mut Kernel,
 )
     requires room { IsReadyAhead C.most ahead.now.later 0 ahead.now.turns.items privates.old.items
         kernel.old }
     ensures parts { (rounds : ℕ) (m : plain.Machine)
-        → IsTime run.now.turns.setting.now m moment
-        → PartsAhead run.now.turns.setting.now run.now.turns.plan.turn.steps rounds m
+        → IsTime run.now.turns.config.now m round_time
+        → PartsAhead run.now.turns.config.now run.now.turns.plan.turn.steps rounds m
         ahead.now.turns.items privates.old.items kernel.old
-        → PartsAhead run.now.turns.setting.now run.now.turns.plan.turn.steps rounds
+        → PartsAhead run.now.turns.config.now run.now.turns.plan.turn.steps rounds
         (plain.end_round (plain.kernel_turns run.now.turns.plan.turn.steps m
         (numbers_from 1 (length privates.old.items)))) ahead.now.turns.items privates.new.items
         kernel.new }
@@ -168,27 +172,27 @@ pub(crate) fn finish_round<'a, C: Course, G: TurnGate>(
     ensures count { length privates.new.items ≡ length privates.old.items }
 {
     for i in 0..privates.len() {
-        finish_at(run, moment, ahead, i, privates, kernel);
+        finish_at(run, round_time, ahead, i, privates, kernel);
     }
-    close_round(run.turns.setting, privates, kernel);
+    close_round(run.turns.config, privates, kernel);
 }
 
 // Makes the private turn of a process, unless it is ahead. Returns whether it had a step to make.
 #[inline(always)]
 fn turn_unless_ahead<'a, C: Course, G: TurnGate>(
     run: &Run<'a, C, G>,
-    moment: Moment,
+    round_time: RoundTime,
     process: usize,
     turns: &mut u32,
-    private: &mut Resident,
+    private: &mut PrivateBox,
 ) -> bool
     requires room { turns.old ≡ 0 → HasRoomFor private.old run.now.turns.plan.turn.steps }
     ensures ahead { turns.new ≡ turns.old - 1 }
     ensures still { turns.old ≢ 0 → private.new ≡ private.old }
     ensures turned { turns.old ≡ 0
-        → let input = input_at run.now.turns.setting.now.inputs.items (process - 1) in
-        private_of private.new input ≡ take_turn (view.program run.now.turns.setting.now.program)
-        run.now.turns.plan.turn.steps moment (private_of private.old input) }
+        → let input = input_at run.now.turns.config.now.inputs.items (process - 1) in
+        private_of private.new input ≡ take_turn (view.program run.now.turns.config.now.program)
+        run.now.turns.plan.turn.steps round_time (private_of private.old input) }
     ensures number { private.new.number ≡ private.old.number }
     ensures length { vec_len private.new.output ≤ vec_len private.old.output
         + 11 * run.now.turns.plan.turn.steps }
@@ -198,15 +202,15 @@ fn turn_unless_ahead<'a, C: Course, G: TurnGate>(
         *turns -= 1;
         return false;
     }
-    if private.private().rests(moment.wakes) {
+    if private.private().rests(round_time.wakes) {
         return false;
     }
     let private = private.private_mut();
     turn_in_place(
-        run.turns.setting,
+        run.turns.config,
         private,
         process,
-        moment,
+        round_time,
         run.turns.plan.turn,
     );
     true
@@ -216,18 +220,18 @@ fn turn_unless_ahead<'a, C: Course, G: TurnGate>(
 /// one of them had a step to make.
 pub(crate) fn make_turns<'a, C: Course, G: TurnGate>(
     run: &Run<'a, C, G>,
-    moment: Moment,
-    ahead: &mut Ahead,
-    privates: &mut Vec<Resident>,
+    round_time: RoundTime,
+    ahead: &mut RunAheadTurns,
+    privates: &mut Vec<PrivateBox>,
     kernel: &Kernel,
 ) -> bool
     requires later { 0 < ahead.old.later }
     requires room { IsReadyAhead C.most ahead.old.later (length privates.old.items)
         ahead.old.turns.items privates.old.items kernel.now }
-    ensures parts { (m : plain.Machine) → IsTime run.now.turns.setting.now m moment
-        → PartsAhead run.now.turns.setting.now run.now.turns.plan.turn.steps m.rounds m
+    ensures parts { (m : plain.Machine) → IsTime run.now.turns.config.now m round_time
+        → PartsAhead run.now.turns.config.now run.now.turns.plan.turn.steps m.rounds m
         ahead.old.turns.items privates.old.items kernel.now
-        → PartsAhead run.now.turns.setting.now run.now.turns.plan.turn.steps (m.rounds + 1)
+        → PartsAhead run.now.turns.config.now run.now.turns.plan.turn.steps (m.rounds + 1)
         (with_turn_taken run.now.turns.plan.turn.steps m) ahead.new.turns.items privates.new.items
         kernel.now }
     ensures room { IsReadyAhead C.most ahead.new.later 0 ahead.new.turns.items privates.new.items
@@ -239,7 +243,7 @@ pub(crate) fn make_turns<'a, C: Course, G: TurnGate>(
     let mut made = false;
     for i in 0..privates.len() {
         let turns = &mut ahead.turns[i];
-        if turn_unless_ahead(run, moment, i + 1, turns, &mut privates[i]) {
+        if turn_unless_ahead(run, round_time, i + 1, turns, &mut privates[i]) {
             made = true;
         }
     }

@@ -4,12 +4,16 @@ ghost use Rattle.cp_rounds.specs.Ends.{RoundEnds};
 
 use cp_kernel::closing::end_round;
 use cp_kernel::kernel::Kernel;
-use cp_private::resident::Resident;
-use cp_rounds_handoff::setting::Setting;
+use cp_private::private_box::PrivateBox;
+use cp_rounds_handoff::config::MachineConfig;
 
 /// Ends a round: the processes that were started in it begin.
-pub(crate) fn close_round(setting: &Setting, privates: &mut Vec<Resident>, kernel: &mut Kernel)
-    ensures { RoundEnds setting.now privates.old.items kernel.old privates.new.items kernel.new }
+pub(crate) fn close_round(
+    config: &MachineConfig,
+    privates: &mut Vec<PrivateBox>,
+    kernel: &mut Kernel,
+)
+    ensures { RoundEnds config.now privates.old.items kernel.old privates.new.items kernel.new }
 {
-    end_round(&setting.program, kernel, privates);
+    end_round(&config.program, kernel, privates);
 }

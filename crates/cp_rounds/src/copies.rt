@@ -8,7 +8,7 @@ ghost use Rattle.cp_rounds.specs.Runs.{AreSame};
 
 use crate::parts::Parts;
 use cp_private::private::Private;
-use cp_private::resident::Resident;
+use cp_private::private_box::PrivateBox;
 use std::alloc::{AllocError, Global};
 
 // Returns a copy of a private state. If `wakes`, a process that waits goes on in it.
@@ -30,15 +30,15 @@ fn woken_copy(alloc: Global, private: &Private, wakes: bool) -> Result<Private, 
 /// `AllocError` if memory runs out.
 pub fn woken_copies(
     alloc: Global,
-    privates: &[Resident],
+    privates: &[PrivateBox],
     wakes: bool,
-) -> Result<Vec<Resident>, AllocError>
+) -> Result<Vec<PrivateBox>, AllocError>
     ensures { IfOk result (λ copies. AreWoken wakes privates.now copies.items) }
 {
     let mut copies = Vec::with_capacity(alloc, privates.len())?;
     for private in privates {
         let copy = woken_copy(alloc, private.private(), wakes)?;
-        copies.push(Resident::new(alloc, copy)?)?;
+        copies.push(PrivateBox::new(alloc, copy)?)?;
     }
     Ok(copies)
 }

@@ -11,19 +11,19 @@ ghost use Rattle.cp_private.specs.Rooms.{HasRoomFor};
 ghost use Rattle.cp_program.specs.View as view;
 ghost use Rattle.cp_rounds_handoff.specs.Inputs.{input_at};
 ghost use Rattle.cp_rounds_handoff.specs.Numbers.{AreNumbered};
-ghost use Rattle.cp_rounds_handoff.specs.Tasks.{AreHere, AreLeft, IsTaken, is_none};
-ghost use Rattle.cp_rounds_handoff.specs.Turned.{moment_of};
+ghost use Rattle.cp_rounds_handoff.specs.Tasks.{AreHere, AreInPlace, IsTaken, is_none};
+ghost use Rattle.cp_rounds_handoff.specs.Turned.{round_time_of};
 ghost use Rattle.cp_rounds.specs.Made.{IsReady};
 ghost use Rattle.cp_rounds.specs.Runs.{TurnsTaken};
 
-use crate::hand::Hand;
+use crate::coordinator::Coordinator;
 use crate::run::Run;
 use cp_kernel::kernel::Kernel;
 use cp_kernel::turns::{has_no_kernel_turn, kernel_turn};
-use cp_private::resident::Resident;
+use cp_private::private_box::PrivateBox;
 use cp_rounds_handoff::gate::TurnGate;
-use cp_rounds_handoff::moment::Moment;
 use cp_rounds_handoff::open_round::OpenRound;
+use cp_rounds_handoff::round_time::RoundTime;
 use cp_rounds_handoff::task::Course;
 use cp_rounds_handoff::turns::turn_in_place;
 use std::sync::Wait;
@@ -31,18 +31,18 @@ use std::sync::Wait;
 // Takes the private state of a process from the desk, after its private turn. It is kept out of the
 // loop over all processes.
 #[inline(never)]
-fn take_from_desk<'a, C: Course, R: Wait, G: TurnGate>(
+fn take_from_handoff<'a, C: Course, R: Wait, G: TurnGate>(
     rt: &R,
     run: &Run<'a, C, G>,
-    hand: &mut Hand<'a, C>,
+    coordinator: &mut Coordinator<'a, C>,
     round: &OpenRound<'a, C>,
     process: usize,
-    private: &mut Resident,
+    private: &mut PrivateBox,
 )
-    ensures { IsTaken (C.turned round.now.moment) (C.input (process - 1)) C.most
+    ensures { IsTaken (C.turned round.now.round_time) (C.input (process - 1)) C.most
         round.now.start.value.items process private.new }
 {
-    hand.take(rt, run, round, process, 1, private);
+    coordinator.take(rt, run, round, process, 1, private);
 }
 
 // Makes the private turn of a process where its private state is. It is kept out of the loop over
@@ -52,16 +52,16 @@ fn turn_here<'a, C: Course, G: TurnGate>(
     run: &Run<'a, C, G>,
     round: &OpenRound<'a, C>,
     process: usize,
-    private: &mut Resident,
+    private: &mut PrivateBox,
 )
     requires some { 0 < process }
     requires here { slice_get round.now.start.value.items (process - 1) ≡ Some private.old }
-    ensures { IsTaken (C.turned round.now.moment) (C.input (process - 1)) C.most
+    ensures { IsTaken (C.turned round.now.round_time) (C.input (process - 1)) C.most
         round.now.start.value.items process private.new }
 {
     let private = private.private_mut();
     let turn = run.turns.plan.turn;
-    turn_in_place(run.turns.setting, private, process, round.moment, turn);
+    turn_in_place(run.turns.config, private, process, round.round_time, turn);
 }
 
 // Brings back a private state after its private turn, which it has made where it is if it rests.
@@ -69,26 +69,26 @@ fn turn_here<'a, C: Course, G: TurnGate>(
 fn bring_back<'a, C: Course, R: Wait, G: TurnGate>(
     rt: &R,
     run: &Run<'a, C, G>,
-    hand: &mut Hand<'a, C>,
+    coordinator: &mut Coordinator<'a, C>,
     round: &OpenRound<'a, C>,
     process: usize,
-    private: &mut Resident,
+    private: &mut PrivateBox,
 )
     requires some { 0 < process }
-    requires left { rests round.now.moment.wakes private.old ≡ true
+    requires left { rests round.now.round_time.wakes private.old ≡ true
         → slice_get round.now.start.value.items (process - 1) ≡ Some private.old }
     requires here { is_none round.now.token ≡ true
         → slice_get round.now.start.value.items (process - 1) ≡ Some private.old }
-    ensures taken { IsTaken (C.turned round.now.moment) (C.input (process - 1)) C.most
+    ensures taken { IsTaken (C.turned round.now.round_time) (C.input (process - 1)) C.most
         round.now.start.value.items process private.new }
 {
-    if private.private().rests(round.moment.wakes) {
+    if private.private().rests(round.round_time.wakes) {
         return;
     }
     if round.is_alone() {
         turn_here(run, round, process, private);
     } else {
-        take_from_desk(rt, run, hand, round, process, private);
+        take_from_handoff(rt, run, coordinator, round, process, private);
     }
 }
 
@@ -96,9 +96,9 @@ fn bring_back<'a, C: Course, R: Wait, G: TurnGate>(
 #[inline(always)]
 pub(crate) fn kernel_turn_of<'a, C: Course, G: TurnGate>(
     run: &Run<'a, C, G>,
-    moment: Moment,
+    round_time: RoundTime,
     process: usize,
-    private: &mut Resident,
+    private: &mut PrivateBox,
     kernel: &mut Kernel,
 )
     requires among { IsAmong kernel.old private.old.number }
@@ -106,9 +106,9 @@ pub(crate) fn kernel_turn_of<'a, C: Course, G: TurnGate>(
     requires output { HasRoomFor private.old run.now.turns.plan.turn.steps }
     requires transcript { HasRoomForBytes kernel.old private.old.number
         (vec_len private.old.output + 11 * run.now.turns.plan.turn.steps) }
-    ensures turn { IsTurned (view.program run.now.turns.setting.now.program) moment.clock
+    ensures turn { IsTurned (view.program run.now.turns.config.now.program) round_time.clock
         run.now.turns.plan.turn.steps kernel.old kernel.new private.old private.new
-        (input_at run.now.turns.setting.now.inputs.items (process - 1)) }
+        (input_at run.now.turns.config.now.inputs.items (process - 1)) }
     ensures asking { (n : ℕ) → HasRoomForAskers kernel.old (n + 1) → HasRoomForAskers kernel.new n }
     ensures left { (n : ℕ) → HasRoomForBytes kernel.old private.old.number
         (vec_len private.old.output + 11 * run.now.turns.plan.turn.steps + n)
@@ -118,13 +118,13 @@ pub(crate) fn kernel_turn_of<'a, C: Course, G: TurnGate>(
     ensures capacity { vec_capacity private.old.output ≤ vec_capacity private.new.output }
 {
     run.turns.gate.kernel(process);
-    let input = run.turns.setting.input(process);
+    let input = run.turns.config.input(process);
     kernel_turn(
-        &run.turns.setting.program,
+        &run.turns.config.program,
         kernel,
         private.private_mut(),
         input,
-        moment.clock,
+        round_time.clock,
         run.turns.plan.turn,
     );
 }
@@ -135,28 +135,28 @@ pub(crate) fn kernel_turn_of<'a, C: Course, G: TurnGate>(
 fn finish_moving<'a, C: Course, R: Wait, G: TurnGate>(
     rt: &R,
     run: &Run<'a, C, G>,
-    hand: &mut Hand<'a, C>,
+    coordinator: &mut Coordinator<'a, C>,
     round: &OpenRound<'a, C>,
     index: usize,
-    privates: &mut Vec<Resident>,
+    privates: &mut Vec<PrivateBox>,
     kernel: &mut Kernel,
 )
     requires within { index < length privates.old.items }
     requires count { length privates.old.items ≡ length round.now.start.value.items }
-    requires left { AreLeft round.now.moment.wakes index round.now.start.value.items
+    requires left { AreInPlace round.now.round_time.wakes index round.now.start.value.items
         privates.old.items }
     requires here { AreHere (is_none round.now.token) index round.now.start.value.items
         privates.old.items }
     requires ready { IsReady C.most index round.now.start.value.items kernel.old }
     ensures taken { (rounds : ℕ) (k : Kernel)
-        → round.now.moment ≡ moment_of run.now.turns.setting.now.tick.rounds rounds
-        → TurnsTaken run.now.turns.setting.now run.now.turns.plan.turn.steps rounds
+        → round.now.round_time ≡ round_time_of run.now.turns.config.now.tick.rounds rounds
+        → TurnsTaken run.now.turns.config.now run.now.turns.plan.turn.steps rounds
         round.now.start.value.items k (take index privates.old.items) kernel.old
-        → TurnsTaken run.now.turns.setting.now run.now.turns.plan.turn.steps rounds
+        → TurnsTaken run.now.turns.config.now run.now.turns.plan.turn.steps rounds
         round.now.start.value.items k (take (index + 1) privates.new.items) kernel.new }
     ensures numbers { AreNumbered (take index privates.old.items)
         → AreNumbered (take (index + 1) privates.new.items) }
-    ensures left { AreLeft round.now.moment.wakes (index + 1)
+    ensures left { AreInPlace round.now.round_time.wakes (index + 1)
         round.now.start.value.items privates.new.items }
     ensures here { AreHere (is_none round.now.token) (index + 1) round.now.start.value.items
         privates.new.items }
@@ -164,37 +164,37 @@ fn finish_moving<'a, C: Course, R: Wait, G: TurnGate>(
     ensures ready { IsReady C.most (index + 1) round.now.start.value.items kernel.new }
 {
     let process = index + 1;
-    hand.moved = true;
+    coordinator.moved = true;
     let private = &mut privates[index];
-    bring_back(rt, run, hand, round, process, private);
-    kernel_turn_of(run, round.moment, process, private, kernel);
+    bring_back(rt, run, coordinator, round, process, private);
+    kernel_turn_of(run, round.round_time, process, private, kernel);
 }
 
 // Returns whether a process has no step to make in the round, nor output to move: then both of its
 // turns leave everything as it is.
 #[inline(always)]
-fn stands_still<'a, C: Course, G: TurnGate>(
+fn makes_no_step<'a, C: Course, G: TurnGate>(
     run: &Run<'a, C, G>,
     round: &OpenRound<'a, C>,
     process: usize,
-    private: &Resident,
+    private: &PrivateBox,
     kernel: &Kernel,
 ) -> bool
     requires some { 0 < process }
-    requires left { rests round.now.moment.wakes private.now ≡ true
+    requires left { rests round.now.round_time.wakes private.now ≡ true
         → slice_get round.now.start.value.items (process - 1) ≡ Some private.now }
-    ensures taken { result ≡ true → IsTaken (C.turned round.now.moment) (C.input (process - 1))
+    ensures taken { result ≡ true → IsTaken (C.turned round.now.round_time) (C.input (process - 1))
         C.most round.now.start.value.items process private.now }
     ensures turned { result ≡ true → (clock n : ℕ) (input : List ℕ)
-        → IsTurned (view.program run.now.turns.setting.now.program) clock n kernel.now kernel.now
+        → IsTurned (view.program run.now.turns.config.now.program) clock n kernel.now kernel.now
         private.now private.now input }
 {
     let private = private.private();
     // The output is asked for first, so that what `rests` finds is known where the kernel turn is
     // asked for.
     private.output().is_empty()
-        && private.rests(round.moment.wakes)
-        && has_no_kernel_turn(&run.turns.setting.program, kernel, private)
+        && private.rests(round.round_time.wakes)
+        && has_no_kernel_turn(&run.turns.config.program, kernel, private)
 }
 
 // Finishes the turns of the process at an index: of one that stands still with a few comparisons.
@@ -202,28 +202,28 @@ fn stands_still<'a, C: Course, G: TurnGate>(
 fn finish_next<'a, C: Course, R: Wait, G: TurnGate>(
     rt: &R,
     run: &Run<'a, C, G>,
-    hand: &mut Hand<'a, C>,
+    coordinator: &mut Coordinator<'a, C>,
     round: &OpenRound<'a, C>,
     index: usize,
-    privates: &mut Vec<Resident>,
+    privates: &mut Vec<PrivateBox>,
     kernel: &mut Kernel,
 )
     requires within { index < length privates.old.items }
     requires count { length privates.old.items ≡ length round.now.start.value.items }
-    requires left { AreLeft round.now.moment.wakes index round.now.start.value.items
+    requires left { AreInPlace round.now.round_time.wakes index round.now.start.value.items
         privates.old.items }
     requires here { AreHere (is_none round.now.token) index round.now.start.value.items
         privates.old.items }
     requires ready { IsReady C.most index round.now.start.value.items kernel.old }
     ensures taken { (rounds : ℕ) (k : Kernel)
-        → round.now.moment ≡ moment_of run.now.turns.setting.now.tick.rounds rounds
-        → TurnsTaken run.now.turns.setting.now run.now.turns.plan.turn.steps rounds
+        → round.now.round_time ≡ round_time_of run.now.turns.config.now.tick.rounds rounds
+        → TurnsTaken run.now.turns.config.now run.now.turns.plan.turn.steps rounds
         round.now.start.value.items k (take index privates.old.items) kernel.old
-        → TurnsTaken run.now.turns.setting.now run.now.turns.plan.turn.steps rounds
+        → TurnsTaken run.now.turns.config.now run.now.turns.plan.turn.steps rounds
         round.now.start.value.items k (take (index + 1) privates.new.items) kernel.new }
     ensures numbers { AreNumbered (take index privates.old.items)
         → AreNumbered (take (index + 1) privates.new.items) }
-    ensures left { AreLeft round.now.moment.wakes (index + 1)
+    ensures left { AreInPlace round.now.round_time.wakes (index + 1)
         round.now.start.value.items privates.new.items }
     ensures here { AreHere (is_none round.now.token) (index + 1) round.now.start.value.items
         privates.new.items }
@@ -231,11 +231,11 @@ fn finish_next<'a, C: Course, R: Wait, G: TurnGate>(
     ensures ready { IsReady C.most (index + 1) round.now.start.value.items kernel.new }
 {
     let process = index + 1;
-    if stands_still(run, round, process, &privates[index], kernel) {
+    if makes_no_step(run, round, process, &privates[index], kernel) {
         run.turns.gate.kernel(process);
         return;
     }
-    finish_moving(rt, run, hand, round, index, privates, kernel);
+    finish_moving(rt, run, coordinator, round, index, privates, kernel);
 }
 
 // Makes all turns of a round: kernel turns alongside the private turns that are left at the desk,
@@ -245,27 +245,27 @@ fn finish_next<'a, C: Course, R: Wait, G: TurnGate>(
 pub(crate) fn finish_all<'a, C: Course, R: Wait, G: TurnGate>(
     rt: &R,
     run: &Run<'a, C, G>,
-    hand: &mut Hand<'a, C>,
+    coordinator: &mut Coordinator<'a, C>,
     round: &OpenRound<'a, C>,
-    privates: &mut Vec<Resident>,
+    privates: &mut Vec<PrivateBox>,
     kernel: &mut Kernel,
 )
     requires count { length privates.old.items ≡ length round.now.start.value.items }
-    requires left { AreLeft round.now.moment.wakes 0 round.now.start.value.items
+    requires left { AreInPlace round.now.round_time.wakes 0 round.now.start.value.items
         privates.old.items }
     requires here { AreHere (is_none round.now.token) 0 round.now.start.value.items
         privates.old.items }
     requires ready { IsReady C.most 0 round.now.start.value.items kernel.old }
     ensures taken { (rounds : ℕ)
-        → round.now.moment ≡ moment_of run.now.turns.setting.now.tick.rounds rounds
-        → TurnsTaken run.now.turns.setting.now run.now.turns.plan.turn.steps rounds
+        → round.now.round_time ≡ round_time_of run.now.turns.config.now.tick.rounds rounds
+        → TurnsTaken run.now.turns.config.now run.now.turns.plan.turn.steps rounds
         round.now.start.value.items kernel.old privates.new.items kernel.new }
     ensures numbers { AreNumbered privates.new.items }
     ensures count { length privates.new.items ≡ length privates.old.items }
     ensures stages { length kernel.new.stages.items ≡ length privates.new.items }
 {
     for i in 0..privates.len() {
-        finish_next(rt, run, hand, round, i, privates, kernel);
+        finish_next(rt, run, coordinator, round, i, privates, kernel);
     }
-    hand.end_wave(rt, run);
+    coordinator.end_wave(rt, run);
 }

@@ -7,9 +7,9 @@ ghost use Rattle.cp_model_machine.specs.Machines as plain;
 ghost use Rattle.cp_program.specs.View as view;
 ghost use Rattle.cp_rounds_handoff.specs.Inputs.{input_of};
 ghost use Rattle.cp_rounds.specs.InStates.{IsStarted, MakesRound, MakesRounds};
-ghost use Rattle.cp_rounds.specs.Views.{IsAfter, KeepsText, halted_of, machine_of, processes_of};
+ghost use Rattle.cp_rounds.specs.Views.{IsAfter, KeepsText, finished_machine_of, machine_of, processes_of};
 
-use crate::halted::Halted;
+use crate::finished_machine::FinishedMachine;
 use crate::parts::Parts;
 use crate::run::{Rounds, make_rounds_of};
 use crate::starting::first_parts;
@@ -18,8 +18,8 @@ use cp_base_config::tick::Tick;
 use cp_compile_symbols::Tables;
 use cp_model_machine::law;
 use cp_program::program::Program;
+use cp_rounds_handoff::config::MachineConfig;
 use cp_rounds_handoff::gate::TurnGate;
-use cp_rounds_handoff::setting::Setting;
 use std::alloc::{AllocError, Global};
 use std::mem;
 use std::sync::Wait;
@@ -42,7 +42,7 @@ fn rounds_at_once(waves: usize) -> u32
 pub struct Machine<'r, 't> {
     /// The allocator from which rounds take their memory.
     pub(crate) alloc: Global,
-    pub(crate) setting: Setting,
+    pub(crate) config: MachineConfig,
     /// The tables of the text whose program it runs, for whoever reads it. No round uses them.
     pub(crate) tables: &'r Tables<'t>,
     pub(crate) parts: Parts,
@@ -55,7 +55,7 @@ impl Drop for Machine<'_, '_> {
     fn drop(self) {
         let Machine {
             alloc: _,
-            setting: _,
+            config: _,
             tables: _,
             parts: _,
             rounds: _,
@@ -93,7 +93,7 @@ impl<'r, 't> Machine<'r, 't> {
         let parts = first_parts(alloc, &program)?;
         Ok(Machine {
             alloc,
-            setting: Setting {
+            config: MachineConfig {
                 program,
                 inputs,
                 tick,
@@ -153,7 +153,7 @@ impl<'r, 't> Machine<'r, 't> {
         let none = Parts::none(self.alloc);
         let parts = mem::replace(&mut self.parts, none);
         let asked = Rounds {
-            setting: &self.setting,
+            config: &self.config,
             done: self.rounds,
             plan,
             gate,
@@ -226,18 +226,18 @@ impl<'r, 't> Machine<'r, 't> {
     }
 
     /// Ends the rounds of the machine, and lets go of the tables of its text.
-    pub fn halt(self) -> Halted
-        ensures { halted_of result ≡ machine_of self.entry }
+    pub fn halt(self) -> FinishedMachine
+        ensures { finished_machine_of result ≡ machine_of self.entry }
     {
         let Machine {
             alloc: _,
-            setting,
+            config,
             tables: _,
             parts,
             rounds,
         } = self;
-        Halted {
-            setting,
+        FinishedMachine {
+            config,
             parts,
             rounds,
         }

@@ -16,14 +16,14 @@ use crate::parts::Parts;
 use cp_base_config::turn::Turn;
 use cp_base_schedule::event::Event;
 use cp_model_machine::law;
-use cp_rounds_handoff::setting::Setting;
+use cp_rounds_handoff::config::MachineConfig;
 use std::alloc::{AllocError, Global};
 
 // Returns what the round after the first `rounds` rounds makes of the parts of a machine, if it
 // consists of these events.
 fn replayed(
     alloc: Global,
-    setting: &Setting,
+    config: &MachineConfig,
     rounds: u64,
     parts: &Parts,
     events: &[Event],
@@ -32,17 +32,17 @@ fn replayed(
     requires count { rounds < 2 ^ 64 - 1 }
     requires within { AreWithin (length parts.now.privates.items) (events_of events.now) }
     ensures made { IfOk result
-        (λ next. machine_with setting.now (rounds + 1) next.privates.items next.kernel
+        (λ next. machine_with config.now (rounds + 1) next.privates.items next.kernel
         ≡ plain.replay turn.steps (events_of events.now)
-        (machine_with setting.now rounds parts.now.privates.items parts.now.kernel)) }
+        (machine_with config.now rounds parts.now.privates.items parts.now.kernel)) }
     ensures count { IfOk result
         (λ next. length next.privates.items ≡ length parts.now.privates.items) }
 {
-    let moment = setting.moment(rounds);
-    let mut privates = woken_copies(alloc, &parts.privates, moment.wakes)?;
+    let round_time = config.round_time(rounds);
+    let mut privates = woken_copies(alloc, &parts.privates, round_time.wakes)?;
     let mut kernel = parts.kernel.copy(alloc)?;
-    make_events(setting, moment, turn, events, &mut privates, &mut kernel)?;
-    close_round(setting, &mut privates, &mut kernel);
+    make_events(config, round_time, turn, events, &mut privates, &mut kernel)?;
+    close_round(config, &mut privates, &mut kernel);
     Ok(Parts { privates, kernel })
 }
 
@@ -69,7 +69,7 @@ impl<'r, 't> Machine<'r, 't> {
         law::replays();
         let parts = replayed(
             self.alloc,
-            &self.setting,
+            &self.config,
             self.rounds,
             &self.parts,
             events,

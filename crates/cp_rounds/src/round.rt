@@ -9,24 +9,24 @@ ghost use Rattle.std.specs.Prelude.{◌≡◌, ◌≢◌, ◌≤◌, ◌<◌, �
 ghost use Rattle.cp_kernel.specs.KernelOf.{HasRoomForBytes, kernel_of, transcripts_of};
 ghost use Rattle.cp_kernel.specs.declared.kernel.Kernel.{Kernel};
 ghost use Rattle.cp_rounds_handoff.specs.Numbers.{AreNumbered};
-ghost use Rattle.cp_rounds_handoff.specs.Tasks.{AllFree, AreHere, AreLeft, HasRoomLeft, is_none};
+ghost use Rattle.cp_rounds_handoff.specs.Tasks.{AllFree, AreHere, AreInPlace, HasRoom, is_none};
 ghost use Rattle.cp_rounds.specs.Made.{IsReadyFor};
 ghost use Rattle.cp_rounds.specs.Runs.{AreSame, IsOpened, IsSame, PartsAfter};
 
 use crate::closing::close_round;
+use crate::coordinator::Coordinator;
 use crate::finishing::finish_all;
-use crate::hand::Hand;
 use crate::parts::Parts;
 use crate::run::{Run, cell_at};
 use cp_base_config::turn::Turn;
 use cp_kernel::kernel::Kernel;
 use cp_private::private::Private;
-use cp_private::resident::Resident;
-use cp_rounds_handoff::desk_turns::DeskTurns;
+use cp_private::private_box::PrivateBox;
 use cp_rounds_handoff::gate::TurnGate;
-use cp_rounds_handoff::moment::Moment;
+use cp_rounds_handoff::handoff_turns::HandoffTurns;
 use cp_rounds_handoff::open_round::OpenRound;
-use cp_rounds_handoff::pace::Pace;
+use cp_rounds_handoff::round_time::RoundTime;
+use cp_rounds_handoff::run_ahead_size::RunAheadSize;
 use cp_rounds_handoff::sharing::{Shares, helpers};
 use cp_rounds_handoff::task::{Course, Start};
 use cp_rounds_workers::Wave;
@@ -37,7 +37,7 @@ use std::sync::{OnceToken, Wait};
 
 // How many rounds at once are many. Few take little room, and are made by programs that seldom
 // compute for long.
-const MANY_ROUNDS: u32 = 8;
+const MIN_BATCHED_ROUNDS: u32 = 8;
 
 // Reserves room for what a process writes in so many rounds, in its transcript, and for what it
 // writes in one, in its private state.
@@ -54,7 +54,7 @@ fn reserve_output(
     ensures transcripts { transcripts_of kernel.new ≡ transcripts_of kernel.old }
     ensures others { (q n : ℕ) → q - 1 ≢ p - 1 → HasRoomForBytes kernel.old q n
         → HasRoomForBytes kernel.new q n }
-    ensures free { IfOk result (λ _. HasRoomLeft (11 * turn.steps) false private.new) }
+    ensures free { IfOk result (λ _. HasRoom (11 * turn.steps) false private.new) }
     ensures room { IfOk result (λ _. HasRoomForBytes kernel.new p
         (vec_len private.new.output + rounds * (11 * turn.steps + 11 * turn.steps))) }
 {
@@ -67,7 +67,7 @@ fn reserve_output(
 // Reserves room for what all processes write in so many rounds, and for all of them as askers of
 // each gate in each round.
 fn reserve_room(
-    privates: &mut Vec<Resident>,
+    privates: &mut Vec<PrivateBox>,
     kernel: &mut Kernel,
     turn: Turn,
     rounds: u32,
@@ -95,15 +95,15 @@ fn reserve_room(
 // If that is told wrongly, the calling thread makes the turns alone.
 fn turns_to_share<'a, C: Course, G: TurnGate>(
     run: &Run<'a, C, G>,
-    hand: &Hand<'a, C>,
-    privates: &[Resident],
+    coordinator: &Coordinator<'a, C>,
+    privates: &[PrivateBox],
     of_all: bool,
     wakes: bool,
 ) -> usize {
     if of_all {
         return privates.len();
     }
-    if run.rack.places() == 0 || !hand.moved {
+    if run.mailboxes.places() == 0 || !coordinator.moved {
         return 0;
     }
     let mut turns = 0usize;
@@ -118,16 +118,16 @@ fn turns_to_share<'a, C: Course, G: TurnGate>(
 // Returns how the private turns of so many rounds are shared out.
 pub(crate) fn shares_of<'a, C: Course, G: TurnGate>(
     run: &Run<'a, C, G>,
-    hand: &Hand<'a, C>,
-    privates: &[Resident],
-    moment: Moment,
+    coordinator: &Coordinator<'a, C>,
+    privates: &[PrivateBox],
+    round_time: RoundTime,
     rounds: u32,
 ) -> Shares
     ensures { result.rounds ≡ rounds }
 {
-    let of_all = !run.turns.gate.does_nothing();
-    let turns = turns_to_share(run, hand, privates, of_all, moment.wakes);
-    let helpers = helpers(turns, of_all, run.turns.plan.turn, rounds).min(run.rack.places());
+    let of_all = !run.turns.gate.allows_batching();
+    let turns = turns_to_share(run, coordinator, privates, of_all, round_time.wakes);
+    let helpers = helpers(turns, of_all, run.turns.plan.turn, rounds).min(run.mailboxes.places());
     let alone = helpers == 0 && !of_all;
     Shares {
         rounds,
@@ -169,29 +169,29 @@ fn waves_of<'a, C: Course, R: Wait, G: TurnGate>(
 }
 
 // Lays the private turns of a round at the desk, unless the calling thread makes them alone.
-fn lay_turns<'a, C: Course, R: Wait, G: TurnGate>(
+fn publish_turns<'a, C: Course, R: Wait, G: TurnGate>(
     rt: &R,
     run: &Run<'a, C, G>,
-    hand: &mut Hand<'a, C>,
+    coordinator: &mut Coordinator<'a, C>,
     round: &OpenRound<'a, C>,
-    privates: &mut Vec<Resident>,
+    privates: &mut Vec<PrivateBox>,
 )
     requires start { round.now.start.value.items ≡ privates.old.items }
-    ensures left { AreLeft round.now.moment.wakes 0 privates.old.items privates.new.items }
+    ensures left { AreInPlace round.now.round_time.wakes 0 privates.old.items privates.new.items }
     ensures here { AreHere (is_none round.now.token) 0 privates.old.items privates.new.items }
     ensures count { length privates.new.items ≡ length privates.old.items }
 {
     if round.is_alone() {
         return;
     }
-    let DeskTurns {
-        desk,
+    let HandoffTurns {
+        handoff,
         plan,
         gate,
         ..
     } = &run.turns;
-    let of_all = !gate.does_nothing();
-    desk.put_all(rt, plan, round, of_all, privates, &mut hand.tasks);
+    let of_all = !gate.allows_batching();
+    handoff.put_all(rt, plan, round, of_all, privates, &mut coordinator.tasks);
 }
 
 // Lets the threads draw the private turns of the round at this index, wave by wave, and returns
@@ -199,10 +199,10 @@ fn lay_turns<'a, C: Course, R: Wait, G: TurnGate>(
 fn let_draw<'a, C: Course, R: Wait, G: TurnGate>(
     rt: &R,
     run: &Run<'a, C, G>,
-    hand: &mut Hand<'a, C>,
+    coordinator: &mut Coordinator<'a, C>,
     index: usize,
     shares: Shares,
-    privates: &Vec<Resident>,
+    privates: &Vec<PrivateBox>,
 ) -> Result<Option<OnceToken<'a, Start>>, AllocError>
     requires index { index < length run.now.cells.now }
     ensures cell { IfOk result (λ token. IfSome token (λ t. t.of ≡ C.cell index)) }
@@ -218,19 +218,19 @@ fn let_draw<'a, C: Course, R: Wait, G: TurnGate>(
     let Ok(token) = cell_at(run.cells, index).set(rt, Snapshot::of(privates)) else {
         return Err(AllocError);
     };
-    hand.begin(rt, run, waves);
+    coordinator.begin(rt, run, waves);
     Ok(Some(token))
 }
 
 // Returns for how many rounds room is reserved: for the largest number that is ever made at once,
 // as soon as many are, since room that grows little by little is copied each time.
-fn rounds_of_room(pace: &Pace, rounds: u32) -> u32
+fn rounds_of_room(run_ahead_size: &RunAheadSize, rounds: u32) -> u32
     ensures { rounds ≤ result }
 {
-    if rounds < MANY_ROUNDS {
+    if rounds < MIN_BATCHED_ROUNDS {
         return rounds;
     }
-    pace.most().max(rounds)
+    run_ahead_size.most().max(rounds)
 }
 
 /// Opens the round of a run at this index, and with it as many as are made at once: reserves room
@@ -242,40 +242,40 @@ fn rounds_of_room(pace: &Pace, rounds: u32) -> u32
 pub(crate) fn open_round<'a, C: Course, R: Wait, G: TurnGate>(
     rt: &R,
     run: &Run<'a, C, G>,
-    hand: &mut Hand<'a, C>,
+    coordinator: &mut Coordinator<'a, C>,
     index: usize,
-    moment: Moment,
+    round_time: RoundTime,
     shares: Shares,
-    privates: &mut Vec<Resident>,
+    privates: &mut Vec<PrivateBox>,
     kernel: &mut Kernel,
 ) -> Result<OpenRound<'a, C>, AllocError>
     requires index { index < length run.now.cells.now }
-    requires time { moment ≡ C.moment index }
+    requires time { round_time ≡ C.round_time index }
     requires numbers { AreNumbered privates.old.items }
     requires stages { length kernel.old.stages.items ≡ length privates.old.items }
     ensures kept { IfErr result
         (λ _. AreSame privates.old.items kernel.old privates.new.items kernel.new) }
     ensures index { IfOk result (λ round. round.index ≡ index) }
     ensures rounds { IfOk result (λ round. round.rounds ≡ shares.rounds) }
-    ensures opened { IfOk result (λ round. IsOpened C.most round.moment.wakes (is_none round.token)
+    ensures opened { IfOk result (λ round. IsOpened C.most round.round_time.wakes (is_none round.token)
         round.rounds privates.old.items kernel.old round.start.value.items privates.new.items
         kernel.new) }
 {
-    let room = rounds_of_room(&hand.pace, shares.rounds);
+    let room = rounds_of_room(&coordinator.run_ahead_size, shares.rounds);
     reserve_room(privates, kernel, run.turns.plan.turn, room)?;
-    let token = let_draw(rt, run, hand, index, shares, privates)?;
-    if moment.wakes {
-        hand.moved = false;
+    let token = let_draw(rt, run, coordinator, index, shares, privates)?;
+    if round_time.wakes {
+        coordinator.moved = false;
     }
     let round = OpenRound {
         start: Snapshot::of(privates),
         token,
         index,
-        moment,
+        round_time,
         rounds: shares.rounds,
         of: PhantomData,
     };
-    lay_turns(rt, run, hand, &round, privates);
+    publish_turns(rt, run, coordinator, &round, privates);
     Ok(round)
 }
 
@@ -289,22 +289,31 @@ pub fn make_round<'a, C: Course, R: Wait, G: TurnGate>(
     rt: &R,
     run: &Run<'a, C, G>,
     index: usize,
-    hand: &mut Hand<'a, C>,
+    coordinator: &mut Coordinator<'a, C>,
     parts: &mut Parts,
 ) -> Result<(), AllocError>
     requires index { index < length run.now.cells.now }
-    ensures made { IfOk result (λ _. PartsAfter run.now.turns.setting.now
+    ensures made { IfOk result (λ _. PartsAfter run.now.turns.config.now
         run.now.turns.plan.turn.steps (run.now.turns.done + index) 1 parts.old parts.new) }
-    ensures kept { IfErr result (λ _. PartsAfter run.now.turns.setting.now
+    ensures kept { IfErr result (λ _. PartsAfter run.now.turns.config.now
         run.now.turns.plan.turn.steps (run.now.turns.done + index) 0 parts.old parts.new) }
     ensures count { length parts.new.privates.items ≡ length parts.old.privates.items }
 {
-    let setting = run.turns.setting;
-    let moment = setting.moment(run.turns.done + index as u64);
+    let config = run.turns.config;
+    let round_time = config.round_time(run.turns.done + index as u64);
     let Parts { privates, kernel } = parts;
-    let shares = shares_of(run, hand, privates, moment, 1);
-    let round = open_round(rt, run, hand, index, moment, shares, privates, kernel)?;
-    finish_all(rt, run, hand, &round, privates, kernel);
-    close_round(setting, privates, kernel);
+    let shares = shares_of(run, coordinator, privates, round_time, 1);
+    let round = open_round(
+        rt,
+        run,
+        coordinator,
+        index,
+        round_time,
+        shares,
+        privates,
+        kernel,
+    )?;
+    finish_all(rt, run, coordinator, &round, privates, kernel);
+    close_round(config, privates, kernel);
     Ok(())
 }

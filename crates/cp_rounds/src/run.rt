@@ -6,20 +6,20 @@ ghost use Rattle.cp_rounds_handoff.specs.Tasks.{IsCourseOf};
 ghost use Rattle.cp_rounds.specs.Runs.{AreNamed, PartsAfter, name_of};
 ghost use Rattle.cp_rounds.specs.declared.parts.Parts.{Parts};
 
-use crate::ahead::make_ahead;
-use crate::hand::Hand;
+use crate::coordinator::Coordinator;
 use crate::parts::Parts;
 use crate::round::make_round;
+use crate::run_ahead::run_ahead;
 use cp_base_config::plan::Plan;
-use cp_rounds_handoff::desk::Desk;
-use cp_rounds_handoff::desk_turns::DeskTurns;
+use cp_rounds_handoff::config::MachineConfig;
 use cp_rounds_handoff::gate::TurnGate;
-use cp_rounds_handoff::law::settings_are_shared;
-use cp_rounds_handoff::pace::Pace;
-use cp_rounds_handoff::setting::Setting;
+use cp_rounds_handoff::handoff::HandoffQueue;
+use cp_rounds_handoff::handoff_turns::HandoffTurns;
+use cp_rounds_handoff::law::configs_are_shared;
+use cp_rounds_handoff::run_ahead_size::RunAheadSize;
 use cp_rounds_handoff::sharing::drawn_plan;
 use cp_rounds_handoff::task::{Course, Start};
-use cp_rounds_workers::{Rack, Sheet, Wave, start};
+use cp_rounds_workers::{Mailboxes, Sheet, Wave, start};
 use std::alloc::{AllocError, Global};
 use std::marker::Brand;
 use std::sync::{OnceLock, Wait};
@@ -39,8 +39,8 @@ pub(crate) fn cell_at<'a, T>(cells: &'a [OnceLock<T>], index: usize) -> &'a Once
 pub struct Run<'a, C: Course, G: TurnGate> {
     /// The allocator from which the waves take their memory.
     pub(crate) alloc: Global,
-    pub(crate) turns: DeskTurns<'a, C, G>,
-    pub(crate) rack: Rack<'a, C>,
+    pub(crate) turns: HandoffTurns<'a, C, G>,
+    pub(crate) mailboxes: Mailboxes<'a, C>,
     /// The cells of the starts of its rounds.
     pub(crate) cells: &'a [OnceLock<Start>],
     /// The cells of the sheets of its waves, and of one more, which ends the threads.
@@ -69,24 +69,24 @@ impl<'a, C: Course, G: TurnGate> Run<'a, C, G> {
         &self,
         rt: &R,
         round: usize,
-        hand: &mut Hand<'a, C>,
+        coordinator: &mut Coordinator<'a, C>,
         parts: &mut Parts,
     ) -> Result<usize, AllocError>
         requires round { round < length self.now.cells.now }
         ensures some { IfOk result (λ n. 0 < n) }
         ensures few { IfOk result (λ n. round + n ≤ length self.now.cells.now) }
-        ensures made { IfOk result (λ n. PartsAfter self.now.turns.setting.now
+        ensures made { IfOk result (λ n. PartsAfter self.now.turns.config.now
             self.now.turns.plan.turn.steps (self.now.turns.done + round) n parts.old parts.new) }
-        ensures kept { IfErr result (λ _. PartsAfter self.now.turns.setting.now
+        ensures kept { IfErr result (λ _. PartsAfter self.now.turns.config.now
             self.now.turns.plan.turn.steps (self.now.turns.done + round) 0 parts.old parts.new) }
         ensures count { length parts.new.privates.items ≡ length parts.old.privates.items }
     {
         let left = self.cells.len() - round;
-        let count = (hand.pace.rounds() as usize).min(left) as u32;
-        if count > 1 && make_ahead(rt, self, round, count, hand, parts) {
+        let count = (coordinator.run_ahead_size.rounds() as usize).min(left) as u32;
+        if count > 1 && run_ahead(rt, self, round, count, coordinator, parts) {
             return Ok(count as usize);
         }
-        make_round(rt, self, round, hand, parts)?;
+        make_round(rt, self, round, coordinator, parts)?;
         Ok(1)
     }
 
@@ -94,20 +94,20 @@ impl<'a, C: Course, G: TurnGate> Run<'a, C, G> {
     fn make_rounds<R: Wait>(
         &self,
         rt: &R,
-        hand: &mut Hand<'a, C>,
+        coordinator: &mut Coordinator<'a, C>,
         parts: &mut Parts,
     ) -> Result<(), usize>
-        ensures made { IfOk result (λ _. PartsAfter self.now.turns.setting.now
+        ensures made { IfOk result (λ _. PartsAfter self.now.turns.config.now
             self.now.turns.plan.turn.steps self.now.turns.done (length self.now.cells.now) parts.old
             parts.new) }
         ensures partly { IfErr result (λ n. (n < length self.now.cells.now)
-            × PartsAfter self.now.turns.setting.now self.now.turns.plan.turn.steps
+            × PartsAfter self.now.turns.config.now self.now.turns.plan.turn.steps
             self.now.turns.done n parts.old parts.new) }
         ensures count { length parts.new.privates.items ≡ length parts.old.privates.items }
     {
         let mut round = 0;
         'rounds: while round < self.cells.len() {
-            match self.make_next(rt, round, hand, parts) {
+            match self.make_next(rt, round, coordinator, parts) {
                 Ok(count) => round += count,
                 Err(_) => return Err(round),
             }
@@ -122,7 +122,7 @@ fn ending<'a, C: Course, R: Wait, G: TurnGate>(
     run: &Run<'a, C, G>,
 ) -> Result<Wave<'a, C>, AllocError> {
     let last = run.sheets.len() - 1;
-    let workers = run.rack.places().saturating_add(1);
+    let workers = run.mailboxes.places().saturating_add(1);
     Wave::new(rt, run.alloc, cell_at(run.sheets, last), last, 0, workers)
 }
 
@@ -140,28 +140,28 @@ fn make_rounds_at<'s, 'a, E, C: Course + Send + Sync, R: Threads + Wait + Sync, 
     mut parts: Parts,
 ) -> (Parts, Result<(), usize>)
     requires some { 0 < length run.now.cells.now }
-    ensures made { IfOk result.1 (λ _. PartsAfter run.now.turns.setting.now
+    ensures made { IfOk result.1 (λ _. PartsAfter run.now.turns.config.now
         run.now.turns.plan.turn.steps run.now.turns.done (length run.now.cells.now)
         parts result.0) }
     ensures partly { IfErr result.1 (λ n. (n < length run.now.cells.now)
-        × PartsAfter run.now.turns.setting.now run.now.turns.plan.turn.steps
+        × PartsAfter run.now.turns.config.now run.now.turns.plan.turn.steps
         run.now.turns.done n parts result.0) }
     ensures count { length result.0.privates.items ≡ length parts.privates.items }
 {
-    settings_are_shared();
+    configs_are_shared();
     let Ok(ending) = ending(rt, run) else {
         return (parts, Err(0));
     };
-    let DeskTurns { setting, plan, .. } = &run.turns;
-    let pace = Pace::first(&setting.program, plan.turn);
-    let Ok(mut hand) = Hand::new(run.alloc, slots_of(plan), pace) else {
+    let HandoffTurns { config, plan, .. } = &run.turns;
+    let run_ahead_size = RunAheadSize::first(&config.program, plan.turn);
+    let Ok(mut coordinator) = Coordinator::new(run.alloc, slots_of(plan), run_ahead_size) else {
         return (parts, Err(0));
     };
-    let made = match start(rt, scope, &run.rack, &run.turns) {
-        Ok(()) => run.make_rounds(rt, &mut hand, &mut parts),
+    let made = match start(rt, scope, &run.mailboxes, &run.turns) {
+        Ok(()) => run.make_rounds(rt, &mut coordinator, &mut parts),
         Err(_) => Err(0),
     };
-    ending.stop(rt, &run.rack);
+    ending.stop(rt, &run.mailboxes);
     (parts, made)
 }
 
@@ -201,11 +201,11 @@ fn make_rounds_kept<
     H: Holder,
 >(rt: &'s R, run: &'s Run<'a, C, G>, held: H) -> (H, Result<(), usize>)
     requires some { 0 < length run.now.cells.now }
-    ensures made { IfOk result.1 (λ _. PartsAfter run.now.turns.setting.now
+    ensures made { IfOk result.1 (λ _. PartsAfter run.now.turns.config.now
         run.now.turns.plan.turn.steps run.now.turns.done (length run.now.cells.now) (H.holds held)
         (H.holds result.0)) }
     ensures partly { IfErr result.1 (λ n. (n < length run.now.cells.now)
-        × PartsAfter run.now.turns.setting.now run.now.turns.plan.turn.steps run.now.turns.done n
+        × PartsAfter run.now.turns.config.now run.now.turns.plan.turn.steps run.now.turns.done n
         (H.holds held) (H.holds result.0)) }
     ensures count { length (H.holds result.0).privates.items ≡ length
         (H.holds held).privates.items }
@@ -215,11 +215,11 @@ fn make_rounds_kept<
         rt,
         move |scope| -> (H, Result<(), usize>)
             requires { 0 < length run.now.cells.now }
-            ensures made { IfOk result.1 (λ _. PartsAfter run.entry.now.turns.setting.now
+            ensures made { IfOk result.1 (λ _. PartsAfter run.entry.now.turns.config.now
                 run.entry.now.turns.plan.turn.steps run.entry.now.turns.done
                 (length run.entry.now.cells.now) (H.holds held) (H.holds result.0)) }
             ensures partly { IfErr result.1 (λ n. (n < length run.entry.now.cells.now)
-                × PartsAfter run.entry.now.turns.setting.now run.entry.now.turns.plan.turn.steps
+                × PartsAfter run.entry.now.turns.config.now run.entry.now.turns.plan.turn.steps
                 run.entry.now.turns.done n (H.holds held) (H.holds result.0)) }
             ensures count { length (H.holds result.0).privates.items ≡ length
                 (H.holds held).privates.items }
@@ -235,7 +235,7 @@ fn make_rounds_kept<
 /// is called before each turn.
 #[derive(Clone, Copy)]
 pub struct Rounds<'a, G> {
-    pub setting: &'a Setting,
+    pub config: &'a MachineConfig,
     pub done: u64,
     pub plan: &'a Plan,
     pub gate: &'a G,
@@ -255,47 +255,47 @@ fn make_rounds_by_threads<C: Course + Send + Sync, R: Threads + Wait + Sync, G: 
     requires cells { AreNamed C.cell cells.now }
     requires sheets { AreNamed C.sheet sheets.now }
     requires room { length cells.now * waves < length sheets.now }
-    requires times { AreTimes C.moment rounds.now.setting.now rounds.now.done }
+    requires times { AreTimes C.round_time rounds.now.config.now rounds.now.done }
     requires few { rounds.now.done + length cells.now < 2 ^ 64 }
-    requires course { IsCourseOf C.quiet C.turned C.input C.most rounds.now.setting.now
+    requires course { IsCourseOf C.quiet C.turned C.input C.most rounds.now.config.now
         rounds.now.plan.now.turn.steps }
     ensures made { IfOk result.1
-        (λ _. PartsAfter rounds.now.setting.now rounds.now.plan.now.turn.steps rounds.now.done
+        (λ _. PartsAfter rounds.now.config.now rounds.now.plan.now.turn.steps rounds.now.done
         (length cells.now) parts result.0) }
     ensures partly { IfErr result.1
-        (λ n. (n < length cells.now) × PartsAfter rounds.now.setting.now
+        (λ n. (n < length cells.now) × PartsAfter rounds.now.config.now
         rounds.now.plan.now.turn.steps rounds.now.done n parts result.0) }
     ensures count { length result.0.privates.items ≡ length parts.privates.items }
 {
     let Rounds {
-        setting,
+        config,
         done,
         plan,
         gate,
     } = *rounds;
     let processes = parts.privates.len();
-    let plan = drawn_plan(plan, processes, gate.does_nothing());
+    let plan = drawn_plan(plan, processes, gate.allows_batching());
     let threads = plan.threads(processes);
     let chunks = plan.chunks(0, processes);
-    let trays = chunks.saturating_mul(waves);
-    let Ok(desk) = Desk::<C>::new(alloc, trays, slots_of(&plan)) else {
+    let batches = chunks.saturating_mul(waves);
+    let Ok(handoff) = HandoffQueue::<C>::new(alloc, batches, slots_of(&plan)) else {
         return (parts, Err(0));
     };
-    let Ok(rack) = Rack::<C>::new(alloc, threads.saturating_sub(1)) else {
+    let Ok(mailboxes) = Mailboxes::<C>::new(alloc, threads.saturating_sub(1)) else {
         return (parts, Err(0));
     };
     let run = Run {
         alloc,
-        turns: DeskTurns {
-            desk,
-            setting,
+        turns: HandoffTurns {
+            handoff,
+            config,
             plan,
             gate,
             done,
             waves,
             chunks,
         },
-        rack,
+        mailboxes,
         cells,
         sheets,
     };
@@ -345,10 +345,10 @@ pub fn make_rounds_of<R: Threads + Wait + Sync, G: TurnGate>(
 ) -> (Parts, Result<(), usize>)
     requires some { 0 < count }
     requires few { rounds.now.done + count < 2 ^ 64 }
-    ensures made { IfOk result.1 (λ _. PartsAfter rounds.now.setting.now
+    ensures made { IfOk result.1 (λ _. PartsAfter rounds.now.config.now
         rounds.now.plan.now.turn.steps rounds.now.done count parts result.0) }
     ensures partly { IfErr result.1
-        (λ n. (n < count) × PartsAfter rounds.now.setting.now rounds.now.plan.now.turn.steps
+        (λ n. (n < count) × PartsAfter rounds.now.config.now rounds.now.plan.now.turn.steps
         rounds.now.done n parts result.0) }
     ensures count { length result.0.privates.items ≡ length parts.privates.items }
 {

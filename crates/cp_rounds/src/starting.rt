@@ -8,12 +8,12 @@ ghost use Rattle.cp_rounds.specs.Starts.{AreFirst, IsStart};
 use crate::parts::Parts;
 use cp_kernel::kernel::Kernel;
 use cp_private::private::Private;
-use cp_private::resident::Resident;
+use cp_private::private_box::PrivateBox;
 use cp_program::program::Program;
 use std::alloc::{AllocError, Global};
 
 // Returns the private states of all processes at the start.
-fn first_privates(alloc: Global, program: &Program) -> Result<Vec<Resident>, AllocError>
+fn first_privates(alloc: Global, program: &Program) -> Result<Vec<PrivateBox>, AllocError>
     ensures first { IfOk result (λ xs. AreFirst (view.program program.now) xs.items) }
     ensures count { IfOk result
         (λ xs. length xs.items ≡ length (view.program program.now).processes) }
@@ -22,7 +22,7 @@ fn first_privates(alloc: Global, program: &Program) -> Result<Vec<Resident>, All
     let mut privates = Vec::with_capacity(alloc, count)?;
     for i in 0..count {
         let private = Private::new(alloc, program, i + 1)?;
-        privates.push(Resident::new(alloc, private)?)?;
+        privates.push(PrivateBox::new(alloc, private)?)?;
     }
     Ok(privates)
 }

@@ -5,19 +5,19 @@ ghost use Rattle.cp_private.specs.States.{activity as activity_view, stage as st
 ghost use Rattle.cp_rounds.specs.ProcessStates.{state_of as state_view};
 
 use cp_inspect::state::ProcState;
-use cp_private::outside::Stage;
+use cp_private::outside::SchedulingState;
 use cp_private::private::Activity;
 
 /// Returns the state of a process with this stage and this activity.
-pub(crate) fn state_of(stage: Stage, activity: Activity) -> ProcState
+pub(crate) fn state_of(stage: SchedulingState, activity: Activity) -> ProcState
     ensures { result ≡ state_view (stage_view stage) (activity_view activity) }
 {
     match stage {
-        Stage::Unstarted => ProcState::Unstarted,
-        Stage::Fresh => ProcState::Fresh,
-        Stage::Asking(monitor) => ProcState::Asking(monitor),
-        Stage::Delayed { monitor, queue } => ProcState::Delayed { monitor, queue },
-        Stage::Begun => match activity {
+        SchedulingState::Unstarted => ProcState::Unstarted,
+        SchedulingState::Fresh => ProcState::Fresh,
+        SchedulingState::Asking(monitor) => ProcState::Asking(monitor),
+        SchedulingState::Delayed { monitor, queue } => ProcState::Delayed { monitor, queue },
+        SchedulingState::Begun => match activity {
             Activity::NotBegun => ProcState::Unstarted,
             Activity::Running => ProcState::Ready,
             Activity::Waiting => ProcState::Waiting,

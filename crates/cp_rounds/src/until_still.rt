@@ -6,7 +6,7 @@
 
 ghost use Rattle.std.specs.Prelude.{◌≡◌, ◌<◌, ◌≤◌, ◌+◌, ◌-◌, ◌^◌, IfErr, IfOk, true};
 ghost use Rattle.cp_rounds.specs.InStates.{MakesRounds};
-ghost use Rattle.cp_rounds.specs.Stillness.{Advances, NoneStillBefore, TellsStill};
+ghost use Rattle.cp_rounds.specs.Stillness.{Advances, NoneStillBefore, ReportsStill};
 ghost use Rattle.cp_rounds.specs.Views.{IsAfter, KeepsText, processes_of};
 
 use crate::machine::{Machine, MemoryAt};
@@ -19,11 +19,11 @@ use std::thread::Threads;
 
 // The longest stretch. The copy that is kept of the machine's parts costs little beside so many
 // rounds.
-const LONGEST_STRETCH: u32 = 65_536;
+const MAX_GALLOP_ROUNDS: u32 = 65_536;
 
 // How many rounds are tried next.
 #[derive(Clone, Copy)]
-struct Stretch {
+struct Gallop {
     rounds: u32,
     /// Whether a stretch led past the first still state.
     past: bool,
@@ -31,40 +31,40 @@ struct Stretch {
     ghost most: { rounds ≤ 65536 },
 }
 
-impl Stretch {
-    fn first() -> Stretch
+impl Gallop {
+    fn first() -> Gallop
         ensures rounds { result.rounds ≡ 1 }
     {
-        Stretch {
+        Gallop {
             rounds: 1,
             past: false,
         }
     }
 
     // The stretch after one that made its rounds.
-    fn next(self) -> Stretch
+    fn next(self) -> Gallop
         ensures past { result.past ≡ self.past }
         ensures less { self.past ≡ true → result.rounds ≤ self.rounds }
     {
         let rounds = if self.past {
             self.rounds / 2
         } else {
-            (self.rounds * 2).min(LONGEST_STRETCH)
+            (self.rounds * 2).min(MAX_GALLOP_ROUNDS)
         };
-        Stretch {
+        Gallop {
             rounds: rounds.max(1),
             past: self.past,
         }
     }
 
     // The stretch after one of `tried` rounds, which led past the first still state.
-    fn half(tried: u32) -> Stretch
+    fn half(tried: u32) -> Gallop
         requires several { 1 < tried }
         ensures past { result.past ≡ true }
         ensures less { result.rounds < tried }
     {
-        Stretch {
-            rounds: (tried / 2).min(LONGEST_STRETCH),
+        Gallop {
+            rounds: (tried / 2).min(MAX_GALLOP_ROUNDS),
             past: true,
         }
     }
@@ -117,7 +117,7 @@ impl<'r, 't> Machine<'r, 't> {
         ensures most { IfOk result (λ n. n ≤ limit) }
         ensures done { IfOk result (λ n. IsAfter plan.now.turn.steps n self.old self.new) }
         ensures state { IfOk result (λ n. MakesRounds plan.now.turn.steps n self.old self.new) }
-        ensures still { IfOk result (λ n. n < limit → TellsStill self.new true) }
+        ensures still { IfOk result (λ n. n < limit → ReportsStill self.new true) }
         ensures first { IfOk result (λ n. NoneStillBefore plan.now.turn.steps n self.old) }
         ensures partly { IfErr result (λ e. (1 ≤ e.0) × (e.0 ≤ limit)
             × IsAfter plan.now.turn.steps (e.0 - 1) self.old self.new) }
@@ -127,15 +127,15 @@ impl<'r, 't> Machine<'r, 't> {
         rounds_are_run();
         lasting();
         let mut done = 0;
-        let mut stretch = Stretch::first();
+        let mut gallop = Gallop::first();
         'rounds: while done < limit && !self.is_still() {
-            let count = stretch.rounds.min(limit - done);
+            let count = gallop.rounds.min(limit - done);
             match self.advance(rt, count, plan, gate) {
                 Ok(true) => {
                     done += count;
-                    stretch = stretch.next();
+                    gallop = gallop.next();
                 }
-                Ok(false) => stretch = Stretch::half(count),
+                Ok(false) => gallop = Gallop::half(count),
                 Err(MemoryAt(round)) => return Err(MemoryAt(done + round)),
             }
         }

@@ -16,7 +16,7 @@ use Rattle.cp_program.specs.contracts.operation.Call as call
 use Rattle.cp_program.specs.contracts.operation.Operation as operation
 use Rattle.cp_program.specs.contracts.program.Program as program
 use Rattle.cp_base_config.proofs.tick.Tick.TheSendSync as tick
-use Rattle.cp_rounds_handoff.specs.contracts.setting.Setting as setting
+use Rattle.cp_rounds_handoff.specs.contracts.config.MachineConfig as config
 
 argument_sync : IsSync argument.the_row
 argument_sync = search (sendable, crosses, terms.crosses, target.the_field_sync) depth 40 fits 4000
@@ -34,9 +34,9 @@ operation_sync =
 program_sync : IsSync program.the_row
 program_sync = search (sendable, crosses, operation_sync, unit.the_sync, monitor.the_sync, process.the_sync, plan.the_sync) depth 40 fits 4000
 
-ruleset in_setting = (sendable, crosses, program_sync, tick.the_sync, tick.the_field_sync)
+ruleset in_config = (sendable, crosses, program_sync, tick.the_sync, tick.the_field_sync)
 
-pub setting_sync : IsSync setting.the_row
-setting_sync =
-    declared_sync setting.the_type
-    (search in_setting depth 40 fits 4000, (search in_setting depth 40 fits 4000, (search in_setting depth 40 fits 4000, tt)))
+pub config_sync : IsSync config.the_row
+config_sync =
+    declared_sync config.the_type
+    (search in_config depth 40 fits 4000, (search in_config depth 40 fits 4000, (search in_config depth 40 fits 4000, tt)))

@@ -6,13 +6,13 @@ use Rattle.cp_private.specs.Kinds.{kind_of}
 use Rattle.cp_private.specs.declared.kind.Kind.{Kind}
 use Rattle.cp_private.specs.declared.kind.Kind.TheVariants as kind
 
-abbrev pub is_quiet_by : Kind → List ℕ → Bool
-is_quiet_by kind.Private [] = true
-is_quiet_by kind.Private (b ∷ written) = false
-is_quiet_by kind.Kernel written = false
-is_quiet_by kind.None [] = true
-is_quiet_by kind.None (b ∷ written) = false
+abbrev pub needs_no_kernel_by : Kind → List ℕ → Bool
+needs_no_kernel_by kind.Private [] = true
+needs_no_kernel_by kind.Private (b ∷ written) = false
+needs_no_kernel_by kind.Kernel written = false
+needs_no_kernel_by kind.None [] = true
+needs_no_kernel_by kind.None (b ∷ written) = false
 
 -- No step of the kernel is next, and nothing that was written is left.
-abbrev pub is_quiet : Program → PrivateState → Bool
-is_quiet program o = is_quiet_by (kind_of program o) o.output
+abbrev pub needs_no_kernel : Program → PrivateState → Bool
+needs_no_kernel program o = needs_no_kernel_by (kind_of program o) o.output

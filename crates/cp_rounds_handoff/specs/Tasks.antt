@@ -8,34 +8,34 @@ use Rattle.cp_private.specs.declared.private.Private.{Private}
 use Rattle.cp_model_machine.specs.PrivateStates.{PrivateState}
 use Rattle.cp_program.specs.View as view
 use Rattle.cp_rounds_handoff.specs.Inputs.{input_at}
-use Rattle.cp_rounds_handoff.specs.Quiet.{is_quiet}
+use Rattle.cp_rounds_handoff.specs.Quiet.{needs_no_kernel}
 use Rattle.cp_rounds_handoff.specs.Turned as plain
-use Rattle.cp_rounds_handoff.specs.declared.moment.Moment.{Moment}
-use Rattle.cp_rounds_handoff.specs.declared.setting.Setting.{Setting}
+use Rattle.cp_rounds_handoff.specs.declared.round_time.RoundTime.{RoundTime}
+use Rattle.cp_rounds_handoff.specs.declared.config.MachineConfig.{MachineConfig}
 
 -- ---- Turns of one process, of one round after another
 
 -- y is what o becomes by the turns of n rounds from `round` on. The process is quiet before each of them.
-abbrev pub StaysQuiet : (PrivateState → Bool) → (Moment → PrivateState → PrivateState) → (ℕ → Moment) → (round n : ℕ) → PrivateState → PrivateState → Type 0
-StaysQuiet quiet turned moment round zero o y = y ≡ o
-StaysQuiet quiet turned moment round (suc n) o y = (quiet o ≡ true) × StaysQuiet quiet turned moment (suc round) n (turned (moment round) o) y
+abbrev pub StaysQuiet : (PrivateState → Bool) → (RoundTime → PrivateState → PrivateState) → (ℕ → RoundTime) → (round n : ℕ) → PrivateState → PrivateState → Type 0
+StaysQuiet quiet turned round_time round zero o y = y ≡ o
+StaysQuiet quiet turned round_time round (suc n) o y = (quiet o ≡ true) × StaysQuiet quiet turned round_time (suc round) n (turned (round_time round) o) y
 
 -- The same, but that it needn't be quiet before the first of them.
-abbrev pub AreMade : (PrivateState → Bool) → (Moment → PrivateState → PrivateState) → (ℕ → Moment) → (round n : ℕ) → PrivateState → PrivateState → Type 0
-AreMade quiet turned moment round zero o y = y ≡ o
-AreMade quiet turned moment round (suc n) o y = StaysQuiet quiet turned moment (suc round) n (turned (moment round) o) y
+abbrev pub AreMade : (PrivateState → Bool) → (RoundTime → PrivateState → PrivateState) → (ℕ → RoundTime) → (round n : ℕ) → PrivateState → PrivateState → Type 0
+AreMade quiet turned round_time round zero o y = y ≡ o
+AreMade quiet turned round_time round (suc n) o y = StaysQuiet quiet turned round_time (suc round) n (turned (round_time round) o) y
 
 -- There is at most one proof of it.
-StaysQuiet-prop : IsSet PrivateState → (quiet : PrivateState → Bool) (turned : Moment → PrivateState → PrivateState) (moment : ℕ → Moment) (round n : ℕ)
-    (o y : PrivateState) → IsProp (StaysQuiet quiet turned moment round n o y)
-StaysQuiet-prop set quiet turned moment round zero o y = set y o
-StaysQuiet-prop set quiet turned moment round (suc n) o y =
-    ×_prop (Bool-set (quiet o) true) (StaysQuiet-prop set quiet turned moment (suc round) n (turned (moment round) o) y)
+StaysQuiet-prop : IsSet PrivateState → (quiet : PrivateState → Bool) (turned : RoundTime → PrivateState → PrivateState) (round_time : ℕ → RoundTime) (round n : ℕ)
+    (o y : PrivateState) → IsProp (StaysQuiet quiet turned round_time round n o y)
+StaysQuiet-prop set quiet turned round_time round zero o y = set y o
+StaysQuiet-prop set quiet turned round_time round (suc n) o y =
+    ×_prop (Bool-set (quiet o) true) (StaysQuiet-prop set quiet turned round_time (suc round) n (turned (round_time round) o) y)
 
-pub AreMade-prop : IsSet PrivateState → (quiet : PrivateState → Bool) (turned : Moment → PrivateState → PrivateState) (moment : ℕ → Moment) (round n : ℕ)
-    (o y : PrivateState) → IsProp (AreMade quiet turned moment round n o y)
-AreMade-prop set quiet turned moment round zero o y = set y o
-AreMade-prop set quiet turned moment round (suc n) o y = StaysQuiet-prop set quiet turned moment (suc round) n (turned (moment round) o) y
+pub AreMade-prop : IsSet PrivateState → (quiet : PrivateState → Bool) (turned : RoundTime → PrivateState → PrivateState) (round_time : ℕ → RoundTime) (round n : ℕ)
+    (o y : PrivateState) → IsProp (AreMade quiet turned round_time round n o y)
+AreMade-prop set quiet turned round_time round zero o y = set y o
+AreMade-prop set quiet turned round_time round (suc n) o y = StaysQuiet-prop set quiet turned round_time (suc round) n (turned (round_time round) o) y
 
 -- Whether a number of turns isn't 0.
 abbrev pub is_some : ℕ → Bool
@@ -70,8 +70,8 @@ abbrev pub IsShort : ℕ → List Private → ℕ → Bool → Private → Type 
 IsShort most xs i made y = (x : Private) → slice_get xs i ≡ Some x → vec_len y.output ≤ vec_len x.output + bytes_written most made
 
 -- There is room for all that it may still write.
-abbrev pub HasRoomLeft : ℕ → Bool → Private → Type 0
-HasRoomLeft most made y = vec_len y.output + bytes_to_write most made ≤ vec_capacity y.output
+abbrev pub HasRoom : ℕ → Bool → Private → Type 0
+HasRoom most made y = vec_len y.output + bytes_to_write most made ≤ vec_capacity y.output
 
 -- There is room for all that a process may write in later rounds, once it has written nothing.
 abbrev pub IsWide : ℕ → Private → Type 0
@@ -81,7 +81,7 @@ IsWide most y = most + most ≤ vec_capacity y.output
 pub record IsTaken (turned : PrivateState → PrivateState) (input : List ℕ) (most : ℕ) (xs : List Private) (process : ℕ) (y : Private) : Type 0 where
   pub number : y.number ≡ process
   pub comes : (x : Private) → slice_get xs (process - 1) ≡ Some x → private_of y input ≡ turned (private_of x input)
-  pub room : HasRoomLeft most true y
+  pub room : HasRoom most true y
   pub short : IsShort most xs (process - 1) true y
 
 -- y is the private state of a process once its turns are made, which lead from its content at the start
@@ -89,27 +89,27 @@ pub record IsTaken (turned : PrivateState → PrivateState) (input : List ℕ) (
 pub record AreTaken (leads : PrivateState → PrivateState → Type 0) (input : List ℕ) (most : ℕ) (xs : List Private) (process : ℕ) (y : Private) : Type 0 where
   pub number : y.number ≡ process
   pub comes : ComesOf leads input xs (process - 1) y
-  pub room : HasRoomLeft most true y
+  pub room : HasRoom most true y
   pub short : IsShort most xs (process - 1) true y
   pub wide : IsWide most y
 
 -- `quiet` tells whether a process is quiet, `turned` is the turn of t steps in this setting, which writes
 -- at most `most` bytes, and `input` is the input at each index.
-pub record IsCourseOf (quiet : PrivateState → Bool) (turned : Moment → PrivateState → PrivateState) (input : ℕ → List ℕ)
-    (most : ℕ) (g : Setting) (t : ℕ) : Type 0 where
-  pub tells : (o : PrivateState) → quiet o ≡ is_quiet (view.program g.program) o
-  pub steps : (w : Moment) (o : PrivateState) → turned w o ≡ plain.take_turn (view.program g.program) t w o
+pub record IsCourseOf (quiet : PrivateState → Bool) (turned : RoundTime → PrivateState → PrivateState) (input : ℕ → List ℕ)
+    (most : ℕ) (g : MachineConfig) (t : ℕ) : Type 0 where
+  pub reports : (o : PrivateState) → quiet o ≡ needs_no_kernel (view.program g.program) o
+  pub steps : (w : RoundTime) (o : PrivateState) → turned w o ≡ plain.take_turn (view.program g.program) t w o
   pub inputs : (i : ℕ) → input i ≡ input_at g.inputs.items i
   pub bytes : most ≡ 11 * t
 
 -- Each private state has room for what a round writes.
 abbrev pub AllFree : ℕ → List Private → Type 0
-AllFree most xs = (i : ℕ) (x : Private) → slice_get xs i ≡ Some x → HasRoomLeft most false x
+AllFree most xs = (i : ℕ) (x : Private) → slice_get xs i ≡ Some x → HasRoom most false x
 
 -- From index `from` on, each private state that rests is the one at the start of the round. The
 -- others may be at the desk.
-abbrev pub AreLeft : Bool → ℕ → List Private → List Private → Type 0
-AreLeft wakes from xs ys = (i : ℕ) (y : Private) → from ≤ i → slice_get ys i ≡ Some y → rests wakes y ≡ true → slice_get xs i ≡ Some y
+abbrev pub AreInPlace : Bool → ℕ → List Private → List Private → Type 0
+AreInPlace wakes from xs ys = (i : ℕ) (y : Private) → from ≤ i → slice_get ys i ≡ Some y → rests wakes y ≡ true → slice_get xs i ≡ Some y
 
 -- If the calling thread makes a round alone, all private states from index `from` on are those at the
 -- start of the round.

@@ -5,7 +5,7 @@ ghost use Rattle.std.proofs.Props.{props};
 ghost use Rattle.cp_rounds_handoff.specs.Numbers.{AreNumbered};
 ghost use Rattle.cp_rounds_handoff.specs.Tasks.{AllFree, is_none};
 
-use crate::moment::Moment;
+use crate::round_time::RoundTime;
 use crate::task::{Course, Start};
 use std::marker::PhantomData;
 use std::sync::OnceToken;
@@ -22,13 +22,13 @@ pub struct OpenRound<'a, C: Course> {
     pub token: Option<OnceToken<'a, Start>>,
     /// Its index in the run.
     pub index: usize,
-    pub moment: Moment,
+    pub round_time: RoundTime,
     /// How many rounds from this one on are made at once.
     pub rounds: u32,
     pub of: PhantomData<C>,
     ghost cell: { IfSome token (λ t. t.of ≡ C.cell index) } by { Prim.hlevel props },
     ghost same: { IfSome token (λ t. t.value.value ≡ start.value) } by { Prim.hlevel props },
-    ghost time: { moment ≡ C.moment index },
+    ghost time: { round_time ≡ C.round_time index },
     ghost numbers: { AreNumbered start.value.items },
     ghost free: { AllFree C.most start.value.items },
 }

@@ -3,7 +3,7 @@
 
 ghost use Rattle.std.specs.Prelude.{◌≡◌};
 
-use cp_base_config::limits::LARGEST_PART;
+use cp_base_config::limits::MAX_CHUNK_PROCESSES;
 use cp_base_config::plan::Plan;
 use cp_base_config::turn::Turn;
 
@@ -57,17 +57,17 @@ fn chunks_at_once(plan: &Plan, processes: usize) -> usize {
 /// Returns the plan by which threads draw in rounds of so many processes. Where the gate does
 /// nothing, nobody can tell which thread makes a turn: chunks of few steps are then drawn several
 /// at once, as larger ones.
-pub fn drawn_plan(plan: &Plan, processes: usize, does_nothing: bool) -> Plan
+pub fn drawn_plan(plan: &Plan, processes: usize, allows_batching: bool) -> Plan
     ensures turn { result.turn ≡ plan.now.turn }
 {
-    if !does_nothing {
+    if !allows_batching {
         return *plan;
     }
     let chunk = (plan.chunk as usize).saturating_mul(chunks_at_once(plan, processes));
     Plan {
         turn: plan.turn,
         workers: plan.workers,
-        chunk: chunk.max(1).min(LARGEST_PART as usize) as u32,
+        chunk: chunk.max(1).min(MAX_CHUNK_PROCESSES as usize) as u32,
         wave: plan.wave,
     }
 }

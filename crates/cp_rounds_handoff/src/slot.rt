@@ -2,12 +2,12 @@
 
 ghost use Rattle.std.specs.Prelude.{◌≡◌, ◌<◌, ◌≤◌, ◌-◌, false, true, Some, slice_get};
 ghost use Rattle.cp_private.specs.Resting.{rests};
-ghost use Rattle.cp_rounds_handoff.specs.Tasks.{AreMade, AreTaken, HasRoomLeft};
+ghost use Rattle.cp_rounds_handoff.specs.Tasks.{AreMade, AreTaken, HasRoom};
 
 use crate::open_round::OpenRound;
 use crate::task::{Course, Task};
 use cp_private::private::Private;
-use cp_private::resident::Resident;
+use cp_private::private_box::PrivateBox;
 use std::alloc::{AllocError, Global};
 use std::mem;
 
@@ -15,7 +15,7 @@ use std::mem;
 /// the place of the process's own while that is here.
 #[derive(Drop)]
 pub struct Slot<'a, C: Course> {
-    spare: Option<Resident>,
+    spare: Option<PrivateBox>,
     pub(crate) task: Option<Task<'a, C>>,
 }
 
@@ -26,7 +26,7 @@ impl<'a, C: Course> Slot<'a, C> {
     ///
     /// `AllocError` if memory runs out.
     pub fn empty(alloc: Global) -> Result<Slot<'a, C>, AllocError> {
-        let spare = Resident::new(alloc, Private::absent(alloc))?;
+        let spare = PrivateBox::new(alloc, Private::absent(alloc))?;
         Ok(Slot {
             spare: Some(spare),
             task: None,
@@ -36,12 +36,12 @@ impl<'a, C: Course> Slot<'a, C> {
     /// Lays the turn of a process in a round, which is still to be made, and leaves the spare
     /// private state in the place of its own, where it doesn't rest.
     #[inline(always)]
-    pub fn lay(&mut self, round: &OpenRound<'a, C>, process: usize, private: &mut Resident)
+    pub fn publish(&mut self, round: &OpenRound<'a, C>, process: usize, private: &mut PrivateBox)
         requires number { private.old.number ≡ process }
         requires at { slice_get round.now.start.value.items (process - 1)
             ≡ Some private.old }
-        requires room { HasRoomLeft C.most false private.old }
-        ensures left { rests round.now.moment.wakes private.new ≡ true
+        requires room { HasRoom C.most false private.old }
+        ensures left { rests round.now.round_time.wakes private.new ≡ true
             → private.new ≡ private.old }
     {
         let Some(start) = &round.token else {
@@ -51,7 +51,7 @@ impl<'a, C: Course> Slot<'a, C> {
             return;
         };
         // No spare private state rests, but no contract says so.
-        if spare.private().rests(round.moment.wakes) {
+        if spare.private().rests(round.round_time.wakes) {
             return;
         }
         let private = mem::replace(private, spare);
@@ -68,11 +68,11 @@ impl<'a, C: Course> Slot<'a, C> {
         round: &OpenRound<'a, C>,
         process: usize,
         most: u32,
-        private: &mut Resident,
+        private: &mut PrivateBox,
     ) -> u32
         ensures few { result ≤ most }
         ensures taken { 0 < result
-            → AreTaken (AreMade C.quiet C.turned C.moment round.now.index result)
+            → AreTaken (AreMade C.quiet C.turned C.round_time round.now.index result)
             (C.input (process - 1)) C.most round.now.start.value.items process private.new }
     {
         let Some(task) = self.task.take() else {

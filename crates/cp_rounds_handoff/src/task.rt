@@ -9,36 +9,36 @@ ghost use Rattle.std.proofs.Props.{props};
 ghost use Rattle.cp_model_machine.specs.PrivateStates.{PrivateState};
 ghost use Rattle.cp_private.specs.States.{private_of};
 ghost use Rattle.cp_program.specs.View as view;
-ghost use Rattle.cp_rounds_handoff.specs.Quiet.{is_quiet};
+ghost use Rattle.cp_rounds_handoff.specs.Quiet.{needs_no_kernel};
 ghost use Rattle.cp_rounds_handoff.specs.Turned.{AreTimes};
-ghost use Rattle.cp_rounds_handoff.specs.Tasks.{AreMade, AreMade-prop, AreTaken, ComesOf, HasRoomLeft, IsCourseOf, IsShort, IsWide, is_some};
-ghost use Rattle.cp_rounds_handoff.specs.declared.moment.Moment as declared;
+ghost use Rattle.cp_rounds_handoff.specs.Tasks.{AreMade, AreMade-prop, AreTaken, ComesOf, HasRoom, IsCourseOf, IsShort, IsWide, is_some};
+ghost use Rattle.cp_rounds_handoff.specs.declared.round_time.RoundTime as declared;
 
-use crate::moment::Moment;
+use crate::config::MachineConfig;
+use crate::kernel_need::needs_no_kernel;
 use crate::open_round::OpenRound;
-use crate::quiet::is_quiet;
-use crate::setting::Setting;
+use crate::round_time::RoundTime;
 use crate::turns::turn_in_place;
 use cp_base_config::turn::Turn;
-use cp_private::resident::Resident;
+use cp_private::private_box::PrivateBox;
 use cp_rounds_workers::Sheets;
 use std::marker::{Brand, PhantomData};
 use std::snapshot::Snapshot;
 use std::sync::OnceToken;
 
 /// The private states at the start of a round, for proofs only.
-pub type Start = Snapshot<Vec<Resident>>;
+pub type Start = Snapshot<Vec<PrivateBox>>;
 
 /// What is the same in all rounds of a run. Whoever begins the run chooses it.
 pub trait Course: Sheets {
     /// Whether a process has no kernel turn to make, whatever the kernel is.
-    ghost quiet: { PrivateState → Bool };
+    ghost kernel_need: { PrivateState → Bool };
 
     /// What a turn makes of the content of a private state, at the time of a round.
-    ghost turned: { declared.Moment → PrivateState → PrivateState };
+    ghost turned: { declared.RoundTime → PrivateState → PrivateState };
 
     /// The time of a round.
-    ghost moment: { ℕ → declared.Moment };
+    ghost round_time: { ℕ → declared.RoundTime };
 
     /// The input of the process at an index.
     ghost input: { ℕ → List ℕ };
@@ -51,11 +51,11 @@ pub trait Course: Sheets {
 }
 
 impl Course for Brand {
-    ghost quiet = { λ _. false };
+    ghost kernel_need = { λ _. false };
 
     ghost turned = { λ w o. o };
 
-    ghost moment = { λ _. record { clock = 0; wakes = false } };
+    ghost round_time = { λ _. record { clock = 0; wakes = false } };
 
     ghost input = { λ _. [] };
 
@@ -70,21 +70,21 @@ impl Course for Brand {
 pub struct Task<'a, C: Course> {
     round: usize,
     process: usize,
-    moment: Moment,
+    round_time: RoundTime,
     /// How many turns there are to make at most.
     most: u32,
     /// How many turns are made.
     pub(crate) made: u32,
-    private: Resident,
+    private: PrivateBox,
     start: OnceToken<'a, Start>,
     of: PhantomData<C>,
     ghost cell: { start.of ≡ C.cell round },
-    ghost time: { moment ≡ C.moment round },
+    ghost time: { round_time ≡ C.round_time round },
     ghost number: { private.number ≡ process },
-    ghost comes: { ComesOf (AreMade C.quiet C.turned C.moment round made) (C.input (process - 1))
+    ghost comes: { ComesOf (AreMade C.kernel_need C.turned C.round_time round made) (C.input (process - 1))
         start.value.value.items (process - 1) private } by { Prim.hlevel (AreMade-prop, props) },
     ghost short: { IsShort C.most start.value.value.items (process - 1) (is_some made) private },
-    ghost room: { HasRoomLeft C.most (is_some made) private },
+    ghost room: { HasRoom C.most (is_some made) private },
     ghost wide: { IsWide C.most private },
 }
 
@@ -95,17 +95,17 @@ impl<'a, C: Course> Task<'a, C> {
         round: &OpenRound<'a, C>,
         start: &OnceToken<'a, Start>,
         process: usize,
-        private: Resident,
+        private: PrivateBox,
     ) -> Task<'a, C>
         requires cell { start.now.of ≡ C.cell round.now.index }
         requires number { private.number ≡ process }
         requires at { slice_get start.now.value.value.items (process - 1) ≡ Some private }
-        requires room { HasRoomLeft C.most false private }
+        requires room { HasRoom C.most false private }
     {
         Task {
             round: round.index,
             process,
-            moment: round.moment,
+            round_time: round.round_time,
             most: round.rounds,
             made: 0,
             private,
@@ -130,48 +130,48 @@ impl<'a, C: Course> Task<'a, C> {
 
     // Makes the next turn, of a round at this time. Before any but the first one the process is
     // quiet.
-    fn make_turn(&mut self, setting: &Setting, turn: Turn, moment: Moment)
-        requires course { IsCourseOf C.quiet C.turned C.input C.most setting.now turn.steps }
-        requires time { moment ≡ C.moment (self.old.round + self.old.made) }
-        requires quiet { self.old.made ≢ 0 → (input : List ℕ)
-            → is_quiet (view.program setting.now.program) (private_of self.old.private input)
+    fn make_turn(&mut self, config: &MachineConfig, turn: Turn, round_time: RoundTime)
+        requires course { IsCourseOf C.kernel_need C.turned C.input C.most config.now turn.steps }
+        requires time { round_time ≡ C.round_time (self.old.round + self.old.made) }
+        requires kernel_need { self.old.made ≢ 0 → (input : List ℕ)
+            → needs_no_kernel (view.program config.now.program) (private_of self.old.private input)
             ≡ true }
         requires few { self.old.made < 2 ^ 32 - 1 }
         ensures made { self.new.made ≡ self.old.made + 1 }
     {
         let private = self.private.private_mut();
-        turn_in_place(setting, private, self.process, moment, turn);
+        turn_in_place(config, private, self.process, round_time, turn);
         self.made += 1;
     }
 
     // Makes the turn of the next round, if there is one to make and the process is quiet. Returns
     // whether it did.
-    fn make_next(&mut self, setting: &Setting, done: u64, turn: Turn) -> bool
-        requires course { IsCourseOf C.quiet C.turned C.input C.most setting.now turn.steps }
-        requires times { AreTimes C.moment setting.now done }
+    fn make_next(&mut self, config: &MachineConfig, done: u64, turn: Turn) -> bool
+        requires course { IsCourseOf C.kernel_need C.turned C.input C.most config.now turn.steps }
+        requires times { AreTimes C.round_time config.now done }
         ensures made { self.old.made ≤ self.new.made }
     {
-        if self.made >= self.most || !is_quiet(&setting.program, self.private.private()) {
+        if self.made >= self.most || !needs_no_kernel(&config.program, self.private.private()) {
             return false;
         }
-        let Some(moment) = setting.moment_of(done, self.round, self.made) else {
+        let Some(round_time) = config.round_time_of(done, self.round, self.made) else {
             return false;
         };
-        self.make_turn(setting, turn, moment);
+        self.make_turn(config, turn, round_time);
         true
     }
 
     /// Makes the turn, and those of later rounds while the process is quiet, of a run that began
     /// after `done` rounds.
-    pub fn make(&mut self, setting: &Setting, done: u64, turn: Turn)
-        requires course { IsCourseOf C.quiet C.turned C.input C.most setting.now turn.steps }
-        requires times { AreTimes C.moment setting.now done }
+    pub fn make(&mut self, config: &MachineConfig, done: u64, turn: Turn)
+        requires course { IsCourseOf C.kernel_need C.turned C.input C.most config.now turn.steps }
+        requires times { AreTimes C.round_time config.now done }
         requires first { self.old.made ≡ 0 }
         ensures made { 0 < self.new.made }
     {
-        self.make_turn(setting, turn, self.moment);
+        self.make_turn(config, turn, self.round_time);
         for _turn in 1..self.most {
-            if !self.make_next(setting, done, turn) {
+            if !self.make_next(config, done, turn) {
                 return;
             }
         }
@@ -184,11 +184,11 @@ impl<'a, C: Course> Task<'a, C> {
         round: &OpenRound<'a, C>,
         process: usize,
         most: u32,
-    ) -> Option<(u32, Resident)>
+    ) -> Option<(u32, PrivateBox)>
         ensures some { IfSome result (λ r. 0 < r.0) }
         ensures few { IfSome result (λ r. r.0 ≤ most) }
         ensures taken { IfSome result (λ r. AreTaken
-            (AreMade C.quiet C.turned C.moment round.now.index r.0) (C.input (process - 1)) C.most
+            (AreMade C.kernel_need C.turned C.round_time round.now.index r.0) (C.input (process - 1)) C.most
             round.now.start.value.items process r.1) }
     {
         let Some(start) = &round.token else {

@@ -2,33 +2,33 @@
 //! board.
 //!
 //! The calling thread makes a `Wave` with a board of the wave's chunks and a shift for each helper.
-//! `Wave::begin` lays the shifts in the places of a `Rack`. A thread that wakes takes the shift out
+//! `Wave::begin` lays the shifts in the places of a `Mailboxes`. A thread that wakes takes the shift out
 //! of its place, draws until no chunk is left or it sees a stop, and puts the shift back. The
 //! calling thread draws too, in `Wave::finish`. Then it takes back all shifts, also those that
 //! nobody took, so a thread that sleeps holds no wave up, and it has the whole board again.
 //!
-//! Everything that can fail is done before a wave begins: `Wave::new`, `Rack::new` and `start` are
+//! Everything that can fail is done before a wave begins: `Wave::new`, `Mailboxes::new` and `start` are
 //! the only calls that take memory or start a thread. A last wave without chunks ends the crew:
 //! `Wave::stop` calls the stop of its board and lays its shifts.
 //!
 //! - `work`: what is done at a chunk, and how a seat draws.
-//! - `shift`: a seat on its way between threads.
-//! - `signal`: how a thread waits for others.
-//! - `rack`: the places of the shifts, and the loop of a thread.
+//! - `lease`: a seat on its way between threads.
+//! - `event_count`: how a thread waits for others.
+//! - `mailboxes`: the places of the shifts, and the loop of a thread.
 //! - `wave`: a wave, as the calling thread sees it.
 //! - `starting`: how the threads start.
 #![tactic(auto)]
 
-mod rack;
-mod shift;
-mod signal;
+mod event_count;
+mod lease;
+mod mailboxes;
 mod starting;
 mod wave;
 mod work;
 
-pub use rack::Rack;
-pub use shift::{Sheet, Sheets, Shift};
-pub use signal::Signal;
+pub use event_count::EventCount;
+pub use lease::{SeatLease, Sheet, Sheets};
+pub use mailboxes::Mailboxes;
 pub use starting::start;
 pub use wave::Wave;
 pub use work::Work;

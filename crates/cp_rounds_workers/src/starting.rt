@@ -1,7 +1,7 @@
 //! How the threads of a crew start.
 
-use crate::rack::Rack;
-use crate::shift::Sheets;
+use crate::lease::Sheets;
+use crate::mailboxes::Mailboxes;
 use crate::work::Work;
 use std::alloc::AllocError;
 use std::sync::Wait;
@@ -15,15 +15,15 @@ use std::thread::{Scope, Threads};
 pub fn start<'s, 'a, E, C: Sheets + Send + Sync, R: Threads + Wait + Sync, W: Work + Sync>(
     rt: &'s R,
     scope: &'s Scope<'s, E>,
-    rack: &'s Rack<'a, C>,
+    mailboxes: &'s Mailboxes<'a, C>,
     work: &'s W,
 ) -> Result<(), AllocError>
     requires can { W.can work.now }
 {
-    for place in 0..rack.places() {
+    for place in 0..mailboxes.places() {
         let served = move ||
             requires { W.can work.now }
-        { rack.serve(rt, place, work) };
+        { mailboxes.serve(rt, place, work) };
         if scope.spawn(served).is_err() {
             return Err(AllocError);
         }

@@ -5,10 +5,10 @@ ghost use Rattle.std.specs.Arc.{arc_value};
 ghost use Rattle.cp_board.specs.Models.{IsSeatOf};
 ghost use Rattle.cp_board.specs.Views.{IsDone};
 
-use crate::rack::Rack;
-use crate::shift::{Sheet, Sheets, Shift};
+use crate::lease::{SeatLease, Sheet, Sheets};
+use crate::mailboxes::Mailboxes;
 use crate::work::{Work, draw_all};
-use cp_board::{Board, FULL_ALLOWANCE, MOST_NUMBERS, MOST_STRIPES, Seat};
+use cp_board::{Board, FULL_ALLOWANCE, MAX_STRIPES, MAX_TICKETS, Seat};
 use std::alloc::{AllocError, Global};
 use std::marker::PhantomData;
 use std::snapshot::Snapshot;
@@ -24,7 +24,7 @@ pub struct Wave<'a, C: Sheets> {
     pub chunks: usize,
     board: Arc<Board, Global>,
     seat: Seat,
-    shifts: Vec<Shift<'a, C>>,
+    leases: Vec<SeatLease<'a, C>>,
     sheet: OnceToken<'a, Sheet>,
     of: PhantomData<C>,
     ghost cell: { sheet.of ≡ C.sheet number },
@@ -34,7 +34,7 @@ pub struct Wave<'a, C: Sheets> {
 }
 
 // Splits a seat into this many, or fewer if its allowance doesn't suffice: returns one of them, and
-// adds the others to `shifts`. The seats begin to draw from different stripes, as far as there are
+// adds the others to `leases`. The seats begin to draw from different stripes, as far as there are
 // enough.
 fn deal<'a, C: Sheets>(
     sheet: &OnceToken<'a, Sheet>,
@@ -42,7 +42,7 @@ fn deal<'a, C: Sheets>(
     board: &Arc<Board, Global>,
     seat: Seat,
     seats: usize,
-    shifts: &mut Vec<Shift<'a, C>>,
+    leases: &mut Vec<SeatLease<'a, C>>,
 ) -> Result<Seat, AllocError>
     requires cell { sheet.now.of ≡ C.sheet wave }
     requires board { arc_value board.now ≡ sheet.now.value.value }
@@ -56,10 +56,10 @@ fn deal<'a, C: Sheets>(
     let kept = seats - given;
     match board.split(seat, kept) {
         Ok((mine, theirs)) => {
-            let theirs = deal(sheet, wave, board, theirs, given, shifts)?;
+            let theirs = deal(sheet, wave, board, theirs, given, leases)?;
             let shared = Arc::try_clone(board)?;
-            shifts.push(Shift::new(sheet, wave, shared, theirs))?;
-            deal(sheet, wave, board, mine, kept, shifts)
+            leases.push(SeatLease::new(sheet, wave, shared, theirs))?;
+            deal(sheet, wave, board, mine, kept, leases)
         }
         Err(seat) => Ok(seat),
     }
@@ -68,7 +68,7 @@ fn deal<'a, C: Sheets>(
 // Joins the seat with all others of its board, which it waits for.
 fn collect<'a, C: Sheets, R: Wait>(
     rt: &R,
-    rack: &Rack<'a, C>,
+    mailboxes: &Mailboxes<'a, C>,
     sheet: &OnceToken<'a, Sheet>,
     wave: usize,
     board: &Board,
@@ -83,13 +83,13 @@ fn collect<'a, C: Sheets, R: Wait>(
     ensures whole { result.view.allowance ≡ FULL_ALLOWANCE }
 {
     let mut seat = mine;
-    let mut sweep = rack.sweep();
+    let mut sweep = mailboxes.sweep();
     for _ in rt.forever() {
         if seat.allowance() == FULL_ALLOWANCE {
             return seat;
         }
-        let shift = rack.take_back(rt, wave, &mut sweep);
-        if let Some(theirs) = shift.finish(sheet, wave) {
+        let lease = mailboxes.take_back(rt, wave, &mut sweep);
+        if let Some(theirs) = lease.finish(sheet, wave) {
             seat = board.join(seat, theirs);
         }
     }
@@ -111,9 +111,13 @@ fn owned<R: Wait>(rt: &R, board: Arc<Board, Global>) -> Board
 }
 
 // Lays shifts in the first places.
-fn lay_all<'a, C: Sheets, R: Wait>(rt: &R, rack: &Rack<'a, C>, shifts: &mut Vec<Shift<'a, C>>) {
-    'lay: while let Some(shift) = shifts.pop() {
-        rack.lay(rt, shifts.len(), shift);
+fn publish_all<'a, C: Sheets, R: Wait>(
+    rt: &R,
+    mailboxes: &Mailboxes<'a, C>,
+    leases: &mut Vec<SeatLease<'a, C>>,
+) {
+    'publish: while let Some(lease) = leases.pop() {
+        mailboxes.publish(rt, leases.len(), lease);
     }
 }
 
@@ -133,11 +137,11 @@ impl<'a, C: Sheets> Wave<'a, C> {
         workers: usize,
     ) -> Result<Wave<'a, C>, AllocError>
         requires cell { cell.now.id ≡ C.sheet number }
-        requires chunks { chunks ≤ MOST_NUMBERS }
+        requires chunks { chunks ≤ MAX_TICKETS }
         ensures number { IfOk result (λ wave. wave.number ≡ number) }
         ensures chunks { IfOk result (λ wave. wave.chunks ≡ chunks) }
     {
-        let stripes = workers.min(chunks).min(MOST_STRIPES).max(1);
+        let stripes = workers.min(chunks).min(MAX_STRIPES).max(1);
         let (board, seat) = Board::new(alloc, chunks, stripes)?;
         let Ok(sheet) = cell.set(rt, Snapshot::of(&board)) else {
             return Err(AllocError);
@@ -145,25 +149,25 @@ impl<'a, C: Sheets> Wave<'a, C> {
         let Ok(board) = Arc::new(alloc, board) else {
             return Err(AllocError);
         };
-        let mut shifts = Vec::with_capacity(alloc, workers.saturating_sub(1))?;
-        let seat = deal(&sheet, number, &board, seat, workers, &mut shifts)?;
+        let mut leases = Vec::with_capacity(alloc, workers.saturating_sub(1))?;
+        let seat = deal(&sheet, number, &board, seat, workers, &mut leases)?;
         Ok(Wave {
             number,
             chunks,
             board,
             seat,
-            shifts,
+            leases,
             sheet,
             of: PhantomData,
         })
     }
 
     /// Lays the shifts in the first places of the rack, and wakes their threads.
-    pub fn begin<R: Wait>(&mut self, rt: &R, rack: &Rack<'a, C>)
+    pub fn begin<R: Wait>(&mut self, rt: &R, mailboxes: &Mailboxes<'a, C>)
         ensures number { self.new.number ≡ self.old.number }
         ensures chunks { self.new.chunks ≡ self.old.chunks }
     {
-        lay_all(rt, rack, &mut self.shifts);
+        publish_all(rt, mailboxes, &mut self.leases);
     }
 
     /// Draws a chunk and works on it. Returns false if none is left.
@@ -188,7 +192,7 @@ impl<'a, C: Sheets> Wave<'a, C> {
     pub fn finish<R: Wait, W: Work>(
         self,
         rt: &R,
-        rack: &Rack<'a, C>,
+        mailboxes: &Mailboxes<'a, C>,
         next: Option<&mut Wave<'a, C>>,
         work: &W,
     ) -> (Board, Seat)
@@ -208,22 +212,22 @@ impl<'a, C: Sheets> Wave<'a, C> {
         } = self;
         draw_all(rt, &board, &mut seat, number, work);
         if let Some(next) = next {
-            next.begin(rt, rack);
+            next.begin(rt, mailboxes);
         }
-        let seat = collect(rt, rack, &sheet, number, &board, seat);
+        let seat = collect(rt, mailboxes, &sheet, number, &board, seat);
         (owned(rt, board), seat)
     }
 
     /// Calls the stop, and lays the shifts, so that each thread that takes one sees the stop and
     /// ends.
-    pub fn stop<R: Wait>(self, rt: &R, rack: &Rack<'a, C>) {
+    pub fn stop<R: Wait>(self, rt: &R, mailboxes: &Mailboxes<'a, C>) {
         let Wave {
             board,
             mut seat,
-            mut shifts,
+            mut leases,
             ..
         } = self;
         board.stop(&mut seat);
-        lay_all(rt, rack, &mut shifts);
+        publish_all(rt, mailboxes, &mut leases);
     }
 }

@@ -7,29 +7,29 @@ use Rattle.cp_model.specs.declared.rules.Violation.{Violation}
 use Rattle.cp_model.specs.RulesJudged.{Broken, Judged, Sound, Violations, both, least, violations_of}
 use Rattle.cp_model.specs.RulesEnvironment.{Environment}
 use Rattle.cp_model.specs.RulesTypes as ty
-use Rattle.cp_rules_body.proofs.Tells.{least_append}
-use Rattle.cp_rules.specs.Checking.{Judges, Makes, State, first_of, telling}
+use Rattle.cp_rules_body.proofs.Reports.{least_append}
+use Rattle.cp_rules.specs.Checking.{Judges, Makes, State, first_of, reporting}
 use Rattle.cp_rules.specs.Outer as o
-use Rattle.cp_rules.specs.Outer.{Known, Knows, Outer, TellsOuter, around_both}
+use Rattle.cp_rules.specs.Outer.{Known, Knows, Outer, ReportsOuter, around_both}
 use Rattle.cp_rules.specs.Types.{JudgesIndices, all_violations, with_indices}
-use Rattle.cp_rules.proofs.Judging.{both_first, both_violations, placed_first, placed_told}
+use Rattle.cp_rules.proofs.Judging.{both_first, both_violations, placed_first, placed_reported}
 
 -- ---- what is made of a row
 
 pub row_made : (old s1 s2 : State) (j : Judged TypeRow) (row : Result TypeRow Violation) (answer : Result ℕ Violation)
     → Judges old s1 row j → Knows s1 s2 answer (o.make_known s1.env [] row) → Makes old s2 answer (ty.made_type old.env j)
 row_made old s1 s2 j row answer judged known =
-    go j (subst (λ r. Knows (telling old (violations_of j)) s2 answer (o.make_known old.env [] r)) judged.1
+    go j (subst (λ r. Knows (reporting old (violations_of j)) s2 answer (o.make_known old.env [] r)) judged.1
     (subst (λ (z : State). Knows z s2 answer (o.make_known z.env [] row)) judged.0 known))
   where
-    go : (i : Judged TypeRow) → Knows (telling old (violations_of i)) s2 answer (o.make_known old.env [] (first_of i)) → Makes old s2 answer (ty.made_type old.env i)
+    go : (i : Judged TypeRow) → Knows (reporting old (violations_of i)) s2 answer (o.make_known old.env [] (first_of i)) → Makes old s2 answer (ty.made_type old.env i)
     go (Sound r) k = k
     go (Broken v vs) k = k
 
 -- ---- arrays
 
 -- what the definitions make, in terms of the code
-pub record Told (m : ty.Made (Judged ℕ)) (vs : Violations) (k : Known) : Type 0 where
+pub record Reported (m : ty.Made (Judged ℕ)) (vs : Violations) (k : Known) : Type 0 where
   pub env : k.env ≡ m.env
   pub of : k.of ≡ first_of m.of
   pub violations : violations_of m.of ≡ vs ++ k.violations
@@ -51,9 +51,9 @@ same_violations env (Sound r) = refl
 same_violations env (Broken v us) = refl
 
 -- one array around another
-array_told : (env : Environment) (at : ℕ) (i e : Judged ℕ)
-    → Told (ty.made_type env (both i e (λ a b. ty.c13_type at (ty.array_row env a b)))) (violations_of i ++ violations_of e) (o.array env at (first_of i) (first_of e))
-array_told env at i e =
+array_reported : (env : Environment) (at : ℕ) (i e : Judged ℕ)
+    → Reported (ty.made_type env (both i e (λ a b. ty.c13_type at (ty.array_row env a b)))) (violations_of i ++ violations_of e) (o.array env at (first_of i) (first_of e))
+array_reported env at i e =
     let k = λ (a b : ℕ). ty.c13_type at (ty.array_row env a b) in
     let j : Judged TypeRow = both i e k in
     let out : Outer TypeRow = around_both (first_of i) (first_of e) k in
@@ -65,14 +65,14 @@ array_told env at i e =
           ∙ ap (λ us. (violations_of i ++ violations_of e) ++ us) (sym (ap (λ (n : Known). n.violations) same ∙ made_violations env out.violations j));
     }
 
-pub arrays_told : (env : Environment) (at : ℕ) (is : List (Judged ℕ)) (e : Judged ℕ)
-    → Told (ty.arrays env at is e) (all_violations is ++ violations_of e) (o.arrays env at (map first_of is) (first_of e))
-arrays_told env at [] e = record { env = refl; of = refl; violations = sym (append-nil (violations_of e)) }
-arrays_told env at (i ∷ is) e =
+pub arrays_reported : (env : Environment) (at : ℕ) (is : List (Judged ℕ)) (e : Judged ℕ)
+    → Reported (ty.arrays env at is e) (all_violations is ++ violations_of e) (o.arrays env at (map first_of is) (first_of e))
+arrays_reported env at [] e = record { env = refl; of = refl; violations = sym (append-nil (violations_of e)) }
+arrays_reported env at (i ∷ is) e =
     let inner : ty.Made (Judged ℕ) = ty.arrays env at is e in
     let kin : Known = o.arrays env at (map first_of is) (first_of e) in
-    let rest : Told inner (all_violations is ++ violations_of e) kin = arrays_told env at is e in
-    let one : Told (ty.arrays env at (i ∷ is) e) (violations_of i ++ violations_of inner.of) (o.array inner.env at (first_of i) (first_of inner.of)) = array_told inner.env at i inner.of in
+    let rest : Reported inner (all_violations is ++ violations_of e) kin = arrays_reported env at is e in
+    let one : Reported (ty.arrays env at (i ∷ is) e) (violations_of i ++ violations_of inner.of) (o.array inner.env at (first_of i) (first_of inner.of)) = array_reported inner.env at i inner.of in
     let whole : Known = o.array inner.env at (first_of i) (first_of inner.of) in
     let same : o.array kin.env at (first_of i) kin.of ≡ whole = λ h. o.array (rest.env h) at (first_of i) (rest.of h) in
     record {
@@ -92,30 +92,30 @@ arrays_told env at (i ∷ is) e =
 pub array_made : (old s1 s2 s3 s4 : State) (at : ℕ) (is : s.TypeExpressions) (e : s.TypeExpression) (answers : List (Result ℕ Violation))
     → (one two answer : Result ℕ Violation)
     → JudgesIndices old s1 answers (ty.index_types old.env is) → Makes s1 s2 one (ty.type_of s1.env e)
-    → TellsOuter s2 s3 two (o.judge_in_position s2.env position.Element e one) → Knows s3 s4 answer (o.arrays s3.env at answers two)
+    → ReportsOuter s2 s3 two (o.judge_in_position s2.env position.Element e one) → Knows s3 s4 answer (o.arrays s3.env at answers two)
     → Makes old s4 answer (ty.type_of old.env (s.Array at is e))
 array_made old s1 s2 s3 s4 at is e answers one two answer indices element outer known =
     let index : ty.Made (List (Judged ℕ)) = ty.index_types old.env is in
     let inner : ty.Made (Judged ℕ) = ty.type_of index.env e in
     let placed : Judged ℕ = ty.judge_in_position inner.env position.Element e inner.of in
-    let t1 : Option Violation = least old.told (all_violations index.of) in
+    let t1 : Option Violation = least old.diagnostics (all_violations index.of) in
     let makes : Makes (with_indices old index) s2 one inner = subst (λ (z : State). Makes z s2 one (ty.type_of z.env e)) indices.0 element in
-    let s2' : State = record { env = inner.env; told = least t1 (violations_of inner.of) } in
-    let tells : TellsOuter s2' s3 two (o.judge_in_position inner.env position.Element e (first_of inner.of)) =
-    subst (λ r. TellsOuter s2' s3 two (o.judge_in_position inner.env position.Element e r)) makes.1
-    (subst (λ (z : State). TellsOuter z s3 two (o.judge_in_position z.env position.Element e one)) makes.0 outer) in
-    let s3' : State = record { env = inner.env; told = least t1 (violations_of placed) } in
+    let s2' : State = record { env = inner.env; diagnostics = least t1 (violations_of inner.of) } in
+    let reports : ReportsOuter s2' s3 two (o.judge_in_position inner.env position.Element e (first_of inner.of)) =
+    subst (λ r. ReportsOuter s2' s3 two (o.judge_in_position inner.env position.Element e r)) makes.1
+    (subst (λ (z : State). ReportsOuter z s3 two (o.judge_in_position z.env position.Element e one)) makes.0 outer) in
+    let s3' : State = record { env = inner.env; diagnostics = least t1 (violations_of placed) } in
     let told3 : s3 ≡ s3' =
-    tells.0 ∙ ap (λ t. let st : State = record { env = inner.env; told = t } in st) (sym (placed_told t1 inner.env position.Element e inner.of)) in
-    let two_is : two ≡ first_of placed = tells.1 ∙ sym (placed_first inner.env position.Element e inner.of) in
+    reports.0 ∙ ap (λ t. let st : State = record { env = inner.env; diagnostics = t } in st) (sym (placed_reported t1 inner.env position.Element e inner.of)) in
+    let two_is : two ≡ first_of placed = reports.1 ∙ sym (placed_first inner.env position.Element e inner.of) in
     let k : Known = o.arrays inner.env at (map first_of index.of) (first_of placed) in
     let knows : Knows s3' s4 answer k =
     subst (λ r. Knows s3' s4 answer (o.arrays inner.env at (map first_of index.of) r)) two_is
     (subst (λ rs. Knows s3' s4 answer (o.arrays inner.env at rs two)) indices.1
     (subst (λ (z : State). Knows z s4 answer (o.arrays z.env at answers two)) told3 known)) in
     let whole : ty.Made (Judged ℕ) = ty.arrays inner.env at index.of placed in
-    let told : Told whole (all_violations index.of ++ violations_of placed) k = arrays_told inner.env at index.of placed in
-    let told_is : least (least t1 (violations_of placed)) k.violations ≡ least old.told (violations_of whole.of) =
-    ap (λ t. least t k.violations) (sym (least_append old.told (all_violations index.of) (violations_of placed)))
-    ∙ sym (least_append old.told (all_violations index.of ++ violations_of placed) k.violations) ∙ ap (least old.told) (sym told.violations) in
-    (knows.0 ∙ (λ h. record { env = told.env h; told = told_is h }), knows.1 ∙ told.of)
+    let diagnostics : Reported whole (all_violations index.of ++ violations_of placed) k = arrays_reported inner.env at index.of placed in
+    let reported_is : least (least t1 (violations_of placed)) k.violations ≡ least old.diagnostics (violations_of whole.of) =
+    ap (λ t. least t k.violations) (sym (least_append old.diagnostics (all_violations index.of) (violations_of placed)))
+    ∙ sym (least_append old.diagnostics (all_violations index.of ++ violations_of placed) k.violations) ∙ ap (least old.diagnostics) (sym diagnostics.violations) in
+    (knows.0 ∙ (λ h. record { env = diagnostics.env h; diagnostics = reported_is h }), knows.1 ∙ diagnostics.of)

@@ -16,8 +16,8 @@ use Rattle.cp_rules.specs.Checking.{Judges, Makes, State, after, declared_name, 
 use Rattle.cp_rules.specs.Definitions.{constant_entity, type_entity}
 use Rattle.cp_rules.proofs.Finished.{set_in}
 use Rattle.cp_rules.proofs.Kept.{placed_keeps}
-use Rattle.cp_rules.proofs.Telling.{told_in, told_more}
-use Rattle.cp_rules.proofs.Visible.{told_alike}
+use Rattle.cp_rules.proofs.Reporting.{reported_in, reported_more}
+use Rattle.cp_rules.proofs.Visible.{reported_alike}
 
 constant_is : (j : Judged (ℕ × ℤ)) → constant_entity (first_of j) ≡ entity_of (λ c. entity.Constant c.0 c.1) j
 constant_is (Sound c) = refl
@@ -29,11 +29,11 @@ type_is (Broken v vs) = refl
 
 module _ (old s1 s2 s3 : State) (x : Identifier) (e : Entity) (mark : ℕ) (at : mark ≡ length old.env.names) (set : s3 ≡ with_set s2 mark e) where
   -- the name stands for what was judged
-  stands : (now : Environment) (u f : Entity) (vs : Violations) → s2 ≡ told_in now old.told vs → now.names ≡ (declare x u old.env).names → e ≡ f
-      → s3 ≡ told_in (declare x f (with_names old.env.names now)) old.told vs
-  stands now u f vs told names is =
-      set ∙ (λ i. with_set (told i) (at i) (is i))
-      ∙ ap (λ (v : Environment). told_in v old.told vs) (set_in old.env now u f (x ∷ []) names)
+  represents : (now : Environment) (u f : Entity) (vs : Violations) → s2 ≡ reported_in now old.diagnostics vs → now.names ≡ (declare x u old.env).names → e ≡ f
+      → s3 ≡ reported_in (declare x f (with_names old.env.names now)) old.diagnostics vs
+  represents now u f vs diagnostics names is =
+      set ∙ (λ i. with_set (diagnostics i) (at i) (is i))
+      ∙ ap (λ (v : Environment). reported_in v old.diagnostics vs) (set_in old.env now u f (x ∷ []) names)
 
   pub constant_defined : (v : Constant) (r : Result (ℕ × ℤ) Violation) → s1 ≡ after old (declared_name old.env x entity.UnfinishedConstant)
       → Judges s1 s2 r (constant s1.env v) → e ≡ constant_entity r → s3 ≡ after old (define_constant old.env (record { name = x; value = v }))
@@ -41,8 +41,8 @@ module _ (old s1 s2 s3 : State) (x : Identifier) (e : Entity) (mark : ℕ) (at :
       let inner : d.Declared = declared_name old.env x entity.UnfinishedConstant in
       let value : Judged (ℕ × ℤ) = constant inner.env v in
       let judges : Judges (after old inner) s2 r value = subst (λ (z : State). Judges z s2 r (constant z.env v)) declared judged in
-      stands inner.env entity.UnfinishedConstant (entity_of (λ c. entity.Constant c.0 c.1) value) (inner.violations ++ violations_of value)
-      (judges.0 ∙ told_more inner.env old.told inner.violations (violations_of value)) refl
+      represents inner.env entity.UnfinishedConstant (entity_of (λ c. entity.Constant c.0 c.1) value) (inner.violations ++ violations_of value)
+      (judges.0 ∙ reported_more inner.env old.diagnostics inner.violations (violations_of value)) refl
       (entity_is ∙ ap constant_entity judges.1 ∙ constant_is value)
 
   pub type_defined : (t : s.TypeExpression) (r : Result ℕ Violation) → s1 ≡ after old (declared_name old.env x entity.UnfinishedType)
@@ -51,8 +51,8 @@ module _ (old s1 s2 s3 : State) (x : Identifier) (e : Entity) (mark : ℕ) (at :
       let inner : d.Declared = declared_name old.env x entity.UnfinishedType in
       let made : Made (Judged ℕ) = type_placed inner.env position.Definition t in
       let makes : Makes (after old inner) s2 r made = subst (λ (z : State). Makes z s2 r (type_placed z.env position.Definition t)) declared judged in
-      stands made.env entity.UnfinishedType (entity_of entity.Type made.of) (inner.violations ++ violations_of made.of)
-      (makes.0 ∙ told_more made.env old.told inner.violations (violations_of made.of)) (placed_keeps inner.env position.Definition t).names
+      represents made.env entity.UnfinishedType (entity_of entity.Type made.of) (inner.violations ++ violations_of made.of)
+      (makes.0 ∙ reported_more made.env old.diagnostics inner.violations (violations_of made.of)) (placed_keeps inner.env position.Definition t).names
       (entity_is ∙ ap type_entity makes.1 ∙ type_is made.of)
 
 -- ---- enumerations
@@ -67,15 +67,15 @@ enumeration_defined old s1 s2 s3 x xs t t_is made declared valued =
     let own : Environment = add_type old.env (simple_row n (pos 0) (pos (length xs - 1))) in
     let vs : List (Identifier × Entity) = values n 0 xs in
     let vs_are : values t 0 xs ≡ vs = ap (λ m. values m 0 xs) t_is in
-    let made_is : s1 ≡ told_in own old.told [] =
-    made ∙ ap (λ m. told_in (add_type old.env (simple_row m (pos 0) (pos (length xs - 1)))) old.told []) t_is in
+    let made_is : s1 ≡ reported_in own old.diagnostics [] =
+    made ∙ ap (λ m. reported_in (add_type old.env (simple_row m (pos 0) (pos (length xs - 1)))) old.diagnostics []) t_is in
     let inner : d.Declared = declared_name own x (entity.Type n) in
-    let told2 : s2 ≡ told_in inner.env old.told inner.violations =
+    let told2 : s2 ≡ reported_in inner.env old.diagnostics inner.violations =
     declared ∙ (λ i. after (made_is i) (declared_name (made_is i).env x (entity.Type (t_is i)))) in
     let all : d.Declared = d.declare_each inner.env vs in
-    let told3 : s3 ≡ told_in all.env old.told (inner.violations ++ all.violations) =
-    valued ∙ (λ i. after (told2 i) (d.declare_each (told2 i).env (vs_are i))) ∙ told_more all.env old.told inner.violations all.violations in
-    told3 ∙ ap (λ (ws : Violations). told_in all.env old.told (inner.violations ++ ws)) (told_alike x (entity.Type n) entity.UnfinishedType own vs)
+    let told3 : s3 ≡ reported_in all.env old.diagnostics (inner.violations ++ all.violations) =
+    valued ∙ (λ i. after (told2 i) (d.declare_each (told2 i).env (vs_are i))) ∙ reported_more all.env old.diagnostics inner.violations all.violations in
+    told3 ∙ ap (λ (ws : Violations). reported_in all.env old.diagnostics (inner.violations ++ ws)) (reported_alike x (entity.Type n) entity.UnfinishedType own vs)
 
 -- ---- one definition, and then the rest
 
@@ -84,4 +84,4 @@ pub rest_defined : {A : Type 0} (f : Environment → A → d.Declared) (old new 
 rest_defined f old new e es same =
     let one = f old.env e in
     let rest = define_each f one.env es in
-    ap (λ (z : State). after z (define_each f z.env es)) same ∙ told_more rest.env old.told one.violations rest.violations
+    ap (λ (z : State). after z (define_each f z.env es)) same ∙ reported_more rest.env old.diagnostics one.violations rest.violations

@@ -44,32 +44,32 @@ abbrev value : Violation → Option Violation → Violation
 value v None = v
 value v (Some w) = w
 
-told_behind : (t : Option Violation) (v : Violation) (vs : Violations) (x : Violation) → least (Some v) vs ≡ Some x → least (earlier t v) vs ≡ earlier t x
-told_behind t v [] x h = ap (λ (o : Option Violation). earlier t (value v o)) h
-told_behind t v (w ∷ vs) x h = go (is_before w v) refl h (λ u k. told_behind t u vs x k)
+reported_behind : (t : Option Violation) (v : Violation) (vs : Violations) (x : Violation) → least (Some v) vs ≡ Some x → least (earlier t v) vs ≡ earlier t x
+reported_behind t v [] x h = ap (λ (o : Option Violation). earlier t (value v o)) h
+reported_behind t v (w ∷ vs) x h = go (is_before w v) refl h (λ u k. reported_behind t u vs x k)
   where
     go : (b : Bool) → is_before w v ≡ b → least (if b then Some w else Some v) vs ≡ Some x
         → ((u : Violation) → least (Some u) vs ≡ Some x → least (earlier t u) vs ≡ earlier t x) → least (earlier (earlier t v) w) vs ≡ earlier t x
     go true g k rest = ap (λ (o : Option Violation). least o vs) (second_counts t v w g) ∙ rest w k
     go false g k rest = ap (λ (o : Option Violation). least o vs) (first_counts t v w g) ∙ rest v k
 
-pub part_told : (t : Option Violation) (vs : Violations) (x : Violation) → least None vs ≡ Some x → earlier t x ≡ least t vs
-part_told t [] x h = absurd (cc)
-part_told t (v ∷ vs) x h = sym (told_behind t v vs x h)
+pub part_reported : (t : Option Violation) (vs : Violations) (x : Violation) → least None vs ≡ Some x → earlier t x ≡ least t vs
+part_reported t [] x h = absurd (cc)
+part_reported t (v ∷ vs) x h = sym (reported_behind t v vs x h)
 
 -- ---- nothing reported
 
-some_told : (v : Violation) (vs : Violations) → least (Some v) vs ≡ None → ⊥
-some_told v [] h = absurd (cc)
-some_told v (w ∷ vs) h = go (is_before w v) h (λ u k. some_told u vs k)
+some_reported : (v : Violation) (vs : Violations) → least (Some v) vs ≡ None → ⊥
+some_reported v [] h = absurd (cc)
+some_reported v (w ∷ vs) h = go (is_before w v) h (λ u k. some_reported u vs k)
   where
     go : (b : Bool) → least (if b then Some w else Some v) vs ≡ None → ((u : Violation) → least (Some u) vs ≡ None → ⊥) → ⊥
     go true k rest = rest w k
     go false k rest = rest v k
 
-pub nothing_told : (vs : Violations) → least None vs ≡ None → vs ≡ []
-nothing_told [] h = refl
-nothing_told (v ∷ vs) h = absurd (some_told v vs h)
+pub nothing_reported : (vs : Violations) → least None vs ≡ None → vs ≡ []
+nothing_reported [] h = refl
+nothing_reported (v ∷ vs) h = absurd (some_reported v vs h)
 
 -- ---- in any order
 

@@ -12,8 +12,8 @@ use Rattle.cp_rules_cutoff.specs.Later.{entity_later, environment_later, names_l
 use Rattle.cp_rules_cutoff.specs.Rest.{Rest, rest_after, rest_violations}
 use Rattle.cp_base_names.specs.Tables.{entry_view}
 use Rattle.cp_rules.specs.Checking.{State}
-use Rattle.cp_rules.specs.Endings.{told_with}
-use Rattle.cp_rules_cutoff.proofs.NothingEarlier.{rest_told}
+use Rattle.cp_rules.specs.Endings.{reported_with}
+use Rattle.cp_rules_cutoff.proofs.NothingEarlier.{rest_reported}
 
 -- ---- the visible names
 
@@ -35,7 +35,7 @@ no_name names n found within got is =
 
 -- ---- the end
 
-pub decided : (s : State) (w : Violation) (r : Rest) → s.told ≡ Some w → environment_later w s.env ≡ true → rest_after w.at r ≡ true
-    → told_with s r ≡ s.told
-decided s w r told later after =
-    ap (λ (t : Option Violation). least t (rest_violations s.env r)) told ∙ rest_told w s.env r later after ∙ sym told
+pub decided : (s : State) (w : Violation) (r : Rest) → s.diagnostics ≡ Some w → environment_later w s.env ≡ true → rest_after w.at r ≡ true
+    → reported_with s r ≡ s.diagnostics
+decided s w r diagnostics later after =
+    ap (λ (t : Option Violation). least t (rest_violations s.env r)) diagnostics ∙ rest_reported w s.env r later after ∙ sym diagnostics

@@ -16,7 +16,7 @@ use Rattle.cp_base_names.specs.Tables.{with_new}
 use Rattle.cp_rules.specs.Records as records
 use Rattle.cp_base_names.specs.Tables.{with_new}
 use Rattle.cp_rules.specs.Records.{first_in, is_new, with_field, with_fields}
-use Rattle.cp_rules.proofs.ArraysMade.{Told}
+use Rattle.cp_rules.proofs.ArraysMade.{Reported}
 
 -- ---- names that were seen, and names of the fields so far
 
@@ -110,14 +110,14 @@ field_members_append [] gs = refl
 field_members_append (f ∷ fs) gs = ap (λ ms. (f.0, member.Field f.1) ∷ ms) (field_members_append fs gs)
 
 -- how the definitions judge the groups, in terms of the code
-pub record GroupsTold (d : ty.Made (Judged ty.FieldList)) (ms : Members) (g : records.Grouped) : Type 0 where
+pub record GroupsReported (d : ty.Made (Judged ty.FieldList)) (ms : Members) (g : records.Grouped) : Type 0 where
   pub env : g.env ≡ d.env
   pub violations : g.violations ≡ violations_of d.of
   pub members : (fs : ty.FieldList) → d.of ≡ Sound fs → g.members ≡ ms ++ ty.field_members fs
 
-pub groups_told : (env : Environment) (seen : List Text) (ms : Members) (gs : List s.Variables) → Same seen ms
-    → GroupsTold (ty.fields_of env seen (fields_of gs)) ms (records.groups env ms gs)
-groups_told env seen ms [] same = record {
+pub groups_reported : (env : Environment) (seen : List Text) (ms : Members) (gs : List s.Variables) → Same seen ms
+    → GroupsReported (ty.fields_of env seen (fields_of gs)) ms (records.groups env ms gs)
+groups_reported env seen ms [] same = record {
   env = refl;
   violations = refl;
   members = λ fs h. sym (append-nil ms) ∙ ap (λ hs. ms ++ ty.field_members hs) (injected fs h);
@@ -125,7 +125,7 @@ groups_told env seen ms [] same = record {
   where
     injected : (fs : ty.FieldList) → (let j : Judged ty.FieldList = Sound [] in j ≡ Sound fs) → [] ≡ fs
     injected fs h = cc
-groups_told env seen ms (g ∷ gs) same =
+groups_reported env seen ms (g ∷ gs) same =
     let xs : List Identifier = g.names in
     let one : ty.Made (Judged ℕ) = ty.type_of env g.of in
     let placed : Judged ℕ = records.type_of_group env g.of in
@@ -133,16 +133,16 @@ groups_told env seen ms (g ∷ gs) same =
     let own : records.Fields = with_fields ms u xs in
     let rest : ty.Made (Judged ty.FieldList) = ty.fields_of one.env (seen ++ map ty.name_of xs) (fields_of gs) in
     let more : records.Grouped = records.groups one.env own.members gs in
-    let told : GroupsTold rest own.members more = groups_told one.env (seen ++ map ty.name_of xs) own.members gs (same_all seen ms u xs same) in
+    let diagnostics : GroupsReported rest own.members more = groups_reported one.env (seen ++ map ty.name_of xs) own.members gs (same_all seen ms u xs same) in
     let names : Violations = ty.c1_fields seen xs in
     let named : own.violations ≡ names = same_violations seen ms u xs same in
     let inner : Judged ty.FieldList = both placed rest.of (λ v fs. ty.append_fields (ty.fields_of_type xs v) fs) in
     let listed : violations_of (also names inner) ≡ names ++ (violations_of placed ++ violations_of rest.of) =
     also_violations names inner ∙ ap (λ vs. names ++ vs) (appended_violations xs placed rest.of) in
     record {
-      env = told.env;
+      env = diagnostics.env;
       violations = append_assoc own.violations (violations_of placed) more.violations
-          ∙ (λ i. named i ++ (violations_of placed ++ told.violations i)) ∙ sym listed;
+          ∙ (λ i. named i ++ (violations_of placed ++ diagnostics.violations i)) ∙ sym listed;
       members = λ fs h.
           let none : names ++ (violations_of placed ++ violations_of rest.of) ≡ [] = sym listed ∙ ap violations_of h in
           let no_names : names ≡ [] = first_empty names _ none in
@@ -153,7 +153,7 @@ groups_told env seen ms (g ∷ gs) same =
           sym (λ i. also (no_names i) (both (a.1 i) (b.1 i) (λ v fs. ty.append_fields (ty.fields_of_type xs v) fs))) ∙ h in
           let fs_are : ty.fields_of_type xs a.0 ++ b.0 ≡ fs = cc in
           let u_is : u ≡ a.0 = ap records.type_or_any a.1 in
-          told.members b.0 b.1
+          diagnostics.members b.0 b.1
           ∙ ap (λ ns. ns ++ ty.field_members b.0) (all_new ms u xs (named ∙ no_names) ∙ ap (λ v. ms ++ ty.field_members (ty.fields_of_type xs v)) u_is)
           ∙ append_assoc ms (ty.field_members (ty.fields_of_type xs a.0)) (ty.field_members b.0)
           ∙ ap (λ ns. ms ++ ns) (sym (field_members_append (ty.fields_of_type xs a.0) b.0))
@@ -166,9 +166,9 @@ words_are : (env : Environment) (fs : ty.FieldList) → records.words_of_members
 words_are env [] = refl
 words_are env (f ∷ fs) = ap (λ n. (row_of env f.1).words + n) (words_are env fs)
 
-record_if_told : (env : Environment) (at : ℕ) (fs : ty.FieldList) (within : Bool)
-    → Told (ty.made_record env (guard within C13 at fs)) [] (records.record_if env at (ty.field_members fs) within)
-record_if_told env at fs true = record {
+record_if_reported : (env : Environment) (at : ℕ) (fs : ty.FieldList) (within : Bool)
+    → Reported (ty.made_record env (guard within C13 at fs)) [] (records.record_if env at (ty.field_members fs) within)
+record_if_reported env at fs true = record {
   env = ap (λ w. let e : Environment = record env {
     types = env.types ++ record (records.row env (ty.field_members fs)) { words = ty.cap_words w } ∷ [];
     members = env.members ++ ty.field_members fs ∷ [];
@@ -176,17 +176,17 @@ record_if_told env at fs true = record {
   of = refl;
   violations = refl;
 }
-record_if_told env at fs false = record { env = refl; of = refl; violations = refl }
+record_if_reported env at fs false = record { env = refl; of = refl; violations = refl }
 
 record_sound : (env : Environment) (at : ℕ) (fs : ty.FieldList)
-    → Told (ty.made_record env (ty.c13_record env at fs)) [] (records.record_of env at (ty.field_members fs) None)
+    → Reported (ty.made_record env (ty.c13_record env at fs)) [] (records.record_of env at (ty.field_members fs) None)
 record_sound env at fs =
-    subst (λ within. Told (ty.made_record env (ty.c13_record env at fs)) [] (records.record_if env at (ty.field_members fs) within))
+    subst (λ within. Reported (ty.made_record env (ty.c13_record env at fs)) [] (records.record_if env at (ty.field_members fs) within))
     (ap (λ w. ty.is_within (ty.cap_words w)) (sym (words_are env fs)))
-    (record_if_told env at fs (ty.is_within (ty.record_row env fs).words))
+    (record_if_reported env at fs (ty.is_within (ty.record_row env fs).words))
 
-pub record_told : (env : Environment) (at : ℕ) (j : Judged ty.FieldList) (ms : Members) → ((fs : ty.FieldList) → j ≡ Sound fs → ms ≡ ty.field_members fs)
-    → Told (ty.made_record env (then_judge j (ty.c13_record env at))) (violations_of j) (records.record_of env at ms (first_in (violations_of j)))
-record_told env at (Sound fs) ms members =
-    subst (λ ns. Told (ty.made_record env (ty.c13_record env at fs)) [] (records.record_of env at ns None)) (sym (members fs refl)) (record_sound env at fs)
-record_told env at (Broken v vs) ms members = record { env = refl; of = refl; violations = sym (append-nil (v ∷ vs)) }
+pub record_reported : (env : Environment) (at : ℕ) (j : Judged ty.FieldList) (ms : Members) → ((fs : ty.FieldList) → j ≡ Sound fs → ms ≡ ty.field_members fs)
+    → Reported (ty.made_record env (then_judge j (ty.c13_record env at))) (violations_of j) (records.record_of env at ms (first_in (violations_of j)))
+record_reported env at (Sound fs) ms members =
+    subst (λ ns. Reported (ty.made_record env (ty.c13_record env at fs)) [] (records.record_of env at ns None)) (sym (members fs refl)) (record_sound env at fs)
+record_reported env at (Broken v vs) ms members = record { env = refl; of = refl; violations = sym (append-nil (v ∷ vs)) }

@@ -11,13 +11,13 @@ use Rattle.cp_model.specs.RulesEnvironment.{Environment, entity_of, with_names}
 use Rattle.cp_model.specs.RulesDeclarations as d
 use Rattle.cp_model.specs.RulesJudged.{Broken, Judged, Sound, Violations, least, violations_of}
 use Rattle.cp_model.specs.RulesTypes.{Made, cap_words, type_placed}
-use Rattle.cp_rules_body.proofs.Tells.{least_append}
+use Rattle.cp_rules_body.proofs.Reports.{least_append}
 use Rattle.cp_rules.specs.Checking.{Makes, State, after, first_of, with_set}
 use Rattle.cp_rules.specs.Declaring.{Declares, entity_of_type, owners_of_type, with_variables, words_of_type}
 use Rattle.cp_rules.proofs.CappedWords.{capped_more}
 use Rattle.cp_rules.proofs.Finished.{set_in}
 use Rattle.cp_rules.proofs.Kept.{placed_keeps}
-use Rattle.cp_rules.proofs.Telling.{told_in, told_more}
+use Rattle.cp_rules.proofs.Reporting.{reported_in, reported_more}
 
 -- ---- what the code keeps of a judged type is enough
 
@@ -52,12 +52,12 @@ module _ (old : State) (p : Position) (g : s.Variables) where
   abbrev base : Environment
   base = with_names old.env.names made.env
 
-  abbrev told : Violations
-  told = defined.violations ++ violations_of made.of
+  abbrev diagnostics : Violations
+  diagnostics = defined.violations ++ violations_of made.of
 
   -- the state if the names are declared as this entity
   abbrev visible : Entity → State
-  visible e = record { env = (d.declare_all base e g.names).env; told = least old.told told }
+  visible e = record { env = (d.declare_all base e g.names).env; diagnostics = least old.diagnostics diagnostics }
 
   abbrev counted : Result ℕ Violation → State
   counted of =
@@ -70,7 +70,7 @@ module _ (old : State) (p : Position) (g : s.Variables) where
       ∙ (let v = visible (entity_of d.own_variable made.of) in
       let owned = d.owners v.env p made.of g.names in
       ap (after v) (owners_is v.env p made.of g.names)
-      ∙ ap (λ t. let st : State = record { env = owned.env; told = t } in st) (sym (least_append old.told told owned.violations)))
+      ∙ ap (λ t. let st : State = record { env = owned.env; diagnostics = t } in st) (sym (least_append old.diagnostics diagnostics owned.violations)))
 
   pub group_declared : (s1 s2 s3 s4 : State) (mark : ℕ) (of : Result ℕ Violation) (e : Entity) (each n : ℕ)
       → mark ≡ length old.env.names → s1 ≡ after old defined → Makes s1 s2 of (type_placed s1.env p g.of)
@@ -79,11 +79,11 @@ module _ (old : State) (p : Position) (g : s.Variables) where
       → n ≡ cap_words (length g.names * each) → Declares old s4 n (d.variable_group old.env p g)
   group_declared s1 s2 s3 s4 mark of e each n at inside judged words entity set owners counting =
       let makes : Makes (after old defined) s2 of made = subst (λ (z : State). Makes z s2 of (type_placed z.env p g.of)) inside judged in
-      let typed : s2 ≡ told_in made.env old.told told = makes.0 ∙ told_more made.env old.told defined.violations (violations_of made.of) in
+      let typed : s2 ≡ reported_in made.env old.diagnostics diagnostics = makes.0 ∙ reported_more made.env old.diagnostics defined.violations (violations_of made.of) in
       let is = entity_of_type d.own_variable of in
       let shown : s3 ≡ visible is =
       set ∙ (λ i. with_set (typed i) (at i) (entity i))
-      ∙ ap (λ (v : Environment). told_in v old.told told)
+      ∙ ap (λ (v : Environment). reported_in v old.diagnostics diagnostics)
       (set_in old.env made.env d.unfinished_variable is g.names (placed_keeps defined.env p g.of).names) in
       let all : s4 ≡ counted of = owners ∙ ap (λ (z : State). after z (owners_of_type z.env p of g.names)) shown in
       let one : each ≡ d.words_of made.env made.of =
@@ -100,7 +100,7 @@ module _ (old new : State) (p : Position) (g : s.Variables) (gs : List s.Variabl
   rest_declared same =
       let rest = d.variables one.env p gs in
       ap (λ (z : State). with_variables z (d.variables z.env p gs)) same
-      ∙ ap (λ t. let st : State = record { env = rest.env; told = t } in st) (sym (least_append old.told one.violations rest.violations))
+      ∙ ap (λ t. let st : State = record { env = rest.env; diagnostics = t } in st) (sym (least_append old.diagnostics one.violations rest.violations))
 
   pub rest_counted : new ≡ with_variables old one → (words more sum : ℕ) → more ≡ cap_words one.words → sum ≡ cap_words (words + more)
       → cap_words (sum + (d.variables new.env p gs).words) ≡ cap_words (words + (d.variables old.env p (g ∷ gs)).words)

@@ -12,8 +12,8 @@ use Rattle.cp_model.specs.RulesEnvironment as r
 use Rattle.cp_model.specs.RulesDeclarations as d
 use Rattle.cp_model.specs.RulesJudged.{Broken, Judged, Sound, Violations, least, meaning_of, then_judge, violations_of}
 use Rattle.cp_model.specs.RulesTypes.{cap_words, named_type}
-use Rattle.cp_rules_body.proofs.Tells.{least_append}
-use Rattle.cp_rules.specs.Checking.{Judges, State, after, first_of, telling, with_set}
+use Rattle.cp_rules_body.proofs.Reports.{least_append}
+use Rattle.cp_rules.specs.Checking.{Judges, State, after, first_of, reporting, with_set}
 use Rattle.cp_rules.specs.Declaring.{entity_of_type}
 use Rattle.cp_rules.specs.Headings.{Bound, Collected, bound_as, hidden_group, is_by_reference, parameter_judged, row_of_type, with_heading, with_names, with_part, words_of_parameter}
 use Rattle.cp_rules.proofs.Groups.{entity_is}
@@ -33,11 +33,11 @@ module _ (old : State) (of : Option Sort) (is_function : Bool) (g : s.Parameters
   abbrev hidden : Environment
   hidden = (d.declare_all old.env entity.Hidden g.names).env
 
-  abbrev told_after : Environment → Violations → State
-  told_after e vs = record { env = e; told = least old.told vs }
+  abbrev reported_after : Environment → Violations → State
+  reported_after e vs = record { env = e; diagnostics = least old.diagnostics vs }
 
-  more : (e : Environment) (vs ws : Violations) → telling (told_after e vs) ws ≡ told_after e (vs ++ ws)
-  more e vs ws = ap (λ t. let st : State = record { env = e; told = t } in st) (sym (least_append old.told vs ws))
+  more : (e : Environment) (vs ws : Violations) → reporting (reported_after e vs) ws ≡ reported_after e (vs ++ ws)
+  more e vs ws = ap (λ t. let st : State = record { env = e; diagnostics = t } in st) (sym (least_append old.diagnostics vs ws))
 
   -- the type is judged the same while the names are being defined
   same_judged : then_judge (named_type defined.env g.of) (d.c7_c8_parameter defined.env of g.of.at) ≡ judged
@@ -47,25 +47,25 @@ module _ (old : State) (of : Option Sort) (is_function : Bool) (g : s.Parameters
 
   pub group_hidden : (s1 s2 s3 s4 : State) (mark : ℕ) (rule : Option Rule) (t : Result ℕ Violation)
       → mark ≡ length old.env.names → s1 ≡ after old defined → rule ≡ d.var_rule of is_function
-      → s2 ≡ telling s1 (d.c7_c11_var rule g.by_reference)
+      → s2 ≡ reporting s1 (d.c7_c11_var rule g.by_reference)
       → Judges s2 s3 t (then_judge (named_type s2.env g.of) (d.c7_c8_parameter s2.env of g.of.at))
       → s4 ≡ with_set s3 mark entity.Hidden
       → (s4 ≡ hidden_group old of is_function g) × (t ≡ first_of judged)
-  group_hidden s1 s2 s3 s4 mark rule t at inside ruled var_told judging hiding =
-      let told2 : s2 ≡ told_after defined.env (defined.violations ++ var) =
-      var_told ∙ ap (λ (z : State). telling z (d.c7_c11_var rule g.by_reference)) inside
-      ∙ ap (λ o. telling (after old defined) (d.c7_c11_var o g.by_reference)) ruled ∙ more defined.env defined.violations var in
-      let judges : Judges (told_after defined.env (defined.violations ++ var)) s3 t judged =
-      subst (λ j. Judges (told_after defined.env (defined.violations ++ var)) s3 t j) same_judged
+  group_hidden s1 s2 s3 s4 mark rule t at inside ruled var_reported judging hiding =
+      let told2 : s2 ≡ reported_after defined.env (defined.violations ++ var) =
+      var_reported ∙ ap (λ (z : State). reporting z (d.c7_c11_var rule g.by_reference)) inside
+      ∙ ap (λ o. reporting (after old defined) (d.c7_c11_var o g.by_reference)) ruled ∙ more defined.env defined.violations var in
+      let judges : Judges (reported_after defined.env (defined.violations ++ var)) s3 t judged =
+      subst (λ j. Judges (reported_after defined.env (defined.violations ++ var)) s3 t j) same_judged
       (subst (λ (z : State). Judges z s3 t (then_judge (named_type z.env g.of) (d.c7_c8_parameter z.env of g.of.at))) told2 judging) in
       let all : Violations = defined.violations ++ var ++ violations_of judged in
-      let told3 : s3 ≡ told_after defined.env all = judges.0 ∙ more defined.env (defined.violations ++ var) (violations_of judged) in
+      let told3 : s3 ≡ reported_after defined.env all = judges.0 ∙ more defined.env (defined.violations ++ var) (violations_of judged) in
       let outside : r.with_names old.env.names defined.env ≡ old.env =
       ap (r.with_names old.env.names) (declare_all_is old.env d.unfinished_variable g.names) in
       let hidden_in : (d.declare_all (r.with_names old.env.names defined.env) entity.Hidden g.names).env ≡ hidden =
       ap (λ (env : Environment). (d.declare_all env entity.Hidden g.names).env) outside in (
         hiding ∙ (λ i. with_set (told3 i) (at i) entity.Hidden)
-            ∙ ap (λ (env : Environment). told_after env all) (set_in old.env defined.env d.unfinished_variable entity.Hidden g.names refl ∙ hidden_in),
+            ∙ ap (λ (env : Environment). reported_after env all) (set_in old.env defined.env d.unfinished_variable entity.Hidden g.names refl ∙ hidden_in),
         judges.1,
       )
 
@@ -100,9 +100,9 @@ module _ (old : State) (of : Option Sort) (is_function : Bool) (g : s.Parameters
       → row ≡ row_of_type by_reference t → each ≡ words_of_parameter new.env by_reference t
       → n ≡ cap_words (length g.names * each) → sum ≡ cap_words (k.words + n) → added ≡ with_names k e row g.names
       → record added { words = sum } ≡ with_part k group
-  group_collected k added new t e row each n sum hiding judging stands rows words counting summing adding =
+  group_collected k added new t e row each n sum hiding judging represents rows words counting summing adding =
       let e_is : e ≡ r.entity_of (d.parameter_entity by_reference) judged =
-      stands ∙ ap (entity_of_type (d.parameter_entity by_reference)) judging ∙ entity_is (d.parameter_entity by_reference) judged in
+      represents ∙ ap (entity_of_type (d.parameter_entity by_reference)) judging ∙ entity_is (d.parameter_entity by_reference) judged in
       let row_is_one : row ≡ record { by_reference = by_reference; of = meaning_of judged } =
       rows ∙ ap (row_of_type by_reference) judging ∙ row_is by_reference judged in
       let each_is : each ≡ d.parameter_words old.env by_reference judged =
@@ -132,7 +132,7 @@ module _ (old new : State) (of : Option Sort) (is_function : Bool) (g : s.Parame
   pub rest_judged : new ≡ hidden_group old of is_function g → with_heading new (d.heading new.env of is_function gs) ≡ with_heading old whole
   rest_judged same =
       ap (λ (z : State). with_heading z (d.heading z.env of is_function gs)) same
-      ∙ ap (λ t. let st : State = record { env = rest.env; told = t } in st) (sym (least_append old.told one.violations rest.violations))
+      ∙ ap (λ t. let st : State = record { env = rest.env; diagnostics = t } in st) (sym (least_append old.diagnostics one.violations rest.violations))
 
   rest_words : (words m : ℕ) → cap_words (cap_words (words + m) + rest.words) ≡ cap_words (words + (m + rest.words))
   rest_words words m = omega arith

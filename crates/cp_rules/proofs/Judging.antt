@@ -7,10 +7,10 @@ use Rattle.cp_model.specs.declared.rules.Violation.{Violation}
 use Rattle.cp_model.specs.RulesJudged.{Broken, Judged, Sound, Violations, also, both, least, guard, then_judge, unless, violations_of}
 use Rattle.cp_model.specs.RulesEnvironment.{Environment, is_simple}
 use Rattle.cp_model.specs.RulesTypes as ty
-use Rattle.cp_rules_body.proofs.Tells.{least_append}
-use Rattle.cp_rules.specs.Checking.{Judges, State, first_of, telling}
+use Rattle.cp_rules_body.proofs.Reports.{least_append}
+use Rattle.cp_rules.specs.Checking.{Judges, State, first_of, reporting}
 use Rattle.cp_rules.specs.Outer as o
-use Rattle.cp_rules.specs.Outer.{Known, Outer, TellsOuter, around, around_both}
+use Rattle.cp_rules.specs.Outer.{Known, Outer, ReportsOuter, around, around_both}
 use Rattle.cp_rules.proofs.Earliest.{least_swap}
 
 -- ---- two parts, and then what is outside them
@@ -30,17 +30,17 @@ module _ {A B C : Type 0} (k : A → B → Judged C) where
   both_violations (Broken v vs) (Broken w ws) = ap (λ us. v ∷ vs ++ us) (sym (append-nil (w ∷ ws)))
 
   pub both_judged : (s0 s1 s2 s3 : State) (ra : Result A Violation) (rb : Result B Violation) (r : Result C Violation) (a : Judged A) (b : Environment → Judged B)
-      → Judges s0 s1 ra a → Judges s1 s2 rb (b s1.env) → TellsOuter s2 s3 r (around_both ra rb k) → Judges s0 s3 r (both a (b s0.env) k)
+      → Judges s0 s1 ra a → Judges s1 s2 rb (b s1.env) → ReportsOuter s2 s3 r (around_both ra rb k) → Judges s0 s3 r (both a (b s0.env) k)
   both_judged s0 s1 s2 s3 ra rb r a b first second outer =
-      let inner : Judges (telling s0 (violations_of a)) s2 rb (b s0.env) = subst (λ (z : State). Judges z s2 rb (b z.env)) first.0 second in
+      let inner : Judges (reporting s0 (violations_of a)) s2 rb (b s0.env) = subst (λ (z : State). Judges z s2 rb (b z.env)) first.0 second in
       let known : around_both ra rb k ≡ around_both (first_of a) (first_of (b s0.env)) k = λ i. around_both (first.1 i) (inner.1 i) k in
       let more : Violations = (around_both (first_of a) (first_of (b s0.env)) k).violations in (
-        outer.0 ∙ ap (λ (z : State). telling z (around_both ra rb k).violations) inner.0
-            ∙ ap (λ (w : Outer C). telling (telling (telling s0 (violations_of a)) (violations_of (b s0.env))) w.violations) known
-            ∙ ap (λ t. let st : State = record { env = s0.env; told = t } in st)
-            (sym (ap (least s0.told) (both_violations a (b s0.env))
-            ∙ least_append s0.told (violations_of a) (violations_of (b s0.env) ++ more)
-            ∙ least_append (least s0.told (violations_of a)) (violations_of (b s0.env)) more)),
+        outer.0 ∙ ap (λ (z : State). reporting z (around_both ra rb k).violations) inner.0
+            ∙ ap (λ (w : Outer C). reporting (reporting (reporting s0 (violations_of a)) (violations_of (b s0.env))) w.violations) known
+            ∙ ap (λ t. let st : State = record { env = s0.env; diagnostics = t } in st)
+            (sym (ap (least s0.diagnostics) (both_violations a (b s0.env))
+            ∙ least_append s0.diagnostics (violations_of a) (violations_of (b s0.env) ++ more)
+            ∙ least_append (least s0.diagnostics (violations_of a)) (violations_of (b s0.env)) more)),
         outer.1 ∙ ap (λ (w : Outer C). w.of) known ∙ sym (both_first a (b s0.env)),
       )
 
@@ -62,13 +62,13 @@ module _ {A B : Type 0} (ws : Violations) (k : A → Judged B) where
   around_first (w ∷ vs) same (Broken v us) =
       ap (λ xs. first_of (also xs (then_judge (Broken v us) k))) same ∙ sym (ap (λ xs. (around xs k (Err v)).of) same)
 
-  pub around_told : (t : Option Violation) (vs : Violations) → ws ≡ vs → (j : Judged A)
+  pub around_reported : (t : Option Violation) (vs : Violations) → ws ≡ vs → (j : Judged A)
       → least t (violations_of (whole j)) ≡ least (least t (violations_of j)) (around ws k (first_of j)).violations
-  around_told t vs same (Sound x) = refl
-  around_told t [] same (Broken v us) =
+  around_reported t vs same (Sound x) = refl
+  around_reported t [] same (Broken v us) =
       ap (λ xs. least t (violations_of (also xs (then_judge (Broken v us) k)))) same
       ∙ sym (ap (λ xs. least (least t (v ∷ us)) (around xs k (Err v)).violations) same)
-  around_told t (w ∷ vs) same (Broken v us) =
+  around_reported t (w ∷ vs) same (Broken v us) =
       ap (λ xs. least t (violations_of (also xs (then_judge (Broken v us) k)))) same
       ∙ least_append t (w ∷ vs) (v ∷ us) ∙ least_swap t (w ∷ vs) (v ∷ us)
       ∙ sym (ap (λ xs. least (least t (v ∷ us)) (around xs k (Err v)).violations) same)
@@ -95,11 +95,11 @@ pub placed_first : (env : Environment) (p : Position) (t : s.TypeExpression) (j 
 placed_first env p t j =
     ap first_of (placed_is env p t j) ∙ around_first (o.written_queues env p t) (ty.c6_c8_placed env p (ty.type_at t)) (o.written_queues env p t) refl j
 
-pub placed_told : (u : Option Violation) (env : Environment) (p : Position) (t : s.TypeExpression) (j : Judged ℕ)
+pub placed_reported : (u : Option Violation) (env : Environment) (p : Position) (t : s.TypeExpression) (j : Judged ℕ)
     → least u (violations_of (ty.judge_in_position env p t j)) ≡ least (least u (violations_of j)) (o.judge_in_position env p t (first_of j)).violations
-placed_told u env p t j =
+placed_reported u env p t j =
     ap (λ i. least u (violations_of i)) (placed_is env p t j)
-    ∙ around_told (o.written_queues env p t) (ty.c6_c8_placed env p (ty.type_at t)) u (o.written_queues env p t) refl j
+    ∙ around_reported (o.written_queues env p t) (ty.c6_c8_placed env p (ty.type_at t)) u (o.written_queues env p t) refl j
 
 -- an index type, as the definitions judge it
 abbrev pub index_of : Environment → s.TypeExpression → Judged ℕ → Judged ℕ
@@ -121,11 +121,11 @@ index_first env t j =
     ap first_of (index_is env t j)
     ∙ around_first (o.written_index t) (λ n. guard (is_simple env n) C2 (ty.type_at t) n) (o.written_index t) refl j
 
-pub index_told : (u : Option Violation) (env : Environment) (t : s.TypeExpression) (j : Judged ℕ)
+pub index_reported : (u : Option Violation) (env : Environment) (t : s.TypeExpression) (j : Judged ℕ)
     → least u (violations_of (index_of env t j)) ≡ least (least u (violations_of j)) (o.index_type env t (first_of j)).violations
-index_told u env t j =
+index_reported u env t j =
     ap (λ i. least u (violations_of i)) (index_is env t j)
-    ∙ around_told (o.written_index t) (λ n. guard (is_simple env n) C2 (ty.type_at t) n) u (o.written_index t) refl j
+    ∙ around_reported (o.written_index t) (λ n. guard (is_simple env n) C2 (ty.type_at t) n) u (o.written_index t) refl j
 
 -- ---- arrays
 
@@ -147,7 +147,7 @@ arrays_last env at (h ∷ hs) i e =
 
 -- the state in the end, and the type
 abbrev pub ends : State → ℕ → List (Result ℕ Violation) → Result ℕ Violation → State × Result ℕ Violation
-ends old at is e = let k = o.arrays old.env at is e in (record { env = k.env; told = least old.told k.violations }, k.of)
+ends old at is e = let k = o.arrays old.env at is e in (record { env = k.env; diagnostics = least old.diagnostics k.violations }, k.of)
 
 pub ends_last : (old new : State) (at : ℕ) (is : List (Result ℕ Violation)) (i e answer : Result ℕ Violation)
     → o.Knows old new answer (o.array old.env at i e) → ends new at is answer ≡ ends old at (is ++ i ∷ []) e
@@ -155,5 +155,5 @@ ends_last old new at is i e answer known =
     let one = o.array old.env at i e in
     let rest = o.arrays one.env at is one.of in
     (λ j. ends (known.0 j) at is (known.1 j))
-    ∙ ap (λ t. (let st : State = record { env = rest.env; told = t } in st, rest.of)) (sym (least_append old.told one.violations rest.violations))
-    ∙ sym (ap (λ (k : Known). (let st : State = record { env = k.env; told = least old.told k.violations } in st, k.of)) (arrays_last old.env at is i e))
+    ∙ ap (λ t. (let st : State = record { env = rest.env; diagnostics = t } in st, rest.of)) (sym (least_append old.diagnostics one.violations rest.violations))
+    ∙ sym (ap (λ (k : Known). (let st : State = record { env = k.env; diagnostics = least old.diagnostics k.violations } in st, k.of)) (arrays_last old.env at is i e))

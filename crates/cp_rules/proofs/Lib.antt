@@ -1,5 +1,5 @@
 pub mod Kept
-pub mod Telling
+pub mod Reporting
 pub mod CappedWords
 pub mod Groups
 pub mod HeadingGroups

@@ -14,14 +14,14 @@ use Rattle.cp_model.specs.RulesStatements.{statements}
 use Rattle.cp_model.specs.RulesTypes.{cap_words}
 use Rattle.cp_model.specs.RulesDeclarations as d
 use Rattle.cp_model.specs.Rules.{define_system, routine_members, variable_position}
-use Rattle.cp_rules.specs.Checking.{State, after, declared_name, telling}
+use Rattle.cp_rules.specs.Checking.{State, after, declared_name, reporting}
 use Rattle.cp_rules.specs.Declaring.{Declares}
 use Rattle.cp_rules.specs.Headings.{Collected, Heads, collection, nothing, with_part}
 use Rattle.cp_rules.specs.Systems.{HeadsSystem, JudgesParts, added_system, heading_of, inside, parts, row_as, with_finished, words_of}
 use Rattle.cp_rules.specs.declared.headings.Heading.{Heading}
 use Rattle.cp_rules.proofs.Finished.{set_in}
 use Rattle.cp_rules.proofs.Kept.{Begins, begins_trans, declare_each_begins, heading_left, left_names, routines_begin, variables_grow}
-use Rattle.cp_rules.proofs.Telling.{told_in, told_more}
+use Rattle.cp_rules.proofs.Reporting.{reported_in, reported_more}
 
 module _ (old : State) (y : s.System) where
   -- ---- the heading
@@ -31,8 +31,8 @@ module _ (old : State) (y : s.System) where
   system_headed s1 s2 h mark at headed outside =
       let head : d.Heading = heading_of old.env y in (
         outside ∙ ap (λ (z : State). let st : State = record z { env = with_names (take mark z.env.names) z.env } in st) headed.0
-            ∙ ap (λ n. told_in (with_names (take n head.env.names) head.env) old.told head.violations) at
-            ∙ ap (λ (e : Environment). told_in e old.told head.violations) (heading_left old.env (Some y.sort) false y.parameters),
+            ∙ ap (λ n. reported_in (with_names (take n head.env.names) head.env) old.diagnostics head.violations) at
+            ∙ ap (λ (e : Environment). reported_in e old.diagnostics head.violations) (heading_left old.env (Some y.sort) false y.parameters),
         headed.1,
       )
 
@@ -42,7 +42,7 @@ module _ (old : State) (y : s.System) where
       → s1 ≡ record old { env = inside old.env y k }
       → Declares s1 s2 words (d.variables s1.env (variable_position y.sort) y.variables)
       → s3 ≡ after s2 (d.routines s2.env y.sort y.routines)
-      → s4 ≡ telling s3 (statements s3.env y.body.list)
+      → s4 ≡ reporting s3 (statements s3.env y.body.list)
       → JudgesParts old s4 words (parts old.env y k)
   parts_judged k s1 s2 s3 s4 words within declared routed judged =
       let own : d.Variables = d.variables (inside old.env y k) (variable_position y.sort) y.variables in
@@ -50,10 +50,10 @@ module _ (old : State) (y : s.System) where
       let body : Violations = statements all.env y.body.list in
       let declares : Declares (record old { env = inside old.env y k }) s2 words own =
       subst (λ (z : State). Declares z s2 words (d.variables z.env (variable_position y.sort) y.variables)) within declared in
-      let told3 : s3 ≡ told_in all.env old.told (own.violations ++ all.violations) =
-      routed ∙ ap (λ (z : State). after z (d.routines z.env y.sort y.routines)) declares.0 ∙ told_more all.env old.told own.violations all.violations in (
-        judged ∙ ap (λ (z : State). telling z (statements z.env y.body.list)) told3
-            ∙ told_more all.env old.told (own.violations ++ all.violations) body,
+      let told3 : s3 ≡ reported_in all.env old.diagnostics (own.violations ++ all.violations) =
+      routed ∙ ap (λ (z : State). after z (d.routines z.env y.sort y.routines)) declares.0 ∙ reported_more all.env old.diagnostics own.violations all.violations in (
+        judged ∙ ap (λ (z : State). reporting z (statements z.env y.body.list)) told3
+            ∙ reported_more all.env old.diagnostics (own.violations ++ all.violations) body,
         declares.1,
       )
 
@@ -112,15 +112,15 @@ module _ (old : State) (x : Identifier) (y : s.System) where
       let vs1 : Violations = named.violations ++ head.violations in
       let vs2 : Violations = vs1 ++ judged.violations in
       let heads : HeadsSystem (after old named) s2 h y = subst (λ (z : State). HeadsSystem z s2 h y) declared headed in
-      let told2 : s2 ≡ told_in named.env old.told vs1 = heads.0 ∙ told_more named.env old.told named.violations head.violations in
-      let judging : JudgesParts (told_in named.env old.told vs1) s3 words judged =
-      subst (λ (k : Collected). JudgesParts (told_in named.env old.told vs1) s3 words (parts named.env y k)) heads.1
+      let told2 : s2 ≡ reported_in named.env old.diagnostics vs1 = heads.0 ∙ reported_more named.env old.diagnostics named.violations head.violations in
+      let judging : JudgesParts (reported_in named.env old.diagnostics vs1) s3 words judged =
+      subst (λ (k : Collected). JudgesParts (reported_in named.env old.diagnostics vs1) s3 words (parts named.env y k)) heads.1
       (subst (λ (z : State). JudgesParts z s3 words (parts z.env y (collection h))) told2 parted) in
-      let told3 : s3 ≡ told_in judged.env old.told vs2 = judging.0 ∙ told_more judged.env old.told vs1 judged.violations in
+      let told3 : s3 ≡ reported_in judged.env old.diagnostics vs2 = judging.0 ∙ reported_more judged.env old.diagnostics vs1 judged.violations in
       let first_is : first ≡ length old.env.parameters = firsts ∙ ap (λ (z : State). length z.env.parameters) told2 in
       let count_is : count ≡ length head.rows = counts ∙ ap (λ (k : Collected). length k.rows) heads.1 in
       let mark_is : mark ≡ length named.env.names = inner ∙ ap (λ (z : State). length z.env.names) declared in
-      let row_told : row ≡ row_is =
+      let row_reported : row ≡ row_is =
       rowed ∙ ap (λ (z : State). row_as z.env y first count words) told3
       ∙ (λ i. row_as judged.env y (first_is i) (count_is i) words)
       ∙ ap (λ (n : ℕ). let one : SystemRow = record row_is { words = n } in one)
@@ -129,19 +129,19 @@ module _ (old : State) (x : Identifier) (y : s.System) where
       found ∙ ap (λ (z : State). routine_members (drop mark z.env.names)) told3 ∙ ap (λ n. routine_members (drop n judged.env.names)) mark_is in
       let names : take mark judged.env.names ≡ named.env.names =
       ap (λ n. take n judged.env.names) mark_is ∙ left_names named.env.names judged.env.names parts_begin in
-      let left_told : s4 ≡ told_in (with_names named.env.names judged.env) old.told vs2 =
+      let left_reported : s4 ≡ reported_in (with_names named.env.names judged.env) old.diagnostics vs2 =
       left ∙ ap (λ (z : State). let st : State = record z { env = with_names (take mark z.env.names) z.env } in st) told3
-      ∙ ap (λ (ns : Names). told_in (with_names ns judged.env) old.told vs2) names in
+      ∙ ap (λ (ns : Names). reported_in (with_names ns judged.env) old.diagnostics vs2) names in
       let ended : Environment =
       record (added_system judged.env row_is (routine_members (drop (length named.env.names) judged.env.names))) {
         names = named.env.names;
         region = old.env.region;
       } in
       finished
-      ∙ (λ i. with_finished (left_told i) (at i) old.env.region (row_told i) (ms_is i))
-      ∙ ap (λ (v : Environment). told_in v old.told vs2)
+      ∙ (λ i. with_finished (left_reported i) (at i) old.env.region (row_reported i) (ms_is i))
+      ∙ ap (λ (v : Environment). reported_in v old.diagnostics vs2)
       (set_in old.env ended entity.UnfinishedType (entity.Type (length judged.env.types)) (x ∷ []) refl)
-      ∙ ap (λ vs. record { env = (define_system old.env x y).env; told = least old.told vs }) regrouped
+      ∙ ap (λ vs. record { env = (define_system old.env x y).env; diagnostics = least old.diagnostics vs }) regrouped
     where
       regroup : (as' os rs bs : Violations) → as' ++ ((os ++ rs) ++ bs) ≡ ((as' ++ os) ++ rs) ++ bs
       regroup as' os rs bs = sym (append_assoc as' (os ++ rs) bs) ∙ ap (λ vs. vs ++ bs) (sym (append_assoc as' os rs))

@@ -8,62 +8,62 @@ use Rattle.cp_model.specs.declared.rules.Violation.{Violation}
 use Rattle.cp_model.specs.RulesJudged.{Broken, Judged, Sound, least, violations_of}
 use Rattle.cp_model.specs.RulesEnvironment.{Environment, Members}
 use Rattle.cp_model.specs.RulesTypes as ty
-use Rattle.cp_rules_body.proofs.Tells.{least_append}
-use Rattle.cp_rules.specs.Checking.{Makes, State, first_of, telling}
+use Rattle.cp_rules_body.proofs.Reports.{least_append}
+use Rattle.cp_rules.specs.Checking.{Makes, State, first_of, reporting}
 use Rattle.cp_rules.specs.Outer as o
-use Rattle.cp_rules.specs.Outer.{Known, Knows, TellsOuter}
+use Rattle.cp_rules.specs.Outer.{Known, Knows, ReportsOuter}
 use Rattle.cp_rules.specs.Records as records
 use Rattle.cp_rules.specs.Records.{broken_in, first_in, number_or_any, or_first, with_fields}
 use Rattle.cp_rules.specs.Types.{with_groups, with_indices}
 use Rattle.cp_rules.proofs.Earliest.{least_swap}
 use Rattle.cp_rules.proofs.Fields.{or_first_more}
-use Rattle.cp_rules.proofs.FieldsMade.{GroupsTold, groups_told, record_told}
-use Rattle.cp_rules.proofs.Judging.{index_first, index_of, index_told, placed_first, placed_told}
+use Rattle.cp_rules.proofs.FieldsMade.{GroupsReported, groups_reported, record_reported}
+use Rattle.cp_rules.proofs.Judging.{index_first, index_of, index_reported, placed_first, placed_reported}
 
 abbrev state_of : Environment → Option Violation → State
-state_of e t = record { env = e; told = t }
+state_of e t = record { env = e; diagnostics = t }
 
 -- ---- a type at its position
 
 pub type_put : (s0 s1 s2 : State) (p : Position) (t : s.TypeExpression) (one two : Result ℕ Violation)
-    → Makes s0 s1 one (ty.type_of s0.env t) → TellsOuter s1 s2 two (o.judge_in_position s1.env p t one) → Makes s0 s2 two (ty.type_placed s0.env p t)
-type_put s0 s1 s2 p t one two makes tells =
+    → Makes s0 s1 one (ty.type_of s0.env t) → ReportsOuter s1 s2 two (o.judge_in_position s1.env p t one) → Makes s0 s2 two (ty.type_placed s0.env p t)
+type_put s0 s1 s2 p t one two makes reports =
     let made : ty.Made (Judged ℕ) = ty.type_of s0.env t in
-    let inner : State = state_of made.env (least s0.told (violations_of made.of)) in
-    let outer : TellsOuter inner s2 two (o.judge_in_position made.env p t (first_of made.of)) =
-    subst (λ r. TellsOuter inner s2 two (o.judge_in_position made.env p t r)) makes.1
-    (subst (λ (z : State). TellsOuter z s2 two (o.judge_in_position z.env p t one)) makes.0 tells) in
-    (outer.0 ∙ ap (state_of made.env) (sym (placed_told s0.told made.env p t made.of)), outer.1 ∙ sym (placed_first made.env p t made.of))
+    let inner : State = state_of made.env (least s0.diagnostics (violations_of made.of)) in
+    let outer : ReportsOuter inner s2 two (o.judge_in_position made.env p t (first_of made.of)) =
+    subst (λ r. ReportsOuter inner s2 two (o.judge_in_position made.env p t r)) makes.1
+    (subst (λ (z : State). ReportsOuter z s2 two (o.judge_in_position z.env p t one)) makes.0 reports) in
+    (outer.0 ∙ ap (state_of made.env) (sym (placed_reported s0.diagnostics made.env p t made.of)), outer.1 ∙ sym (placed_first made.env p t made.of))
 
 -- ---- one index type, and then the rest
 
 module _ (s0 s1 s2 : State) (t : s.TypeExpression) (ts : s.TypeExpressions) (one two : Result ℕ Violation)
-    (makes : Makes s0 s1 one (ty.type_of s0.env t)) (tells : TellsOuter s1 s2 two (o.index_type s1.env t one)) where
+    (makes : Makes s0 s1 one (ty.type_of s0.env t)) (reports : ReportsOuter s1 s2 two (o.index_type s1.env t one)) where
   abbrev made : ty.Made (Judged ℕ)
   made = ty.type_of s0.env t
 
   abbrev index : Judged ℕ
   index = index_of made.env t made.of
 
-  told_one : TellsOuter (state_of made.env (least s0.told (violations_of made.of))) s2 two (o.index_type made.env t (first_of made.of))
-  told_one =
-      subst (λ r. TellsOuter (state_of made.env (least s0.told (violations_of made.of))) s2 two (o.index_type made.env t r)) makes.1
-      (subst (λ (z : State). TellsOuter z s2 two (o.index_type z.env t one)) makes.0 tells)
+  reported_one : ReportsOuter (state_of made.env (least s0.diagnostics (violations_of made.of))) s2 two (o.index_type made.env t (first_of made.of))
+  reported_one =
+      subst (λ r. ReportsOuter (state_of made.env (least s0.diagnostics (violations_of made.of))) s2 two (o.index_type made.env t r)) makes.1
+      (subst (λ (z : State). ReportsOuter z s2 two (o.index_type z.env t one)) makes.0 reports)
 
-  indices_state : s2 ≡ state_of made.env (least s0.told (violations_of index))
-  indices_state = told_one.0 ∙ ap (state_of made.env) (sym (index_told s0.told made.env t made.of))
+  indices_state : s2 ≡ state_of made.env (least s0.diagnostics (violations_of index))
+  indices_state = reported_one.0 ∙ ap (state_of made.env) (sym (index_reported s0.diagnostics made.env t made.of))
 
   pub indices_made : with_indices s2 (ty.index_types s2.env ts) ≡ with_indices s0 (ty.index_types s0.env (s.MoreTypes t ts))
   indices_made =
       let rest = ty.index_types made.env ts in
       ap (λ (z : State). with_indices z (ty.index_types z.env ts)) indices_state
-      ∙ ap (state_of rest.env) (sym (least_append s0.told (violations_of index) _))
+      ∙ ap (state_of rest.env) (sym (least_append s0.diagnostics (violations_of index) _))
 
   pub indices_answers : (answers : List (Result ℕ Violation))
       → (answers ++ two ∷ []) ++ map first_of (ty.index_types s2.env ts).of ≡ answers ++ map first_of (ty.index_types s0.env (s.MoreTypes t ts)).of
   indices_answers answers =
       append_assoc answers (two ∷ []) (map first_of (ty.index_types s2.env ts).of)
-      ∙ (λ i. answers ++ ((told_one.1 ∙ sym (index_first made.env t made.of)) i ∷ map first_of (ty.index_types (indices_state i).env ts).of))
+      ∙ (λ i. answers ++ ((reported_one.1 ∙ sym (index_first made.env t made.of)) i ∷ map first_of (ty.index_types (indices_state i).env ts).of))
 
 -- ---- fields of one type
 
@@ -84,21 +84,21 @@ pub record Added (s0 s3 : State) (g : s.Variables) (ms ns : Members) (f h : Opti
   pub first : h ≡ or_first f (records.group s0.env ms g).violations
 
 pub group_added : (s0 s1 s2 s3 : State) (g : s.Variables) (ms ns : Members) (f k h : Option Violation) (one two : Result ℕ Violation) (n : ℕ)
-    → Makes s0 s1 one (ty.type_of s0.env g.of) → TellsOuter s1 s2 two (o.judge_in_position s1.env position.Field g.of one)
-    → n ≡ number_or_any two → s3 ≡ telling s2 (with_fields ms n g.names).violations → ns ≡ (with_fields ms n g.names).members
+    → Makes s0 s1 one (ty.type_of s0.env g.of) → ReportsOuter s1 s2 two (o.judge_in_position s1.env position.Field g.of one)
+    → n ≡ number_or_any two → s3 ≡ reporting s2 (with_fields ms n g.names).violations → ns ≡ (with_fields ms n g.names).members
     → k ≡ or_first f (with_fields ms n g.names).violations → h ≡ or_first k (broken_in two) → Added s0 s3 g ms ns f h
-group_added s0 s1 s2 s3 g ms ns f k h one two n makes tells number told members first noted =
+group_added s0 s1 s2 s3 g ms ns f k h one two n makes reports number diagnostics members first noted =
     let made : ty.Made (Judged ℕ) = ty.type_of s0.env g.of in
     let placed : Judged ℕ = ty.judge_in_position made.env position.Field g.of made.of in
-    let put : Makes s0 s2 two (ty.type_placed s0.env position.Field g.of) = type_put s0 s1 s2 position.Field g.of one two makes tells in
-    let told2 : s2 ≡ state_of made.env (least s0.told (violations_of placed)) = put.0 in
+    let put : Makes s0 s2 two (ty.type_placed s0.env position.Field g.of) = type_put s0 s1 s2 position.Field g.of one two makes reports in
+    let told2 : s2 ≡ state_of made.env (least s0.diagnostics (violations_of placed)) = put.0 in
     let two_is : two ≡ first_of placed = put.1 in
     let n_is : n ≡ records.type_or_any placed = number ∙ ap number_or_any two_is ∙ type_is placed in
     let own : records.Fields = with_fields ms (records.type_or_any placed) g.names in
     let same : with_fields ms n g.names ≡ own = ap (λ m. with_fields ms m g.names) n_is in
     record {
-      made = told ∙ (λ i. telling (told2 i) (same i).violations)
-          ∙ ap (state_of made.env) (least_swap s0.told (violations_of placed) own.violations ∙ sym (least_append s0.told own.violations (violations_of placed)));
+      made = diagnostics ∙ (λ i. reporting (told2 i) (same i).violations)
+          ∙ ap (state_of made.env) (least_swap s0.diagnostics (violations_of placed) own.violations ∙ sym (least_append s0.diagnostics own.violations (violations_of placed)));
       members = members ∙ ap (λ (w : records.Fields). w.members) same;
       first = noted ∙ (λ i. or_first ((first ∙ ap (λ (w : records.Fields). or_first f w.violations) same) i) (broken_in (two_is i)))
           ∙ broken_is (or_first f own.violations) placed ∙ or_first_more f own.violations (violations_of placed);
@@ -118,7 +118,7 @@ module _ (s0 s1 : State) (g : s.Variables) (gs : List s.Variables) (ms ns : Memb
 
   pub groups_made : with_groups s1 (records.groups s1.env ns gs) ≡ with_groups s0 (records.groups s0.env ms (g ∷ gs))
   groups_made =
-      (λ i. with_groups (added.made i) (same_rest i)) ∙ ap (state_of groups.env) (sym (least_append s0.told group.violations groups.violations))
+      (λ i. with_groups (added.made i) (same_rest i)) ∙ ap (state_of groups.env) (sym (least_append s0.diagnostics group.violations groups.violations))
 
   pub groups_members : (records.groups s1.env ns gs).members ≡ (records.groups s0.env ms (g ∷ gs)).members
   groups_members = ap (λ (w : records.Grouped). w.members) same_rest
@@ -136,17 +136,17 @@ pub record_made : (old new s2 : State) (at : ℕ) (gs : List s.Variables) (ms : 
 record_made old new s2 at gs ms f answer made members first known =
     let all : records.Grouped = records.groups old.env [] gs in
     let fields : ty.Made (Judged ty.FieldList) = ty.fields_of old.env [] (fields_of gs) in
-    let told : GroupsTold fields [] all = groups_told old.env [] [] gs (λ y. refl) in
-    let new_is : new ≡ state_of fields.env (least old.told (violations_of fields.of)) =
-    made ∙ (λ i. state_of (told.env i) (least old.told (told.violations i))) in
-    let first_is : f ≡ first_in (violations_of fields.of) = first ∙ ap first_in told.violations in
+    let diagnostics : GroupsReported fields [] all = groups_reported old.env [] [] gs (λ y. refl) in
+    let new_is : new ≡ state_of fields.env (least old.diagnostics (violations_of fields.of)) =
+    made ∙ (λ i. state_of (diagnostics.env i) (least old.diagnostics (diagnostics.violations i))) in
+    let first_is : f ≡ first_in (violations_of fields.of) = first ∙ ap first_in diagnostics.violations in
     let k : Known = records.record_of fields.env at all.members (first_in (violations_of fields.of)) in
-    let knows : Knows (state_of fields.env (least old.told (violations_of fields.of))) s2 answer k =
-    subst (λ o. Knows (state_of fields.env (least old.told (violations_of fields.of))) s2 answer (records.record_of fields.env at all.members o)) first_is
-    (subst (λ ns. Knows (state_of fields.env (least old.told (violations_of fields.of))) s2 answer (records.record_of fields.env at ns f)) members
+    let knows : Knows (state_of fields.env (least old.diagnostics (violations_of fields.of))) s2 answer k =
+    subst (λ o. Knows (state_of fields.env (least old.diagnostics (violations_of fields.of))) s2 answer (records.record_of fields.env at all.members o)) first_is
+    (subst (λ ns. Knows (state_of fields.env (least old.diagnostics (violations_of fields.of))) s2 answer (records.record_of fields.env at ns f)) members
     (subst (λ (z : State). Knows z s2 answer (records.record_of z.env at ms f)) new_is known)) in
-    let whole = record_told fields.env at fields.of all.members told.members in (
+    let whole = record_reported fields.env at fields.of all.members diagnostics.members in (
       knows.0
-          ∙ (λ i. state_of (whole.env i) ((sym (least_append old.told (violations_of fields.of) k.violations) ∙ ap (least old.told) (sym whole.violations)) i)),
+          ∙ (λ i. state_of (whole.env i) ((sym (least_append old.diagnostics (violations_of fields.of) k.violations) ∙ ap (least old.diagnostics) (sym whole.violations)) i)),
       knows.1 ∙ whole.of,
     )

@@ -43,22 +43,22 @@ keys_declared x e env =
     keys_new x e env.names (lookup x.name env.names)
     ∙ ap (λ was. with_key x.name was (keys env.names)) (seen_is x.name env.names)
 
-abbrev told_of : List Text → List (Identifier × Entity) → Violations
-told_of ks [] = []
-told_of ks (e ∷ es) =
-    unless (not (seen e.0.name ks)) C1 e.0.at ++ told_of (with_key e.0.name (seen e.0.name ks) ks) es
+abbrev reported_of : List Text → List (Identifier × Entity) → Violations
+reported_of ks [] = []
+reported_of ks (e ∷ es) =
+    unless (not (seen e.0.name ks)) C1 e.0.at ++ reported_of (with_key e.0.name (seen e.0.name ks) ks) es
 
-told_is : (env : Environment) (es : List (Identifier × Entity)) → (d.declare_each env es).violations ≡ told_of (keys env.names) es
-told_is env [] = refl
-told_is env (e ∷ es) =
+reported_is : (env : Environment) (es : List (Identifier × Entity)) → (d.declare_each env es).violations ≡ reported_of (keys env.names) es
+reported_is env [] = refl
+reported_is env (e ∷ es) =
     let first : Violations = unless (not (seen e.0.name (keys env.names))) C1 e.0.at in
     ap (λ was. unless (not was) C1 e.0.at ++ (d.declare_each (declare e.0 e.1 env) es).violations) (seen_is e.0.name env.names)
-    ∙ ap (λ (vs : Violations). first ++ vs) (told_is (declare e.0 e.1 env) es)
-    ∙ ap (λ (ks : List Text). first ++ told_of ks es) (keys_declared e.0 e.1 env)
+    ∙ ap (λ (vs : Violations). first ++ vs) (reported_is (declare e.0 e.1 env) es)
+    ∙ ap (λ (ks : List Text). first ++ reported_of ks es) (keys_declared e.0 e.1 env)
 
 -- what is told of names after another name was declared, whatever that one stands for
-pub told_alike : (x : Identifier) (e f : Entity) (env : Environment) (es : List (Identifier × Entity))
+pub reported_alike : (x : Identifier) (e f : Entity) (env : Environment) (es : List (Identifier × Entity))
     → (d.declare_each (declare x e env) es).violations ≡ (d.declare_each (declare x f env) es).violations
-told_alike x e f env es =
-    told_is (declare x e env) es ∙ ap (λ (ks : List Text). told_of ks es) (keys_declared x e env ∙ sym (keys_declared x f env))
-    ∙ sym (told_is (declare x f env) es)
+reported_alike x e f env es =
+    reported_is (declare x e env) es ∙ ap (λ (ks : List Text). reported_of ks es) (keys_declared x e env ∙ sym (keys_declared x f env))
+    ∙ sym (reported_is (declare x f env) es)

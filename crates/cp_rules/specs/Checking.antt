@@ -8,22 +8,22 @@ use Rattle.cp_model.specs.RulesEnvironment.{Environment, c1_declared, declare, w
 use Rattle.cp_model.specs.RulesTypes.{Made}
 use Rattle.cp_model.specs.RulesDeclarations.{Declared}
 use Rattle.cp_base_names.specs.Tables.{with_values_from}
-pub use Rattle.cp_rules_body.specs.Tells.{first_of}
+pub use Rattle.cp_rules_body.specs.Reports.{first_of}
 
 -- The environment so far, and the earliest violation that was told.
 pub record State : Type 0 where
   pub env : Environment
-  pub told : Option Violation
+  pub diagnostics : Option Violation
 
 -- ---- what is reported
 
 -- The state after these violations were reported.
-abbrev pub telling : State → Violations → State
-telling s vs = record { env = s.env; told = least s.told vs }
+abbrev pub reporting : State → Violations → State
+reporting s vs = record { env = s.env; diagnostics = least s.diagnostics vs }
 
 -- The state after this declaration.
 abbrev pub after : State → Declared → State
-after s d = record { env = d.env; told = least s.told d.violations }
+after s d = record { env = d.env; diagnostics = least s.diagnostics d.violations }
 
 -- The declaration of a single name.
 abbrev pub declared_name : Environment → Identifier → Entity → Declared
@@ -37,9 +37,9 @@ with_set s mark e = record s { env = with_names (with_values_from mark e s.env.n
 
 -- The answer is the meaning or the first violation, and all violations are reported.
 abbrev pub Judges : {A : Type 0} → State → State → Result A Violation → Judged A → Type 0
-Judges old new answer j = (new ≡ telling old (violations_of j)) × (answer ≡ first_of j)
+Judges old new answer j = (new ≡ reporting old (violations_of j)) × (answer ≡ first_of j)
 
 -- The same, if types are made too.
 abbrev pub Makes : {A : Type 0} → State → State → Result A Violation → Made (Judged A) → Type 0
 Makes old new answer m =
-    (new ≡ record { env = m.env; told = least old.told (violations_of m.of) }) × (answer ≡ first_of m.of)
+    (new ≡ record { env = m.env; diagnostics = least old.diagnostics (violations_of m.of) }) × (answer ≡ first_of m.of)

@@ -33,7 +33,7 @@ words_of_type env (Err v) = 0
 
 -- The state after variables were declared, whose words are counted up to one above the limit.
 abbrev pub with_variables : State → Variables → State
-with_variables s v = record { env = v.env; told = least s.told v.violations }
+with_variables s v = record { env = v.env; diagnostics = least s.diagnostics v.violations }
 
 abbrev pub Declares : State → State → ℕ → Variables → Type 0
 Declares old new n v = (new ≡ with_variables old v) × (n ≡ cap_words v.words)

@@ -66,12 +66,12 @@ is_by_reference of g = is_some g.by_reference && not (is_some of)
 abbrev pub hidden_group : State → Option Sort → Bool → s.Parameters → State
 hidden_group old of is_function g =
     let one = d.parameter_group old.env of is_function g in
-    record { env = one.env; told = least old.told one.violations }
+    record { env = one.env; diagnostics = least old.diagnostics one.violations }
 
 -- ---- a heading
 
 abbrev pub with_heading : State → d.Heading → State
-with_heading old h = record { env = h.env; told = least old.told h.violations }
+with_heading old h = record { env = h.env; diagnostics = least old.diagnostics h.violations }
 
 abbrev pub Heads : State → State → Heading → d.Heading → Type 0
 Heads old new h all = (new ≡ with_heading old all) × (collection h ≡ with_part nothing all)

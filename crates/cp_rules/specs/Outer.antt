@@ -9,14 +9,14 @@ use Rattle.cp_model.specs.declared.rules.Violation.{Violation}
 use Rattle.cp_model.specs.RulesJudged.{Judged, Violations, least, guard, unless, violations_of}
 use Rattle.cp_model.specs.RulesEnvironment.{Environment, is_simple}
 use Rattle.cp_model.specs.RulesTypes as ty
-use Rattle.cp_rules.specs.Checking.{State, first_of, telling}
+use Rattle.cp_rules.specs.Checking.{State, first_of, reporting}
 
 pub record Outer (A : Type 0) : Type 0 where
   pub violations : Violations
   pub of : Result A Violation
 
-abbrev pub TellsOuter : {A : Type 0} → State → State → Result A Violation → Outer A → Type 0
-TellsOuter old new answer o = (new ≡ telling old o.violations) × (answer ≡ o.of)
+abbrev pub ReportsOuter : {A : Type 0} → State → State → Result A Violation → Outer A → Type 0
+ReportsOuter old new answer o = (new ≡ reporting old o.violations) × (answer ≡ o.of)
 
 abbrev pub outer_of : {A : Type 0} → Judged A → Outer A
 outer_of j = record { violations = violations_of j; of = first_of j }
@@ -77,7 +77,7 @@ make_known env vs (Ok r) = record { env = ty.add_type env r; violations = vs; of
 make_known env vs (Err v) = record { env = env; violations = vs; of = Err v }
 
 abbrev pub Knows : State → State → Result ℕ Violation → Known → Type 0
-Knows old new answer k = (new ≡ record { env = k.env; told = least old.told k.violations }) × (answer ≡ k.of)
+Knows old new answer k = (new ≡ record { env = k.env; diagnostics = least old.diagnostics k.violations }) × (answer ≡ k.of)
 
 -- An array type of these index and element types.
 abbrev pub array : Environment → ℕ → Result ℕ Violation → Result ℕ Violation → Known

@@ -17,7 +17,7 @@ use Rattle.cp_model.specs.RulesTypes.{cap_words, named_type}
 use Rattle.cp_model.specs.RulesStatements.{statements}
 use Rattle.cp_model.specs.RulesNeeds.{need_statements}
 use Rattle.cp_model.specs.RulesDeclarations as d
-use Rattle.cp_rules.specs.Checking.{State, first_of, telling, with_set}
+use Rattle.cp_rules.specs.Checking.{State, first_of, reporting, with_set}
 use Rattle.cp_rules.specs.Headings.{Collected, collection, nothing, with_part}
 use Rattle.cp_rules.specs.declared.headings.Heading.{Heading}
 
@@ -31,7 +31,7 @@ first_if None = None
 first_if (Some j) = Some (first_of j)
 
 abbrev pub JudgesResult : State → State → Option (Result ℕ Violation) → Option (Judged ℕ) → Type 0
-JudgesResult old new answer j = (new ≡ telling old (d.result_violations j)) × (answer ≡ first_if j)
+JudgesResult old new answer j = (new ≡ reporting old (d.result_violations j)) × (answer ≡ first_if j)
 
 abbrev pub returns_of_result : Option (Result ℕ Violation) → Returns
 returns_of_result None = returns.Nothing
@@ -58,7 +58,7 @@ heading_violations env y r =
 abbrev pub with_name : State → Sort → s.Routine → State
 with_name old y r = record {
   env = declare r.name (entity.UnfinishedRoutine no_routine) old.env;
-  told = least old.told (heading_violations old.env y r);
+  diagnostics = least old.diagnostics (heading_violations old.env y r);
 }
 
 -- The heading was judged and collected.
@@ -89,7 +89,7 @@ locals env r = d.variables env position.RoutineVariable r.variables
 -- Variables and a body were judged, and their words are counted up to one above the limit.
 abbrev pub JudgesBody : State → State → ℕ → d.Variables → s.Body → Type 0
 JudgesBody old new n v b =
-    (new ≡ record { env = v.env; told = least old.told (v.violations ++ statements v.env b.list) })
+    (new ≡ record { env = v.env; diagnostics = least old.diagnostics (v.violations ++ statements v.env b.list) })
     × (n ≡ cap_words (v.words + need_statements v.env b.list))
 
 -- The state after the row of a routine was added, for which the names from a number on stand.

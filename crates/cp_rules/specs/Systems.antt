@@ -15,7 +15,7 @@ use Rattle.cp_model.specs.RulesStatements.{statements}
 use Rattle.cp_model.specs.RulesNeeds.{need_statements}
 use Rattle.cp_model.specs.RulesDeclarations as d
 use Rattle.cp_model.specs.Rules.{variable_position}
-use Rattle.cp_rules.specs.Checking.{State, telling, with_set}
+use Rattle.cp_rules.specs.Checking.{State, reporting, with_set}
 use Rattle.cp_rules.specs.Headings.{Collected, collection, nothing, with_part}
 use Rattle.cp_rules.specs.Routines.{enter_region}
 use Rattle.cp_rules.specs.declared.headings.Heading.{Heading}
@@ -26,7 +26,7 @@ heading_of env y = d.heading env (Some y.sort) false y.parameters
 -- The heading was judged and collected, and its names are removed again.
 abbrev pub HeadsSystem : State → State → Heading → s.System → Type 0
 HeadsSystem old new h y =
-    (new ≡ telling old (heading_of old.env y).violations) × (collection h ≡ with_part nothing (heading_of old.env y))
+    (new ≡ reporting old (heading_of old.env y).violations) × (collection h ≡ with_part nothing (heading_of old.env y))
 
 abbrev pub region_of : s.System → Region
 region_of y = record { sort = y.sort; part = part.Body }
@@ -43,7 +43,7 @@ parts env y k =
     record { env = all.env; violations = own.violations ++ all.violations ++ statements all.env y.body.list; words = own.words }
 
 abbrev pub JudgesParts : State → State → ℕ → d.Variables → Type 0
-JudgesParts old new n v = (new ≡ record { env = v.env; told = least old.told v.violations }) × (n ≡ cap_words v.words)
+JudgesParts old new n v = (new ≡ record { env = v.env; diagnostics = least old.diagnostics v.violations }) × (n ≡ cap_words v.words)
 
 abbrev pub words_of : Sort → ℕ → ℕ → ℕ → ℕ
 words_of sort.Process count words need = cap_words (cap_words (cap_words (1 + count) + words) + need)

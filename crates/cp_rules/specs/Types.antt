@@ -13,12 +13,12 @@ all_violations (j ∷ js) = violations_of j ++ all_violations js
 -- Index types were judged, one after another.
 abbrev pub JudgesIndices : State → State → List (Result ℕ Violation) → ty.Made (List (Judged ℕ)) → Type 0
 JudgesIndices old new answers m =
-    (new ≡ record { env = m.env; told = least old.told (all_violations m.of) }) × (answers ≡ map first_of m.of)
+    (new ≡ record { env = m.env; diagnostics = least old.diagnostics (all_violations m.of) }) × (answers ≡ map first_of m.of)
 
 -- The state after more index types.
 abbrev pub with_indices : State → ty.Made (List (Judged ℕ)) → State
-with_indices old m = record { env = m.env; told = least old.told (all_violations m.of) }
+with_indices old m = record { env = m.env; diagnostics = least old.diagnostics (all_violations m.of) }
 
 -- The state after fields were judged, one group after another.
 abbrev pub with_groups : State → records.Grouped → State
-with_groups old g = record { env = g.env; told = least old.told g.violations }
+with_groups old g = record { env = g.env; diagnostics = least old.diagnostics g.violations }

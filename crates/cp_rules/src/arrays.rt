@@ -6,7 +6,7 @@ ghost use Rattle.cp_model.specs.RulesEnvironment as r;
 ghost use Rattle.cp_model.specs.RulesJudged.{both};
 ghost use Rattle.cp_model.specs.RulesTypes as types;
 ghost use Rattle.cp_rules.specs.Checking.{Judges};
-ghost use Rattle.cp_rules.specs.Outer.{Knows, TellsOuter, around_both, array, arrays, make_known};
+ghost use Rattle.cp_rules.specs.Outer.{Knows, ReportsOuter, around_both, array, arrays, make_known};
 
 use crate::checker::{Checker, Judged};
 use crate::words::{is_within, product};
@@ -78,7 +78,7 @@ impl<'t> Checker<'t> {
         low: Judged<(usize, i32)>,
         high: Judged<(usize, i32)>,
     ) -> Judged<TypeRow>
-        ensures { TellsOuter self.old self.new result
+        ensures { ReportsOuter self.old self.new result
             (around_both low high (types.c2_c3_subrange at)) }
     {
         self.bounds(at, low?, high?)
@@ -124,7 +124,7 @@ impl<'t> Checker<'t> {
         index: Judged<usize>,
         element: Judged<usize>,
     ) -> Judged<TypeRow>
-        ensures { TellsOuter self.old self.new result
+        ensures { ReportsOuter self.old self.new result
             (around_both index element
             (λ a b. types.c13_type at (types.array_row self.old.env a b))) }
     {

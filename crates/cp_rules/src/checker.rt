@@ -3,14 +3,14 @@
 ghost use Rattle.std.specs.Prelude.{◌≡◌, [], None, IfOk, OnOk, length, take};
 ghost use Rattle.cp_model.specs.RulesEnvironment as r;
 ghost use Rattle.cp_model.specs.RulesJudged as j;
-ghost use Rattle.cp_rules.specs.Checking.{State, Judges, after, declared_name, telling, with_set};
+ghost use Rattle.cp_rules.specs.Checking.{State, Judges, after, declared_name, diagnostics, with_set};
 
 use crate::standard::standard_environment;
 use cp_base_names::Key;
 use cp_model::rules::{Entity, Rule, Violation};
 use cp_model::tree::Identifier;
 use cp_rules_body::Environment;
-use cp_rules_body::telling::{Told, fail_with_violation, unless_holds};
+use cp_rules_body::diagnostics::{Diagnostics, fail_with_violation, unless_holds};
 use std::alloc::{AllocError, Global};
 use std::marker::Model;
 
@@ -22,7 +22,7 @@ pub type Judged<A> = Result<A, Violation>;
 #[derive(Drop)]
 pub struct Checker<'t> {
     pub(crate) environment: Environment<'t>,
-    pub(crate) told: Told,
+    pub(crate) diagnostics: Diagnostics,
     pub(crate) alloc: Global,
     pub(crate) key: Key,
 }
@@ -30,19 +30,19 @@ pub struct Checker<'t> {
 impl<'t> Model for Checker<'t> {
     ghost Value = { State };
 
-    ghost view = { λ c. record { env = c.environment; told = c.told } };
+    ghost view = { λ c. record { env = c.environment; diagnostics = c.diagnostics } };
 }
 
 impl<'t> Checker<'t> {
-    /// Returns a checker at the beginning of a text, which goes on telling from `told`. Fails only
+    /// Returns a checker at the beginning of a text, which goes on telling from `diagnostics`. Fails only
     /// if memory runs out.
-    pub fn new(alloc: Global, key: Key, told: Told) -> Result<Checker<'t>, AllocError>
+    pub fn new(alloc: Global, key: Key, diagnostics: Diagnostics) -> Result<Checker<'t>, AllocError>
         ensures { IfOk result
-            (λ c. c ≡ record { env = r.standard_environment; told = told }) }
+            (λ c. c ≡ record { env = r.standard_environment; diagnostics = diagnostics }) }
     {
         Ok(Checker {
             environment: standard_environment(alloc, key)?,
-            told,
+            diagnostics,
             alloc,
             key,
         })
@@ -52,14 +52,14 @@ impl<'t> Checker<'t> {
     pub fn breaks<A>(&mut self, rule: Rule, at: usize) -> Judged<A>
         ensures { Judges self.old self.new result (j.breaks rule at) }
     {
-        fail_with_violation(&mut self.told, rule, at)
+        fail_with_violation(&mut self.diagnostics, rule, at)
     }
 
     /// Reports that a rule is broken at a place, unless `holds` is true.
     pub fn unless(&mut self, holds: bool, rule: Rule, at: usize)
-        ensures { self.new ≡ telling self.old (j.unless holds rule at) }
+        ensures { self.new ≡ diagnostics self.old (j.unless holds rule at) }
     {
-        unless_holds(&mut self.told, holds, rule, at);
+        unless_holds(&mut self.diagnostics, holds, rule, at);
     }
 
     /// Declares a name, unless it is already visible: the first declaration counts. Fails only if

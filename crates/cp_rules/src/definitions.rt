@@ -6,11 +6,11 @@ ghost use Rattle.cp_model.specs.RulesDeclarations as d;
 ghost use Rattle.cp_model.specs.RulesEnvironment as r;
 ghost use Rattle.cp_model.specs.View as view;
 ghost use Rattle.cp_rules.specs.Checking.{after};
-ghost use Rattle.cp_rules.specs.Endings.{rest_of, told_with, whole};
+ghost use Rattle.cp_rules.specs.Endings.{rest_of, reported_with, whole};
 ghost use Rattle.cp_rules.specs.Definitions.{constant_entity, define_constants, define_sections, define_types, type_entity};
 
 use crate::checker::{Checker, Judged};
-use crate::left::Left;
+use crate::remaining::Remaining;
 use cp_model::rules::{Entity, Position, Structure, TypeRow};
 use cp_model::tree::{
     ConstantDefinition, Defined, Identifier, Section, Tree, TypeDefinition, TypeExpression,
@@ -166,13 +166,13 @@ impl<'t> Checker<'t> {
             (λ left. after self.new
             (define_types self.new.env (map view.type_definition left.now))
             ≡ after self.old (define_types self.old.env (map view.type_definition list.now))) }
-        ensures all_if_sound { IfOk result (λ left. self.new.told ≡ None → left.now ≡ []) }
+        ensures all_if_sound { IfOk result (λ left. self.new.diagnostics ≡ None → left.now ≡ []) }
     {
         self.environment.reserve_names(list.len())?;
         self.environment.reserve_types(list.len())?;
         for (i, d) in list.iter().enumerate() {
             self.define(d)?;
-            if self.told.first().is_some() {
+            if self.diagnostics.first().is_some() {
                 return Ok(&list[i + 1..]);
             }
         }
@@ -188,7 +188,7 @@ impl<'t> Checker<'t> {
             (λ left. after self.new
             (define_types self.new.env (map view.type_definition left.now))
             ≡ after self.old (rules.define_section self.old.env (view.section_of section.now))) }
-        ensures all_if_sound { IfOk result (λ left. self.new.told ≡ None → left.now ≡ []) }
+        ensures all_if_sound { IfOk result (λ left. self.new.diagnostics ≡ None → left.now ≡ []) }
     {
         match section {
             Section::Constants(list) => {
@@ -201,23 +201,23 @@ impl<'t> Checker<'t> {
 
     /// Judges the definitions of a text until something is told, and returns what is left. Fails
     /// only if memory runs out.
-    pub fn define_until_broken(&mut self, tree: &'t Tree) -> Result<Left<'t>, AllocError>
+    pub fn define_until_broken(&mut self, tree: &'t Tree) -> Result<Remaining<'t>, AllocError>
         ensures { IfOk result
-            (λ left. told_with self.new (rest_of left)
-            ≡ told_with self.old (whole (view.tree tree.now))) }
+            (λ left. reported_with self.new (rest_of left)
+            ≡ reported_with self.old (whole (view.tree tree.now))) }
     {
         for (i, section) in tree.sections.iter().enumerate() {
             let definitions = self.define_section_until_broken(section)?;
-            if self.told.first().is_some() {
+            if self.diagnostics.first().is_some() {
                 let sections = &tree.sections[i + 1..];
-                return Ok(Left {
+                return Ok(Remaining {
                     definitions,
                     sections,
                     tree,
                 });
             }
         }
-        Ok(Left {
+        Ok(Remaining {
             definitions: &[],
             sections: &[],
             tree,

@@ -4,13 +4,13 @@
 
 ghost use Rattle.std.specs.Prelude.{◌≡◌, IsTrue};
 ghost use Rattle.cp_rules_cutoff.specs.Later as later;
-ghost use Rattle.cp_rules.specs.Endings.{rest_of, told_with};
+ghost use Rattle.cp_rules.specs.Endings.{rest_of, reported_with};
 
 use crate::checker::Checker;
-use crate::left::Left;
+use crate::remaining::Remaining;
 use cp_model::rules::{Entity, Returns, Violation};
 use cp_rules_body::Environment;
-use cp_rules_body::telling::is_before;
+use cp_rules_body::diagnostics::is_before;
 
 // Whether a violation isn't earlier than `first`.
 fn is_later(first: Violation, violation: Violation) -> bool
@@ -74,13 +74,13 @@ fn is_environment_later(first: Violation, environment: &Environment) -> bool
 impl<'t> Checker<'t> {
     /// Whether what was told stays the earliest, whatever is told of the rest of the text. Where
     /// all violations are listed nothing is decided before the end.
-    pub fn is_decided(&self, left: &Left) -> bool
-        ensures { IsTrue result → (told_with self.now (rest_of left.now) ≡ self.now.told) }
+    pub fn is_decided(&self, left: &Remaining) -> bool
+        ensures { IsTrue result → (reported_with self.now (rest_of left.now) ≡ self.now.diagnostics) }
     {
-        if self.told.lists_all() {
+        if self.diagnostics.lists_all() {
             return false;
         }
-        match self.told.first() {
+        match self.diagnostics.first() {
             Some(first) => is_environment_later(first, &self.environment)
                 && left.is_after(first.at),
             None => false,

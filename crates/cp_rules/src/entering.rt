@@ -6,7 +6,7 @@ ghost use Rattle.cp_model.specs.RulesDeclarations as d;
 ghost use Rattle.cp_model.specs.RulesNeeds.{need_statements};
 ghost use Rattle.cp_model.specs.RulesStatements as st;
 ghost use Rattle.cp_model.specs.View as view;
-ghost use Rattle.cp_rules.specs.Checking.{after, telling};
+ghost use Rattle.cp_rules.specs.Checking.{after, diagnostics};
 ghost use Rattle.cp_rules.specs.Headings.{lent};
 ghost use Rattle.cp_rules.specs.Routines.{enter_region};
 
@@ -24,7 +24,7 @@ impl<'t> Checker<'t> {
             (self.new ≡ record self.old { env = enter_region self.old.env rows.now region }) }
     {
         self.environment.add_parameters(rows)?;
-        self.environment.stand_in(region);
+        self.environment.set_region(region);
         Ok(())
     }
 
@@ -44,10 +44,10 @@ impl<'t> Checker<'t> {
     /// Judges statements, one after another. Fails only if memory runs out.
     pub fn statements(&mut self, list: &[Statement]) -> Result<(), AllocError>
         ensures { OnOk result
-            (self.new ≡ telling self.old
+            (self.new ≡ diagnostics self.old
             (st.statements self.old.env (view.statements_of (map view.statement list.now)))) }
     {
-        statements(&self.environment, self.alloc, &mut self.told, list)
+        statements(&self.environment, self.alloc, &mut self.diagnostics, list)
     }
 
     /// The need of statements, in words.

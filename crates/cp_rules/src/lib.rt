@@ -6,7 +6,7 @@
 //! (`definitions`, `types`, `arrays`, `records`, `systems`), and then the variables, the routines
 //! and the body of the initial process (`variables`, `owners`, `headings`, `routines`, `text`).
 //! After a broken definition judging ends, unless something earlier could be told of what is left
-//! (`left`, `ending`). cp_rules_body judges expressions and statements. `specs/Checking.antt` defines
+//! (`remaining`, `ending`). cp_rules_body judges expressions and statements. `specs/Checking.antt` defines
 //! what contracts say about the checker's state and about a result.
 #![tactic(auto)]
 
@@ -17,12 +17,12 @@ mod definitions;
 mod ending;
 mod entering;
 mod headings;
-mod left;
 mod members;
 mod named;
 mod owners;
 mod placing;
 mod records;
+mod remaining;
 mod results;
 mod routines;
 mod standard;

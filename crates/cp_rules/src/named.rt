@@ -18,14 +18,14 @@ impl<'t> Checker<'t> {
     pub fn judge_name(&mut self, x: &Identifier) -> Judged<Entity>
         ensures { Judges self.old self.new result (r.c1_named self.old.env x.now) }
     {
-        resolve(&self.environment, &mut self.told, x)
+        resolve(&self.environment, &mut self.diagnostics, x)
     }
 
     /// The base type and the ordinal of a constant.
     pub fn constant(&mut self, c: &Constant) -> Judged<(usize, i32)>
         ensures { Judges self.old self.new result (types.constant self.old.env c.now) }
     {
-        constant(&self.environment, &mut self.told, c)
+        constant(&self.environment, &mut self.diagnostics, c)
     }
 
     // C2: a type is wanted, but the name is of another sort. C4: a type is used inside its own
@@ -36,8 +36,8 @@ impl<'t> Checker<'t> {
         match entity {
             Entity::Type(t) => Ok(t),
             Entity::UnfinishedType => self.breaks(Rule::C4, x.at),
-            Entity::UnfinishedConstant => unfinished_of_other_sort(&mut self.told, x.at),
-            Entity::UnfinishedRoutine(_) => unfinished_of_other_sort(&mut self.told, x.at),
+            Entity::UnfinishedConstant => unfinished_of_other_sort(&mut self.diagnostics, x.at),
+            Entity::UnfinishedRoutine(_) => unfinished_of_other_sort(&mut self.diagnostics, x.at),
             _ => self.breaks(Rule::C2, x.at),
         }
     }

@@ -12,20 +12,24 @@ use cp_model::rules::{Position, Rule, Structure, SystemRow};
 use cp_model::tree::{Identifier, Sort};
 
 // The largest number of processes, counting the initial one, and of monitors.
-const MOST: usize = 255;
+const MAX_COMPONENTS: usize = 255;
 
 // Whether one more is one too many.
 fn is_full(count: usize) -> bool
     ensures { result ≡ nat_eq (suc count) d.one_too_many }
 {
-    count == MOST
+    count == MAX_COMPONENTS
 }
 
 // One more, counted up to one too many.
 fn one_more(count: usize) -> usize
     ensures { result ≡ d.one_more count }
 {
-    if count < MOST { count + 1 } else { MOST + 1 }
+    if count < MAX_COMPONENTS {
+        count + 1
+    } else {
+        MAX_COMPONENTS + 1
+    }
 }
 
 impl<'t> Checker<'t> {

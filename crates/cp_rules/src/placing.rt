@@ -7,7 +7,7 @@ ghost use Rattle.cp_model.specs.RulesTypes as types;
 ghost use Rattle.cp_model.specs.View as view;
 ghost use Rattle.cp_model.specs.declared.rules.Rule.TheVariants.{C2};
 ghost use Rattle.cp_rules.specs.Checking.{Judges};
-ghost use Rattle.cp_rules.specs.Outer.{TellsOuter, index_type, is_written_structure, misplaces_queues, judge_in_position};
+ghost use Rattle.cp_rules.specs.Outer.{ReportsOuter, index_type, is_written_structure, misplaces_queues, judge_in_position};
 
 use crate::checker::{Checker, Judged};
 use cp_model::rules::{Entity, Position, Rule, Structure};
@@ -149,7 +149,7 @@ impl<'t> Checker<'t> {
         t: &TypeExpression,
         of: Judged<usize>,
     ) -> Judged<usize>
-        ensures { TellsOuter self.old self.new result
+        ensures { ReportsOuter self.old self.new result
             (judge_in_position self.old.env position (view.type_expression t.now) of) }
     {
         match of {
@@ -178,7 +178,7 @@ impl<'t> Checker<'t> {
     /// Judges a written index type, after the type itself. C2: it isn't simple, even if something
     /// is broken inside it.
     pub fn index_type(&mut self, t: &TypeExpression, of: Judged<usize>) -> Judged<usize>
-        ensures { TellsOuter self.old self.new result
+        ensures { ReportsOuter self.old self.new result
             (index_type self.old.env (view.type_expression t.now) of) }
     {
         match of {

@@ -4,7 +4,7 @@ ghost use Rattle.std.specs.Prelude.{◌≡◌, ◌∷◌, [], None, IfOk, OnOk, 
 ghost use Rattle.cp_model.specs.RulesJudged.{unless};
 ghost use Rattle.cp_model.specs.RulesTypes.{cap_words};
 ghost use Rattle.cp_model.specs.declared.rules.Rule.TheVariants.{C1};
-ghost use Rattle.cp_rules.specs.Checking.{telling};
+ghost use Rattle.cp_rules.specs.Checking.{diagnostics};
 ghost use Rattle.cp_rules.specs.Outer.{Knows};
 ghost use Rattle.cp_rules.specs.Records.{broken_in, is_new, or_first, record_of, with_field, with_fields, words_if, words_of_member, words_of_members};
 
@@ -84,8 +84,8 @@ impl<'t> Checker<'t> {
         x: &'t Identifier,
         t: usize,
     ) -> Result<(), AllocError>
-        ensures told { OnOk result
-            (self.new ≡ telling self.old (unless (is_new fields.old.members x.now) C1 x.now.at)) }
+        ensures diagnostics { OnOk result
+            (self.new ≡ diagnostics self.old (unless (is_new fields.old.members x.now) C1 x.now.at)) }
         ensures members { OnOk result (fields.new.members ≡ with_field fields.old.members x.now t) }
         ensures first { OnOk result
             (fields.new.first ≡ or_first fields.old.first
@@ -107,8 +107,8 @@ impl<'t> Checker<'t> {
         names: &'t [Identifier],
         t: usize,
     ) -> Result<(), AllocError>
-        ensures told { OnOk result
-            (self.new ≡ telling self.old (with_fields fields.old.members t names.now).violations) }
+        ensures diagnostics { OnOk result
+            (self.new ≡ diagnostics self.old (with_fields fields.old.members t names.now).violations) }
         ensures members { OnOk result
             (fields.new.members ≡ (with_fields fields.old.members t names.now).members) }
         ensures first { OnOk result

@@ -96,7 +96,7 @@ impl<'t> Checker<'t> {
     ) -> Result<(), AllocError>
         ensures { OnOk result (self.new ≡ with_finished self.old outside region row) }
     {
-        self.environment.stand_in(region);
+        self.environment.set_region(region);
         let number = self.environment.add_routine(row)?;
         self.set_from(outside, Entity::Routine(number));
         Ok(())

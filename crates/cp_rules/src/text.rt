@@ -8,17 +8,17 @@ ghost use Rattle.cp_model.specs.RulesStatements as st;
 ghost use Rattle.cp_model.specs.RulesTypes as ty;
 ghost use Rattle.cp_model.specs.View as view;
 ghost use Rattle.cp_rules.specs.Texts.{Judges, Lists, body_violations};
-ghost use Rattle.cp_rules.specs.Endings.{rest_of, told_with};
-ghost use Rattle.cp_rules.specs.Checking.{telling};
+ghost use Rattle.cp_rules.specs.Endings.{rest_of, reported_with};
+ghost use Rattle.cp_rules.specs.Checking.{diagnostics};
 
 use crate::checker::Checker;
-use crate::left::Left;
+use crate::remaining::Remaining;
 use crate::words::{is_within, sum};
 use cp_base_names::Key;
 use cp_model::rules::{Position, Rule, Violation};
 use cp_model::tree::{Body, Sort, Statement, Tree};
+use cp_rules_body::diagnostics::Diagnostics;
 use cp_rules_body::statements::statements;
-use cp_rules_body::telling::Told;
 use std::alloc::{AllocError, Global};
 
 /// Why a text isn't accepted.
@@ -32,12 +32,12 @@ pub enum RuleError {
 
 impl<'t> Checker<'t> {
     // What is told of these statements alone.
-    fn told_inside(&self, list: &[Statement]) -> Result<Told, AllocError>
+    fn reported_inside(&self, list: &[Statement]) -> Result<Diagnostics, AllocError>
         ensures { IfOk result
-            (λ told. told ≡ least None
+            (λ diagnostics. diagnostics ≡ least None
             (st.statements self.now.env (view.statements_of (map view.statement list.now)))) }
     {
-        let mut inside = self.told.part(self.alloc);
+        let mut inside = self.diagnostics.part(self.alloc);
         statements(&self.environment, self.alloc, &mut inside, list)?;
         Ok(inside)
     }
@@ -47,11 +47,11 @@ impl<'t> Checker<'t> {
     fn initial_body(&mut self, words: usize, body: &Body) -> Result<(), AllocError>
         ensures { (n : ℕ) → words ≡ ty.cap_words n
             → OnOk result
-            (self.new ≡ telling self.old (body_violations self.old.env n (view.body body.now))) }
+            (self.new ≡ diagnostics self.old (body_violations self.old.env n (view.body body.now))) }
     {
-        let inside = self.told_inside(&body.statements)?;
+        let inside = self.reported_inside(&body.statements)?;
         match inside.first() {
-            Some(_) => self.told.tell_part(inside),
+            Some(_) => self.diagnostics.report_part(inside),
             None => {
                 let need = self.need(&body.statements);
                 let fits = is_within(sum(sum(1, words), need));
@@ -62,8 +62,8 @@ impl<'t> Checker<'t> {
     }
 
     // Judges what is left of a text.
-    fn judge_left(&mut self, left: &Left<'t>) -> Result<(), AllocError>
-        ensures { OnOk result (self.new.told ≡ told_with self.old (rest_of left.now)) }
+    fn judge_left(&mut self, left: &Remaining<'t>) -> Result<(), AllocError>
+        ensures { OnOk result (self.new.diagnostics ≡ reported_with self.old (rest_of left.now)) }
     {
         let tree = left.tree;
         self.define_types(left.definitions)?;
@@ -74,13 +74,17 @@ impl<'t> Checker<'t> {
         Ok(())
     }
 
-    // Judges a text, and goes on telling from `told`, where nothing is told yet. Once something is
+    // Judges a text, and goes on telling from `diagnostics`, where nothing is told yet. Once something is
     // told in the definitions, the rest is judged only if it could tell something earlier.
-    fn text(alloc: Global, told: Told, tree: &'t Tree) -> Result<Checker<'t>, AllocError>
-        requires nothing { told ≡ None }
-        ensures { IfOk result (λ c. c.told ≡ first_violation (view.tree tree.now)) }
+    fn text(
+        alloc: Global,
+        diagnostics: Diagnostics,
+        tree: &'t Tree,
+    ) -> Result<Checker<'t>, AllocError>
+        requires nothing { diagnostics ≡ None }
+        ensures { IfOk result (λ c. c.diagnostics ≡ first_violation (view.tree tree.now)) }
     {
-        let mut checker = Checker::new(alloc, Key::of(tree), told)?;
+        let mut checker = Checker::new(alloc, Key::of(tree), diagnostics)?;
         let left = checker.define_until_broken(tree)?;
         if checker.is_decided(&left) {
             return Ok(checker);
@@ -98,9 +102,9 @@ impl<'t> Checker<'t> {
 pub fn judge(alloc: Global, tree: &Tree) -> Result<(), RuleError>
     ensures { Judges (view.tree tree.now) result }
 {
-    match Checker::text(alloc, Told::earliest(), tree) {
+    match Checker::text(alloc, Diagnostics::earliest(), tree) {
         Err(_) => Err(RuleError::Memory),
-        Ok(checker) => match checker.told.first() {
+        Ok(checker) => match checker.diagnostics.first() {
             Some(violation) => Err(RuleError::Broken(violation)),
             None => Ok(()),
         },
@@ -116,6 +120,6 @@ pub fn judge(alloc: Global, tree: &Tree) -> Result<(), RuleError>
 pub fn violations(alloc: Global, tree: &Tree) -> Result<Vec<Violation>, AllocError>
     ensures { IfOk result (λ list. Lists (view.tree tree.now) list.items) }
 {
-    let checker = Checker::text(alloc, Told::all(alloc), tree)?;
-    checker.told.into_list(alloc)
+    let checker = Checker::text(alloc, Diagnostics::all(alloc), tree)?;
+    checker.diagnostics.into_list(alloc)
 }

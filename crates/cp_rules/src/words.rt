@@ -4,20 +4,20 @@ ghost use Rattle.std.specs.Prelude.{◌≡◌, ◌+◌, ◌*◌};
 ghost use Rattle.cp_model.specs.RulesTypes.{cap_words, is_within};
 
 // The largest number of words that an owner or a type may have.
-const LIMIT: usize = 65_536;
+const MAX_WORDS: usize = 65_536;
 
 /// Whether this number of words is within the limit.
 pub fn is_within(words: usize) -> bool
     ensures { result ≡ is_within words }
 {
-    words <= LIMIT
+    words <= MAX_WORDS
 }
 
 /// This number of words, or one above the limit if it is larger.
 pub fn cap(words: usize) -> usize
     ensures { result ≡ cap_words words }
 {
-    words.min(LIMIT + 1)
+    words.min(MAX_WORDS + 1)
 }
 
 /// The sum of two numbers of words.

@@ -1,11 +1,11 @@
 pub mod Lists
 pub mod Views
-pub mod Tells
-pub mod CalleesTold
-pub mod ExpressionsTold
-pub mod StatementsTold
-pub mod InitTold
-pub mod LabelsTold
+pub mod Reports
+pub mod CalleesReported
+pub mod ExpressionsReported
+pub mod StatementsReported
+pub mod InitReported
+pub mod LabelsReported
 pub mod NeedsOfChains
 pub mod Covers
 pub mod PlainVariables

@@ -24,12 +24,12 @@ callee_if env None = None
 callee_if env (Some c) = Some (callee env c)
 
 -- The answer is the routine that is called, and the earliest violation is kept.
-abbrev pub TellsCallee : r.Environment → Option Violation → Option Violation → Option Callee → Judged n.Callee → Type 0
-TellsCallee env old new answer j = (new ≡ least old (violations_of j)) × (callee_if env answer ≡ meaning_of j)
+abbrev pub ReportsCallee : r.Environment → Option Violation → Option Violation → Option Callee → Judged n.Callee → Type 0
+ReportsCallee env old new answer j = (new ≡ least old (violations_of j)) × (callee_if env answer ≡ meaning_of j)
 
 -- The same in every environment.
-abbrev pub TellsWherever : Option Violation → Option Violation → Option Callee → (r.Environment → Judged n.Callee) → Type 0
-TellsWherever old new answer k = (env : r.Environment) → TellsCallee env old new answer (k env)
+abbrev pub ReportsWherever : Option Violation → Option Violation → Option Callee → (r.Environment → Judged n.Callee) → Type 0
+ReportsWherever old new answer k = (env : r.Environment) → ReportsCallee env old new answer (k env)
 
 -- What the arguments must satisfy, if it is known what the name before them stands for.
 abbrev pub wants_known : r.Environment → Option Entity → List Want

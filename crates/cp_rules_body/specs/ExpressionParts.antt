@@ -12,7 +12,7 @@ use Rattle.cp_model.specs.RulesJudged.{Judged, also, then_judge}
 use Rattle.cp_model.specs.RulesEnvironment.{Environment}
 use Rattle.cp_model.specs.RulesNames.{Callee, value_of, c2_c5_c8_named, c2_indexed, function_of, c2_array}
 use Rattle.cp_rules_body.specs.Arguments.{type_rule}
-use Rattle.cp_rules_body.specs.Tells.{Tells}
+use Rattle.cp_rules_body.specs.Reports.{Reports}
 use Rattle.cp_model.specs.RulesExpressions.{judge, designate, argument, mode_of, first_operand}
 
 -- The type of a designator.
@@ -30,9 +30,9 @@ abbrev pub callee_of : Environment → Mode → s.Designator → ℕ → Judged 
 callee_of env m d n = also (c2_indexed env m d) (function_if env m d n (designate env d))
 
 -- The operators after an operand that was judged, and their right operands.
-abbrev pub TellsChain : Environment → Option Violation → Option Violation → Option ℕ → Option ℕ → List s.Operation → Type 0
-TellsChain env old new left answer os =
-    (t : Option Violation) (m : Mode) (e : s.Expression) → Tells t old left (judge env (first_operand m) e) → Tells t new answer (judge env (first_operand m) (chain_of e os))
+abbrev pub ReportsChain : Environment → Option Violation → Option Violation → Option ℕ → Option ℕ → List s.Operation → Type 0
+ReportsChain env old new left answer os =
+    (t : Option Violation) (m : Mode) (e : s.Expression) → Reports t old left (judge env (first_operand m) e) → Reports t new answer (judge env (first_operand m) (chain_of e os))
 
 -- An argument, judged against the want for it if there is one.
 abbrev pub argument_for : Environment → Option Want → s.Expression → Judged ℕ

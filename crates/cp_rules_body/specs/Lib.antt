@@ -1,4 +1,4 @@
-pub mod Tells
+pub mod Reports
 pub mod Environments
 pub mod Callees
 pub mod Designated

@@ -5,16 +5,16 @@ ghost use Rattle.cp_model.specs.RulesEnvironment as r;
 ghost use Rattle.cp_model.specs.RulesNames as n;
 ghost use Rattle.cp_model.specs.RulesJudged.{meaning_of, Sound};
 ghost use Rattle.cp_model.specs.View.{designator};
-ghost use Rattle.cp_rules_body.specs.Callees.{wants_of, wants_if, TellsCallee, TellsWherever};
-ghost use Rattle.cp_rules_body.specs.Tells.{Tells, TellsOf};
+ghost use Rattle.cp_rules_body.specs.Callees.{wants_of, wants_if, ReportsCallee, ReportsWherever};
+ghost use Rattle.cp_rules_body.specs.Reports.{Reports, ReportsOf};
 
+use crate::diagnostics::{Diagnostics, answer_if, report, report_violation, unless_holds};
 use crate::environment::Environment;
 use crate::names::{in_place, outside_definition, sort_rule};
 use crate::places::last_name;
 use crate::standard::{
     judge_standard_function_call, judge_standard_procedure_call, standard_wants,
 };
-use crate::telling::{Told, answer_if, tell, tell_violation, unless_holds};
 use cp_model::rules::{
     Entity, Gives, Mode, ParameterRow, Returns, RoutineRow, Rule, Violation, Want,
 };
@@ -46,20 +46,26 @@ pub struct Called {
 
 /// What a routine gives if it is called as a function. C2: the number of arguments is wrong.
 /// `rule`: the routine is a procedure.
-fn gives(told: &mut Told, rule: Rule, x: &Identifier, fits: bool, returns: Returns) -> Option<Gives>
-    ensures { Tells told.old told.new result (n.function_gives rule x.now fits returns) }
+fn gives(
+    diagnostics: &mut Diagnostics,
+    rule: Rule,
+    x: &Identifier,
+    fits: bool,
+    returns: Returns,
+) -> Option<Gives>
+    ensures { Reports diagnostics.old diagnostics.new result (n.function_gives rule x.now fits returns) }
 {
     match returns {
-        Returns::Nothing => tell_violation(told, if fits { rule } else { Rule::C2 }, x.at),
+        Returns::Nothing => report_violation(diagnostics, if fits { rule } else { Rule::C2 }, x.at),
         Returns::Value(t) => {
             if fits {
                 return Some(Gives::Value(t));
             }
-            tell_violation(told, Rule::C2, x.at)
+            report_violation(diagnostics, Rule::C2, x.at)
         }
         Returns::Broken(violation) => {
-            unless_holds(told, fits, Rule::C2, x.at);
-            tell(told, violation);
+            unless_holds(diagnostics, fits, Rule::C2, x.at);
+            report(diagnostics, violation);
             None
         }
     }
@@ -67,16 +73,16 @@ fn gives(told: &mut Told, rule: Rule, x: &Identifier, fits: bool, returns: Retur
 
 // Judges a call of a routine as a function with `count` arguments.
 fn judge_function_call(
-    told: &mut Told,
+    diagnostics: &mut Diagnostics,
     rule: Rule,
     x: &Identifier,
     count: usize,
     row: RoutineRow,
 ) -> Option<Callee>
-    ensures { TellsWherever told.old told.new result
+    ensures { ReportsWherever diagnostics.old diagnostics.new result
         (λ env. n.function_called env rule x.now count row) }
 {
-    let gives = gives(told, rule, x, row.count == count, row.returns)?;
+    let gives = gives(diagnostics, rule, x, row.count == count, row.returns)?;
     Some(Callee {
         wants: Wants::Parameters(row.first, row.count),
         gives,
@@ -94,12 +100,12 @@ fn is_procedure(returns: Returns) -> bool
 
 // Judges a call of a routine as a procedure with `count` arguments.
 fn judge_procedure_call(
-    told: &mut Told,
+    diagnostics: &mut Diagnostics,
     x: &Identifier,
     count: usize,
     row: RoutineRow,
 ) -> Option<Callee>
-    ensures { TellsWherever told.old told.new result
+    ensures { ReportsWherever diagnostics.old diagnostics.new result
         (λ env. n.procedure_called env x.now count row) }
 {
     if is_procedure(row.returns) && row.count == count {
@@ -108,34 +114,34 @@ fn judge_procedure_call(
             gives: Gives::Nothing,
         });
     }
-    tell_violation(told, Rule::C2, x.at)
+    report_violation(diagnostics, Rule::C2, x.at)
 }
 
 // C5: a routine without `entry` stands after a component's `.`.
-pub fn has_entry(told: &mut Told, x: &Identifier, row: RoutineRow) -> bool
-    ensures { TellsOf told.old told.new result (n.c5_without_entry x.now row) }
+pub fn has_entry(diagnostics: &mut Diagnostics, x: &Identifier, row: RoutineRow) -> bool
+    ensures { ReportsOf diagnostics.old diagnostics.new result (n.c5_without_entry x.now row) }
 {
-    unless_holds(told, row.entry, Rule::C5, x.at)
+    unless_holds(diagnostics, row.entry, Rule::C5, x.at)
 }
 
 // C5: an entry routine is called by its name alone.
-fn by_name(told: &mut Told, x: &Identifier, row: RoutineRow) -> bool
-    ensures { TellsOf told.old told.new result (n.c5_by_name x.now row) }
+fn by_name(diagnostics: &mut Diagnostics, x: &Identifier, row: RoutineRow) -> bool
+    ensures { ReportsOf diagnostics.old diagnostics.new result (n.c5_by_name x.now row) }
 {
-    unless_holds(told, !row.entry, Rule::C5, x.at)
+    unless_holds(diagnostics, !row.entry, Rule::C5, x.at)
 }
 
 /// Judges a call of a function with `count` arguments.
-#[tactic(auto, using(crate::proofs::CalleesTold::also_callee))]
+#[tactic(auto, using(crate::proofs::CalleesReported::also_callee))]
 pub fn function(
     env: &Environment,
-    told: &mut Told,
+    diagnostics: &mut Diagnostics,
     mode: Mode,
     d: &Designator,
     count: usize,
     entity: Entity,
 ) -> Option<Callee>
-    ensures { TellsCallee env.now told.old told.new result
+    ensures { ReportsCallee env.now diagnostics.old diagnostics.new result
         (n.function_of env.now mode (designator d.now) count entity) }
 {
     let x = last_name(d);
@@ -143,70 +149,79 @@ pub fn function(
     match entity {
         Entity::Routine(number) => {
             let row = env.routine(number);
-            let by_name = by_name(told, x, row);
-            answer_if(by_name, judge_function_call(told, rule, x, count, row))
+            let by_name = by_name(diagnostics, x, row);
+            answer_if(
+                by_name,
+                judge_function_call(diagnostics, rule, x, count, row),
+            )
         }
         Entity::Entry(number) => {
             let row = env.routine(number);
-            let has_entry = has_entry(told, x, row);
-            answer_if(has_entry, judge_function_call(told, rule, x, count, row))
+            let has_entry = has_entry(diagnostics, x, row);
+            answer_if(
+                has_entry,
+                judge_function_call(diagnostics, rule, x, count, row),
+            )
         }
         Entity::UnfinishedRoutine(row) => {
-            let finished = outside_definition(told, x, entity);
-            answer_if(finished, judge_function_call(told, rule, x, count, row))
+            let finished = outside_definition(diagnostics, x, entity);
+            answer_if(
+                finished,
+                judge_function_call(diagnostics, rule, x, count, row),
+            )
         }
         Entity::Standard(standard) => {
-            let in_place = in_place(env, told, x, Entity::Standard(standard));
+            let in_place = in_place(env, diagnostics, x, Entity::Standard(standard));
             answer_if(
                 in_place,
-                judge_standard_function_call(told, rule, x, count, standard),
+                judge_standard_function_call(diagnostics, rule, x, count, standard),
             )
         }
         _ => {
-            outside_definition(told, x, entity);
-            tell_violation(told, rule, x.at)
+            outside_definition(diagnostics, x, entity);
+            report_violation(diagnostics, rule, x.at)
         }
     }
 }
 
 /// Judges a call of a procedure with `count` arguments.
-#[tactic(auto, using(crate::proofs::CalleesTold::also_callee))]
+#[tactic(auto, using(crate::proofs::CalleesReported::also_callee))]
 pub fn procedure(
     env: &Environment,
-    told: &mut Told,
+    diagnostics: &mut Diagnostics,
     d: &Designator,
     count: usize,
     entity: Entity,
 ) -> Option<Callee>
-    ensures { TellsCallee env.now told.old told.new result
+    ensures { ReportsCallee env.now diagnostics.old diagnostics.new result
         (n.procedure_of env.now (designator d.now) count entity) }
 {
     let x = last_name(d);
     match entity {
         Entity::Routine(number) => {
             let row = env.routine(number);
-            let by_name = by_name(told, x, row);
-            answer_if(by_name, judge_procedure_call(told, x, count, row))
+            let by_name = by_name(diagnostics, x, row);
+            answer_if(by_name, judge_procedure_call(diagnostics, x, count, row))
         }
         Entity::Entry(number) => {
             let row = env.routine(number);
-            let has_entry = has_entry(told, x, row);
-            answer_if(has_entry, judge_procedure_call(told, x, count, row))
+            let has_entry = has_entry(diagnostics, x, row);
+            answer_if(has_entry, judge_procedure_call(diagnostics, x, count, row))
         }
         Entity::UnfinishedRoutine(row) => {
-            let finished = outside_definition(told, x, entity);
-            answer_if(finished, judge_procedure_call(told, x, count, row))
+            let finished = outside_definition(diagnostics, x, entity);
+            answer_if(finished, judge_procedure_call(diagnostics, x, count, row))
         }
         Entity::Standard(standard) => {
-            let in_place = in_place(env, told, x, Entity::Standard(standard));
+            let in_place = in_place(env, diagnostics, x, Entity::Standard(standard));
             answer_if(
                 in_place,
-                judge_standard_procedure_call(told, x, count, standard),
+                judge_standard_procedure_call(diagnostics, x, count, standard),
             )
         }
         _ => {
-            outside_definition(told, x, entity);
-            tell_violation(told, Rule::C2, x.at)
+            outside_definition(diagnostics, x, entity);
+            report_violation(diagnostics, Rule::C2, x.at)
         }
     }
 }

@@ -9,128 +9,142 @@ ghost use Rattle.cp_model.specs.declared.rules.Mode.TheVariants as mode;
 ghost use Rattle.cp_model.specs.RulesStatements as st;
 ghost use Rattle.cp_model.specs.View.{designator, expression, selector, selectors_of};
 ghost use Rattle.cp_rules_body.specs.StatementParts as parts;
-ghost use Rattle.cp_rules_body.specs.Tells.{Tells, TellsOf};
+ghost use Rattle.cp_rules_body.specs.Reports.{Reports, ReportsOf};
 
 use crate::bases::{BOOLEAN, is_base};
+use crate::diagnostics::{Diagnostics, answer_if, report_violation, unless_holds};
 use crate::environment::Environment;
 use crate::expressions::judge;
 use crate::names::{anywhere, judge_name, outside_definition, queue_in_place};
 use crate::places::first_token;
-use crate::telling::{Told, answer_if, tell_violation, unless_holds};
 use crate::values::is_variable;
 use cp_model::rules::{Entity, Mode, Rule};
 use cp_model::tree::{Expression, Identifier};
 
 // C2: the type isn't one that is wanted.
-fn require_type(told: &mut Told, fits: bool, at: usize, t: usize) -> Option<usize>
-    ensures { Tells told.old told.new result (guard fits C2 at t) }
+fn require_type(diagnostics: &mut Diagnostics, fits: bool, at: usize, t: usize) -> Option<usize>
+    ensures { Reports diagnostics.old diagnostics.new result (guard fits C2 at t) }
 {
     if fits {
         return Some(t);
     }
-    tell_violation(told, Rule::C2, at)
+    report_violation(diagnostics, Rule::C2, at)
 }
 
 /// C2: a condition isn't Boolean.
-pub fn condition(env: &Environment, told: &mut Told, e: &Expression) -> Option<usize>
-    ensures { Tells told.old told.new result (st.c2_condition env.now (expression e.now)) }
+pub fn condition(env: &Environment, diagnostics: &mut Diagnostics, e: &Expression) -> Option<usize>
+    ensures { Reports diagnostics.old diagnostics.new result (st.c2_condition env.now (expression e.now)) }
 {
-    let t = judge(env, told, Mode::Value, e)?;
-    require_type(told, is_base(BOOLEAN, env.base(t)), first_token(e), t)
+    let t = judge(env, diagnostics, Mode::Value, e)?;
+    require_type(
+        diagnostics,
+        is_base(BOOLEAN, env.base(t)),
+        first_token(e),
+        t,
+    )
 }
 
 /// C2: the selector of a `case` isn't simple.
-pub fn selector(env: &Environment, told: &mut Told, e: &Expression) -> Option<usize>
-    ensures { Tells told.old told.new result (st.c2_selector env.now (expression e.now)) }
+pub fn selector(env: &Environment, diagnostics: &mut Diagnostics, e: &Expression) -> Option<usize>
+    ensures { Reports diagnostics.old diagnostics.new result (st.c2_selector env.now (expression e.now)) }
 {
-    let t = judge(env, told, Mode::Value, e)?;
-    require_type(told, env.is_simple(t), first_token(e), t)
+    let t = judge(env, diagnostics, Mode::Value, e)?;
+    require_type(diagnostics, env.is_simple(t), first_token(e), t)
 }
 
 /// C2: a bound of a `for` doesn't agree with its variable, if the type of the variable is known.
 pub fn bound(
     env: &Environment,
-    told: &mut Told,
+    diagnostics: &mut Diagnostics,
     variable: Option<usize>,
     e: &Expression,
 ) -> Option<usize>
     ensures { (j : Judged ℕ) → variable ≡ meaning_of j
-        → Tells told.old told.new result (st.bound env.now j (expression e.now)) }
+        → Reports diagnostics.old diagnostics.new result (st.bound env.now j (expression e.now)) }
 {
-    let u = judge(env, told, Mode::Value, e)?;
+    let u = judge(env, diagnostics, Mode::Value, e)?;
     match variable {
-        Some(t) => require_type(told, env.agree(t, u), first_token(e), u),
+        Some(t) => require_type(diagnostics, env.agree(t, u), first_token(e), u),
         None => Some(u),
     }
 }
 
 // The type of a bare name where a variable is wanted. C10: it is neither a variable nor a constant.
-fn plain_value(env: &Environment, told: &mut Told, v: &Identifier, entity: Entity) -> Option<usize>
-    ensures { Tells told.old told.new result
+fn plain_value(
+    env: &Environment,
+    diagnostics: &mut Diagnostics,
+    v: &Identifier,
+    entity: Entity,
+) -> Option<usize>
+    ensures { Reports diagnostics.old diagnostics.new result
         (n.value_of env.now mode.Variable (st.plain v.now) entity) }
 {
     match entity {
         Entity::Constant(base, _) => Some(base),
         Entity::Variable(t, _) => Some(t),
-        Entity::Type(_) => tell_violation(told, Rule::C10, v.at),
+        Entity::Type(_) => report_violation(diagnostics, Rule::C10, v.at),
         Entity::UnfinishedConstant => {
-            outside_definition(told, v, entity);
-            tell_violation(told, Rule::C10, v.at)
+            outside_definition(diagnostics, v, entity);
+            report_violation(diagnostics, Rule::C10, v.at)
         }
         Entity::UnfinishedType => {
-            outside_definition(told, v, entity);
-            tell_violation(told, Rule::C10, v.at)
+            outside_definition(diagnostics, v, entity);
+            report_violation(diagnostics, Rule::C10, v.at)
         }
         _ => {
-            anywhere(env, told, v, entity);
-            tell_violation(told, Rule::C10, v.at)
+            anywhere(env, diagnostics, v, entity);
+            report_violation(diagnostics, Rule::C10, v.at)
         }
     }
 }
 
-fn plain_name(env: &Environment, told: &mut Told, v: &Identifier) -> Option<usize>
-    ensures { Tells told.old told.new result (parts.plain_name env.now v.now) }
+fn plain_name(env: &Environment, diagnostics: &mut Diagnostics, v: &Identifier) -> Option<usize>
+    ensures { Reports diagnostics.old diagnostics.new result (parts.plain_name env.now v.now) }
 {
-    let entity = judge_name(env, told, v)?;
-    plain_value(env, told, v, entity)
+    let entity = judge_name(env, diagnostics, v)?;
+    plain_value(env, diagnostics, v, entity)
 }
 
-fn plain_variable(env: &Environment, told: &mut Told, v: &Identifier) -> Option<usize>
-    ensures { Tells told.old told.new result (parts.plain_variable env.now v.now) }
+fn plain_variable(env: &Environment, diagnostics: &mut Diagnostics, v: &Identifier) -> Option<usize>
+    ensures { Reports diagnostics.old diagnostics.new result (parts.plain_variable env.now v.now) }
 {
-    let no_queue = queue_in_place(env, told, Mode::Variable, v);
-    let t = plain_name(env, told, v);
+    let no_queue = queue_in_place(env, diagnostics, Mode::Variable, v);
+    let t = plain_name(env, diagnostics, v);
     answer_if(no_queue, t)
 }
 
-fn simple_variable(env: &Environment, told: &mut Told, v: &Identifier) -> Option<usize>
-    ensures { Tells told.old told.new result (parts.simple_variable env.now v.now) }
+fn simple_variable(
+    env: &Environment,
+    diagnostics: &mut Diagnostics,
+    v: &Identifier,
+) -> Option<usize>
+    ensures { Reports diagnostics.old diagnostics.new result (parts.simple_variable env.now v.now) }
 {
-    let t = plain_variable(env, told, v)?;
-    require_type(told, env.is_simple(t), v.at, t)
+    let t = plain_variable(env, diagnostics, v)?;
+    require_type(diagnostics, env.is_simple(t), v.at, t)
 }
 
 // C10: the variable of a `for` isn't a variable. C2: it isn't simple.
-fn for_variable(env: &Environment, told: &mut Told, v: &Identifier) -> Option<usize>
-    ensures { Tells told.old told.new result (st.for_variable env.now v.now) }
+fn for_variable(env: &Environment, diagnostics: &mut Diagnostics, v: &Identifier) -> Option<usize>
+    ensures { Reports diagnostics.old diagnostics.new result (st.for_variable env.now v.now) }
 {
-    let changeable = unless_holds(told, is_variable(env, v, &[]), Rule::C10, v.at);
-    let t = simple_variable(env, told, v);
+    let changeable = unless_holds(diagnostics, is_variable(env, v, &[]), Rule::C10, v.at);
+    let t = simple_variable(env, diagnostics, v);
     answer_if(changeable, t)
 }
 
 /// Judges the variable and the bounds of a `for`.
 pub fn for_header(
     env: &Environment,
-    told: &mut Told,
+    diagnostics: &mut Diagnostics,
     v: &Identifier,
     from: &Expression,
     last: &Expression,
 )
-    ensures { told.new ≡ least told.old
+    ensures { diagnostics.new ≡ least diagnostics.old
         (parts.for_header env.now v.now (expression from.now) (expression last.now)) }
 {
-    let t = for_variable(env, told, v);
-    bound(env, told, t, from);
-    bound(env, told, t, last);
+    let t = for_variable(env, diagnostics, v);
+    bound(env, diagnostics, t, from);
+    bound(env, diagnostics, t, last);
 }

@@ -4,12 +4,12 @@ ghost use Rattle.std.specs.Prelude.{◌≡◌, ◌++◌, [], ◌∷◌, pos, neg
 ghost use Rattle.cp_model.specs.RulesTypes as types;
 ghost use Rattle.cp_model.specs.RulesJudged.{also, breaks, violation};
 ghost use Rattle.cp_model.specs.declared.rules.Rule.TheVariants as rules;
-ghost use Rattle.cp_rules_body.specs.Tells.{TellsFirst};
+ghost use Rattle.cp_rules_body.specs.Reports.{ReportsFirst};
 
 use crate::bases::{CHAR, INTEGER};
+use crate::diagnostics::{Diagnostics, fail_with_violation, unless_holds};
 use crate::environment::Environment;
 use crate::names::resolve;
-use crate::telling::{Told, fail_with_violation, unless_holds};
 use cp_model::rules::{Entity, Rule, Violation};
 use cp_model::tree::{Constant, Identifier};
 
@@ -26,44 +26,48 @@ pub fn constant_at(c: &Constant) -> usize
 }
 
 /// C4 and C2: the name of something unfinished that is of another sort than is wanted.
-pub fn unfinished_of_other_sort<A>(told: &mut Told, at: usize) -> Result<A, Violation>
-    ensures { TellsFirst told.old told.new result
+pub fn unfinished_of_other_sort<A>(diagnostics: &mut Diagnostics, at: usize) -> Result<A, Violation>
+    ensures { ReportsFirst diagnostics.old diagnostics.new result
         (also (violation rules.C4 at ∷ []) (breaks rules.C2 at)) }
 {
-    let first = fail_with_violation(told, Rule::C4, at);
-    unless_holds(told, false, Rule::C2, at);
+    let first = fail_with_violation(diagnostics, Rule::C4, at);
+    unless_holds(diagnostics, false, Rule::C2, at);
     first
 }
 
 // C2: a constant is wanted, but the name is of another sort. C4: a constant is used inside its own
 // definition.
 fn constant_of_entity(
-    told: &mut Told,
+    diagnostics: &mut Diagnostics,
     x: &Identifier,
     entity: Entity,
 ) -> Result<(usize, i32), Violation>
-    ensures { TellsFirst told.old told.new result (types.c2_constant x.now entity) }
+    ensures { ReportsFirst diagnostics.old diagnostics.new result (types.c2_constant x.now entity) }
 {
     match entity {
         Entity::Constant(base, ordinal) => Ok((base, ordinal)),
-        Entity::UnfinishedConstant => fail_with_violation(told, Rule::C4, x.at),
-        Entity::UnfinishedType => unfinished_of_other_sort(told, x.at),
-        Entity::UnfinishedRoutine(_) => unfinished_of_other_sort(told, x.at),
-        _ => fail_with_violation(told, Rule::C2, x.at),
+        Entity::UnfinishedConstant => fail_with_violation(diagnostics, Rule::C4, x.at),
+        Entity::UnfinishedType => unfinished_of_other_sort(diagnostics, x.at),
+        Entity::UnfinishedRoutine(_) => unfinished_of_other_sort(diagnostics, x.at),
+        _ => fail_with_violation(diagnostics, Rule::C2, x.at),
     }
 }
 
 /// The base type and the ordinal of a constant, or the first violation in it.
-pub fn constant(env: &Environment, told: &mut Told, c: &Constant) -> Result<(usize, i32), Violation>
-    ensures { TellsFirst told.old told.new result (types.constant env.now c.now) }
+pub fn constant(
+    env: &Environment,
+    diagnostics: &mut Diagnostics,
+    c: &Constant,
+) -> Result<(usize, i32), Violation>
+    ensures { ReportsFirst diagnostics.old diagnostics.new result (types.constant env.now c.now) }
 {
     match c {
         Constant::Number { value, .. } => Ok((INTEGER, i32::from(*value))),
         Constant::Negative { value, .. } => Ok((INTEGER, -i32::from(*value))),
         Constant::Character { ordinal, .. } => Ok((CHAR, i32::from(*ordinal))),
         Constant::Named(x) => {
-            let entity = resolve(env, told, x)?;
-            constant_of_entity(told, x, entity)
+            let entity = resolve(env, diagnostics, x)?;
+            constant_of_entity(diagnostics, x, entity)
         }
     }
 }

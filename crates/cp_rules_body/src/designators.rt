@@ -4,14 +4,14 @@ ghost use Rattle.std.specs.Prelude.{◌≡◌, ◌++◌, [], ◌∷◌, map, tru
 ghost use Rattle.cp_model.specs.RulesEnvironment as r;
 ghost use Rattle.cp_model.specs.RulesNames as n;
 ghost use Rattle.cp_model.specs.View.{designator, index, indices_of, selector, selectors_of};
-ghost use Rattle.cp_rules_body.specs.Tells.{TellsOf};
+ghost use Rattle.cp_rules_body.specs.Reports.{ReportsOf};
 
 use crate::callees::has_entry;
+use crate::diagnostics::{Diagnostics, unless_holds};
 use crate::environment::Environment;
 use crate::members::member_of_type;
 use crate::names::{find_entity, queue_in_place, sort_rule};
 use crate::places::{first_name, last_name};
-use crate::telling::{Told, unless_holds};
 use cp_model::rules::{Entity, Member, Mode, NamedPart, Rule, Structure};
 use cp_model::tree::{Designator, Identifier, Index, Selector};
 
@@ -46,11 +46,16 @@ fn is_indexed_first(selectors: &[Selector]) -> bool
 }
 
 // C2 or C10: the name of a type comes before `[`.
-fn no_indexed_type(env: &Environment, told: &mut Told, mode: Mode, d: &Designator) -> bool
-    ensures { TellsOf told.old told.new result (n.c2_before_index env.now mode (designator d.now)) }
+fn no_indexed_type(
+    env: &Environment,
+    diagnostics: &mut Diagnostics,
+    mode: Mode,
+    d: &Designator,
+) -> bool
+    ensures { ReportsOf diagnostics.old diagnostics.new result (n.c2_before_index env.now mode (designator d.now)) }
 {
     let wrong = is_indexed_first(&d.selectors) && is_type(env, &d.root);
-    unless_holds(told, !wrong, first_rule(mode), d.root.at)
+    unless_holds(diagnostics, !wrong, first_rule(mode), d.root.at)
 }
 
 // The member named `y` of what `x` stands for, if there is one.
@@ -64,13 +69,18 @@ fn find_member(env: &Environment, x: &Identifier, y: &Identifier) -> Option<Memb
 }
 
 // C5: a routine after a component's `.` lacks `entry`.
-fn member_has_entry(env: &Environment, told: &mut Told, x: &Identifier, y: &Identifier) -> bool
-    ensures { TellsOf told.old told.new result
+fn member_has_entry(
+    env: &Environment,
+    diagnostics: &mut Diagnostics,
+    x: &Identifier,
+    y: &Identifier,
+) -> bool
+    ensures { ReportsOf diagnostics.old diagnostics.new result
         (n.c5_member env.now y.now
         (n.member_selected env.now y.now.name (r.c1_named env.now x.now))) }
 {
     match find_member(env, x, y) {
-        Some(Member::Routine(number)) => has_entry(told, y, env.routine(number)),
+        Some(Member::Routine(number)) => has_entry(diagnostics, y, env.routine(number)),
         _ => true,
     }
 }
@@ -78,24 +88,24 @@ fn member_has_entry(env: &Environment, told: &mut Told, x: &Identifier, y: &Iden
 // C5: a routine after the first name lacks `entry`.
 fn selected_has_entry(
     env: &Environment,
-    told: &mut Told,
+    diagnostics: &mut Diagnostics,
     x: &Identifier,
     selectors: &[Selector],
 ) -> bool
-    ensures { TellsOf told.old told.new result
+    ensures { ReportsOf diagnostics.old diagnostics.new result
         (n.c5_selected env.now x.now (selectors_of (map selector selectors.now))) }
 {
     match selectors {
-        [Selector::Field { name, .. }, ..] => member_has_entry(env, told, x, name),
+        [Selector::Field { name, .. }, ..] => member_has_entry(env, diagnostics, x, name),
         _ => true,
     }
 }
 
 // C5: in a designator, a routine after a component's `.` lacks `entry`.
-fn entry_after_point(env: &Environment, told: &mut Told, d: &Designator) -> bool
-    ensures { TellsOf told.old told.new result (n.c5_after_point env.now (designator d.now)) }
+fn entry_after_point(env: &Environment, diagnostics: &mut Diagnostics, d: &Designator) -> bool
+    ensures { ReportsOf diagnostics.old diagnostics.new result (n.c5_after_point env.now (designator d.now)) }
 {
-    selected_has_entry(env, told, &d.root, &d.selectors)
+    selected_has_entry(env, diagnostics, &d.root, &d.selectors)
 }
 
 // Whether the first name of a designator is that of a variable which may be named here, and indices
@@ -114,15 +124,20 @@ fn indexes_variable(env: &Environment, mode: Mode, d: &Designator) -> bool
 
 /// C2 or C10, C5 and C8 for the names of a designator: a type before `[`, a routine without
 /// `entry`, a variable with queues in the wrong place.
-pub fn names_fit(env: &Environment, told: &mut Told, mode: Mode, d: &Designator) -> bool
-    ensures { TellsOf told.old told.new result (n.c2_c5_c8_named env.now mode (designator d.now)) }
+pub fn names_fit(
+    env: &Environment,
+    diagnostics: &mut Diagnostics,
+    mode: Mode,
+    d: &Designator,
+) -> bool
+    ensures { ReportsOf diagnostics.old diagnostics.new result (n.c2_c5_c8_named env.now mode (designator d.now)) }
 {
     if indexes_variable(env, mode, d) {
         return true;
     }
-    let no_type = no_indexed_type(env, told, mode, d);
-    let entry = entry_after_point(env, told, d);
-    let no_queue = queue_in_place(env, told, mode, first_name(d));
+    let no_type = no_indexed_type(env, diagnostics, mode, d);
+    let entry = entry_after_point(env, diagnostics, d);
+    let no_queue = queue_in_place(env, diagnostics, mode, first_name(d));
     no_type && (entry && no_queue)
 }
 
@@ -203,12 +218,17 @@ fn last_part(env: &Environment, d: &Designator) -> NamedPart
 }
 
 /// C2 or C10: a routine is wanted, but an indexed variable, field, constant or component is named.
-pub fn no_indexed_value(env: &Environment, told: &mut Told, mode: Mode, d: &Designator) -> bool
-    ensures { TellsOf told.old told.new result (n.c2_indexed env.now mode (designator d.now)) }
+pub fn no_indexed_value(
+    env: &Environment,
+    diagnostics: &mut Diagnostics,
+    mode: Mode,
+    d: &Designator,
+) -> bool
+    ensures { ReportsOf diagnostics.old diagnostics.new result (n.c2_indexed env.now mode (designator d.now)) }
 {
     let part = last_part(env, d);
     unless_holds(
-        told,
+        diagnostics,
         !(part.is_indexed && part.is_value),
         sort_rule(mode, d),
         last_name(d).at,

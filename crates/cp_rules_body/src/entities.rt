@@ -7,10 +7,10 @@ ghost use Rattle.std.specs.Prelude.{◌≡◌, map, Option, None, Some};
 ghost use Rattle.cp_model.specs.View.{designator, index, indices_of, selector, selectors_of};
 ghost use Rattle.cp_rules_body.specs.EntitiesNamed as spec;
 
+use crate::diagnostics::Diagnostics;
 use crate::environment::Environment;
 use crate::members::member;
 use crate::names::{array, find_entity};
-use crate::telling::Told;
 use cp_model::rules::Entity;
 use cp_model::tree::{Designator, Index, Selector};
 
@@ -29,8 +29,8 @@ pub fn is_routine(entity: Option<Entity>) -> bool
 fn element(env: &Environment, at: usize, entity: Option<Entity>) -> Option<Entity>
     ensures { result ≡ spec.element env.now at entity }
 {
-    let mut told = Told::earliest();
-    let part = array(env, &mut told, at, entity?)?;
+    let mut diagnostics = Diagnostics::earliest();
+    let part = array(env, &mut diagnostics, at, entity?)?;
     Some(Entity::Variable(part.element, part.access))
 }
 
@@ -50,8 +50,8 @@ fn part(env: &Environment, entity: Option<Entity>, s: &Selector) -> Option<Entit
 {
     match s {
         Selector::Field { at, name } => {
-            let mut told = Told::earliest();
-            member(env, &mut told, *at, name, entity?)
+            let mut diagnostics = Diagnostics::earliest();
+            member(env, &mut diagnostics, *at, name, entity?)
         }
         Selector::Indexed(indices) => elements(env, entity, indices),
     }

@@ -348,7 +348,7 @@ impl<'t> Environment<'t> {
     }
 
     /// Sets the region that the statements are in.
-    pub fn stand_in(&mut self, region: Region)
+    pub fn set_region(&mut self, region: Region)
         ensures { self.new ≡ record self.old { region = region } }
     {
         self.region = region;

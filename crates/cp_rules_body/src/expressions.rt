@@ -11,54 +11,59 @@ ghost use Rattle.cp_model.specs.RulesExpressions as x;
 ghost use Rattle.cp_model.specs.RulesNames as n;
 ghost use Rattle.cp_model.specs.View.{designator, expression, selector, index, operation, indices_of, expressions_of, selectors_of};
 ghost use Rattle.cp_model.specs.declared.rules.Entity.{Entity as EntityValue};
-ghost use Rattle.cp_rules_body.specs.Callees.{wants_of, result_if, TellsCallee};
+ghost use Rattle.cp_rules_body.specs.Callees.{wants_of, result_if, ReportsCallee};
 ghost use Rattle.cp_rules_body.specs.ExpressionParts as parts;
-ghost use Rattle.cp_rules_body.specs.Tells.{Tells, TellsOf, TellsBoth};
+ghost use Rattle.cp_rules_body.specs.Reports.{Reports, ReportsOf, ReportsBoth};
 
 use crate::bases::{BOOLEAN, CHAR, INTEGER};
 use crate::callees::{Called, Callee, Wants, function, want, wants_of_call};
 use crate::designators::{names_fit, no_indexed_value};
+use crate::diagnostics::{Diagnostics, answer_if};
 use crate::environment::Environment;
 use crate::members::member;
 use crate::names::{array, element};
 use crate::operands::{first_operand, has_form, has_type, mode as mode_of, operand, operands};
 use crate::places::first_token;
 use crate::roots::root;
-use crate::telling::{Told, answer_if};
 use crate::values::{plain_variable, result_type, value};
 use cp_model::rules::{ArrayPart, Entity, Mode, Violation, Want};
 use cp_model::tree::{Designator, Expression, Index, Operation, Operator, Selector};
 
 /// Judges an expression and returns its type.
 #[cycle(judge)]
-pub fn judge(env: &Environment, told: &mut Told, mode: Mode, e: &Expression) -> Option<usize>
-    ensures { Tells told.old told.new result (x.judge env.now mode (expression e.now)) }
+pub fn judge(
+    env: &Environment,
+    diagnostics: &mut Diagnostics,
+    mode: Mode,
+    e: &Expression,
+) -> Option<usize>
+    ensures { Reports diagnostics.old diagnostics.new result (x.judge env.now mode (expression e.now)) }
 {
     match e {
         Expression::Number { .. } => Some(INTEGER),
         Expression::Character { .. } => Some(CHAR),
-        Expression::Designated(d) => judge_use(env, told, mode, d),
+        Expression::Designated(d) => judge_use(env, diagnostics, mode, d),
         Expression::Call(d, list) => {
-            let fits = names_fit(env, told, first_operand(mode), d);
-            let called = judge_callee(env, told, mode, d, list.len());
-            let t = arguments(env, told, called.wants, list);
+            let fits = names_fit(env, diagnostics, first_operand(mode), d);
+            let called = judge_callee(env, diagnostics, mode, d, list.len());
+            let t = arguments(env, diagnostics, called.wants, list);
             answer_if(fits, result(env, called.callee, t))
         }
-        Expression::Parenthesized { inner, .. } => judge(env, told, Mode::Value, inner),
+        Expression::Parenthesized { inner, .. } => judge(env, diagnostics, Mode::Value, inner),
         Expression::Not { at, operand: e } => {
-            let t = judge(env, told, Mode::Value, e)?;
-            operand(env, told, BOOLEAN, *at, t)
+            let t = judge(env, diagnostics, Mode::Value, e)?;
+            operand(env, diagnostics, BOOLEAN, *at, t)
         }
         Expression::Signed { at, operand: e, .. } => {
-            let t = judge(env, told, Mode::Value, e)?;
-            operand(env, told, INTEGER, *at, t)
+            let t = judge(env, diagnostics, Mode::Value, e)?;
+            operand(env, diagnostics, INTEGER, *at, t)
         }
         Expression::Chain { first, rest } => {
             if rest.is_empty() {
-                return judge(env, told, mode, first);
+                return judge(env, diagnostics, mode, first);
             }
-            let left = judge(env, told, first_operand(mode), first);
-            chain(env, told, left, rest)
+            let left = judge(env, diagnostics, first_operand(mode), first);
+            chain(env, diagnostics, left, rest)
         }
     }
 }
@@ -67,16 +72,16 @@ pub fn judge(env: &Environment, told: &mut Told, mode: Mode, e: &Expression) -> 
 #[cycle(judge)]
 fn chain(
     env: &Environment,
-    told: &mut Told,
+    diagnostics: &mut Diagnostics,
     left: Option<usize>,
     rest: &[Operation],
 ) -> Option<usize>
-    ensures { parts.TellsChain env.now told.old told.new left result (map operation rest.now) }
+    ensures { parts.ReportsChain env.now diagnostics.old diagnostics.new left result (map operation rest.now) }
 {
     let mut left = left;
     for o in rest {
-        let right = judge(env, told, Mode::Value, &o.operand);
-        left = judge_operation(env, told, o.operator, o.at, left, right);
+        let right = judge(env, diagnostics, Mode::Value, &o.operand);
+        left = judge_operation(env, diagnostics, o.operator, o.at, left, right);
     }
     left
 }
@@ -84,27 +89,32 @@ fn chain(
 // Judges an operator, if the types of both operands are known.
 fn judge_operation(
     env: &Environment,
-    told: &mut Told,
+    diagnostics: &mut Diagnostics,
     operator: Operator,
     at: usize,
     left: Option<usize>,
     right: Option<usize>,
 ) -> Option<usize>
-    ensures { TellsBoth told.old told.new left right result (x.c2_operands env.now operator at) }
+    ensures { ReportsBoth diagnostics.old diagnostics.new left right result (x.c2_operands env.now operator at) }
 {
-    operands(env, told, operator, at, left?, right?)
+    operands(env, diagnostics, operator, at, left?, right?)
 }
 
 // Judges a designator that is used as a value, or where a variable is wanted.
 #[cycle(judge)]
-fn judge_use(env: &Environment, told: &mut Told, mode: Mode, d: &Designator) -> Option<usize>
-    ensures { Tells told.old told.new result (parts.judge_use env.now mode (designator d.now)) }
+fn judge_use(
+    env: &Environment,
+    diagnostics: &mut Diagnostics,
+    mode: Mode,
+    d: &Designator,
+) -> Option<usize>
+    ensures { Reports diagnostics.old diagnostics.new result (parts.judge_use env.now mode (designator d.now)) }
 {
     if let Some(t) = plain_variable(env, mode, d) {
         return Some(t);
     }
-    let fits = names_fit(env, told, mode, d);
-    let t = type_of_designator(env, told, mode, d);
+    let fits = names_fit(env, diagnostics, mode, d);
+    let t = type_of_designator(env, diagnostics, mode, d);
     answer_if(fits, t)
 }
 
@@ -112,59 +122,68 @@ fn judge_use(env: &Environment, told: &mut Told, mode: Mode, d: &Designator) -> 
 #[cycle(judge)]
 pub fn type_of_designator(
     env: &Environment,
-    told: &mut Told,
+    diagnostics: &mut Diagnostics,
     mode: Mode,
     d: &Designator,
 ) -> Option<usize>
-    ensures { Tells told.old told.new result
+    ensures { Reports diagnostics.old diagnostics.new result
         (parts.type_of_designator env.now mode (designator d.now)) }
 {
-    let entity = judge_designator(env, told, d)?;
-    value(env, told, mode, d, entity)
+    let entity = judge_designator(env, diagnostics, d)?;
+    value(env, diagnostics, mode, d, entity)
 }
 
 /// Judges a designator and returns what it stands for.
 #[cycle(judge)]
-pub fn judge_designator(env: &Environment, told: &mut Told, d: &Designator) -> Option<Entity>
-    ensures { Tells told.old told.new result (x.designate env.now (designator d.now)) }
+pub fn judge_designator(
+    env: &Environment,
+    diagnostics: &mut Diagnostics,
+    d: &Designator,
+) -> Option<Entity>
+    ensures { Reports diagnostics.old diagnostics.new result (x.designate env.now (designator d.now)) }
 {
-    let mut part = root(env, told, d);
+    let mut part = root(env, diagnostics, d);
     for s in &d.selectors {
-        part = select(env, told, part, s);
+        part = select(env, diagnostics, part, s);
     }
     part
 }
 
 // What a selector selects of what is designated so far.
 #[cycle(judge)]
-fn select(env: &Environment, told: &mut Told, part: Option<Entity>, s: &Selector) -> Option<Entity>
-    ensures { (t : Option Violation) (j : Judged EntityValue) → Tells t told.old part j
-        → Tells t told.new result (x.select env.now j (selector s.now)) }
+fn select(
+    env: &Environment,
+    diagnostics: &mut Diagnostics,
+    part: Option<Entity>,
+    s: &Selector,
+) -> Option<Entity>
+    ensures { (t : Option Violation) (j : Judged EntityValue) → Reports t diagnostics.old part j
+        → Reports t diagnostics.new result (x.select env.now j (selector s.now)) }
 {
     match s {
         Selector::Field { at, name } => {
             let entity = part?;
-            member(env, told, *at, name, entity)
+            member(env, diagnostics, *at, name, entity)
         }
-        Selector::Indexed(indices) => select_elements(env, told, part, indices),
+        Selector::Indexed(indices) => select_elements(env, diagnostics, part, indices),
     }
 }
 
 #[cycle(judge)]
 fn select_elements(
     env: &Environment,
-    told: &mut Told,
+    diagnostics: &mut Diagnostics,
     part: Option<Entity>,
     indices: &[Index],
 ) -> Option<Entity>
-    ensures { (t : Option Violation) (j : Judged EntityValue) → Tells t told.old part j
-        → Tells t told.new result (x.apply_indices env.now j (indices_of (map index indices.now))) }
+    ensures { (t : Option Violation) (j : Judged EntityValue) → Reports t diagnostics.old part j
+        → Reports t diagnostics.new result (x.apply_indices env.now j (indices_of (map index indices.now))) }
 {
     let mut part = part;
     for i in indices {
-        let of = array_if(env, told, i.at, part);
-        let t = judge(env, told, Mode::Value, &i.value);
-        part = element_if(env, told, first_token(&i.value), of, t);
+        let of = array_if(env, diagnostics, i.at, part);
+        let t = judge(env, diagnostics, Mode::Value, &i.value);
+        part = element_if(env, diagnostics, first_token(&i.value), of, t);
     }
     part
 }
@@ -172,28 +191,28 @@ fn select_elements(
 // The array that is indexed, if it is known what is indexed.
 fn array_if(
     env: &Environment,
-    told: &mut Told,
+    diagnostics: &mut Diagnostics,
     at: usize,
     part: Option<Entity>,
 ) -> Option<ArrayPart>
-    ensures { (t : Option Violation) (j : Judged EntityValue) → Tells t told.old part j
-        → Tells t told.new result (parts.array_of env.now at j) }
+    ensures { (t : Option Violation) (j : Judged EntityValue) → Reports t diagnostics.old part j
+        → Reports t diagnostics.new result (parts.array_of env.now at j) }
 {
     let entity = part?;
-    array(env, told, at, entity)
+    array(env, diagnostics, at, entity)
 }
 
 // An element of an array, if the array and the type of the index are known.
 fn element_if(
     env: &Environment,
-    told: &mut Told,
+    diagnostics: &mut Diagnostics,
     at: usize,
     of: Option<ArrayPart>,
     t: Option<usize>,
 ) -> Option<Entity>
-    ensures { TellsBoth told.old told.new of t result (n.c2_index env.now at) }
+    ensures { ReportsBoth diagnostics.old diagnostics.new of t result (n.c2_index env.now at) }
 {
-    element(env, told, at, of?, t?)
+    element(env, diagnostics, at, of?, t?)
 }
 
 // The type of what a call gives, if what is called and the type of the first argument are known.
@@ -209,37 +228,37 @@ fn result(env: &Environment, callee: Option<Callee>, t: Option<usize>) -> Option
 // The function that is called, if it is known what its name stands for.
 fn function_if(
     env: &Environment,
-    told: &mut Told,
+    diagnostics: &mut Diagnostics,
     mode: Mode,
     d: &Designator,
     count: usize,
     entity: Option<Entity>,
 ) -> Option<Callee>
-    ensures { (t : Option Violation) (j : Judged EntityValue) → Tells t told.old entity j
-        → TellsCallee env.now t told.new result
+    ensures { (t : Option Violation) (j : Judged EntityValue) → Reports t diagnostics.old entity j
+        → ReportsCallee env.now t diagnostics.new result
         (parts.function_if env.now mode (designator d.now) count j) }
 {
     let entity = entity?;
-    function(env, told, mode, d, count, entity)
+    function(env, diagnostics, mode, d, count, entity)
 }
 
 #[cycle(judge)]
 fn judge_callee(
     env: &Environment,
-    told: &mut Told,
+    diagnostics: &mut Diagnostics,
     mode: Mode,
     d: &Designator,
     count: usize,
 ) -> Called
-    ensures callee { TellsCallee env.now told.old told.new result.callee
+    ensures callee { ReportsCallee env.now diagnostics.old diagnostics.new result.callee
         (parts.callee_of env.now mode (designator d.now) count) }
     ensures wants { wants_of env.now result.wants ≡ x.wants_in env.now
         (x.designate env.now (designator d.now))
         (parts.callee_of env.now mode (designator d.now) count) }
 {
-    let no_value = no_indexed_value(env, told, mode, d);
-    let entity = judge_designator(env, told, d);
-    let function = function_if(env, told, mode, d, count, entity);
+    let no_value = no_indexed_value(env, diagnostics, mode, d);
+    let entity = judge_designator(env, diagnostics, d);
+    let function = function_if(env, diagnostics, mode, d, count, entity);
     let callee = answer_if(no_value, function);
     Called {
         wants: wants_of_call(env, entity, callee),
@@ -252,41 +271,51 @@ fn judge_callee(
 #[cycle(judge)]
 pub fn arguments(
     env: &Environment,
-    told: &mut Told,
+    diagnostics: &mut Diagnostics,
     wants: Wants,
     list: &[Expression],
 ) -> Option<usize>
-    ensures { Tells told.old told.new result
+    ensures { Reports diagnostics.old diagnostics.new result
         (x.arguments env.now (wants_of env.now wants) (expressions_of (map expression list.now))) }
 {
     let [first, rest @ ..] = list else {
         return Some(INTEGER);
     };
-    let mut t = argument(env, told, want(env, wants, 0), first);
+    let mut t = argument(env, diagnostics, want(env, wants, 0), first);
     for (number, e) in rest.iter().enumerate() {
-        let u = argument(env, told, want(env, wants, number + 1), e);
+        let u = argument(env, diagnostics, want(env, wants, number + 1), e);
         t = u.and(t);
     }
     t
 }
 
 #[cycle(judge)]
-fn argument(env: &Environment, told: &mut Told, want: Option<Want>, e: &Expression) -> Option<usize>
-    ensures { Tells told.old told.new result (parts.argument_for env.now want (expression e.now)) }
+fn argument(
+    env: &Environment,
+    diagnostics: &mut Diagnostics,
+    want: Option<Want>,
+    e: &Expression,
+) -> Option<usize>
+    ensures { Reports diagnostics.old diagnostics.new result (parts.argument_for env.now want (expression e.now)) }
 {
     let Some(want) = want else {
-        return judge(env, told, Mode::Value, e);
+        return judge(env, diagnostics, Mode::Value, e);
     };
-    let has_form = has_form(env, told, want, e);
-    let t = type_of_argument(env, told, want, e);
+    let has_form = has_form(env, diagnostics, want, e);
+    let t = type_of_argument(env, diagnostics, want, e);
     answer_if(has_form, t)
 }
 
 #[cycle(judge)]
-fn type_of_argument(env: &Environment, told: &mut Told, want: Want, e: &Expression) -> Option<usize>
-    ensures { Tells told.old told.new result
+fn type_of_argument(
+    env: &Environment,
+    diagnostics: &mut Diagnostics,
+    want: Want,
+    e: &Expression,
+) -> Option<usize>
+    ensures { Reports diagnostics.old diagnostics.new result
         (parts.type_of_argument env.now want (expression e.now)) }
 {
-    let t = judge(env, told, mode_of(want), e)?;
-    has_type(env, told, want, e, t)
+    let t = judge(env, diagnostics, mode_of(want), e)?;
+    has_type(env, diagnostics, want, e, t)
 }

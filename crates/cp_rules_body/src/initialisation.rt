@@ -9,87 +9,96 @@ ghost use Rattle.cp_model.specs.declared.rules.Mode.TheVariants as mode;
 ghost use Rattle.cp_model.specs.RulesStatements as st;
 ghost use Rattle.cp_model.specs.View.{designator, expression, expressions_of, init_item};
 ghost use Rattle.cp_rules_body.specs.InitParts as parts;
-ghost use Rattle.cp_rules_body.specs.Tells.{Tells};
+ghost use Rattle.cp_rules_body.specs.Reports.{Reports};
 
 use crate::bases::INTEGER;
 use crate::callees::parameter;
 use crate::designators::names_fit;
+use crate::diagnostics::{Diagnostics, answer_if, report, report_violation, unless_holds};
 use crate::environment::Environment;
 use crate::expressions::{self, judge};
 use crate::names::{anywhere, find_entity, is_in_routine, judge_name, queue_in_place};
 use crate::places::{first_token, last_name};
-use crate::telling::{Told, answer_if, tell, tell_violation, unless_holds};
 use crate::values::designator_of;
 use cp_model::rules::{Access, Entity, Mode, Rule, SystemRow, Violation};
 use cp_model::tree::{Designator, Expression, Identifier, InitItem, Selector};
 
 fn own_system(
-    told: &mut Told,
+    diagnostics: &mut Diagnostics,
     x: &Identifier,
     access: Access,
     system: Option<usize>,
 ) -> Option<usize>
-    ensures { Tells told.old told.new result (st.system_initialised x.now access system) }
+    ensures { Reports diagnostics.old diagnostics.new result (st.system_initialised x.now access system) }
 {
     match access {
         Access::Own => match system {
             Some(y) => Some(y),
-            None => tell_violation(told, Rule::C12, x.at),
+            None => report_violation(diagnostics, Rule::C12, x.at),
         },
-        _ => tell_violation(told, Rule::C12, x.at),
+        _ => report_violation(diagnostics, Rule::C12, x.at),
     }
 }
 
 // C12: `init` names something that isn't a component variable of this component.
 fn own_component(
     env: &Environment,
-    told: &mut Told,
+    diagnostics: &mut Diagnostics,
     x: &Identifier,
     entity: Entity,
 ) -> Option<usize>
-    ensures { Tells told.old told.new result (st.c12_component env.now x.now entity) }
+    ensures { Reports diagnostics.old diagnostics.new result (st.c12_component env.now x.now entity) }
 {
     match entity {
-        Entity::Variable(t, access) => own_system(told, x, access, env.system(t)),
+        Entity::Variable(t, access) => own_system(diagnostics, x, access, env.system(t)),
         _ => {
-            anywhere(env, told, x, entity);
-            tell_violation(told, Rule::C12, x.at)
+            anywhere(env, diagnostics, x, entity);
+            report_violation(diagnostics, Rule::C12, x.at)
         }
     }
 }
 
-fn system_of_component(env: &Environment, told: &mut Told, x: &Identifier) -> Option<usize>
-    ensures { Tells told.old told.new result
+fn system_of_component(
+    env: &Environment,
+    diagnostics: &mut Diagnostics,
+    x: &Identifier,
+) -> Option<usize>
+    ensures { Reports diagnostics.old diagnostics.new result
         (then_judge (r.c1_named env.now x.now) (st.c12_component env.now x.now)) }
 {
-    let entity = judge_name(env, told, x)?;
-    own_component(env, told, x, entity)
+    let entity = judge_name(env, diagnostics, x)?;
+    own_component(env, diagnostics, x, entity)
 }
 
 // C12: a wrong number of arguments.
 fn judge_argument_count(
     env: &Environment,
-    told: &mut Told,
+    diagnostics: &mut Diagnostics,
     x: &Identifier,
     count: usize,
     y: usize,
 ) -> Option<SystemRow>
-    ensures { Tells told.old told.new result (st.c12_count env.now x.now count y) }
+    ensures { Reports diagnostics.old diagnostics.new result (st.c12_count env.now x.now count y) }
 {
     let row = env.system_row(y);
     if row.count == count {
         return Some(row);
     }
-    tell_violation(told, Rule::C12, x.at)
+    report_violation(diagnostics, Rule::C12, x.at)
 }
 
 // The system type that is initialised, whatever the number of arguments is.
-fn component(env: &Environment, told: &mut Told, x: &Identifier, count: usize) -> Option<usize>
-    ensures told { told.new ≡ least told.old (violations_of (parts.component env.now x.now count)) }
+fn component(
+    env: &Environment,
+    diagnostics: &mut Diagnostics,
+    x: &Identifier,
+    count: usize,
+) -> Option<usize>
+    ensures diagnostics { diagnostics.new ≡ least diagnostics.old (violations_of (parts.component env.now x.now count)) }
     ensures system { result ≡ meaning_of (parts.system env.now x.now) }
 {
-    let y = system_of_component(env, told, x)?;
-    judge_argument_count(env, told, x, count, y);
+    let y = system_of_component(env, diagnostics, x)?;
+    judge_argument_count(env, diagnostics, x, count, y);
     Some(y)
 }
 
@@ -97,81 +106,103 @@ fn component(env: &Environment, told: &mut Told, x: &Identifier, count: usize) -
 
 fn unused_entity(
     env: &Environment,
-    told: &mut Told,
+    diagnostics: &mut Diagnostics,
     d: &Designator,
     entity: Entity,
 ) -> Option<usize>
-    ensures { Tells told.old told.new result (st.surplus_name env.now (designator d.now) entity) }
+    ensures { Reports diagnostics.old diagnostics.new result (st.surplus_name env.now (designator d.now) entity) }
 {
-    let in_place = anywhere(env, told, last_name(d), entity);
+    let in_place = anywhere(env, diagnostics, last_name(d), entity);
     answer_if(in_place, Some(INTEGER))
 }
 
-fn unused_designator(env: &Environment, told: &mut Told, d: &Designator) -> Option<usize>
-    ensures { Tells told.old told.new result
+fn unused_designator(
+    env: &Environment,
+    diagnostics: &mut Diagnostics,
+    d: &Designator,
+) -> Option<usize>
+    ensures { Reports diagnostics.old diagnostics.new result
         (then_judge (x.designate env.now (designator d.now))
         (st.surplus_name env.now (designator d.now))) }
 {
-    let entity = expressions::judge_designator(env, told, d)?;
-    unused_entity(env, told, d, entity)
+    let entity = expressions::judge_designator(env, diagnostics, d)?;
+    unused_entity(env, diagnostics, d, entity)
 }
 
-fn unwanted_designator(env: &Environment, told: &mut Told, d: &Designator) -> Option<usize>
-    ensures { Tells told.old told.new result
+fn unwanted_designator(
+    env: &Environment,
+    diagnostics: &mut Diagnostics,
+    d: &Designator,
+) -> Option<usize>
+    ensures { Reports diagnostics.old diagnostics.new result
         (parts.unwanted_designator env.now (designator d.now)) }
 {
-    let fits = names_fit(env, told, Mode::Value, d);
-    let t = unused_designator(env, told, d);
+    let fits = names_fit(env, diagnostics, Mode::Value, d);
+    let t = unused_designator(env, diagnostics, d);
     answer_if(fits, t)
 }
 
 // Judges an argument without requirements. What a designator stands for isn't judged as a value.
-fn unwanted_argument(env: &Environment, told: &mut Told, e: &Expression) -> Option<usize>
-    ensures { Tells told.old told.new result (st.surplus_argument env.now (expression e.now)) }
+fn unwanted_argument(
+    env: &Environment,
+    diagnostics: &mut Diagnostics,
+    e: &Expression,
+) -> Option<usize>
+    ensures { Reports diagnostics.old diagnostics.new result (st.surplus_argument env.now (expression e.now)) }
 {
     match designator_of(e) {
-        Some(d) => unwanted_designator(env, told, d),
-        None => judge(env, told, Mode::Value, e),
+        Some(d) => unwanted_designator(env, diagnostics, d),
+        None => judge(env, diagnostics, Mode::Value, e),
     }
 }
 
 // C12: an argument isn't of the component type that is wanted.
 fn passed_entity(
     env: &Environment,
-    told: &mut Told,
+    diagnostics: &mut Diagnostics,
     wanted: usize,
     x: &Identifier,
     entity: Entity,
 ) -> Option<usize>
-    ensures { Tells told.old told.new result (st.c12_passed env.now wanted x.now entity) }
+    ensures { Reports diagnostics.old diagnostics.new result (st.c12_passed env.now wanted x.now entity) }
 {
     match entity {
         Entity::Variable(t, _) => {
             if t == wanted {
                 return Some(t);
             }
-            tell_violation(told, Rule::C12, x.at)
+            report_violation(diagnostics, Rule::C12, x.at)
         }
         _ => {
-            anywhere(env, told, x, entity);
-            tell_violation(told, Rule::C12, x.at)
+            anywhere(env, diagnostics, x, entity);
+            report_violation(diagnostics, Rule::C12, x.at)
         }
     }
 }
 
-fn passed_name(env: &Environment, told: &mut Told, wanted: usize, x: &Identifier) -> Option<usize>
-    ensures { Tells told.old told.new result
+fn passed_name(
+    env: &Environment,
+    diagnostics: &mut Diagnostics,
+    wanted: usize,
+    x: &Identifier,
+) -> Option<usize>
+    ensures { Reports diagnostics.old diagnostics.new result
         (then_judge (r.c1_named env.now x.now) (st.c12_passed env.now wanted x.now)) }
 {
-    let entity = judge_name(env, told, x)?;
-    passed_entity(env, told, wanted, x, entity)
+    let entity = judge_name(env, diagnostics, x)?;
+    passed_entity(env, diagnostics, wanted, x, entity)
 }
 
-fn name_argument(env: &Environment, told: &mut Told, wanted: usize, x: &Identifier) -> Option<usize>
-    ensures { Tells told.old told.new result (parts.name_argument env.now wanted x.now) }
+fn name_argument(
+    env: &Environment,
+    diagnostics: &mut Diagnostics,
+    wanted: usize,
+    x: &Identifier,
+) -> Option<usize>
+    ensures { Reports diagnostics.old diagnostics.new result (parts.name_argument env.now wanted x.now) }
 {
-    let no_queue = queue_in_place(env, told, Mode::Value, x);
-    let t = passed_name(env, told, wanted, x);
+    let no_queue = queue_in_place(env, diagnostics, Mode::Value, x);
+    let t = passed_name(env, diagnostics, wanted, x);
     answer_if(no_queue, t)
 }
 
@@ -196,24 +227,24 @@ fn name_alone(e: &Expression) -> Option<&Identifier>
 // C12: the argument for a component parameter isn't a name.
 fn component_argument(
     env: &Environment,
-    told: &mut Told,
+    diagnostics: &mut Diagnostics,
     wanted: usize,
     e: &Expression,
 ) -> Option<usize>
-    ensures { Tells told.old told.new result
+    ensures { Reports diagnostics.old diagnostics.new result
         (st.component_argument env.now wanted (expression e.now)) }
 {
     match name_alone(e) {
-        Some(x) => name_argument(env, told, wanted, x),
+        Some(x) => name_argument(env, diagnostics, wanted, x),
         None => {
-            tell(
-                told,
+            report(
+                diagnostics,
                 Violation {
                     rule: Rule::C12,
                     at: first_token(e),
                 },
             );
-            unwanted_argument(env, told, e);
+            unwanted_argument(env, diagnostics, e);
             None
         }
     }
@@ -221,49 +252,49 @@ fn component_argument(
 
 fn simple_agrees(
     env: &Environment,
-    told: &mut Told,
+    diagnostics: &mut Diagnostics,
     wanted: usize,
     e: &Expression,
     t: usize,
 ) -> Option<usize>
-    ensures { Tells told.old told.new result
+    ensures { Reports diagnostics.old diagnostics.new result
         (parts.simple_agrees env.now wanted (expression e.now) t) }
 {
     if env.agree(wanted, t) {
         return Some(t);
     }
-    tell_violation(told, Rule::C12, first_token(e))
+    report_violation(diagnostics, Rule::C12, first_token(e))
 }
 
 // C12: an argument doesn't agree with its simple parameter.
 fn simple_argument(
     env: &Environment,
-    told: &mut Told,
+    diagnostics: &mut Diagnostics,
     wanted: usize,
     e: &Expression,
 ) -> Option<usize>
-    ensures { Tells told.old told.new result
+    ensures { Reports diagnostics.old diagnostics.new result
         (parts.simple_argument env.now wanted (expression e.now)) }
 {
-    let t = judge(env, told, Mode::Value, e)?;
-    simple_agrees(env, told, wanted, e, t)
+    let t = judge(env, diagnostics, Mode::Value, e)?;
+    simple_agrees(env, diagnostics, wanted, e, t)
 }
 
 fn argument(
     env: &Environment,
-    told: &mut Told,
+    diagnostics: &mut Diagnostics,
     wanted: Option<usize>,
     e: &Expression,
 ) -> Option<usize>
-    ensures { Tells told.old told.new result (st.init_argument env.now wanted (expression e.now)) }
+    ensures { Reports diagnostics.old diagnostics.new result (st.init_argument env.now wanted (expression e.now)) }
 {
     match wanted {
-        None => unwanted_argument(env, told, e),
+        None => unwanted_argument(env, diagnostics, e),
         Some(wanted) => {
             if env.is_component(wanted) {
-                component_argument(env, told, wanted, e)
+                component_argument(env, diagnostics, wanted, e)
             } else {
-                simple_argument(env, told, wanted, e)
+                simple_argument(env, diagnostics, wanted, e)
             }
         }
     }
@@ -278,13 +309,18 @@ fn parameter_type(env: &Environment, system: Option<usize>, number: usize) -> Op
     p.of
 }
 
-fn arguments(env: &Environment, told: &mut Told, system: Option<usize>, list: &[Expression])
-    ensures { told.new ≡ least told.old
+fn arguments(
+    env: &Environment,
+    diagnostics: &mut Diagnostics,
+    system: Option<usize>,
+    list: &[Expression],
+)
+    ensures { diagnostics.new ≡ least diagnostics.old
         (st.init_arguments env.now (parts.parameters_if env.now system)
         (expressions_of (map expression list.now))) }
 {
     for (number, e) in list.iter().enumerate() {
-        argument(env, told, parameter_type(env, system, number), e);
+        argument(env, diagnostics, parameter_type(env, system, number), e);
     }
 }
 
@@ -307,8 +343,13 @@ fn plain_component(env: &Environment, x: &Identifier, count: usize) -> Option<us
 
 // Judges the component of an item, and returns its system type, whatever the number of arguments
 // is.
-fn item_component(env: &Environment, told: &mut Told, x: &Identifier, count: usize) -> Option<usize>
-    ensures told { told.new ≡ least told.old (n.c8_named env.now mode.Value x.now ++ violations_of
+fn item_component(
+    env: &Environment,
+    diagnostics: &mut Diagnostics,
+    x: &Identifier,
+    count: usize,
+) -> Option<usize>
+    ensures diagnostics { diagnostics.new ≡ least diagnostics.old (n.c8_named env.now mode.Value x.now ++ violations_of
         (parts.component env.now x.now count)) }
     ensures system { result ≡ meaning_of (parts.system env.now x.now) }
 {
@@ -316,23 +357,28 @@ fn item_component(env: &Environment, told: &mut Told, x: &Identifier, count: usi
     if plain.is_some() {
         return plain;
     }
-    queue_in_place(env, told, Mode::Value, x);
-    component(env, told, x, count)
+    queue_in_place(env, diagnostics, Mode::Value, x);
+    component(env, diagnostics, x, count)
 }
 
-fn item(env: &Environment, told: &mut Told, item: &InitItem)
-    ensures { told.new ≡ least told.old (st.init_item env.now (init_item item.now)) }
+fn item(env: &Environment, diagnostics: &mut Diagnostics, item: &InitItem)
+    ensures { diagnostics.new ≡ least diagnostics.old (st.init_item env.now (init_item item.now)) }
 {
-    let system = item_component(env, told, &item.component, item.arguments.len());
-    arguments(env, told, system, &item.arguments);
+    let system = item_component(env, diagnostics, &item.component, item.arguments.len());
+    arguments(env, diagnostics, system, &item.arguments);
 }
 
 /// Judges an `init`, whose word is at `at`. C12: it is in a routine, or an item is wrong.
-pub fn judge_init(env: &Environment, told: &mut Told, at: usize, items: &[InitItem])
-    ensures { told.new ≡ least told.old (parts.judge_init env.now at (map init_item items.now)) }
+pub fn judge_init(env: &Environment, diagnostics: &mut Diagnostics, at: usize, items: &[InitItem])
+    ensures { diagnostics.new ≡ least diagnostics.old (parts.judge_init env.now at (map init_item items.now)) }
 {
-    unless_holds(told, !is_in_routine(env.region().part), Rule::C12, at);
+    unless_holds(
+        diagnostics,
+        !is_in_routine(env.region().part),
+        Rule::C12,
+        at,
+    );
     for i in items {
-        item(env, told, i);
+        item(env, diagnostics, i);
     }
 }

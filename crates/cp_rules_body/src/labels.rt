@@ -8,11 +8,11 @@ ghost use Rattle.cp_model.specs.RulesStatements as st;
 ghost use Rattle.cp_model.specs.RulesTypes as types;
 ghost use Rattle.cp_model.specs.declared.rules.Rule.TheVariants as rules;
 ghost use Rattle.cp_rules_body.specs.Labels as spec;
-ghost use Rattle.cp_rules_body.specs.Tells.{Tells, TellsOf};
+ghost use Rattle.cp_rules_body.specs.Reports.{Reports, ReportsOf};
 
 use crate::constants::{constant, constant_at};
+use crate::diagnostics::{Diagnostics, answer_if, report_violation, unless_holds};
 use crate::environment::Environment;
-use crate::telling::{Told, answer_if, tell_violation, unless_holds};
 use cp_model::rules::Rule;
 use cp_model::tree::Constant;
 use std::alloc::{AllocError, Global};
@@ -91,29 +91,34 @@ fn fits(base: Option<usize>, label: (usize, i32)) -> bool
 }
 
 // C3: a label occurs twice.
-fn once(told: &mut Told, is_new: bool, at: usize, label: (usize, i32)) -> Option<(usize, i32)>
-    ensures { Tells told.old told.new result (guard is_new rules.C3 at label) }
+fn once(
+    diagnostics: &mut Diagnostics,
+    is_new: bool,
+    at: usize,
+    label: (usize, i32),
+) -> Option<(usize, i32)>
+    ensures { Reports diagnostics.old diagnostics.new result (guard is_new rules.C3 at label) }
 {
     if is_new {
         return Some(label);
     }
-    tell_violation(told, Rule::C3, at)
+    report_violation(diagnostics, Rule::C3, at)
 }
 
 // C2: the base type of a label isn't that of the selector, if that is known. C3: the label occurs
 // twice.
 fn judge_known_label(
-    told: &mut Told,
+    diagnostics: &mut Diagnostics,
     base: Option<usize>,
     is_new: bool,
     at: usize,
     label: (usize, i32),
 ) -> Option<(usize, i32)>
     ensures { (seen : spec.Labels) → is_new ≡ not (st.is_among label seen)
-        → Tells told.old told.new result (st.c2_c3_label base seen at label) }
+        → Reports diagnostics.old diagnostics.new result (st.c2_c3_label base seen at label) }
 {
-    let fits = unless_holds(told, fits(base, label), Rule::C2, at);
-    let label = once(told, is_new, at, label);
+    let fits = unless_holds(diagnostics, fits(base, label), Rule::C2, at);
+    let label = once(diagnostics, is_new, at, label);
     answer_if(fits, label)
 }
 
@@ -121,18 +126,18 @@ fn judge_known_label(
 /// out.
 pub fn judge_labels(
     env: &Environment,
-    told: &mut Told,
+    diagnostics: &mut Diagnostics,
     base: Option<usize>,
     seen: &mut Labels,
     list: &[Constant],
 ) -> Result<(), AllocError>
-    ensures told { OnOk result
-        (told.new ≡ least told.old (st.labels env.now base seen.old list.now).violations) }
+    ensures diagnostics { OnOk result
+        (diagnostics.new ≡ least diagnostics.old (st.labels env.now base seen.old list.now).violations) }
     ensures seen { OnOk result
         (spec.SameLabels seen.new (st.labels env.now base seen.old list.now).seen) }
 {
     for c in list {
-        judge_label(env, told, base, seen, c)?;
+        judge_label(env, diagnostics, base, seen, c)?;
     }
     Ok(())
 }
@@ -140,24 +145,24 @@ pub fn judge_labels(
 // Judges a label, after those that were seen.
 fn judge_label(
     env: &Environment,
-    told: &mut Told,
+    diagnostics: &mut Diagnostics,
     base: Option<usize>,
     seen: &mut Labels,
     c: &Constant,
 ) -> Result<(), AllocError>
-    ensures told { OnOk result
-        (told.new ≡ least told.old
+    ensures diagnostics { OnOk result
+        (diagnostics.new ≡ least diagnostics.old
         (violations_of
         (then_judge (types.constant env.now c.now)
         (st.c2_c3_label base seen.old (types.constant_at c.now))))) }
     ensures seen { OnOk result
         (spec.SameLabels seen.new (st.more_seen seen.old (types.constant env.now c.now))) }
 {
-    match constant(env, told, c) {
+    match constant(env, diagnostics, c) {
         Err(_) => Ok(()),
         Ok(label) => {
             let is_new = seen.add(label)?;
-            judge_known_label(told, base, is_new, constant_at(c), label);
+            judge_known_label(diagnostics, base, is_new, constant_at(c), label);
             Ok(())
         }
     }

@@ -2,9 +2,9 @@
 //! have made.
 //!
 //! cp_model's `specs/Rules*.antt` define the rules. The contract of each function here says that it
-//! agrees with its definition: `told` becomes the earliest of the violation reported before and
+//! agrees with its definition: `diagnostics` becomes the earliest of the violation reported before and
 //! those of the definition, and the result is the meaning, or `None` if something is broken
-//! (`specs/Tells.antt`).
+//! (`specs/Reports.antt`).
 #![tactic(auto)]
 
 mod assignments;
@@ -13,6 +13,7 @@ pub mod callees;
 mod conditions;
 pub mod constants;
 pub mod designators;
+pub mod diagnostics;
 mod entities;
 pub mod environment;
 pub mod expressions;
@@ -28,7 +29,6 @@ mod roots;
 pub mod scope;
 mod standard;
 pub mod statements;
-pub mod telling;
 mod values;
 
 pub use environment::Environment;

@@ -4,11 +4,11 @@ ghost use Rattle.std.specs.Prelude.{◌≡◌, ◌∷◌, [], map, Option, None,
 ghost use Rattle.cp_model.specs.RulesEnvironment as r;
 ghost use Rattle.cp_model.specs.Names.{lookup};
 ghost use Rattle.cp_model.specs.RulesNames as n;
-ghost use Rattle.cp_rules_body.specs.Tells.{Tells, TellsOf};
+ghost use Rattle.cp_rules_body.specs.Reports.{Reports, ReportsOf};
 
+use crate::diagnostics::{Diagnostics, report_violation};
 use crate::environment::Environment;
 use crate::names::entity_of_member;
-use crate::telling::{Told, tell_violation};
 use cp_model::rules::{Entity, Member, Rule, Structure};
 use cp_model::tree::Identifier;
 
@@ -16,23 +16,23 @@ use cp_model::tree::Identifier;
 /// nor a component.
 pub fn member(
     env: &Environment,
-    told: &mut Told,
+    diagnostics: &mut Diagnostics,
     at: usize,
     x: &Identifier,
     entity: Entity,
 ) -> Option<Entity>
-    ensures { Tells told.old told.new result (n.member_of env.now at x.now entity) }
+    ensures { Reports diagnostics.old diagnostics.new result (n.member_of env.now at x.now entity) }
 {
     let Entity::Variable(t, access) = entity else {
-        return tell_violation(told, Rule::C2, at);
+        return report_violation(diagnostics, Rule::C2, at);
     };
     match env.structure(t) {
-        Structure::Record(k) => entity_of_member(told, x, access, env.member(k, x)),
+        Structure::Record(k) => entity_of_member(diagnostics, x, access, env.member(k, x)),
         Structure::System(y) => {
             let k = env.system_row(y).members;
-            entity_of_member(told, x, access, env.member(k, x))
+            entity_of_member(diagnostics, x, access, env.member(k, x))
         }
-        _ => tell_violation(told, Rule::C2, at),
+        _ => report_violation(diagnostics, Rule::C2, at),
     }
 }
 

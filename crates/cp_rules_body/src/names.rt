@@ -5,11 +5,13 @@ ghost use Rattle.cp_model.specs.RulesEnvironment as r;
 ghost use Rattle.cp_model.specs.RulesNames as n;
 ghost use Rattle.cp_model.specs.RulesJudged.{meaning_of, unless};
 ghost use Rattle.cp_model.specs.View.{designator, selector, selectors_of};
-ghost use Rattle.cp_rules_body.specs.Tells.{Tells, TellsFirst, TellsOf};
+ghost use Rattle.cp_rules_body.specs.Reports.{Reports, ReportsFirst, ReportsOf};
 
+use crate::diagnostics::{
+    Diagnostics, fail_with_violation, report, report_violation, unless_holds,
+};
 use crate::environment::Environment;
 use crate::places::{first_name, has_field, last_name};
-use crate::telling::{Told, fail_with_violation, tell, tell_violation, unless_holds};
 use cp_model::rules::{
     Access, ArrayPart, Entity, Member, Mode, Part, Region, Rule, Standard, Structure, Violation,
 };
@@ -17,14 +19,18 @@ use cp_model::tree::{Designator, Identifier, Selector, Sort};
 
 /// What a name stands for, or the violation. C1: it isn't visible. A violation in its declaration
 /// is reported again.
-pub fn resolve(env: &Environment, told: &mut Told, x: &Identifier) -> Result<Entity, Violation>
-    ensures { TellsFirst told.old told.new result (r.c1_named env.now x.now) }
+pub fn resolve(
+    env: &Environment,
+    diagnostics: &mut Diagnostics,
+    x: &Identifier,
+) -> Result<Entity, Violation>
+    ensures { ReportsFirst diagnostics.old diagnostics.new result (r.c1_named env.now x.now) }
 {
     match env.find(x.name.as_bytes()) {
-        None => fail_with_violation(told, Rule::C1, x.at),
-        Some(Entity::Hidden) => fail_with_violation(told, Rule::C1, x.at),
+        None => fail_with_violation(diagnostics, Rule::C1, x.at),
+        Some(Entity::Hidden) => fail_with_violation(diagnostics, Rule::C1, x.at),
         Some(Entity::Broken(violation)) => {
-            tell(told, violation);
+            report(diagnostics, violation);
             Err(violation)
         }
         Some(entity) => Ok(entity),
@@ -32,10 +38,14 @@ pub fn resolve(env: &Environment, told: &mut Told, x: &Identifier) -> Result<Ent
 }
 
 /// What a name stands for, or `None` if something is broken in it, which is reported.
-pub fn judge_name(env: &Environment, told: &mut Told, x: &Identifier) -> Option<Entity>
-    ensures { Tells told.old told.new result (r.c1_named env.now x.now) }
+pub fn judge_name(
+    env: &Environment,
+    diagnostics: &mut Diagnostics,
+    x: &Identifier,
+) -> Option<Entity>
+    ensures { Reports diagnostics.old diagnostics.new result (r.c1_named env.now x.now) }
 {
-    resolve(env, told, x).ok()
+    resolve(env, diagnostics, x).ok()
 }
 
 /// What a name stands for, if that is known. This reports nothing.
@@ -51,8 +61,8 @@ pub fn find_entity(env: &Environment, x: &Identifier) -> Option<Entity>
 }
 
 /// C4: a constant, type or routine is named inside its own definition.
-pub fn outside_definition(told: &mut Told, x: &Identifier, entity: Entity) -> bool
-    ensures { TellsOf told.old told.new result (r.c4_unfinished x.now entity) }
+pub fn outside_definition(diagnostics: &mut Diagnostics, x: &Identifier, entity: Entity) -> bool
+    ensures { ReportsOf diagnostics.old diagnostics.new result (r.c4_unfinished x.now entity) }
 {
     let finished = match entity {
         Entity::UnfinishedConstant => false,
@@ -60,7 +70,7 @@ pub fn outside_definition(told: &mut Told, x: &Identifier, entity: Entity) -> bo
         Entity::UnfinishedRoutine(_) => false,
         _ => true,
     };
-    unless_holds(told, finished, Rule::C4, x.at)
+    unless_holds(diagnostics, finished, Rule::C4, x.at)
 }
 
 fn is_monitor(sort: Sort) -> bool
@@ -113,46 +123,66 @@ fn is_allowed(region: Region, standard: Standard) -> bool
 }
 
 /// C9: a standard name is used in the wrong place.
-pub fn in_place(env: &Environment, told: &mut Told, x: &Identifier, entity: Entity) -> bool
-    ensures { TellsOf told.old told.new result (r.c9_standard env.now x.now entity) }
+pub fn in_place(
+    env: &Environment,
+    diagnostics: &mut Diagnostics,
+    x: &Identifier,
+    entity: Entity,
+) -> bool
+    ensures { ReportsOf diagnostics.old diagnostics.new result (r.c9_standard env.now x.now entity) }
 {
     match entity {
         Entity::Standard(standard) => {
-            unless_holds(told, is_allowed(env.region(), standard), Rule::C9, x.at)
+            unless_holds(
+                diagnostics,
+                is_allowed(env.region(), standard),
+                Rule::C9,
+                x.at,
+            )
         }
         _ => true,
     }
 }
 
 /// C4 and C9: the rules that apply to a name everywhere.
-pub fn anywhere(env: &Environment, told: &mut Told, x: &Identifier, entity: Entity) -> bool
-    ensures { TellsOf told.old told.new result (r.c4_c9_named env.now x.now entity) }
+pub fn anywhere(
+    env: &Environment,
+    diagnostics: &mut Diagnostics,
+    x: &Identifier,
+    entity: Entity,
+) -> bool
+    ensures { ReportsOf diagnostics.old diagnostics.new result (r.c4_c9_named env.now x.now entity) }
 {
-    let finished = outside_definition(told, x, entity);
-    let in_place = in_place(env, told, x, entity);
+    let finished = outside_definition(diagnostics, x, entity);
+    let in_place = in_place(env, diagnostics, x, entity);
     finished && in_place
 }
 
 /// What a member of a record or a component stands for. C1: there is no member with this name.
 pub fn entity_of_member(
-    told: &mut Told,
+    diagnostics: &mut Diagnostics,
     x: &Identifier,
     access: Access,
     member: Option<Member>,
 ) -> Option<Entity>
     ensures { (env : r.Environment)
-        → Tells told.old told.new result (n.member_named env x.now access member) }
+        → Reports diagnostics.old diagnostics.new result (n.member_named env x.now access member) }
 {
     match member {
-        None => tell_violation(told, Rule::C1, x.at),
+        None => report_violation(diagnostics, Rule::C1, x.at),
         Some(Member::Field(t)) => Some(Entity::Variable(t, access)),
         Some(Member::Routine(routine)) => Some(Entity::Entry(routine)),
     }
 }
 
 /// C2: a `[` comes after something that isn't an array.
-pub fn array(env: &Environment, told: &mut Told, at: usize, entity: Entity) -> Option<ArrayPart>
-    ensures { Tells told.old told.new result (n.c2_array env.now at entity) }
+pub fn array(
+    env: &Environment,
+    diagnostics: &mut Diagnostics,
+    at: usize,
+    entity: Entity,
+) -> Option<ArrayPart>
+    ensures { Reports diagnostics.old diagnostics.new result (n.c2_array env.now at entity) }
 {
     if let Entity::Variable(t, access) = entity {
         if let Structure::Array(index, element) = env.structure(t) {
@@ -163,24 +193,24 @@ pub fn array(env: &Environment, told: &mut Told, at: usize, entity: Entity) -> O
             });
         }
     }
-    tell_violation(told, Rule::C2, at)
+    report_violation(diagnostics, Rule::C2, at)
 }
 
 /// C2: an index doesn't agree with the array's index type. The element is a part of the same
 /// variable.
 pub fn element(
     env: &Environment,
-    told: &mut Told,
+    diagnostics: &mut Diagnostics,
     at: usize,
     part: ArrayPart,
     t: usize,
 ) -> Option<Entity>
-    ensures { Tells told.old told.new result (n.c2_index env.now at part t) }
+    ensures { Reports diagnostics.old diagnostics.new result (n.c2_index env.now at part t) }
 {
     if env.agree(part.index, t) {
         return Some(Entity::Variable(part.element, part.access));
     }
-    tell_violation(told, Rule::C2, at)
+    report_violation(diagnostics, Rule::C2, at)
 }
 
 fn is_queue_variable(env: &Environment, x: &Identifier) -> bool
@@ -194,12 +224,17 @@ fn is_queue_variable(env: &Environment, x: &Identifier) -> bool
 
 /// C8: a variable with queues is named other than as the argument of `delay`, `continue` or
 /// `empty`.
-pub fn queue_in_place(env: &Environment, told: &mut Told, mode: Mode, x: &Identifier) -> bool
-    ensures { TellsOf told.old told.new result (n.c8_named env.now mode x.now) }
+pub fn queue_in_place(
+    env: &Environment,
+    diagnostics: &mut Diagnostics,
+    mode: Mode,
+    x: &Identifier,
+) -> bool
+    ensures { ReportsOf diagnostics.old diagnostics.new result (n.c8_named env.now mode x.now) }
 {
     match mode {
         Mode::Queue => true,
-        _ => unless_holds(told, !is_queue_variable(env, x), Rule::C8, x.at),
+        _ => unless_holds(diagnostics, !is_queue_variable(env, x), Rule::C8, x.at),
     }
 }
 

@@ -13,11 +13,11 @@ ghost use Rattle.cp_model.specs.RulesNeeds as n;
 ghost use Rattle.cp_model.specs.View.{designator, expression, selector, index, operation, statement, arm, init_item, indices_of, expressions_of, selectors_of, statements_of, arms_of};
 ghost use Rattle.cp_rules_body.specs.Needs as parts;
 
+use crate::diagnostics::Diagnostics;
 use crate::entities::{find_designated_entity, is_routine};
 use crate::environment::Environment;
 use crate::expressions::judge_designator;
 use crate::names::find_entity;
-use crate::telling::Told;
 use cp_model::rules::{Entity, SystemRow};
 use cp_model::tree::{
     Arm, Designator, Expression, Identifier, Index, InitItem, Operation, Selector, Sort, Statement,
@@ -121,8 +121,8 @@ fn need_of_callee(env: &Environment, d: &Designator) -> usize
 fn designation(env: &Environment, d: &Designator) -> Option<Entity>
     ensures { result ≡ meaning_of (x.designate env.now (designator d.now)) }
 {
-    let mut told = Told::earliest();
-    judge_designator(env, &mut told, d)
+    let mut diagnostics = Diagnostics::earliest();
+    judge_designator(env, &mut diagnostics, d)
 }
 
 // The need of the routine that is called, if it is one.

@@ -6,12 +6,12 @@ ghost use Rattle.cp_model.specs.RulesNames as n;
 ghost use Rattle.cp_model.specs.RulesExpressions as x;
 ghost use Rattle.cp_model.specs.View.{expression};
 ghost use Rattle.cp_rules_body.specs.Arguments.{form_rules, type_rule, is_standard_type};
-ghost use Rattle.cp_rules_body.specs.Tells.{Tells, TellsOf};
+ghost use Rattle.cp_rules_body.specs.Reports.{Reports, ReportsOf};
 
 use crate::bases::{BOOLEAN, CHAR, INTEGER, QUEUE, is_base};
+use crate::diagnostics::{Diagnostics, report_violation};
 use crate::environment::Environment;
 use crate::places::first_token;
-use crate::telling::{Told, tell_violation};
 use crate::values::variable;
 use cp_model::rules::{Mode, Rule, Want};
 use cp_model::tree::{Expression, Operator};
@@ -56,34 +56,34 @@ fn operator_gives(operator: Operator) -> usize
 /// C2: the operands don't fit the operator.
 pub fn operands(
     env: &Environment,
-    told: &mut Told,
+    diagnostics: &mut Diagnostics,
     operator: Operator,
     at: usize,
     a: usize,
     b: usize,
 ) -> Option<usize>
-    ensures { Tells told.old told.new result (x.c2_operands env.now operator at a b) }
+    ensures { Reports diagnostics.old diagnostics.new result (x.c2_operands env.now operator at a b) }
 {
     if operands_fit(operator, env.base(a), env.base(b)) {
         return Some(operator_gives(operator));
     }
-    tell_violation(told, Rule::C2, at)
+    report_violation(diagnostics, Rule::C2, at)
 }
 
 /// C2: the operand of a sign or of `not` isn't of the base type `wanted`.
 pub fn operand(
     env: &Environment,
-    told: &mut Told,
+    diagnostics: &mut Diagnostics,
     wanted: usize,
     at: usize,
     t: usize,
 ) -> Option<usize>
-    ensures { Tells told.old told.new result (x.c2_operand env.now wanted at t) }
+    ensures { Reports diagnostics.old diagnostics.new result (x.c2_operand env.now wanted at t) }
 {
     if is_base(wanted, env.base(t)) {
         return Some(wanted);
     }
-    tell_violation(told, Rule::C2, at)
+    report_violation(diagnostics, Rule::C2, at)
 }
 
 /// How the first name of an argument is judged.
@@ -120,13 +120,13 @@ pub fn first_operand(mode: Mode) -> Mode
 // parameter's very type.
 fn fits_type(
     env: &Environment,
-    told: &mut Told,
+    diagnostics: &mut Diagnostics,
     by_reference: bool,
     of: Option<usize>,
     e: &Expression,
     t: usize,
 ) -> Option<usize>
-    ensures { Tells told.old told.new result
+    ensures { Reports diagnostics.old diagnostics.new result
         (x.fits_type env.now by_reference of (expression e.now) t) }
 {
     let Some(u) = of else {
@@ -140,22 +140,27 @@ fn fits_type(
     if fits {
         return Some(t);
     }
-    tell_violation(told, rule, first_token(e))
+    report_violation(diagnostics, rule, first_token(e))
 }
 
 /// C10: an argument that must be a variable isn't one, whatever else is broken in it.
-pub fn has_form(env: &Environment, told: &mut Told, want: Want, e: &Expression) -> bool
-    ensures { TellsOf told.old told.new result (form_rules env.now want (expression e.now)) }
+pub fn has_form(
+    env: &Environment,
+    diagnostics: &mut Diagnostics,
+    want: Want,
+    e: &Expression,
+) -> bool
+    ensures { ReportsOf diagnostics.old diagnostics.new result (form_rules env.now want (expression e.now)) }
 {
     match want {
         Want::Parameter(p) => {
             if p.by_reference {
-                variable(env, told, e)
+                variable(env, diagnostics, e)
             } else {
                 true
             }
         }
-        Want::CharVariable => variable(env, told, e),
+        Want::CharVariable => variable(env, diagnostics, e),
         _ => true,
     }
 }
@@ -176,18 +181,18 @@ fn is_wanted(env: &Environment, want: Want, t: usize) -> bool
 /// The rules about the type of an argument.
 pub fn has_type(
     env: &Environment,
-    told: &mut Told,
+    diagnostics: &mut Diagnostics,
     want: Want,
     e: &Expression,
     t: usize,
 ) -> Option<usize>
-    ensures { Tells told.old told.new result (type_rule env.now want (expression e.now) t) }
+    ensures { Reports diagnostics.old diagnostics.new result (type_rule env.now want (expression e.now) t) }
 {
     if let Want::Parameter(p) = want {
-        return fits_type(env, told, p.by_reference, p.of, e, t);
+        return fits_type(env, diagnostics, p.by_reference, p.of, e, t);
     }
     if is_wanted(env, want, t) {
         return Some(t);
     }
-    tell_violation(told, Rule::C2, first_token(e))
+    report_violation(diagnostics, Rule::C2, first_token(e))
 }

@@ -6,44 +6,49 @@ ghost use Rattle.cp_model.specs.RulesExpressions as x;
 ghost use Rattle.cp_model.specs.declared.rules.Entity.{Entity as EntityValue};
 ghost use Rattle.cp_model.specs.RulesStatements as st;
 ghost use Rattle.cp_model.specs.View.{designator, expression, expressions_of};
-ghost use Rattle.cp_rules_body.specs.Callees.{wants_of, TellsCallee};
+ghost use Rattle.cp_rules_body.specs.Callees.{wants_of, ReportsCallee};
 ghost use Rattle.cp_rules_body.specs.StatementParts as parts;
-ghost use Rattle.cp_rules_body.specs.Tells.{Tells};
+ghost use Rattle.cp_rules_body.specs.Reports.{Reports};
 
 use crate::callees::{Called, Callee, procedure, wants_of_call};
 use crate::designators::{names_fit, no_indexed_value};
+use crate::diagnostics::{Diagnostics, answer_if};
 use crate::environment::Environment;
 use crate::expressions::{arguments, judge_designator};
-use crate::telling::{Told, answer_if};
 use cp_model::rules::{Entity, Mode, Violation};
 use cp_model::tree::{Designator, Expression};
 
 // The procedure that is called, if it is known what its name stands for.
 fn procedure_if(
     env: &Environment,
-    told: &mut Told,
+    diagnostics: &mut Diagnostics,
     d: &Designator,
     count: usize,
     entity: Option<Entity>,
 ) -> Option<Callee>
-    ensures { (t : Option Violation) (j : Judged EntityValue) → Tells t told.old entity j
-        → TellsCallee env.now t told.new result
+    ensures { (t : Option Violation) (j : Judged EntityValue) → Reports t diagnostics.old entity j
+        → ReportsCallee env.now t diagnostics.new result
         (parts.procedure_if env.now (designator d.now) count j) }
 {
     let entity = entity?;
-    procedure(env, told, d, count, entity)
+    procedure(env, diagnostics, d, count, entity)
 }
 
-fn judge_callee(env: &Environment, told: &mut Told, d: &Designator, count: usize) -> Called
-    ensures callee { TellsCallee env.now told.old told.new result.callee
+fn judge_callee(
+    env: &Environment,
+    diagnostics: &mut Diagnostics,
+    d: &Designator,
+    count: usize,
+) -> Called
+    ensures callee { ReportsCallee env.now diagnostics.old diagnostics.new result.callee
         (parts.procedure_called env.now (designator d.now) count) }
     ensures wants { wants_of env.now result.wants ≡ x.wants_in env.now
         (x.designate env.now (designator d.now))
         (parts.procedure_called env.now (designator d.now) count) }
 {
-    let no_value = no_indexed_value(env, told, Mode::Value, d);
-    let entity = judge_designator(env, told, d);
-    let procedure = procedure_if(env, told, d, count, entity);
+    let no_value = no_indexed_value(env, diagnostics, Mode::Value, d);
+    let entity = judge_designator(env, diagnostics, d);
+    let procedure = procedure_if(env, diagnostics, d, count, entity);
     let callee = answer_if(no_value, procedure);
     Called {
         wants: wants_of_call(env, entity, callee),
@@ -52,11 +57,16 @@ fn judge_callee(env: &Environment, told: &mut Told, d: &Designator, count: usize
 }
 
 /// Judges a call of a procedure. C2: what is called isn't a procedure, or an argument doesn't fit.
-pub fn judge_call(env: &Environment, told: &mut Told, d: &Designator, list: &[Expression])
-    ensures { told.new ≡ least told.old
+pub fn judge_call(
+    env: &Environment,
+    diagnostics: &mut Diagnostics,
+    d: &Designator,
+    list: &[Expression],
+)
+    ensures { diagnostics.new ≡ least diagnostics.old
         (st.call_statement env.now (designator d.now) (expressions_of (map expression list.now))) }
 {
-    names_fit(env, told, Mode::Value, d);
-    let called = judge_callee(env, told, d, list.len());
-    arguments(env, told, called.wants, list);
+    names_fit(env, diagnostics, Mode::Value, d);
+    let called = judge_callee(env, diagnostics, d, list.len());
+    arguments(env, diagnostics, called.wants, list);
 }

@@ -5,41 +5,41 @@ ghost use Rattle.cp_model.specs.RulesEnvironment as r;
 ghost use Rattle.cp_model.specs.RulesNames as n;
 ghost use Rattle.cp_model.specs.RulesJudged.{then_judge};
 ghost use Rattle.cp_model.specs.View.{designator, selector, selectors_of};
-ghost use Rattle.cp_rules_body.specs.Tells.{Tells};
+ghost use Rattle.cp_rules_body.specs.Reports.{Reports};
 
+use crate::diagnostics::{Diagnostics, answer_if};
 use crate::environment::Environment;
 use crate::names::{anywhere, judge_name};
-use crate::telling::{Told, answer_if};
 use cp_model::rules::Entity;
 use cp_model::tree::{Designator, Identifier, Selector};
 
 // C4 and C9 for a name with selectors. A name without selectors is judged by its use.
 fn before_selectors(
     env: &Environment,
-    told: &mut Told,
+    diagnostics: &mut Diagnostics,
     x: &Identifier,
     selectors: &[Selector],
     entity: Entity,
 ) -> Option<Entity>
-    ensures { Tells told.old told.new result
+    ensures { Reports diagnostics.old diagnostics.new result
         (n.before_selectors env.now x.now (selectors_of (map selector selectors.now)) entity) }
 {
     match selectors {
         [] => Some(entity),
         _ => {
-            let in_place = anywhere(env, told, x, entity);
+            let in_place = anywhere(env, diagnostics, x, entity);
             answer_if(in_place, Some(entity))
         }
     }
 }
 
 /// What the first name of a designator stands for, before its selectors apply.
-pub fn root(env: &Environment, told: &mut Told, d: &Designator) -> Option<Entity>
-    ensures { Tells told.old told.new result
+pub fn root(env: &Environment, diagnostics: &mut Diagnostics, d: &Designator) -> Option<Entity>
+    ensures { Reports diagnostics.old diagnostics.new result
         (then_judge (r.c1_named env.now d.now.root)
         (n.before_selectors env.now d.now.root
         (selectors_of (map selector d.now.selectors.items)))) }
 {
-    let entity = judge_name(env, told, &d.root)?;
-    before_selectors(env, told, &d.root, &d.selectors, entity)
+    let entity = judge_name(env, diagnostics, &d.root)?;
+    before_selectors(env, diagnostics, &d.root, &d.selectors, entity)
 }

@@ -14,10 +14,10 @@ use std::alloc::{AllocError, Global};
 use std::marker::Model;
 
 // The number of hints.
-const HINTS: usize = 512;
+const HINT_SLOTS: usize = 512;
 
 // So many names, the first ones, keep their hints: the standard names are among them.
-const KEPT: usize = 32;
+const MAX_KEPT_HINTS: usize = 32;
 
 /// The visible names and what they stand for, in the order of their declarations. No name occurs
 /// twice.
@@ -40,7 +40,7 @@ fn hint_of(name: &[u8]) -> usize {
     match (name.first(), name.get(name.len() / 2), name.last()) {
         (Some(first), Some(middle), Some(last)) => {
             let letters = 7 * usize::from(*first) + 37 * usize::from(*middle) + usize::from(*last);
-            (letters + 101 * (name.len() % 16)) % HINTS
+            (letters + 101 * (name.len() % 16)) % HINT_SLOTS
         }
         _ => 0,
     }
@@ -49,7 +49,7 @@ fn hint_of(name: &[u8]) -> usize {
 // Lets the hint of a name lead to this number, unless it leads to a name that keeps its hint.
 fn set_hint(hints: &mut Vec<usize>, name: &[u8], number: usize) {
     let at = hint_of(name);
-    if at < hints.len() && hints[at] >= KEPT {
+    if at < hints.len() && hints[at] >= MAX_KEPT_HINTS {
         hints[at] = number;
     }
 }
@@ -60,7 +60,7 @@ impl<'t> Scope<'t> {
         ensures { IfOk result (λ scope. scope ≡ []) }
     {
         let mut hints = Vec::new(alloc);
-        hints.resize(HINTS, usize::MAX)?;
+        hints.resize(HINT_SLOTS, usize::MAX)?;
         Ok(Scope {
             table: NameTable::new(alloc, key),
             hints,

@@ -3,11 +3,11 @@
 ghost use Rattle.std.specs.Prelude.{◌≡◌, ◌∷◌, [], Option, None, Some, length, nat_eq};
 ghost use Rattle.cp_model.specs.RulesEnvironment as r;
 ghost use Rattle.cp_model.specs.RulesNames as n;
-ghost use Rattle.cp_rules_body.specs.Callees.{wants_of, callee_if, TellsWherever};
+ghost use Rattle.cp_rules_body.specs.Callees.{wants_of, callee_if, ReportsWherever};
 
 use crate::bases::{BOOLEAN, CHAR, INTEGER};
 use crate::callees::{Callee, Wants};
-use crate::telling::{Told, tell_violation};
+use crate::diagnostics::{Diagnostics, report_violation};
 use cp_model::rules::{Gives, Rule, Standard, Want};
 use cp_model::tree::Identifier;
 
@@ -84,53 +84,53 @@ fn standard_procedure(standard: Standard) -> Option<Callee>
 // Judges a call of a standard routine. C2: the number of arguments is wrong. `rule`: there is no
 // callee.
 fn judge_standard_call(
-    told: &mut Told,
+    diagnostics: &mut Diagnostics,
     rule: Rule,
     x: &Identifier,
     fits: bool,
     callee: Option<Callee>,
 ) -> Option<Callee>
-    ensures { TellsWherever told.old told.new result
+    ensures { ReportsWherever diagnostics.old diagnostics.new result
         (λ env. n.standard_called rule x.now fits (callee_if env callee)) }
 {
     if !fits {
-        return tell_violation(told, Rule::C2, x.at);
+        return report_violation(diagnostics, Rule::C2, x.at);
     }
     match callee {
         Some(callee) => Some(callee),
-        None => tell_violation(told, rule, x.at),
+        None => report_violation(diagnostics, rule, x.at),
     }
 }
 
 /// Judges a call of a standard function with `count` arguments.
 pub fn judge_standard_function_call(
-    told: &mut Told,
+    diagnostics: &mut Diagnostics,
     rule: Rule,
     x: &Identifier,
     count: usize,
     standard: Standard,
 ) -> Option<Callee>
-    ensures { TellsWherever told.old told.new result
+    ensures { ReportsWherever diagnostics.old diagnostics.new result
         (λ env. n.standard_called rule x.now (n.standard_fits standard count)
         (n.standard_function standard)) }
 {
     let fits = standard_fits(standard, count);
     let callee = standard_function(standard);
-    judge_standard_call(told, rule, x, fits, callee)
+    judge_standard_call(diagnostics, rule, x, fits, callee)
 }
 
 /// Judges a call of a standard procedure with `count` arguments.
 pub fn judge_standard_procedure_call(
-    told: &mut Told,
+    diagnostics: &mut Diagnostics,
     x: &Identifier,
     count: usize,
     standard: Standard,
 ) -> Option<Callee>
-    ensures { TellsWherever told.old told.new result
+    ensures { ReportsWherever diagnostics.old diagnostics.new result
         (λ env. n.standard_called Rule.C2 x.now (n.standard_fits standard count)
         (n.standard_procedure standard)) }
 {
     let fits = standard_fits(standard, count);
     let callee = standard_procedure(standard);
-    judge_standard_call(told, Rule::C2, x, fits, callee)
+    judge_standard_call(diagnostics, Rule::C2, x, fits, callee)
 }

@@ -9,11 +9,11 @@ ghost use Rattle.cp_rules_body.specs.StatementParts as parts;
 
 use crate::assignments::judge_assignment;
 use crate::conditions::{condition, for_header, selector};
+use crate::diagnostics::Diagnostics;
 use crate::environment::Environment;
 use crate::initialisation::judge_init;
 use crate::labels::{Labels, judge_labels, selector_base};
 use crate::procedures::judge_call;
-use crate::telling::Told;
 use cp_model::tree::{Arm, Expression, ForHeader, Statement};
 use std::alloc::{AllocError, Global};
 
@@ -22,31 +22,31 @@ use std::alloc::{AllocError, Global};
 pub fn statement(
     env: &Environment,
     alloc: Global,
-    told: &mut Told,
+    diagnostics: &mut Diagnostics,
     s: &Statement,
 ) -> Result<(), AllocError>
     ensures { OnOk result
-        (told.new ≡ least told.old (st.statement env.now (view.statement s.now))) }
+        (diagnostics.new ≡ least diagnostics.old (st.statement env.now (view.statement s.now))) }
 {
     match s {
         Statement::Empty => {}
-        Statement::Assign(a) => judge_assignment(env, told, &a.target, a.at, &a.value),
-        Statement::Call(call) => judge_call(env, told, &call.procedure, &call.arguments),
-        Statement::Compound(list) => statements(env, alloc, told, list)?,
-        Statement::If { condition: e, then } => judge_branch(env, alloc, told, then, e)?,
+        Statement::Assign(a) => judge_assignment(env, diagnostics, &a.target, a.at, &a.value),
+        Statement::Call(call) => judge_call(env, diagnostics, &call.procedure, &call.arguments),
+        Statement::Compound(list) => statements(env, alloc, diagnostics, list)?,
+        Statement::If { condition: e, then } => judge_branch(env, alloc, diagnostics, then, e)?,
         Statement::IfElse {
             condition: e,
             branches,
         } => {
-            judge_branch(env, alloc, told, &branches.0, e)?;
-            statement(env, alloc, told, &branches.1)?;
+            judge_branch(env, alloc, diagnostics, &branches.0, e)?;
+            statement(env, alloc, diagnostics, &branches.1)?;
         }
-        Statement::Case { selector: e, arms } => judge_case(env, alloc, told, arms, e)?,
-        Statement::While { condition: e, body } => judge_branch(env, alloc, told, body, e)?,
-        Statement::Repeat { body, condition: e } => judge_repeat(env, alloc, told, body, e)?,
-        Statement::For { header, body } => judge_for(env, alloc, told, body, header)?,
-        Statement::Cycle(list) => statements(env, alloc, told, list)?,
-        Statement::Init { at, items } => judge_init(env, told, *at, items),
+        Statement::Case { selector: e, arms } => judge_case(env, alloc, diagnostics, arms, e)?,
+        Statement::While { condition: e, body } => judge_branch(env, alloc, diagnostics, body, e)?,
+        Statement::Repeat { body, condition: e } => judge_repeat(env, alloc, diagnostics, body, e)?,
+        Statement::For { header, body } => judge_for(env, alloc, diagnostics, body, header)?,
+        Statement::Cycle(list) => statements(env, alloc, diagnostics, list)?,
+        Statement::Init { at, items } => judge_init(env, diagnostics, *at, items),
     }
     Ok(())
 }
@@ -56,17 +56,17 @@ pub fn statement(
 fn judge_branch(
     env: &Environment,
     alloc: Global,
-    told: &mut Told,
+    diagnostics: &mut Diagnostics,
     body: &Statement,
     e: &Expression,
 ) -> Result<(), AllocError>
     ensures { OnOk result
-        (told.new ≡ least told.old
+        (diagnostics.new ≡ least diagnostics.old
         (violations_of (st.c2_condition env.now (view.expression e.now)) ++ st.statement env.now
         (view.statement body.now))) }
 {
-    condition(env, told, e);
-    statement(env, alloc, told, body)
+    condition(env, diagnostics, e);
+    statement(env, alloc, diagnostics, body)
 }
 
 // Judges the variable and the bounds of a `for`, and the statement after them.
@@ -74,17 +74,23 @@ fn judge_branch(
 fn judge_for(
     env: &Environment,
     alloc: Global,
-    told: &mut Told,
+    diagnostics: &mut Diagnostics,
     body: &Statement,
     header: &ForHeader,
 ) -> Result<(), AllocError>
     ensures { OnOk result
-        (told.new ≡ least told.old
+        (diagnostics.new ≡ least diagnostics.old
         (parts.for_header env.now header.now.variable (view.expression header.now.from)
         (view.expression header.now.last) ++ st.statement env.now (view.statement body.now))) }
 {
-    for_header(env, told, &header.variable, &header.from, &header.last);
-    statement(env, alloc, told, body)
+    for_header(
+        env,
+        diagnostics,
+        &header.variable,
+        &header.from,
+        &header.last,
+    );
+    statement(env, alloc, diagnostics, body)
 }
 
 // Judges a selector and the arms after it.
@@ -92,17 +98,17 @@ fn judge_for(
 fn judge_case(
     env: &Environment,
     alloc: Global,
-    told: &mut Told,
+    diagnostics: &mut Diagnostics,
     arms: &[Arm],
     e: &Expression,
 ) -> Result<(), AllocError>
     ensures { OnOk result
-        (told.new ≡ least told.old
+        (diagnostics.new ≡ least diagnostics.old
         (st.statement env.now (syntax.Case (view.expression e.now)
         (view.arms_of (map view.arm arms.now))))) }
 {
-    let t = selector(env, told, e);
-    judge_arms(env, alloc, told, selector_base(env, t), arms)
+    let t = selector(env, diagnostics, e);
+    judge_arms(env, alloc, diagnostics, selector_base(env, t), arms)
 }
 
 // Judges statements and the condition after them.
@@ -110,17 +116,17 @@ fn judge_case(
 fn judge_repeat(
     env: &Environment,
     alloc: Global,
-    told: &mut Told,
+    diagnostics: &mut Diagnostics,
     body: &[Statement],
     e: &Expression,
 ) -> Result<(), AllocError>
     ensures { OnOk result
-        (told.new ≡ least told.old
+        (diagnostics.new ≡ least diagnostics.old
         (st.statements env.now (view.statements_of (map view.statement body.now)) ++ violations_of
         (st.c2_condition env.now (view.expression e.now)))) }
 {
-    statements(env, alloc, told, body)?;
-    condition(env, told, e);
+    statements(env, alloc, diagnostics, body)?;
+    condition(env, diagnostics, e);
     Ok(())
 }
 
@@ -129,18 +135,18 @@ fn judge_repeat(
 pub fn statements(
     env: &Environment,
     alloc: Global,
-    told: &mut Told,
+    diagnostics: &mut Diagnostics,
     list: &[Statement],
 ) -> Result<(), AllocError>
     ensures { OnOk result
-        (told.new ≡ least told.old
+        (diagnostics.new ≡ least diagnostics.old
         (st.statements env.now (view.statements_of (map view.statement list.now)))) }
 {
     for s in list {
         if matches!(s, Statement::Empty) {
             continue;
         }
-        statement(env, alloc, told, s)?;
+        statement(env, alloc, diagnostics, s)?;
     }
     Ok(())
 }
@@ -151,18 +157,18 @@ pub fn statements(
 fn judge_arms(
     env: &Environment,
     alloc: Global,
-    told: &mut Told,
+    diagnostics: &mut Diagnostics,
     base: Option<usize>,
     list: &[Arm],
 ) -> Result<(), AllocError>
     ensures { OnOk result
-        (told.new ≡ least told.old
+        (diagnostics.new ≡ least diagnostics.old
         (st.arms env.now base [] (view.arms_of (map view.arm list.now)))) }
 {
     let mut seen = Labels::new(alloc, base.unwrap_or(0));
     for a in list {
-        judge_labels(env, told, base, &mut seen, &a.labels)?;
-        statement(env, alloc, told, &a.body)?;
+        judge_labels(env, diagnostics, base, &mut seen, &a.labels)?;
+        statement(env, alloc, diagnostics, &a.body)?;
     }
     Ok(())
 }

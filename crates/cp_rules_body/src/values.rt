@@ -6,15 +6,15 @@ ghost use Rattle.cp_model.specs.RulesNames as n;
 ghost use Rattle.cp_model.specs.View.{designator, expression, selector, selectors_of};
 ghost use Rattle.cp_model.specs.RulesJudged.{Sound};
 ghost use Rattle.cp_rules_body.specs.ExpressionParts.{judge_use};
-ghost use Rattle.cp_rules_body.specs.Tells.{Tells, TellsOf};
+ghost use Rattle.cp_rules_body.specs.Reports.{Reports, ReportsOf};
 ghost use Rattle.cp_rules_body.specs.Designated.{designator_if, designator_in, is_plain};
 
 use crate::bases::INTEGER;
 use crate::callees::function;
+use crate::diagnostics::{Diagnostics, report_violation, unless_holds};
 use crate::environment::Environment;
 use crate::names::{anywhere, find_entity, outside_definition, sort_rule};
 use crate::places::{first_name, first_token, last_name};
-use crate::telling::{Told, tell_violation, unless_holds};
 use cp_model::rules::{Access, Entity, Gives, Mode, Rule};
 use cp_model::tree::{Designator, Expression, Identifier, Selector};
 
@@ -32,21 +32,21 @@ pub fn result_type(env: &Environment, argument: usize, gives: Gives) -> usize
 // Judges a routine without arguments as a call of a function. C10: a variable is wanted.
 fn function_alone(
     env: &Environment,
-    told: &mut Told,
+    diagnostics: &mut Diagnostics,
     mode: Mode,
     d: &Designator,
     entity: Entity,
 ) -> Option<Gives>
-    ensures { Tells told.old told.new result
+    ensures { Reports diagnostics.old diagnostics.new result
         (n.function_alone env.now mode (designator d.now) entity) }
 {
     match mode {
         Mode::Variable => {
-            anywhere(env, told, first_name(d), entity);
-            tell_violation(told, Rule::C10, first_name(d).at)
+            anywhere(env, diagnostics, first_name(d), entity);
+            report_violation(diagnostics, Rule::C10, first_name(d).at)
         }
         _ => {
-            let callee = function(env, told, mode, d, 0, entity)?;
+            let callee = function(env, diagnostics, mode, d, 0, entity)?;
             Some(callee.gives)
         }
     }
@@ -65,12 +65,12 @@ fn is_no_component(env: &Environment, mode: Mode, t: usize) -> bool
 /// component is used as a value.
 pub fn value(
     env: &Environment,
-    told: &mut Told,
+    diagnostics: &mut Diagnostics,
     mode: Mode,
     d: &Designator,
     entity: Entity,
 ) -> Option<usize>
-    ensures { Tells told.old told.new result (n.value_of env.now mode (designator d.now) entity) }
+    ensures { Reports diagnostics.old diagnostics.new result (n.value_of env.now mode (designator d.now) entity) }
 {
     match entity {
         Entity::Constant(base, _) => Some(base),
@@ -78,19 +78,19 @@ pub fn value(
             if is_no_component(env, mode, t) {
                 return Some(t);
             }
-            tell_violation(told, sort_rule(mode, d), last_name(d).at)
+            report_violation(diagnostics, sort_rule(mode, d), last_name(d).at)
         }
-        Entity::Type(_) => tell_violation(told, sort_rule(mode, d), last_name(d).at),
+        Entity::Type(_) => report_violation(diagnostics, sort_rule(mode, d), last_name(d).at),
         Entity::UnfinishedConstant => {
-            outside_definition(told, last_name(d), entity);
-            tell_violation(told, sort_rule(mode, d), last_name(d).at)
+            outside_definition(diagnostics, last_name(d), entity);
+            report_violation(diagnostics, sort_rule(mode, d), last_name(d).at)
         }
         Entity::UnfinishedType => {
-            outside_definition(told, last_name(d), entity);
-            tell_violation(told, sort_rule(mode, d), last_name(d).at)
+            outside_definition(diagnostics, last_name(d), entity);
+            report_violation(diagnostics, sort_rule(mode, d), last_name(d).at)
         }
         _ => {
-            let gives = function_alone(env, told, mode, d, entity)?;
+            let gives = function_alone(env, diagnostics, mode, d, entity)?;
             Some(result_type(env, INTEGER, gives))
         }
     }
@@ -131,11 +131,11 @@ pub fn is_variable(env: &Environment, x: &Identifier, selectors: &[Selector]) ->
 }
 
 /// C10: a designator isn't a variable, a `var` parameter or a part of one.
-pub fn designates_variable(env: &Environment, told: &mut Told, d: &Designator) -> bool
-    ensures { TellsOf told.old told.new result (n.c10_designator env.now (designator d.now)) }
+pub fn designates_variable(env: &Environment, diagnostics: &mut Diagnostics, d: &Designator) -> bool
+    ensures { ReportsOf diagnostics.old diagnostics.new result (n.c10_designator env.now (designator d.now)) }
 {
     unless_holds(
-        told,
+        diagnostics,
         is_variable(env, &d.root, &d.selectors),
         Rule::C10,
         d.root.at,
@@ -185,11 +185,11 @@ pub fn designator_of(e: &Expression) -> Option<&Designator>
 }
 
 /// C10: an expression that must be a variable isn't one.
-pub fn variable(env: &Environment, told: &mut Told, e: &Expression) -> bool
-    ensures { TellsOf told.old told.new result (n.c10_variable env.now (expression e.now)) }
+pub fn variable(env: &Environment, diagnostics: &mut Diagnostics, e: &Expression) -> bool
+    ensures { ReportsOf diagnostics.old diagnostics.new result (n.c10_variable env.now (expression e.now)) }
 {
     match designator_of(e) {
-        Some(d) => designates_variable(env, told, d),
-        None => unless_holds(told, false, Rule::C10, first_token(e)),
+        Some(d) => designates_variable(env, diagnostics, d),
+        None => unless_holds(diagnostics, false, Rule::C10, first_token(e)),
     }
 }

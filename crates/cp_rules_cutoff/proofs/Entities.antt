@@ -13,9 +13,9 @@ entity_judged w (Sound e) = entity_later w e
 entity_judged w (Broken v vs) = violations_later w (v ∷ vs)
 
 module _ (w : Violation) where
-  pub entity_told : (j : Judged Entity) → entity_judged w j ≡ true → judged_later w j ≡ true
-  entity_told (Sound e) h = refl
-  entity_told (Broken v vs) h = h
+  pub entity_reported : (j : Judged Entity) → entity_judged w j ≡ true → judged_later w j ≡ true
+  entity_reported (Sound e) h = refl
+  entity_reported (Broken v vs) h = h
 
   pub with_entity_later : {A : Type 0} (j : Judged Entity) (k : Entity → Judged A)
       → entity_judged w j ≡ true → ((e : Entity) → entity_later w e ≡ true → judged_later w (k e) ≡ true) → judged_later w (then_judge j k) ≡ true

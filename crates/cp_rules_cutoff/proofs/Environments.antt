@@ -60,21 +60,21 @@ module _ (w : Violation) where
       let parts = and_parts _ _ g in
       each_visible (declare d.0 d.1 env) ds (declare_later d.0 d.1 env parts.0 h) parts.1
 
-  pub each_told : (env : Environment) (ds : List (Identifier × Entity))
+  pub each_reported : (env : Environment) (ds : List (Identifier × Entity))
       → all_after (λ (d : Identifier × Entity). name_after w.at d.0) ds ≡ true → violations_later w (declare_each env ds).violations ≡ true
-  each_told env [] h = refl
-  each_told env (d ∷ ds) h =
+  each_reported env [] h = refl
+  each_reported env (d ∷ ds) h =
       let parts = and_parts _ _ h in
-      later_append w _ _ (declared_later env d.0 parts.0) (each_told (declare d.0 d.1 env) ds parts.1)
+      later_append w _ _ (declared_later env d.0 parts.0) (each_reported (declare d.0 d.1 env) ds parts.1)
 
   pub all_visible : (env : Environment) (e : Entity) (xs : List Identifier)
       → environment_later w env ≡ true → entity_later w e ≡ true → environment_later w (declare_all env e xs).env ≡ true
   all_visible env e [] h g = h
   all_visible env e (x ∷ xs) h g = all_visible (declare x e env) e xs (declare_later x e env g h) g
 
-  pub all_told : (env : Environment) (e : Entity) (xs : List Identifier)
+  pub all_reported : (env : Environment) (e : Entity) (xs : List Identifier)
       → all_after (name_after w.at) xs ≡ true → violations_later w (declare_all env e xs).violations ≡ true
-  all_told env e [] h = refl
-  all_told env e (x ∷ xs) h =
+  all_reported env e [] h = refl
+  all_reported env e (x ∷ xs) h =
       let parts = and_parts _ _ h in
-      later_append w _ _ (declared_later env x parts.0) (all_told (declare x e env) e xs parts.1)
+      later_append w _ _ (declared_later env x parts.0) (all_reported (declare x e env) e xs parts.1)

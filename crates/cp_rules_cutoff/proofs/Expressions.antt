@@ -18,7 +18,7 @@ use Rattle.cp_model.specs.RulesNames.{Callee, before_selectors, c10_variable, c2
 use Rattle.cp_rules_cutoff.specs.After.{designator_after, expression_after, expressions_after, indices_after, name_after, selector_after, selectors_after}
 use Rattle.cp_rules_cutoff.specs.Later.{environment_later, judged_later, violations_later}
 use Rattle.cp_rules_cutoff.proofs.Combinators.{also_later, both_later, guard_later, then_later}
-use Rattle.cp_rules_cutoff.proofs.Entities.{both_entity_later, entity_judged, entity_told, then_entity_later, with_entity_later}
+use Rattle.cp_rules_cutoff.proofs.Entities.{both_entity_later, entity_judged, entity_reported, then_entity_later, with_entity_later}
 use Rattle.cp_rules_cutoff.proofs.Found.{entity_named_later}
 use Rattle.cp_rules_cutoff.proofs.NamesUsed.{array_later, before_selectors_later, changed_later, index_later, indexed_later, member_later, names_used_later}
 use Rattle.cp_rules_cutoff.proofs.Called.{function_later, value_later}
@@ -122,7 +122,7 @@ module _ (w : Violation) (env : Environment) (known : environment_later w env �
         let first = and_parts (nat_lt w.at at) (expression_after w.at i) parts.0 in
         indices_later (both (then_judge j (c2_array env at)) (e.judge env mode.Value i) (c2_index env (first_token i))) is
         (both_entity_later w (then_judge j (c2_array env at)) (e.judge env mode.Value i) (c2_index env (first_token i))
-        (then_later w j (c2_array env at) (entity_told w j g) (λ y. array_later w env at y first.0))
+        (then_later w j (c2_array env at) (entity_reported w j g) (λ y. array_later w env at y first.0))
         (expression_later mode.Value i first.1) (λ part t. index_later w env (first_token i) part t (token_after w.at i first.1))) parts.1
 
     pub arguments_later : (ws : List Want) (es : s.Expressions) → expressions_after w.at es ≡ true → judged_later w (e.arguments env ws es) ≡ true

@@ -17,7 +17,7 @@ use Rattle.cp_model.specs.RulesTypes.{c2_constant, constant}
 use Rattle.cp_rules_cutoff.specs.After.{constant_after, name_after}
 use Rattle.cp_rules_cutoff.specs.Later.{entity_later, environment_later, judged_later, names_later, returns_later, routines_later, violations_later}
 use Rattle.cp_rules_cutoff.proofs.Combinators.{also_later, breaks_later, later_append, unless_later}
-use Rattle.cp_rules_cutoff.proofs.Entities.{entity_judged, entity_told, with_entity_later}
+use Rattle.cp_rules_cutoff.proofs.Entities.{entity_judged, entity_reported, with_entity_later}
 
 abbrev pub found_later : Violation → Option Entity → Bool
 found_later w None = true
@@ -105,7 +105,7 @@ module _ (w : Violation) (env : Environment) (known : environment_later w env �
       (lookup_later w x.name env.names (and_parts (names_later w env.names) (routines_later w env.routines) known).0)
 
   pub named_later : (x : Identifier) → name_after w.at x ≡ true → judged_later w (c1_named env x) ≡ true
-  named_later x h = entity_told w (c1_named env x) (entity_named_later x h)
+  named_later x h = entity_reported w (c1_named env x) (entity_named_later x h)
 
   pub constant_later : (c : Constant) → constant_after w.at c ≡ true → judged_later w (constant env c) ≡ true
   constant_later (written.Number at n) h = refl

@@ -17,7 +17,7 @@ use Rattle.cp_model.specs.RulesTypes.{named_type}
 use Rattle.cp_rules_cutoff.specs.After.{all_after, optional_after, parameters_after}
 use Rattle.cp_rules_cutoff.specs.Later.{entity_later, environment_later, judged_later, violations_later}
 use Rattle.cp_rules_cutoff.proofs.Combinators.{breaks_later, guard_later, later_append, then_later}
-use Rattle.cp_rules_cutoff.proofs.Environments.{all_told, all_visible, entity_of_later}
+use Rattle.cp_rules_cutoff.proofs.Environments.{all_reported, all_visible, entity_of_later}
 use Rattle.cp_rules_cutoff.proofs.Types.{named_type_later}
 
 abbrev pub bound_later : Violation → List (Identifier × Entity) → Bool
@@ -26,7 +26,7 @@ bound_later w bound = all_after (λ (b : Identifier × Entity). entity_later w b
 -- what is told of a heading, its environment and what its names will stand for are later
 pub record HeadingLater (w : Violation) (m : d.Heading) : Type 0 where
   pub known : environment_later w m.env ≡ true
-  pub told : violations_later w m.violations ≡ true
+  pub diagnostics : violations_later w m.violations ≡ true
   pub bound : bound_later w m.bound ≡ true
 
 module _ (w : Violation) where
@@ -68,7 +68,7 @@ module _ (w : Violation) where
       let var = var_later (d.var_rule of is_function) g.by_reference first.0 in
       record {
         known = all_visible w env entity.Hidden g.names h refl;
-        told = later_append w _ _ (later_append w _ _ (all_told w env d.unfinished_variable g.names first.1) var) judged;
+        diagnostics = later_append w _ _ (later_append w _ _ (all_reported w env d.unfinished_variable g.names first.1) var) judged;
         bound = all_bound (entity_of (d.parameter_entity by_reference) t) g.names
             (entity_of_later w (d.parameter_entity by_reference) t (λ u. refl) judged);
       }
@@ -77,7 +77,7 @@ module _ (w : Violation) where
 
   pub heading_later : (env : Environment) (of : Option Sort) (is_function : Bool) (gs : List s.Parameters)
       → environment_later w env ≡ true → all_after (parameters_after w.at) gs ≡ true → HeadingLater w (d.heading env of is_function gs)
-  heading_later env of is_function [] h after = record { known = h; told = refl; bound = refl }
+  heading_later env of is_function [] h after = record { known = h; diagnostics = refl; bound = refl }
   heading_later env of is_function (g ∷ gs) h after =
       let parts = and_parts _ _ after in
       let group = d.parameter_group env of is_function g in
@@ -85,6 +85,6 @@ module _ (w : Violation) where
       let rest = heading_later group.env of is_function gs one.known parts.1 in
       record {
         known = rest.known;
-        told = later_append w _ _ one.told rest.told;
+        diagnostics = later_append w _ _ one.diagnostics rest.diagnostics;
         bound = bound_append group.bound (d.heading group.env of is_function gs).bound one.bound rest.bound;
       }

@@ -138,11 +138,11 @@ module _ (w : Violation) (env : Environment) (known : environment_later w env �
       let parts = and_parts (name_after w.at x) (expressions_after w.at es) h in
       let system : Judged ℕ = then_judge (c1_named env x) (t.c12_component env x) in
       let component : Judged SystemRow = then_judge system (t.c12_count env x (count_of es)) in
-      let told : judged_later w system ≡ true =
+      let diagnostics : judged_later w system ≡ true =
       then_later w (c1_named env x) (t.c12_component env x) (named_later w env known x parts.0) (λ y. component_later w env x y parts.0) in
       later_append w (c8_named env mode.Value x ++ violations_of component) (t.init_arguments env (t.parameters_in env system) es)
       (later_append w (c8_named env mode.Value x) (violations_of component) (queue_named_later w env mode.Value x parts.0)
-      (then_later w system (t.c12_count env x (count_of es)) told (λ y. guard_later w _ C12 x.at (system_row env y) parts.0)))
+      (then_later w system (t.c12_count env x (count_of es)) diagnostics (λ y. guard_later w _ C12 x.at (system_row env y) parts.0)))
       (init_arguments_later (t.parameters_in env system) es parts.1)
 
   pub init_items_later : (is : List s.InitItem) → all_after (item_after w.at) is ≡ true → violations_later w (t.init_items env is) ≡ true

@@ -13,20 +13,20 @@ use Rattle.cp_model.specs.RulesJudged.{Violations, is_before, least}
 use Rattle.cp_model.specs.RulesNeeds.{need_statements}
 use Rattle.cp_model.specs.RulesStatements.{statements}
 use Rattle.cp_rules_cutoff.specs.Later.{environment_later, violations_later}
-use Rattle.cp_rules_cutoff.specs.Laws.{RestTellsNothingEarlier}
+use Rattle.cp_rules_cutoff.specs.Laws.{RestReportsNothingEarlier}
 use Rattle.cp_rules_cutoff.specs.Rest.{Rest, rest_after, rest_violations}
 use Rattle.cp_rules_cutoff.proofs.Combinators.{later_append}
-use Rattle.cp_rules_cutoff.proofs.Definitions.{initial_told, sections_told, types_told}
-use Rattle.cp_rules_cutoff.proofs.Routines.{routines_told}
+use Rattle.cp_rules_cutoff.proofs.Definitions.{initial_reported, sections_reported, types_reported}
+use Rattle.cp_rules_cutoff.proofs.Routines.{routines_reported}
 use Rattle.cp_rules_cutoff.proofs.Statements.{statements_later}
 use Rattle.cp_rules_cutoff.proofs.Variables.{variables_later}
 
 module _ (w : Violation) where
-  stays_told : (vs : Violations) → violations_later w vs ≡ true → least (Some w) vs ≡ Some w
-  stays_told [] h = refl
-  stays_told (v ∷ vs) h =
+  stays_reported : (vs : Violations) → violations_later w vs ≡ true → least (Some w) vs ≡ Some w
+  stays_reported [] h = refl
+  stays_reported (v ∷ vs) h =
       let parts = and_parts _ _ h in
-      go (is_before v w) parts.0 (stays_told vs parts.1)
+      go (is_before v w) parts.0 (stays_reported vs parts.1)
     where
       go : (b : Bool) → not b ≡ true → least (Some w) vs ≡ Some w → least (if b then Some v else Some w) vs ≡ Some w
       go false g rest = rest
@@ -41,20 +41,20 @@ module _ (w : Violation) where
       let first = and_parts _ _ to_sections.0 in
       let last = and_parts _ _ to_routines.1 in
       let types = define_each (λ e (d : s.TypeDefinition). define_as e d.name d.defined) env z.definitions in
-      let typed = types_told w env z.definitions h first.0 in
+      let typed = types_reported w env z.definitions h first.0 in
       let defined = define_each define_section types.env z.sections in
-      let each = sections_told w types.env z.sections typed.0 first.1 in
+      let each = sections_reported w types.env z.sections typed.0 first.1 in
       let own = variables defined.env position.InitialVariable z.variables in
       let owned = variables_later w defined.env position.InitialVariable z.variables each.0 to_sections.1 in
       let all = routines own.env sort.Process z.routines in
-      let routed = routines_told w own.env sort.Process z.routines owned.0 to_variables.1 in
+      let routed = routines_reported w own.env sort.Process z.routines owned.0 to_variables.1 in
       let body = statements all.env z.body.list in
       let words = 1 + own.words + need_statements all.env z.body.list in
       later_append w _ _
       (later_append w _ _
       (later_append w _ _ (later_append w _ _ (later_append w _ _ typed.1 each.1) owned.1) routed.1)
       (statements_later w all.env routed.0 z.body.list last.1))
-      (initial_told w z.body.at words body last.0)
+      (initial_reported w z.body.at words body last.0)
 
-pub rest_told : RestTellsNothingEarlier
-rest_told w env z h after = stays_told w (rest_violations env z) (rest_later w env z h after)
+pub rest_reported : RestReportsNothingEarlier
+rest_reported w env z h after = stays_reported w (rest_violations env z) (rest_later w env z h after)

@@ -30,11 +30,11 @@ module _ (w : Violation) where
   result_judged : (env : Environment) (at t : ℕ) → nat_lt w.at at ≡ true → judged_later w (d.c8_c11_result env at t) ≡ true
   result_judged env at t h = also_later w _ _ (unless_later w (not (row_of env t).has_queues) C8 at h) (guard_later w (is_simple env t) C11 at t h)
 
-  result_told : (env : Environment) (o : Option Identifier)
+  result_reported : (env : Environment) (o : Option Identifier)
       → environment_later w env ≡ true → optional_after (name_after w.at) o ≡ true
       → violations_later w (d.result_violations (d.result_type env o)) ≡ true
-  result_told env None h after = refl
-  result_told env (Some x) h after =
+  result_reported env None h after = refl
+  result_reported env (Some x) h after =
       then_later w (named_type env x) (d.c8_c11_result env x.at) (named_type_later w env x h after) (λ t. result_judged env x.at t after)
 
   result_returned : (o : Option (Judged ℕ)) → violations_later w (d.result_violations o) ≡ true → returns_later w (d.returns_of o) ≡ true
@@ -44,9 +44,9 @@ module _ (w : Violation) where
 
   -- ---- routines
 
-  entry_told : (y : Sort) (o : Option ℕ) → optional_after (nat_lt w.at) o ≡ true → violations_later w (d.c5_entry y o) ≡ true
-  entry_told y None h = refl
-  entry_told y (Some at) h = unless_later w (not (is_process y)) C5 at h
+  entry_reported : (y : Sort) (o : Option ℕ) → optional_after (nat_lt w.at) o ≡ true → violations_later w (d.c5_entry y o) ≡ true
+  entry_reported y None h = refl
+  entry_reported y (Some at) h = unless_later w (not (is_process y)) C5 at h
 
   rows_append : (rs : List RoutineRow) (r : RoutineRow)
       → routines_later w rs ≡ true → returns_later w r.returns ≡ true → routines_later w (rs ++ r ∷ []) ≡ true
@@ -55,9 +55,9 @@ module _ (w : Violation) where
       let parts = and_parts _ _ h in
       and_from _ _ parts.0 (rows_append qs r parts.1 g)
 
-  routine_told : (env : Environment) (y : Sort) (r : s.Routine)
+  routine_reported : (env : Environment) (y : Sort) (r : s.Routine)
       → environment_later w env ≡ true → routine_after w.at r ≡ true → DeclaredLater w (d.routine env y r)
-  routine_told env y r h after =
+  routine_reported env y r h after =
       let to_variables = and_parts _ _ after in
       let to_result = and_parts _ _ to_variables.0 in
       let to_parameters = and_parts _ _ to_result.0 in
@@ -69,7 +69,7 @@ module _ (w : Violation) where
       let headed = heading_later w start None (is_some r.result_type) r.parameters
       (declare_later w r.name (entity.UnfinishedRoutine no_routine) env refl h) to_name.1 in
       let answer = d.result_type head.env r.result_type in
-      let answered = result_told head.env r.result_type headed.known to_parameters.1 in
+      let answered = result_reported head.env r.result_type headed.known to_parameters.1 in
       let returned = result_returned answer answered in
       let row : RoutineRow = record {
         entry = is_some r.entry;
@@ -95,17 +95,17 @@ module _ (w : Violation) where
       } in
       let rows = rows_append env.routines (record row { need = need }) (known_routines w env h) returned in
       let known = known_again w after_it (known_names w env h) rows in
-      let first = later_append w _ _ (declared_later w env r.name entry.1) (entry_told y r.entry entry.0) in
-      let signature = later_append w _ _ (later_append w _ _ first headed.told) answered in (
+      let first = later_append w _ _ (declared_later w env r.name entry.1) (entry_reported y r.entry entry.0) in
+      let signature = later_append w _ _ (later_append w _ _ first headed.diagnostics) answered in (
         declare_later w r.name (entity.Routine (length env.routines)) after_it refl known,
         later_append w _ _ (later_append w _ _ signature local.1) (statements_later w locals.env local.0 r.body.list body.1),
       )
 
-  pub routines_told : (env : Environment) (y : Sort) (rs : List s.Routine)
+  pub routines_reported : (env : Environment) (y : Sort) (rs : List s.Routine)
       → environment_later w env ≡ true → all_after (routine_after w.at) rs ≡ true → DeclaredLater w (d.routines env y rs)
-  routines_told env y [] h after = (h, refl)
-  routines_told env y (r ∷ rs) h after =
+  routines_reported env y [] h after = (h, refl)
+  routines_reported env y (r ∷ rs) h after =
       let parts = and_parts _ _ after in
-      let one = routine_told env y r h parts.0 in
-      let rest = routines_told (d.routine env y r).env y rs one.0 parts.1 in
+      let one = routine_reported env y r h parts.0 in
+      let rest = routines_reported (d.routine env y r).env y rs one.0 parts.1 in
       (rest.0, later_append w _ _ one.1 rest.1)

@@ -110,8 +110,8 @@ module _ (w : Violation) (env : Environment) (known : environment_later w env �
   labels_later base seen (c ∷ cs) h =
       let parts = and_parts (constant_after w.at c) (all_after (constant_after w.at) cs) h in
       let one : Judged t.Label = constant env c in
-      let told : Judged t.Label = then_judge one (t.c2_c3_label base seen (constant_at c)) in
-      later_append w (violations_of told) (t.labels env base (t.more_seen seen one) cs).violations
+      let diagnostics : Judged t.Label = then_judge one (t.c2_c3_label base seen (constant_at c)) in
+      later_append w (violations_of diagnostics) (t.labels env base (t.more_seen seen one) cs).violations
       (then_later w one (t.c2_c3_label base seen (constant_at c)) (constant_later w env known c parts.0)
       (λ l. label_later base seen (constant_at c) l parts.0))
       (labels_later base (t.more_seen seen one) cs parts.1)

@@ -20,7 +20,7 @@ use Rattle.cp_model.specs.RulesTypes.{is_within, type_placed}
 use Rattle.cp_rules_cutoff.specs.After.{all_after, name_after, variables_after}
 use Rattle.cp_rules_cutoff.specs.Later.{environment_later, violations_later}
 use Rattle.cp_rules_cutoff.proofs.Combinators.{later_append, unless_later}
-use Rattle.cp_rules_cutoff.proofs.Environments.{all_told, all_visible, entity_of_later, known_again, known_names, known_routines}
+use Rattle.cp_rules_cutoff.proofs.Environments.{all_reported, all_visible, entity_of_later, known_again, known_names, known_routines}
 use Rattle.cp_rules_cutoff.proofs.Types.{type_placed_later}
 
 -- what is told of declarations and the environment with them are later
@@ -33,11 +33,11 @@ VariablesLater w m = (environment_later w m.env ≡ true) × (violations_later w
 module _ (w : Violation) where
   -- ---- owners
 
-  owner_told : (env : Environment) (x : Identifier) (y : SystemRow) (of : Sort)
+  owner_reported : (env : Environment) (x : Identifier) (y : SystemRow) (of : Sort)
       → name_after w.at x ≡ true → violations_later w (d.c13_owner env x y of) ≡ true
-  owner_told env x y sort.Process h = unless_later w (not (nat_eq (suc env.processes) d.one_too_many) && is_within y.words) C13 x.at h
-  owner_told env x y sort.Monitor h = unless_later w (not (nat_eq (suc env.monitors) d.one_too_many) && is_within y.words) C13 x.at h
-  owner_told env x y sort.Class h = refl
+  owner_reported env x y sort.Process h = unless_later w (not (nat_eq (suc env.processes) d.one_too_many) && is_within y.words) C13 x.at h
+  owner_reported env x y sort.Monitor h = unless_later w (not (nat_eq (suc env.monitors) d.one_too_many) && is_within y.words) C13 x.at h
+  owner_reported env x y sort.Class h = refl
 
   owner_visible : (env : Environment) (of : Sort) → environment_later w env ≡ true → environment_later w (d.with_owner env of) ≡ true
   owner_visible env sort.Process h = h
@@ -50,7 +50,7 @@ module _ (w : Violation) where
   owners_of_later env y (x ∷ xs) h g =
       let parts = and_parts _ _ g in
       let rest = owners_of_later (d.with_owner env y.sort) y xs (owner_visible env y.sort h) parts.1 in
-      (rest.0, later_append w _ _ (owner_told env x y y.sort parts.0) rest.1)
+      (rest.0, later_append w _ _ (owner_reported env x y y.sort parts.0) rest.1)
 
   owners_in_later : (env : Environment) (row : Structure) (xs : List Identifier)
       → environment_later w env ≡ true → all_after (name_after w.at) xs ≡ true → DeclaredLater w (d.owners_in env row xs)
@@ -80,7 +80,7 @@ module _ (w : Violation) where
       let known = known_again w kept (known_names w env h) (known_routines w m.env made.0) in
       let declared = all_visible w kept (entity_of d.own_variable m.of) g.names known (entity_of_later w d.own_variable m.of (λ t. refl) made.1) in
       let counted = owners_later visible.env p m.of g.names declared parts.0 in
-      (counted.0, later_append w _ _ (later_append w _ _ (all_told w env d.unfinished_variable g.names parts.0) made.1) counted.1)
+      (counted.0, later_append w _ _ (later_append w _ _ (all_reported w env d.unfinished_variable g.names parts.0) made.1) counted.1)
 
   pub variables_later : (env : Environment) (p : Position) (gs : List s.Variables)
       → environment_later w env ≡ true → all_after (variables_after w.at) gs ≡ true → VariablesLater w (d.variables env p gs)

@@ -6,7 +6,7 @@ use Rattle.cp_model.specs.RulesJudged.{least}
 use Rattle.cp_rules_cutoff.specs.Later.{environment_later}
 use Rattle.cp_rules_cutoff.specs.Rest.{Rest, rest_after, rest_violations}
 
-abbrev pub RestTellsNothingEarlier : Type 0
-RestTellsNothingEarlier =
+abbrev pub RestReportsNothingEarlier : Type 0
+RestReportsNothingEarlier =
     (w : Violation) (env : Environment) (r : Rest) → environment_later w env ≡ true → rest_after w.at r ≡ true
     → least (Some w) (rest_violations env r) ≡ Some w

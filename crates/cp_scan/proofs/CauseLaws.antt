@@ -10,7 +10,7 @@ use Rattle.cp_model.specs.declared.token.Symbol.{Symbol}
 use Rattle.cp_model.specs.declared.token.Symbol.TheVariants as symbol
 use Rattle.cp_scan.specs.declared.refusal.Cause.{Cause}
 use Rattle.cp_scan.specs.declared.refusal.Cause.TheVariants as cause
-use Rattle.cp_scan.specs.Laws.{StandsIn}
+use Rattle.cp_scan.specs.Laws.{IsCauseIn}
 use Rattle.cp_scan.specs.Pieces.{Piece, run, longer_mark, mark, character, coded_character}
 use Rattle.cp_scan.proofs.CharacterLaws.{piece_of_apostrophe, character_at, character_one, character_none, is_read, ordinal, shown, is_shown, is_ordinal}
 use Rattle.cp_scan.proofs.Fronts.{front}
@@ -122,7 +122,7 @@ word_again (b ∷ bs) h =
     let over : 64 < run is_in_word (b ∷ bs) = omega arith in
     piece_of_letter b bs h.0 ∙ word_at (b ∷ bs) (run is_in_word (b ∷ bs)) refl ∙ rw (lt-ltb 64 (run is_in_word (b ∷ bs)) over) refl
 
-pub cause_again : (c : Cause) (text : List ℕ) → StandsIn c text → front text ≡ Err c
+pub cause_again : (c : Cause) (text : List ℕ) → IsCauseIn c text → front text ≡ Err c
 cause_again cause.Byte text h = byte_again text h
 cause_again cause.Comment text h = comment_again text h
 cause_again cause.Character text h = character_again text h

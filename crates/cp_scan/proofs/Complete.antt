@@ -7,8 +7,8 @@ use Rattle.cp_model.specs.Tokens.{Token}
 use Rattle.cp_model.specs.Characters.{decimal_value}
 use Rattle.cp_scan.specs.declared.refusal.Cause.{Cause}
 use Rattle.cp_scan.specs.declared.refusal.Cause.TheVariants as cause
-use Rattle.cp_scan.specs.Laws.{StandsIn}
-use Rattle.cp_scan.specs.Pieces.{Piece, Outcome, pieces, goes_on, with_token, tokens_of}
+use Rattle.cp_scan.specs.Laws.{IsCauseIn}
+use Rattle.cp_scan.specs.Pieces.{Piece, Outcome, pieces, continue_with, with_token, tokens_of}
 use Rattle.cp_scan.proofs.CauseLaws.{cause_again}
 use Rattle.cp_scan.proofs.Fronts.{no_empty}
 use Rattle.cp_scan.proofs.PieceLaws.{piece_again}
@@ -19,7 +19,7 @@ piece_found : (n at : ℕ) (k : Option Kind) (bytes rest : List ℕ) (found : Li
 piece_found n at k [] rest found o is_piece others = absurd (no_empty k rest is_piece)
 piece_found n at k (b ∷ bs) rest found o is_piece others =
     turn n at b (bs ++ rest) found
-    ∙ ap (λ (r : Piece). goes_on r at (after n at (b ∷ bs ++ rest) found)) (piece_again k (b ∷ bs) rest is_piece)
+    ∙ ap (λ (r : Piece). continue_with r at (after n at (b ∷ bs ++ rest) found)) (piece_again k (b ∷ bs) rest is_piece)
     ∙ ap (λ (w : List ℕ). pieces n (at + length (b ∷ bs)) w (with_token k at (at + length (b ∷ bs)) found))
     (drop_at (b ∷ bs) rest (length (b ∷ bs)) refl)
     ∙ others
@@ -50,7 +50,7 @@ pub spelled_found : (text : List ℕ) (tokens : List Token) → Spells text toke
 spelled_found text tokens h =
     row_leads (length text) 0 h.0 text tokens [] [] (Ok tokens) (omega arith) h.1 (λ m place le e. at_end m place ([] ++ tokens))
 
-no_cause_at_end : (c : Cause) → StandsIn c [] → ⊥
+no_cause_at_end : (c : Cause) → IsCauseIn c [] → ⊥
 no_cause_at_end cause.Byte h = h
 no_cause_at_end cause.Comment h = h
 no_cause_at_end cause.Character h = h
@@ -62,17 +62,17 @@ no_cause_at_end cause.Number h = no_digits h.0 h.1 h.2 h.5
 no_cause_at_end cause.Word h = h
 no_cause_at_end cause.Size h = h
 
-cause_found : (n at : ℕ) (c : Cause) (last : List ℕ) (found : List Token) → length last ≤ n → StandsIn c last → pieces n at last found ≡ Err (c, at)
+cause_found : (n at : ℕ) (c : Cause) (last : List ℕ) (found : List Token) → length last ≤ n → IsCauseIn c last → pieces n at last found ≡ Err (c, at)
 cause_found n at c [] found le h = absurd (no_cause_at_end c h)
 cause_found zero at c (b ∷ rest) found le h = absurd (omega arith)
 cause_found (suc n) at c (b ∷ rest) found le h =
-    turn n at b rest found ∙ ap (λ (r : Piece). goes_on r at (after n at (b ∷ rest) found)) (cause_again c (b ∷ rest) h)
+    turn n at b rest found ∙ ap (λ (r : Piece). continue_with r at (after n at (b ∷ rest) found)) (cause_again c (b ∷ rest) h)
 
 -- a text that is spelled up to a cause is refused for that cause there
-pub refusal_found : (text : List ℕ) (c : Cause) (at : ℕ) (rest : List ℕ) → SpelledUpTo text at rest → StandsIn c rest → tokens_of text ≡ Err (c, at)
-refusal_found text c at rest h stands =
+pub refusal_found : (text : List ℕ) (c : Cause) (at : ℕ) (rest : List ℕ) → SpelledUpTo text at rest → IsCauseIn c rest → tokens_of text ≡ Err (c, at)
+refusal_found text c at rest h represents =
     row_leads (length text) 0 h.0 text h.1 rest [] (Err (c, at)) (omega arith) h.2
     (λ m place le e.
     let own = h.3 in
     let p : place ≡ at = omega arith in
-    cause_found m place c rest ([] ++ h.1) le stands ∙ ap (λ (v : ℕ). Err (c, v)) p)
+    cause_found m place c rest ([] ++ h.1) le represents ∙ ap (λ (v : ℕ). Err (c, v)) p)

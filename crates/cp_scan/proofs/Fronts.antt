@@ -8,7 +8,7 @@ use Rattle.cp_model.specs.Tokens as kind
 use Rattle.cp_model.specs.declared.token.Symbol.{Symbol}
 use Rattle.cp_model.specs.declared.token.Symbol.TheVariants as symbol
 use Rattle.cp_scan.specs.declared.refusal.Cause.TheVariants as cause
-use Rattle.cp_scan.specs.Laws.{StandsIn}
+use Rattle.cp_scan.specs.Laws.{IsCauseIn}
 use Rattle.cp_scan.specs.Pieces.{Piece, piece}
 
 -- the piece at the front of a text that may be empty
@@ -23,7 +23,7 @@ Begins text k n = (bytes : List ℕ) × (rest : List ℕ) × (text ≡ bytes ++ 
 -- the result is true of the text
 abbrev pub Holds : List ℕ → Piece → Type 0
 Holds text (Ok x) = Begins text x.0 x.1
-Holds text (Err c) = StandsIn c text
+Holds text (Err c) = IsCauseIn c text
 
 pub by_test : (text : List ℕ) (test : Bool) (x y : Piece) → (test ≡ true → Holds text x) → (test ≡ false → Holds text y) → Holds text (cond test x y)
 by_test text test x y passes fails = cond_both test x y (λ r. Holds text r) passes fails

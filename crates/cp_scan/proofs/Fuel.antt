@@ -4,14 +4,14 @@ use Rattle.std.proofs.lemmas.List.{drop_at}
 use Rattle.cp_model.specs.Spelling.{IsPiece}
 use Rattle.cp_model.specs.Tokens.{Kind}
 use Rattle.cp_model.specs.Tokens.{Token}
-use Rattle.cp_scan.specs.Pieces.{Piece, Outcome, piece, pieces, goes_on, with_token}
+use Rattle.cp_scan.specs.Pieces.{Piece, Outcome, piece, pieces, continue_with, with_token}
 use Rattle.cp_scan.proofs.Fronts.{Holds}
 use Rattle.cp_scan.proofs.PieceLaws.{piece_holds}
 use Rattle.cp_scan.proofs.Turns.{after, turn, at_end, has_bytes}
 
 fuel_by : (at : ℕ) (text : List ℕ) (r : Piece) (f g : Option Kind → ℕ → Outcome) → Holds text r
     → ((k : Option Kind) (bytes rest : List ℕ) → text ≡ bytes ++ rest → IsPiece k bytes rest → f k (length bytes) ≡ g k (length bytes))
-    → goes_on r at f ≡ goes_on r at g
+    → continue_with r at f ≡ continue_with r at g
 fuel_by at text (Err c) f g h same = refl
 fuel_by at text (Ok x) f g h same = rw (← h.3) (same x.0 h.0 h.1 h.2 h.4)
 

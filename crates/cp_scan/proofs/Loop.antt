@@ -7,7 +7,7 @@ use Rattle.cp_scan.specs.declared.refusal.Cause.{Cause}
 use Rattle.cp_scan.specs.declared.refusal.ScanError.{ScanError}
 use Rattle.cp_scan.specs.declared.refusal.ScanError.TheVariants as error
 use Rattle.cp_scan.specs.Failures.{Fails}
-use Rattle.cp_scan.specs.Pieces.{Piece, Outcome, piece, pieces, step, goes_on, with_token, tokens_of}
+use Rattle.cp_scan.specs.Pieces.{Piece, Outcome, piece, pieces, step, continue_with, with_token, tokens_of}
 use Rattle.cp_scan.proofs.FirstPiece.{piece_length}
 use Rattle.cp_scan.proofs.Fuel.{same_fuel}
 use Rattle.cp_scan.proofs.Outcomes.{Answer}
@@ -23,17 +23,17 @@ piece_of (Err c) at found end with_it e = cc
 
 -- a text that fails at a step fails
 fails_at : (r : Piece) (at : ℕ) (found : List Token) (next : Option Kind → ℕ → Outcome) (error : ScanError) → Fails error (step r at found)
-    → Fails error (goes_on r at next)
+    → Fails error (continue_with r at next)
 fails_at r at found next error.Memory h = h
 fails_at (Ok x) at found next (error.Refused c place) h = cc
 fails_at (Err d) at found next (error.Refused c place) h =
     let same : (d, at) ≡ (c, place) = cc in ap (λ (cause : Cause × ℕ). Err cause) same
 
 -- a failure that is passed on as it is
-pub told : (text : List ℕ) (r : Answer) (error : ScanError) → IsErrAnd r (λ e. e ≡ error) → Fails error (tokens_of text)
+pub reported : (text : List ℕ) (r : Answer) (error : ScanError) → IsErrAnd r (λ e. e ≡ error) → Fails error (tokens_of text)
     → IfErr r (λ e. Fails e (tokens_of text))
-told text (Ok tokens) error same h = tt
-told text (Err e) error same h = subst (λ (e : ScanError). Fails e (tokens_of text)) (sym same) h
+reported text (Ok tokens) error same h = tt
+reported text (Err e) error same h = subst (λ (e : ScanError). Fails e (tokens_of text)) (sym same) h
 
 module _ (text : List ℕ) (at : ℕ) (found : List Token)
     (so_far : pieces (length text - at) at (drop at text) found ≡ tokens_of text) where
@@ -44,7 +44,7 @@ module _ (text : List ℕ) (at : ℕ) (found : List Token)
     bytes_left : length text - at ≡ suc (length rest)
     bytes_left = sym (length-drop at text) ∙ ap (λ (w : List ℕ). length w) is_left
 
-    here : goes_on (piece b rest) at (after (length rest) at (b ∷ rest) found) ≡ tokens_of text
+    here : continue_with (piece b rest) at (after (length rest) at (b ∷ rest) found) ≡ tokens_of text
     here =
         sym (turn (length rest) at b rest found)
         ∙ ap (λ (w : List ℕ). pieces (suc (length rest)) at w found) (sym is_left)
@@ -84,5 +84,5 @@ module _ (text : List ℕ) (at : ℕ) (found : List Token)
           ∙ ap (λ (w : List ℕ). pieces (length rest) end w with_it) d
           ∙ ap (λ (i : ℕ). pieces (length rest) i (drop p.1 (b ∷ rest)) with_it) p.3
           ∙ ap (λ (ts : List Token). pieces (length rest) (at + p.1) (drop p.1 (b ∷ rest)) ts) p.4
-          ∙ ap (λ (r : Piece). goes_on r at (after (length rest) at (b ∷ rest) found)) (sym p.2)
+          ∙ ap (λ (r : Piece). continue_with r at (after (length rest) at (b ∷ rest) found)) (sym p.2)
           ∙ here

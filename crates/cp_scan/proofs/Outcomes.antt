@@ -9,7 +9,7 @@ use Rattle.cp_scan.specs.declared.refusal.Cause.TheVariants as cause
 use Rattle.cp_scan.specs.declared.refusal.ScanError.{ScanError}
 use Rattle.cp_scan.specs.declared.refusal.ScanError.TheVariants as error
 use Rattle.cp_scan.specs.Failures.{Fails}
-use Rattle.cp_scan.specs.Laws.{StandsIn, IsFirstCause, TellsFirstCause, RulesOutTokens, IsRefusalOrMemory, RisesFrom, longest_text}
+use Rattle.cp_scan.specs.Laws.{IsCauseIn, IsFirstCause, ReportsFirstCause, RulesOutTokens, IsRefusalOrMemory, RisesFrom, longest_text}
 use Rattle.cp_scan.specs.Pieces.{Outcome, tokens_of}
 use Rattle.cp_scan.proofs.Complete.{spelled_found, refusal_found}
 use Rattle.cp_scan.proofs.Sound.{found_spells, first_cause}
@@ -19,7 +19,7 @@ abbrev pub Answer : Type 0
 Answer = Result (Vec Token Global) ScanError
 
 as_first : (text : List ℕ) (c : Cause) (at : ℕ) → length text ≤ longest_text
-    → (rest : List ℕ) × SpelledUpTo text at rest × StandsIn c rest → IsFirstCause c at text
+    → (rest : List ℕ) × SpelledUpTo text at rest × IsCauseIn c rest → IsFirstCause c at text
 as_first text cause.Byte at le h = (le, h)
 as_first text cause.Comment at le h = (le, h)
 as_first text cause.Character at le h = (le, h)
@@ -27,9 +27,9 @@ as_first text cause.Number at le h = (le, h)
 as_first text cause.Word at le h = (le, h)
 as_first text cause.Size at le h = absurd h.2
 
-told_first : (text : List ℕ) (e : ScanError) → length text ≤ longest_text → Fails e (tokens_of text) → TellsFirstCause text e
-told_first text (error.Refused c at) le fails = as_first text c at le (first_cause text c at fails)
-told_first text error.Memory le fails = tt
+reported_first : (text : List ℕ) (e : ScanError) → length text ≤ longest_text → Fails e (tokens_of text) → ReportsFirstCause text e
+reported_first text (error.Refused c at) le fails = as_first text c at le (first_cause text c at fails)
+reported_first text error.Memory le fails = tt
 
 no_tokens : (text : List ℕ) (e : ScanError) → Fails e (tokens_of text) → RulesOutTokens text e
 no_tokens text (error.Refused c at) fails = λ le tokens h. let f = spelled_found text tokens h in let g = fails in cc
@@ -71,9 +71,9 @@ module _ (text : List ℕ) where
   answer_only (Ok found) e fails tokens h = let f = spelled_found text tokens h in cc
   answer_only (Err error) e fails tokens h = only_memory text error tokens fails h
 
-  pub answer_first : (r : Answer) → length text ≤ longest_text → IfErr r (λ e. Fails e (tokens_of text)) → IfErr r (TellsFirstCause text)
+  pub answer_first : (r : Answer) → length text ≤ longest_text → IfErr r (λ e. Fails e (tokens_of text)) → IfErr r (ReportsFirstCause text)
   answer_first (Ok found) le fails = fails
-  answer_first (Err error) le fails = told_first text error le fails
+  answer_first (Err error) le fails = reported_first text error le fails
 
   pub answer_none : (r : Answer) → IfErr r (λ e. Fails e (tokens_of text)) → IfErr r (RulesOutTokens text)
   answer_none (Ok found) fails = fails

@@ -4,7 +4,7 @@ use Rattle.cp_model.specs.Spelling.{IsPiece}
 use Rattle.cp_model.specs.Spelling as spelling
 use Rattle.cp_model.specs.Tokens.{Kind}
 use Rattle.cp_model.specs.Tokens.{Token}
-use Rattle.cp_scan.specs.Pieces.{Outcome, piece, pieces, goes_on, with_token}
+use Rattle.cp_scan.specs.Pieces.{Outcome, piece, pieces, continue_with, with_token}
 use Rattle.cp_scan.proofs.Fronts.{no_empty}
 
 pub at_end : (n at : ℕ) (found : List Token) → pieces n at [] found ≡ Ok found
@@ -17,7 +17,7 @@ abbrev pub after : ℕ → ℕ → List ℕ → List Token → Option Kind → �
 after n at text found k len = pieces n (at + len) (drop len text) (with_token k at (at + len) found)
 
 pub turn : (n at b : ℕ) (rest : List ℕ) (found : List Token)
-    → pieces (suc n) at (b ∷ rest) found ≡ goes_on (piece b rest) at (after n at (b ∷ rest) found)
+    → pieces (suc n) at (b ∷ rest) found ≡ continue_with (piece b rest) at (after n at (b ∷ rest) found)
 unfolding pieces
 turn n at b rest found = refl
 

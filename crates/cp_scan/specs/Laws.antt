@@ -12,23 +12,23 @@ abbrev pub longest_text : ℕ
 longest_text = 1048576
 
 -- The cause holds at the front of the rest of a text.
-abbrev pub StandsIn : Cause → List ℕ → Type 0
-StandsIn cause.Byte rest = IsBadByte rest
-StandsIn cause.Comment rest = IsOpenComment rest
-StandsIn cause.Character rest = IsBadCharacter rest
-StandsIn cause.Number rest = IsLargeNumber rest
-StandsIn cause.Word rest = IsLongWord rest
-StandsIn cause.Size rest = ⊥
+abbrev pub IsCauseIn : Cause → List ℕ → Type 0
+IsCauseIn cause.Byte rest = IsBadByte rest
+IsCauseIn cause.Comment rest = IsOpenComment rest
+IsCauseIn cause.Character rest = IsBadCharacter rest
+IsCauseIn cause.Number rest = IsLargeNumber rest
+IsCauseIn cause.Word rest = IsLongWord rest
+IsCauseIn cause.Size rest = ⊥
 
 -- The text is too long, or it is spelled up to this place and the cause holds there.
 abbrev pub IsFirstCause : Cause → ℕ → List ℕ → Type 0
 IsFirstCause cause.Size at text = (longest_text < length text) × (at ≡ longest_text)
-IsFirstCause c at text = (length text ≤ longest_text) × ((rest : List ℕ) × SpelledUpTo text at rest × StandsIn c rest)
+IsFirstCause c at text = (length text ≤ longest_text) × ((rest : List ℕ) × SpelledUpTo text at rest × IsCauseIn c rest)
 
 -- What an error says about a text. Running out of memory says nothing about it.
-abbrev pub TellsFirstCause : List ℕ → ScanError → Type 0
-TellsFirstCause text (error.Refused c at) = IsFirstCause c at text
-TellsFirstCause text error.Memory = Unit {0}
+abbrev pub ReportsFirstCause : List ℕ → ScanError → Type 0
+ReportsFirstCause text (error.Refused c at) = IsFirstCause c at text
+ReportsFirstCause text error.Memory = Unit {0}
 
 -- The error is a refusal with this cause at this place, or it is that memory ran out.
 abbrev pub IsRefusalOrMemory : Cause → ℕ → ScanError → Type 0

@@ -130,9 +130,9 @@ abbrev pub step : Piece → ℕ → List Token → Step
 step (Ok x) at found = Ok (at + x.1, with_token x.0 at (at + x.1) found)
 step (Err c) at found = Err (c, at)
 
-abbrev pub goes_on : Piece → ℕ → (Option Kind → ℕ → Outcome) → Outcome
-goes_on (Ok x) at f = f x.0 x.1
-goes_on (Err c) at f = Err (c, at)
+abbrev pub continue_with : Piece → ℕ → (Option Kind → ℕ → Outcome) → Outcome
+continue_with (Ok x) at f = f x.0 x.1
+continue_with (Err c) at f = Err (c, at)
 
 -- `n` bounds the number of pieces. Each piece has at least one byte, so the number of bytes is
 -- enough.
@@ -140,7 +140,7 @@ unfoldable pub pieces : ℕ → ℕ → List ℕ → List Token → Outcome
 pieces n at [] found = Ok found
 pieces zero at (b ∷ rest) found = Ok found
 pieces (suc n) at (b ∷ rest) found =
-    goes_on (piece b rest) at (λ k len. pieces n (at + len) (drop len (b ∷ rest)) (with_token k at (at + len) found))
+    continue_with (piece b rest) at (λ k len. pieces n (at + len) (drop len (b ∷ rest)) (with_token k at (at + len) found))
 
 abbrev pub tokens_of : List ℕ → Outcome
 tokens_of text = pieces (length text) 0 text []

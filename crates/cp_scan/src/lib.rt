@@ -19,4 +19,4 @@ mod scanning;
 mod words;
 
 pub use refusal::{Cause, ScanError};
-pub use scanning::{LONGEST_TEXT, scan};
+pub use scanning::{MAX_SOURCE_BYTES, scan};

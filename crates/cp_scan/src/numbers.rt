@@ -13,7 +13,7 @@ use crate::refusal::Cause;
 use cp_model::ordinals::LAST_INTEGER;
 
 // The largest number that a text may contain.
-const GREATEST_NUMBER: u32 = LAST_INTEGER as u32;
+const MAX_NUMBER: u32 = LAST_INTEGER as u32;
 
 /// The value of decimal digits, or 32768 if it is larger.
 pub fn capped_value(digits: &[u8]) -> u32
@@ -22,7 +22,7 @@ pub fn capped_value(digits: &[u8]) -> u32
     let mut value: u32 = 0;
     for b in digits {
         let digit = u32::from(b.saturating_sub(b'0'));
-        value = (10 * value + digit).min(GREATEST_NUMBER + 1);
+        value = (10 * value + digit).min(MAX_NUMBER + 1);
     }
     value
 }
@@ -34,7 +34,7 @@ pub fn number(text: &[u8]) -> Found<u16>
 {
     let n = digit_count(text);
     let value = capped_value(&text[..n]);
-    if value > GREATEST_NUMBER {
+    if value > MAX_NUMBER {
         return Err(Cause::Number);
     }
     Ok((value as u16, n))

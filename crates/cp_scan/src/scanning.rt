@@ -5,7 +5,7 @@ ghost use Rattle.std.specs.Prelude.{◌≡◌, ◌≤◌, ◌<◌, ◌^◌, ℕ,
 ghost use Rattle.cp_model.specs.Spelling.{Spells};
 ghost use Rattle.cp_model.specs.Tokens.{Token};
 ghost use Rattle.cp_scan.specs.Failures.{Fails};
-ghost use Rattle.cp_scan.specs.Laws.{IsFirstCause, IsRefusalOrMemory, TellsFirstCause, RisesFrom, RulesOutTokens, longest_text};
+ghost use Rattle.cp_scan.specs.Laws.{IsFirstCause, IsRefusalOrMemory, ReportsFirstCause, RisesFrom, RulesOutTokens, longest_text};
 ghost use Rattle.cp_scan.specs.Pieces as spec;
 ghost use Rattle.cp_scan.specs.declared.refusal.Cause.{Cause};
 ghost use Rattle.cp_scan.specs.declared.refusal.ScanError.TheVariants.{Memory};
@@ -17,7 +17,7 @@ use cp_model::token::Token;
 use std::alloc::Global;
 
 /// The largest number of bytes of a text that is scanned.
-pub const LONGEST_TEXT: usize = 1_048_576;
+pub const MAX_SOURCE_BYTES: usize = 1_048_576;
 
 /// Returns the tokens that spell the text, in its order: words in lower case, and no blanks or
 /// comments. Each span covers the bytes of its token, so the spans rise and don't overlap. No other
@@ -26,7 +26,7 @@ pub const LONGEST_TEXT: usize = 1_048_576;
 /// # Errors
 ///
 /// `Refused` says why no tokens spell the text. If the text is too long, that is [`Cause::Size`] at
-/// [`LONGEST_TEXT`], whatever the text contains. Otherwise it is the first place from left to right
+/// [`MAX_SOURCE_BYTES`], whatever the text contains. Otherwise it is the first place from left to right
 /// at which neither a token nor a separator begins, with the cause. `Memory` only says that memory
 /// was refused.
 pub fn scan(alloc: Global, text: &[u8]) -> Result<Vec<Token>, ScanError>
@@ -40,15 +40,15 @@ pub fn scan(alloc: Global, text: &[u8]) -> Result<Vec<Token>, ScanError>
         → MatchResult result (λ found. found.items ≡ tokens) (λ error. error ≡ Memory) }
 
     // An error other than `Memory` is the first cause of the text, and no other.
-    ensures first { IfErr result (TellsFirstCause text.now) }
+    ensures first { IfErr result (ReportsFirstCause text.now) }
     ensures refused { (cause : Cause) (at : ℕ) → IsFirstCause cause at text.now
         → MatchResult result (λ _. ⊥) (IsRefusalOrMemory cause at) }
     ensures none { IfErr result (RulesOutTokens text.now) }
 {
-    if text.len() > LONGEST_TEXT {
+    if text.len() > MAX_SOURCE_BYTES {
         return Err(ScanError::Refused {
             cause: Cause::Size,
-            at: LONGEST_TEXT,
+            at: MAX_SOURCE_BYTES,
         });
     }
     all_tokens(alloc, text)

@@ -11,12 +11,12 @@ ghost use Rattle.cp_scan.specs.Words.{IsFront, kind_or_name};
 use crate::bytes::word_length;
 use crate::progress::Progress;
 use crate::refusal::{Cause, ScanError};
-use cp_model::short::{FRONT, LONGEST_SHORT, ShortWord};
+use cp_model::short::{FRONT, MAX_SHORT_BYTES, ShortWord};
 use cp_model::token::{Kind, Name, Symbol};
 use std::alloc::Global;
 
 // The largest number of letters, digits and underscores in a word.
-const LONGEST_WORD: usize = 64;
+const MAX_WORD_BYTES: usize = 64;
 
 // The reserved words that begin with each letter, in lower case.
 const WITH_A: [(&[u8], Symbol); 1] = [(b"array", Symbol::Array)];
@@ -184,10 +184,10 @@ pub fn read_word(alloc: Global, text: &[u8], progress: &mut Progress) -> Result<
     ensures { Takes result progress.old progress.new (spec.word text.now) }
 {
     let n = word_length(text);
-    if n > LONGEST_WORD {
+    if n > MAX_WORD_BYTES {
         return Err(progress.refusal(Cause::Word));
     }
-    if n > LONGEST_SHORT {
+    if n > MAX_SHORT_BYTES {
         return read_long_word(alloc, &text[..n], progress);
     }
     let letters = front_in_lower_case(text);

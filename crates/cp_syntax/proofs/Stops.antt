@@ -8,7 +8,7 @@ use Rattle.cp_model_grammar.specs.Reading.{Fails}
 use Rattle.cp_model_grammar.specs.Text.{text_at}
 use Rattle.cp_model_grammar.specs.declared.stop.Stop.{Stop}
 use Rattle.cp_model_grammar.specs.declared.stop.Stop.TheVariants.{Memory, Wrong, Deep}
-use Rattle.cp_syntax.specs.Refusals.{TokenAt, NoTokenAt, HasNoTree, NoTextHas, OpensTooDeep, Refused, Tells}
+use Rattle.cp_syntax.specs.Refusals.{TokenAt, NoTokenAt, HasNoTree, NoTextHas, OpensTooDeep, Refused, Reports}
 use Rattle.cp_syntax.specs.declared.refusal.SyntaxError.{SyntaxError}
 use Rattle.cp_syntax.specs.declared.refusal.SyntaxError.TheVariants as error
 
@@ -21,7 +21,7 @@ token_at ts left index t fits e within is =
       front = take index ts;
       token = t;
       behind = drop (suc index) ts;
-      stands = sym (take-append-drop index ts) ∙ ap (λ w. take index ts ++ w) (behind ∙ ap (λ w. w ∷ drop (suc index) ts) (sym is));
+      represents = sym (take-append-drop index ts) ∙ ap (λ w. take index ts ++ w) (behind ∙ ap (λ w. w ∷ drop (suc index) ts) (sym is));
       counted = omega (arith, counted);
       begins = refl;
     }
@@ -37,11 +37,11 @@ module _ (complete : TextIsComplete) (inside : StopsInside) (begun : FrontBegins
   no_tree s stopped t reads = let read : text_at nesting_limit ts ≡ Ok (t, []) = complete nesting_limit ts t reads in cc
 
   no_text : (left at : ℕ) (k : TokenAt ts left at) → text_at nesting_limit ts ≡ Err (Wrong left) → NoTextHas k
-  no_text left at k stopped = wrong nesting_limit k.front k.token k.behind (rw (k.stands, k.counted) at stopped)
+  no_text left at k stopped = wrong nesting_limit k.front k.token k.behind (rw (k.represents, k.counted) at stopped)
 
   too_deep : (left at : ℕ) (k : TokenAt ts left at) → text_at nesting_limit ts ≡ Err (Deep left) → OpensTooDeep k
   too_deep left at k stopped =
-      let there : text_at nesting_limit (k.front ++ k.token ∷ k.behind) ≡ Err (Deep (suc (length k.behind))) = rw (k.stands, k.counted) at stopped in
+      let there : text_at nesting_limit (k.front ++ k.token ∷ k.behind) ≡ Err (Deep (suc (length k.behind))) = rw (k.represents, k.counted) at stopped in
       record {
         begins = deeper nesting_limit k.front k.token k.behind there;
         within = λ (more, t, reads). deep nesting_limit k.front k.token k.behind there more t reads;
@@ -49,7 +49,7 @@ module _ (complete : TextIsComplete) (inside : StopsInside) (begun : FrontBegins
       }
 
   before : (left at : ℕ) (k : TokenAt ts left at) → StopsAt ts left → BeginsWithin k.front
-  before left at k stopped = begun nesting_limit k.front (k.token ∷ k.behind) (omega arith) (rw (k.stands, k.counted) at stopped)
+  before left at k stopped = begun nesting_limit k.front (k.token ∷ k.behind) (omega arith) (rw (k.represents, k.counted) at stopped)
 
   at_end : (left : ℕ) → NoTokenAt ts left → StopsAt ts left → BeginsWithin ts
   at_end left (inl none) stopped =
@@ -58,18 +58,18 @@ module _ (complete : TextIsComplete) (inside : StopsInside) (begun : FrontBegins
       begun nesting_limit ts [] (omega arith) there
   at_end left (inr more) stopped = let fits : left ≤ length ts = inside nesting_limit ts left stopped in absurd (omega arith)
 
-  pub refused : (s : Stop) (e : SyntaxError) → Fails s (text_at nesting_limit ts) → Tells ts len s e → Refused ts len e
-  refused Memory error.Memory stopped told = tt
-  refused (Wrong left) (error.Unexpected at) stopped told =
-      (no_tree (Wrong left) stopped, (left, told, before left at told (inl stopped), no_text left at told stopped))
-  refused (Wrong left) (error.Unfinished at) stopped told = (no_tree (Wrong left) stopped, at_end left told.0 (inl stopped), told.1)
-  refused (Deep left) (error.TooDeep at) stopped told =
-      (no_tree (Deep left) stopped, (left, told, before left at told (inr stopped), too_deep left at told stopped))
-  refused (Deep left) (error.Unfinished at) stopped told = (no_tree (Deep left) stopped, at_end left told.0 (inr stopped), told.1)
-  refused Memory (error.Unexpected at) stopped told = absurd told
-  refused Memory (error.Unfinished at) stopped told = absurd told
-  refused Memory (error.TooDeep at) stopped told = absurd told
-  refused (Wrong left) (error.TooDeep at) stopped told = absurd told
-  refused (Wrong left) error.Memory stopped told = absurd told
-  refused (Deep left) (error.Unexpected at) stopped told = absurd told
-  refused (Deep left) error.Memory stopped told = absurd told
+  pub refused : (s : Stop) (e : SyntaxError) → Fails s (text_at nesting_limit ts) → Reports ts len s e → Refused ts len e
+  refused Memory error.Memory stopped reported = tt
+  refused (Wrong left) (error.Unexpected at) stopped reported =
+      (no_tree (Wrong left) stopped, (left, reported, before left at reported (inl stopped), no_text left at reported stopped))
+  refused (Wrong left) (error.Unfinished at) stopped reported = (no_tree (Wrong left) stopped, at_end left reported.0 (inl stopped), reported.1)
+  refused (Deep left) (error.TooDeep at) stopped reported =
+      (no_tree (Deep left) stopped, (left, reported, before left at reported (inr stopped), too_deep left at reported stopped))
+  refused (Deep left) (error.Unfinished at) stopped reported = (no_tree (Deep left) stopped, at_end left reported.0 (inr stopped), reported.1)
+  refused Memory (error.Unexpected at) stopped reported = absurd reported
+  refused Memory (error.Unfinished at) stopped reported = absurd reported
+  refused Memory (error.TooDeep at) stopped reported = absurd reported
+  refused (Wrong left) (error.TooDeep at) stopped reported = absurd reported
+  refused (Wrong left) error.Memory stopped reported = absurd reported
+  refused (Deep left) (error.Unexpected at) stopped reported = absurd reported
+  refused (Deep left) error.Memory stopped reported = absurd reported

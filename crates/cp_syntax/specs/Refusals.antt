@@ -14,7 +14,7 @@ pub record TokenAt (tokens : List Token) (left at : ℕ) : Type 0 where
   pub front : List Token
   pub token : Token
   pub behind : List Token
-  pub stands : tokens ≡ front ++ token ∷ behind
+  pub represents : tokens ≡ front ++ token ∷ behind
   pub counted : left ≡ suc (length behind)
   pub begins : token.span.from ≡ at
 
@@ -51,10 +51,10 @@ abbrev pub NoTokenAt : List Token → ℕ → Type 0
 NoTokenAt tokens left = (left ≡ 0) ⊎ (length tokens < left)
 
 -- A refusal reports the token at which reading stopped, or the end.
-abbrev pub Tells : List Token → ℕ → Stop → SyntaxError → Type 0
-Tells tokens len Memory error.Memory = Unit {0}
-Tells tokens len (Wrong left) (error.Unexpected at) = TokenAt tokens left at
-Tells tokens len (Wrong left) (error.Unfinished at) = NoTokenAt tokens left × (at ≡ len)
-Tells tokens len (Deep left) (error.TooDeep at) = TokenAt tokens left at
-Tells tokens len (Deep left) (error.Unfinished at) = NoTokenAt tokens left × (at ≡ len)
-Tells tokens len stop e = ⊥
+abbrev pub Reports : List Token → ℕ → Stop → SyntaxError → Type 0
+Reports tokens len Memory error.Memory = Unit {0}
+Reports tokens len (Wrong left) (error.Unexpected at) = TokenAt tokens left at
+Reports tokens len (Wrong left) (error.Unfinished at) = NoTokenAt tokens left × (at ≡ len)
+Reports tokens len (Deep left) (error.TooDeep at) = TokenAt tokens left at
+Reports tokens len (Deep left) (error.Unfinished at) = NoTokenAt tokens left × (at ≡ len)
+Reports tokens len stop e = ⊥

@@ -4,7 +4,7 @@ ghost use Rattle.std.specs.Prelude.{◌≡◌, IfOk, IfErr, IfSome, IsNone};
 ghost use Rattle.cp_model.specs.Grammar.{Reads};
 ghost use Rattle.cp_model.specs.Syntax as s;
 ghost use Rattle.cp_model.specs.View as view;
-ghost use Rattle.cp_syntax.specs.Refusals.{NoTokenAt, Refused, Tells, TokenAt};
+ghost use Rattle.cp_syntax.specs.Refusals.{NoTokenAt, Refused, Reports, TokenAt};
 
 use crate::declarations::text;
 use crate::refusal::SyntaxError;
@@ -36,7 +36,7 @@ pub fn parse(alloc: Global, tokens: &[Token], len: usize) -> Result<Tree, Syntax
 
 /// The error of a text for the reason why reading stopped.
 fn refusal(tokens: &[Token], len: usize, stop: Stop) -> SyntaxError
-    ensures { Tells tokens.now len stop result }
+    ensures { Reports tokens.now len stop result }
 {
     match stop {
         Stop::Memory => SyntaxError::Memory,

@@ -4,7 +4,7 @@ ghost use Rattle.std.specs.Prelude.{◌≡◌, ◌<◌, ◌≤◌};
 ghost use Rattle.std.specs.Thread.{IsSync};
 ghost use Rattle.cp_board.specs.Models.{IsSeatOf};
 
-use cp_board::{Board, MOST_NUMBERS, MOST_STRIPES, Seat};
+use cp_board::{Board, MAX_STRIPES, MAX_TICKETS, Seat};
 use std::alloc::{AllocError, Global};
 use std::sync::atomic::{AtomicU64, Ordering};
 use std::test::Fail;
@@ -36,9 +36,9 @@ fn is_each_once(alloc: Global, mut drawn: Vec<usize>, n: usize) -> Result<bool, 
 // Whether one seat draws each number once and then gets `None` again, and the board counts the
 // draws when it is closed.
 fn draws_alone(alloc: Global, n: usize, stripes: usize) -> Result<bool, AllocError>
-    requires numbers { n ≤ MOST_NUMBERS }
+    requires numbers { n ≤ MAX_TICKETS }
     requires some { 0 < stripes }
-    requires most { stripes ≤ MOST_STRIPES }
+    requires most { stripes ≤ MAX_STRIPES }
 {
     let (board, seat) = Board::new(alloc, n, stripes)?;
     let (mut seat, drawn) = draw_all(alloc, &board, seat);

@@ -150,7 +150,7 @@ fn too_long(alloc: Global) -> Result<Result<(), Refusal>, AllocError> {
 }
 
 #[test]
-fn the_length_is_told_before_a_byte(rt: HostRuntime) {
+fn the_length_is_reported_before_a_byte(rt: HostRuntime) {
     assert!(rt; too_long(rt.alloc()) == Ok(Err(Refusal::InputSize)));
 }
 

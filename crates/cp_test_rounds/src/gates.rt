@@ -221,7 +221,7 @@ impl TurnGate for CountingKernelTurns {
         self.0.kernel(p);
     }
 
-    fn does_nothing(&self) -> bool {
+    fn allows_batching(&self) -> bool {
         true
     }
 }

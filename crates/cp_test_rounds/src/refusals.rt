@@ -12,7 +12,7 @@ use cp_base_config::tick::Tick;
 use cp_base_config::turn::Turn;
 use cp_base_schedule::reading::read_orders;
 use cp_compile_symbols::Tables;
-use cp_private::outside::{Holder, Stage};
+use cp_private::outside::{Holder, SchedulingState};
 use cp_private::private::Activity;
 use cp_program::operation::Operation;
 use cp_program::program;
@@ -109,7 +109,7 @@ const COUNTED: &[u8] = b"12345678";
 // Whether the counters are as the rules say after nine rounds with three steps a turn.
 fn have_counted(machine: &Machine) -> Result<bool, Fail> {
     let kernel = machine.kernel();
-    let delayed = Stage::Delayed {
+    let delayed = SchedulingState::Delayed {
         monitor: 1,
         queue: 1,
     };

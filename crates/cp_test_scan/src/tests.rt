@@ -1,7 +1,7 @@
 //! Texts with their tokens or their refusals, which were worked out by hand.
 
 use cp_model::token::{Kind, Token};
-use cp_scan::{LONGEST_TEXT, ScanError, scan};
+use cp_scan::{MAX_SOURCE_BYTES, ScanError, scan};
 use std::alloc::{AllocError, Global};
 use std::test::Fail;
 
@@ -222,7 +222,7 @@ fn long_pieces(rt: HostRuntime) -> Result<(), Fail> {
 
 #[test]
 fn the_limit_counts_bytes(rt: HostRuntime) -> Result<(), Fail> {
-    let text = pad(rt.alloc(), "", b';', LONGEST_TEXT, "")?;
+    let text = pad(rt.alloc(), "", b';', MAX_SOURCE_BYTES, "")?;
     let Ok(tokens) = scan(rt.alloc(), &text) else {
         return Err("refused".into());
     };

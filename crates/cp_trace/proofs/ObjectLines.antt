@@ -4,7 +4,7 @@ use Rattle.std.specs.List.{concat}
 use Rattle.std.proofs.lemmas.List.Elements.{All-append, All-cons, All-nil}
 use Rattle.std.proofs.lemmas.List.Folds.{concat-append}
 use Rattle.cp_output_formats.specs.Json.{IsJsonLine}
-use Rattle.cp_trace.specs.Telling.{Adds, AreObjects}
+use Rattle.cp_trace.specs.Reporting.{Adds, AreObjects}
 
 pub no_objects : AreObjects []
 no_objects = ([], refl, All-nil IsJsonLine)

@@ -1,6 +1,6 @@
 -- What a tracer tells, by its form.
 use Rattle.std.specs.Prelude.{ℕ, List}
-use Rattle.cp_trace.specs.Telling.{AreObjects, IsAnything, IsRound, IsSomething}
+use Rattle.cp_trace.specs.Reporting.{AreObjects, IsAnything, IsRound, IsSomething}
 use Rattle.cp_base_config.specs.declared.trace.TraceForm.{TraceForm}
 use Rattle.cp_base_config.specs.declared.trace.TraceForm.TheVariants as form
 use Rattle.cp_trace.specs.declared.tracer.Tracer.{Tracer}
@@ -20,11 +20,11 @@ IsPart form.Timeline bytes = IsAnything bytes
 IsPart form.Svg bytes = IsAnything bytes
 
 -- What is told at once of a round.
-abbrev pub TellsRound : TraceForm → ℕ → List ℕ → Type 0
-TellsRound form.Lines n bytes = IsRound n bytes
-TellsRound form.Json n bytes = AreObjects bytes
-TellsRound form.Timeline n bytes = IsAnything bytes
-TellsRound form.Svg n bytes = IsAnything bytes
+abbrev pub ReportsRound : TraceForm → ℕ → List ℕ → Type 0
+ReportsRound form.Lines n bytes = IsRound n bytes
+ReportsRound form.Json n bytes = AreObjects bytes
+ReportsRound form.Timeline n bytes = IsAnything bytes
+ReportsRound form.Svg n bytes = IsAnything bytes
 
 -- What is told up to the end, and also what is told at the end.
 abbrev pub IsTrace : TraceForm → List ℕ → Type 0

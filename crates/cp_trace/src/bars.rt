@@ -3,7 +3,7 @@
 use crate::colours::colour;
 use crate::grid::Cell;
 use crate::members::name_of;
-use cp_inspect::roster::{Member, Roster};
+use cp_inspect::component_table::{ComponentTable, Member};
 use cp_inspect::status::fault_number;
 use std::alloc::{AllocError, Global};
 
@@ -79,13 +79,17 @@ impl Bar {
 
     // Returns the name of the monitor that is asked for or delayed in, that of the holder of a
     // gate, or the number of a fault. Other cells have nothing of the kind.
-    fn about(&self, alloc: Global, roster: &Roster<'_>) -> Result<Option<String>, AllocError> {
+    fn about(
+        &self,
+        alloc: Global,
+        component_table: &ComponentTable<'_>,
+    ) -> Result<Option<String>, AllocError> {
         let about = match self.cell {
             Cell::Asking(monitor) | Cell::Delayed(monitor) => {
-                String::from_str(alloc, name_of(roster, Member::Monitor(monitor)))
+                String::from_str(alloc, name_of(component_table, Member::Monitor(monitor)))
             }
             Cell::Held(process) => {
-                String::from_str(alloc, name_of(roster, Member::Process(process)))
+                String::from_str(alloc, name_of(component_table, Member::Process(process)))
             }
             Cell::Fault(fault) => fault_number(fault).to_string(alloc),
             _ => return Ok(None),
@@ -94,9 +98,13 @@ impl Bar {
     }
 
     /// Returns what it is in words, such as `delayed table`, `held by a`, `fault 3` or `ready`.
-    pub(crate) fn words(&self, alloc: Global, roster: &Roster<'_>) -> Result<String, AllocError> {
+    pub(crate) fn words(
+        &self,
+        alloc: Global,
+        component_table: &ComponentTable<'_>,
+    ) -> Result<String, AllocError> {
         let word = word_of(self.cell);
-        match self.about(alloc, roster)? {
+        match self.about(alloc, component_table)? {
             Some(about) => format!(in alloc; "{word} {about}"),
             None => String::from_str(alloc, word),
         }
@@ -108,15 +116,15 @@ impl Bar {
     pub(crate) fn caption(
         &self,
         alloc: Global,
-        roster: &Roster<'_>,
+        component_table: &ComponentTable<'_>,
         most: usize,
     ) -> Result<Option<String>, AllocError> {
-        let Some(about) = self.about(alloc, roster)? else {
+        let Some(about) = self.about(alloc, component_table)? else {
             return Ok(None);
         };
         if let Cell::Held(process) = self.cell {
             return Ok(that_fits(about, process.to_string(alloc)?, most));
         }
-        Ok(that_fits(self.words(alloc, roster)?, about, most))
+        Ok(that_fits(self.words(alloc, component_table)?, about, most))
     }
 }

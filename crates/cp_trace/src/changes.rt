@@ -1,6 +1,6 @@
 //! What changed of a process or a monitor.
 
-use cp_inspect::roster::Member;
+use cp_inspect::component_table::Member;
 use serde::Serialize;
 
 /// The value of a simple variable or of a queue.

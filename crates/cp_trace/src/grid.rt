@@ -2,8 +2,8 @@
 
 use crate::members::{chosen, name_of};
 use crate::topic::Topic;
-use cp_inspect::readings::Readings;
-use cp_inspect::roster::{Member, Roster};
+use cp_inspect::component_table::{ComponentTable, Member};
+use cp_inspect::inspect::Inspect;
 use cp_inspect::state::ProcState;
 use cp_model::state::Fault;
 use cp_private::outside::Holder;
@@ -37,7 +37,7 @@ pub(crate) struct Row<'t> {
 #[derive(Drop)]
 pub(crate) struct Grid<'t> {
     pub(crate) alloc: Global,
-    pub(crate) roster: Roster<'t>,
+    pub(crate) component_table: ComponentTable<'t>,
     pub(crate) rows: Vec<Row<'t>>,
     /// The round of the first cells.
     pub(crate) first: u64,
@@ -45,7 +45,7 @@ pub(crate) struct Grid<'t> {
     pub(crate) columns: usize,
 }
 
-fn cell_of_process<M: Readings>(machine: &M, number: u32) -> Cell {
+fn cell_of_process<M: Inspect>(machine: &M, number: u32) -> Cell {
     match machine.state_of(number) {
         ProcState::Unstarted => Cell::Unstarted,
         // A process is fresh only within the round that starts it.
@@ -58,7 +58,7 @@ fn cell_of_process<M: Readings>(machine: &M, number: u32) -> Cell {
     }
 }
 
-fn cell_of_monitor<M: Readings>(machine: &M, number: u32) -> Cell {
+fn cell_of_monitor<M: Inspect>(machine: &M, number: u32) -> Cell {
     match machine.holder_of(number) {
         Holder::Unset => Cell::Unset,
         Holder::Free => Cell::Free,
@@ -66,7 +66,7 @@ fn cell_of_monitor<M: Readings>(machine: &M, number: u32) -> Cell {
     }
 }
 
-fn cell_of<M: Readings>(machine: &M, member: Member) -> Cell {
+fn cell_of<M: Inspect>(machine: &M, member: Member) -> Cell {
     match member {
         Member::Process(number) => cell_of_process(machine, number),
         Member::Monitor(number) => cell_of_monitor(machine, number),
@@ -81,16 +81,16 @@ impl<'t> Grid<'t> {
     /// `AllocError` if memory runs out.
     pub(crate) fn of(alloc: Global, topic: Topic<'_, 't>) -> Result<Grid<'t>, AllocError> {
         let mut rows = Vec::new(alloc);
-        for member in chosen(alloc, &topic.roster, topic.only)? {
+        for member in chosen(alloc, &topic.component_table, topic.only)? {
             rows.push(Row {
                 member,
-                name: name_of(&topic.roster, member),
+                name: name_of(&topic.component_table, member),
                 cells: Vec::new(alloc),
             })?;
         }
         Ok(Grid {
             alloc,
-            roster: topic.roster,
+            component_table: topic.component_table,
             rows,
             first: topic.done.saturating_add(1),
             columns: 0,
@@ -102,7 +102,7 @@ impl<'t> Grid<'t> {
     /// # Errors
     ///
     /// `AllocError` if memory runs out. The grid is then of no more use.
-    pub(crate) fn see<M: Readings>(&mut self, machine: &M) -> Result<(), AllocError> {
+    pub(crate) fn see<M: Inspect>(&mut self, machine: &M) -> Result<(), AllocError> {
         for row in self.rows.iter_mut() {
             row.cells.push(cell_of(machine, row.member))?;
         }

@@ -11,7 +11,7 @@
 //!   and in `svg` as a picture of `bars`, with its `markup` and `colours`.
 //!
 //! What is seen of a machine takes memory once: it doesn't grow with the rounds. All of this serves
-//! people, and is tested. `specs/Telling.antt` and `specs/Tracers.antt` say what is
+//! people, and is tested. `specs/WalkOutput.antt` and `specs/Tracers.antt` say what is
 //! added to the buffer.
 #![tactic(auto)]
 

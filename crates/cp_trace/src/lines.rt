@@ -1,11 +1,11 @@
 //! Changes as lines for people.
 
 ghost use Rattle.std.specs.Prelude.{OnOk};
-ghost use Rattle.cp_trace.specs.Telling.{Adds, IsRound};
+ghost use Rattle.cp_trace.specs.WalkOutput.{Adds, IsRound};
 
 use crate::changes::{Change, Changes, Output, Step, Value, VariableChange};
 use cp_base_digits::decimal::{push_integer, push_natural};
-use cp_inspect::roster::Member;
+use cp_inspect::component_table::Member;
 use cp_inspect::text::push_all_escaped;
 use std::alloc::{AllocError, Global};
 

@@ -1,7 +1,7 @@
 //! The processes and monitors of which a trace tells, and their names.
 
 use cp_compile_symbols::small_number;
-use cp_inspect::roster::{Member, Roster};
+use cp_inspect::component_table::{ComponentTable, Member};
 use std::alloc::{AllocError, Global};
 
 /// Returns bytes of a name, a path or a transcript as a string. They are ASCII, as texts are.
@@ -10,18 +10,18 @@ pub(crate) fn word(bytes: &[u8]) -> &str {
 }
 
 /// Returns the name of a process or monitor.
-pub(crate) fn name_of<'t>(roster: &Roster<'t>, member: Member) -> &'t str {
+pub(crate) fn name_of<'t>(component_table: &ComponentTable<'t>, member: Member) -> &'t str {
     word(match member {
-        Member::Process(number) => roster.process_name(number),
-        Member::Monitor(number) => roster.monitor_name(number),
+        Member::Process(number) => component_table.process_name(number),
+        Member::Monitor(number) => component_table.monitor_name(number),
     })
 }
 
 // All processes by number, and then all monitors.
-fn all(alloc: Global, roster: &Roster<'_>) -> Result<Vec<Member>, AllocError> {
+fn all(alloc: Global, component_table: &ComponentTable<'_>) -> Result<Vec<Member>, AllocError> {
     // The roster has no initial process.
-    let processes = small_number(roster.processes.len().saturating_add(1))?;
-    let monitors = small_number(roster.monitors.len())?;
+    let processes = small_number(component_table.processes.len().saturating_add(1))?;
+    let monitors = small_number(component_table.monitors.len())?;
     (1..=processes)
         .map(Member::Process)
         .chain((1..=monitors).map(Member::Monitor))
@@ -36,16 +36,16 @@ fn all(alloc: Global, roster: &Roster<'_>) -> Result<Vec<Member>, AllocError> {
 /// `AllocError` if memory runs out.
 pub(crate) fn chosen(
     alloc: Global,
-    roster: &Roster<'_>,
+    component_table: &ComponentTable<'_>,
     only: &[&str],
 ) -> Result<Vec<Member>, AllocError> {
-    let mut all = all(alloc, roster)?;
+    let mut all = all(alloc, component_table)?;
     if only.is_empty() {
         return Ok(all);
     }
     let mut named = Vec::new(alloc);
     for name in only {
-        if let Some(member) = roster.member(name.as_bytes())? {
+        if let Some(member) = component_table.member(name.as_bytes())? {
             named.push(member)?;
         }
     }

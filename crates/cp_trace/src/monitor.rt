@@ -3,9 +3,9 @@
 use crate::changes::{Change, Step};
 use crate::values::Values;
 use crate::vocabulary::Vocabulary;
+use cp_inspect::component_table::Member;
+use cp_inspect::inspect::Inspect;
 use cp_inspect::places::Place;
-use cp_inspect::readings::Readings;
-use cp_inspect::roster::Member;
 use cp_private::outside::Holder;
 use std::alloc::{AllocError, Global};
 
@@ -20,7 +20,7 @@ pub(crate) struct SeenMonitor {
 
 impl SeenMonitor {
     /// Returns a monitor of a machine with variables at these places, as it is.
-    pub(crate) fn of<M: Readings>(
+    pub(crate) fn of<M: Inspect>(
         alloc: Global,
         number: u32,
         places: &[Place],
@@ -34,7 +34,7 @@ impl SeenMonitor {
         })
     }
 
-    fn push_holder<'a, 't: 'a, M: Readings>(
+    fn push_holder<'a, 't: 'a, M: Inspect>(
         &mut self,
         vocabulary: &Vocabulary<'t>,
         machine: &M,
@@ -52,7 +52,7 @@ impl SeenMonitor {
         Ok(())
     }
 
-    fn push_askers<'a, 't: 'a, M: Readings>(
+    fn push_askers<'a, 't: 'a, M: Inspect>(
         &mut self,
         vocabulary: &Vocabulary<'t>,
         machine: &M,
@@ -72,7 +72,7 @@ impl SeenMonitor {
 
     /// Returns what changed since the monitor was seen last: its gate, its askers, and its
     /// variables and queues at these places. It has then been seen.
-    pub(crate) fn changes<'a, 't: 'a, M: Readings>(
+    pub(crate) fn changes<'a, 't: 'a, M: Inspect>(
         &mut self,
         alloc: Global,
         vocabulary: &Vocabulary<'t>,

@@ -1,10 +1,10 @@
 //! Changes as objects for programs, a line each.
 
 ghost use Rattle.std.specs.Prelude.{OnOk};
-ghost use Rattle.cp_trace.specs.Telling.{Adds, AreObjects};
+ghost use Rattle.cp_trace.specs.WalkOutput.{Adds, AreObjects};
 
 use crate::changes::{Change, Changes};
-use cp_inspect::roster::Member;
+use cp_inspect::component_table::Member;
 use cp_output_formats::object::line;
 use serde::Serialize;
 use std::alloc::{AllocError, Global};

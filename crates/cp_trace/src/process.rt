@@ -4,9 +4,9 @@ use crate::changes::{Change, Output, Step};
 use crate::members::word;
 use crate::values::Values;
 use crate::vocabulary::Vocabulary;
+use cp_inspect::component_table::Member;
+use cp_inspect::inspect::Inspect;
 use cp_inspect::places::Place;
-use cp_inspect::readings::Readings;
-use cp_inspect::roster::Member;
 use cp_inspect::state::ProcState;
 use std::alloc::{AllocError, Global};
 
@@ -26,14 +26,14 @@ fn from(bytes: &[u8], index: usize) -> &[u8] {
 }
 
 // The length of the transcript of a process.
-fn written<M: Readings>(machine: &M, number: u32) -> usize {
+fn written<M: Inspect>(machine: &M, number: u32) -> usize {
     let (kernel, own) = machine.transcript_of(number);
     kernel.len().saturating_add(own.len())
 }
 
 impl SeenProcess {
     /// Returns a process of a machine with variables at these places, as it is.
-    pub(crate) fn of<M: Readings>(
+    pub(crate) fn of<M: Inspect>(
         alloc: Global,
         number: u32,
         places: &[Place],
@@ -47,7 +47,7 @@ impl SeenProcess {
         })
     }
 
-    fn push_status<'a, M: Readings>(
+    fn push_status<'a, M: Inspect>(
         &mut self,
         alloc: Global,
         vocabulary: &Vocabulary<'_>,
@@ -58,7 +58,7 @@ impl SeenProcess {
         if state == self.state {
             return Ok(());
         }
-        let monitors = &vocabulary.roster.monitors;
+        let monitors = &vocabulary.component_table.monitors;
         changes.push(Change::Status(Step {
             from: machine.words_of(alloc, monitors, self.state)?,
             to: machine.words_of(alloc, monitors, state)?,
@@ -67,7 +67,7 @@ impl SeenProcess {
         Ok(())
     }
 
-    fn push_output<'a, M: Readings>(
+    fn push_output<'a, M: Inspect>(
         &mut self,
         alloc: Global,
         machine: &M,
@@ -88,7 +88,7 @@ impl SeenProcess {
 
     /// Returns what changed since the process was seen last: its status, what it wrote, and its
     /// variables at these places. It has then been seen.
-    pub(crate) fn changes<'a, 't: 'a, M: Readings>(
+    pub(crate) fn changes<'a, 't: 'a, M: Inspect>(
         &mut self,
         alloc: Global,
         vocabulary: &Vocabulary<'t>,

@@ -1,7 +1,7 @@
 //! Where the variables of components lie. Components of one type share their places.
 
+use cp_inspect::inspect::Inspect;
 use cp_inspect::places::Place;
-use cp_inspect::readings::Readings;
 use std::alloc::{AllocError, Global};
 
 // The places of the components of a type.
@@ -28,7 +28,7 @@ impl Shapes {
 
     /// Returns the number of the shape of a type, which is added if it is new. `None` stands for
     /// the type of the initial process.
-    pub(crate) fn number_of<M: Readings>(
+    pub(crate) fn number_of<M: Inspect>(
         &mut self,
         alloc: Global,
         machine: &M,

@@ -4,14 +4,14 @@
 //! are in pixels.
 
 ghost use Rattle.std.specs.Prelude.{OnOk};
-ghost use Rattle.cp_trace.specs.Telling.{Adds, IsAnything, IsSomething};
+ghost use Rattle.cp_trace.specs.WalkOutput.{Adds, IsAnything, IsSomething};
 
 use crate::bars::{Bar, bars};
 use crate::colours::{LEGEND_HEIGHT, LEGEND_WIDTH, STYLE, colour, push_legend};
 use crate::grid::{Cell, Grid, Row};
 use crate::markup::{Area, begin_rectangle, push_rectangle, push_text};
-use cp_inspect::readings::Readings;
-use cp_inspect::roster::Member;
+use cp_inspect::component_table::Member;
+use cp_inspect::inspect::Inspect;
 use std::alloc::AllocError;
 use std::fmt::Write;
 
@@ -196,7 +196,10 @@ viewBox=\"0 0 {width} {height}\">"
         y: usize,
     ) -> Result<(), AllocError> {
         begin_rectangle(page, bar.class(), self.area(bar.from, bar.end, y))?;
-        let (name, words) = (row.name, bar.words(self.grid.alloc, &self.grid.roster)?);
+        let (name, words) = (
+            row.name,
+            bar.words(self.grid.alloc, &self.grid.component_table)?,
+        );
         write!(page, "<title>{name}: {words}, ")?;
         self.push_rounds(page, bar)?;
         page.push_str("</title></rect>\n")
@@ -205,7 +208,11 @@ viewBox=\"0 0 {width} {height}\">"
     // Adds what stands on a bar.
     fn push_caption(&self, page: &mut String, bar: &Bar, y: usize) -> Result<(), AllocError> {
         let Area { x, width, .. } = self.area(bar.from, bar.end, y);
-        let caption = bar.caption(self.grid.alloc, &self.grid.roster, width / CHARACTER)?;
+        let caption = bar.caption(
+            self.grid.alloc,
+            &self.grid.component_table,
+            width / CHARACTER,
+        )?;
         let Some(caption) = caption else {
             return Ok(());
         };
@@ -290,7 +297,7 @@ viewBox=\"0 0 {width} {height}\">"
     /// # Errors
     ///
     /// `AllocError` if memory runs out. The picture is then of no more use.
-    pub(crate) fn follow<M: Readings>(
+    pub(crate) fn follow<M: Inspect>(
         &mut self,
         machine: &M,
         out: &mut Vec<u8>,

@@ -1,11 +1,11 @@
 //! A grid as text: a row a process or monitor, a character a round.
 
 ghost use Rattle.std.specs.Prelude.{OnOk};
-ghost use Rattle.cp_trace.specs.Telling.{Adds, IsAnything, IsSomething};
+ghost use Rattle.cp_trace.specs.WalkOutput.{Adds, IsAnything, IsSomething};
 
 use crate::grid::{Cell, Grid, Row};
-use cp_inspect::readings::Readings;
-use cp_inspect::roster::Member;
+use cp_inspect::component_table::Member;
+use cp_inspect::inspect::Inspect;
 use std::alloc::AllocError;
 use std::fmt::Write;
 
@@ -120,7 +120,7 @@ impl<'t> Timeline<'t> {
     /// # Errors
     ///
     /// `AllocError` if memory runs out. The timeline is then of no more use.
-    pub(crate) fn follow<M: Readings>(
+    pub(crate) fn follow<M: Inspect>(
         &mut self,
         machine: &M,
         out: &mut Vec<u8>,

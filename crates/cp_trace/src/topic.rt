@@ -1,6 +1,6 @@
 //! Of what a trace tells.
 
-use cp_inspect::roster::Roster;
+use cp_inspect::component_table::ComponentTable;
 use cp_model::tree::Tree;
 
 /// Of what a trace tells: the processes and monitors of a text, in some rounds of its machine.
@@ -9,7 +9,7 @@ pub struct Topic<'a, 't> {
     /// The tree of the text.
     pub tree: &'t Tree,
     /// Its processes and monitors.
-    pub roster: Roster<'t>,
+    pub component_table: ComponentTable<'t>,
     /// The names of those that are told of, or none if all are. A name that no process or monitor
     /// has stands for none.
     pub only: &'a [&'a str],

@@ -7,9 +7,9 @@ use crate::process::SeenProcess;
 use crate::shapes::Shapes;
 use crate::topic::Topic;
 use crate::vocabulary::Vocabulary;
+use cp_inspect::component_table::Member;
+use cp_inspect::inspect::Inspect;
 use cp_inspect::places::Place;
-use cp_inspect::readings::Readings;
-use cp_inspect::roster::Member;
 use std::alloc::{AllocError, Global};
 
 // A process or monitor as it was seen last.
@@ -21,7 +21,7 @@ enum Seen {
 
 impl Seen {
     // Returns a process or monitor with variables at these places, as it is.
-    fn of<M: Readings>(
+    fn of<M: Inspect>(
         alloc: Global,
         member: Member,
         places: &[Place],
@@ -37,7 +37,7 @@ impl Seen {
         })
     }
 
-    fn changes<'a, 't: 'a, M: Readings>(
+    fn changes<'a, 't: 'a, M: Inspect>(
         &mut self,
         alloc: Global,
         vocabulary: &Vocabulary<'t>,
@@ -75,15 +75,15 @@ impl<'t> Trace<'t> {
     /// # Errors
     ///
     /// `AllocError` if memory runs out.
-    pub(crate) fn of<M: Readings>(
+    pub(crate) fn of<M: Inspect>(
         alloc: Global,
         topic: Topic<'_, 't>,
         machine: &M,
     ) -> Result<Trace<'t>, AllocError> {
-        let members = chosen(alloc, &topic.roster, topic.only)?;
+        let members = chosen(alloc, &topic.component_table, topic.only)?;
         let mut trace = Trace {
             alloc,
-            vocabulary: Vocabulary::of(alloc, topic.roster, topic.tree)?,
+            vocabulary: Vocabulary::of(alloc, topic.component_table, topic.tree)?,
             shapes: Shapes::new(alloc),
             all: Vec::new(alloc),
         };
@@ -93,7 +93,7 @@ impl<'t> Trace<'t> {
         Ok(trace)
     }
 
-    fn add<M: Readings>(&mut self, machine: &M, member: Member) -> Result<(), AllocError> {
+    fn add<M: Inspect>(&mut self, machine: &M, member: Member) -> Result<(), AllocError> {
         let row = self.vocabulary.type_of(member);
         let shape = self.shapes.number_of(self.alloc, machine, row)?;
         let places = self.shapes.places(shape);
@@ -111,7 +111,7 @@ impl<'t> Trace<'t> {
     /// # Errors
     ///
     /// `AllocError` if memory runs out. The trace is then of no more use.
-    pub(crate) fn changes<M: Readings>(
+    pub(crate) fn changes<M: Inspect>(
         &mut self,
         machine: &M,
     ) -> Result<Vec<Changes<'_>>, AllocError> {
@@ -126,7 +126,7 @@ impl<'t> Trace<'t> {
 }
 
 // Returns what changed of all of them. It borrows their places, and no longer them.
-fn changes_of<'a, 't: 'a, M: Readings>(
+fn changes_of<'a, 't: 'a, M: Inspect>(
     alloc: Global,
     all: &mut [Traced],
     vocabulary: &Vocabulary<'t>,
@@ -140,7 +140,7 @@ fn changes_of<'a, 't: 'a, M: Readings>(
         if !changes.is_empty() {
             changed.push(Changes {
                 member: traced.member,
-                name: name_of(&vocabulary.roster, traced.member),
+                name: name_of(&vocabulary.component_table, traced.member),
                 changes,
             })?;
         }

@@ -1,7 +1,7 @@
 //! Following a machine round by round, and telling of it in the form that is asked for.
 
 ghost use Rattle.std.specs.Prelude.{◌≡◌, IfOk, OnOk};
-ghost use Rattle.cp_trace.specs.Telling.{Adds};
+ghost use Rattle.cp_trace.specs.WalkOutput.{Adds};
 
 use crate::grid::Grid;
 use crate::lines::push_round;
@@ -11,7 +11,7 @@ use crate::timeline::Timeline;
 use crate::topic::Topic;
 use crate::trace::Trace;
 use cp_base_config::trace::TraceForm;
-use cp_inspect::readings::Readings;
+use cp_inspect::inspect::Inspect;
 use std::alloc::{AllocError, Global};
 
 /// Who follows a machine and tells of it. What it has seen takes memory that doesn't grow with the
@@ -25,7 +25,7 @@ pub enum Tracer<'t> {
 }
 
 impl<'t> Tracer<'t> {
-    ghost use Rattle.cp_trace.specs.Tracers.{IsPart, IsTrace, TellsRound, form_of};
+    ghost use Rattle.cp_trace.specs.Tracers.{IsPart, IsTrace, ReportsRound, form_of};
 
     /// Returns who follows a machine from what it is now, and tells of it in this form. The machine
     /// runs the program of the topic's text, and has made the rounds before those that are told.
@@ -33,7 +33,7 @@ impl<'t> Tracer<'t> {
     /// # Errors
     ///
     /// `AllocError` if memory runs out.
-    pub fn of<M: Readings>(
+    pub fn of<M: Inspect>(
         alloc: Global,
         form: TraceForm,
         topic: Topic<'_, 't>,
@@ -71,13 +71,13 @@ impl<'t> Tracer<'t> {
     /// # Errors
     ///
     /// `AllocError` if memory runs out. The tracer is then of no more use.
-    pub fn follow<M: Readings>(
+    pub fn follow<M: Inspect>(
         &mut self,
         rounds: u64,
         machine: &M,
         out: &mut Vec<u8>,
     ) -> Result<(), AllocError>
-        ensures added { OnOk result (Adds (TellsRound (form_of self.old) rounds)
+        ensures added { OnOk result (Adds (ReportsRound (form_of self.old) rounds)
             out.old.items out.new.items) }
         ensures form { OnOk result (form_of self.new ≡ form_of self.old) }
     {

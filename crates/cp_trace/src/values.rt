@@ -3,10 +3,10 @@
 use crate::changes::{Change, VariableChange};
 use crate::members::word;
 use crate::vocabulary::Vocabulary;
+use cp_inspect::component_table::Member;
+use cp_inspect::inspect::Inspect;
 use cp_inspect::place::Value;
 use cp_inspect::places::Place;
-use cp_inspect::readings::Readings;
-use cp_inspect::roster::Member;
 use std::alloc::{AllocError, Global};
 
 /// The values of the variables of a component when they were seen last.
@@ -20,7 +20,7 @@ pub(crate) struct Values {
 impl Values {
     /// Returns the values that the variables at these places of a process or monitor have in a
     /// machine.
-    pub(crate) fn of<M: Readings>(
+    pub(crate) fn of<M: Inspect>(
         alloc: Global,
         of: Member,
         places: &[Place],
@@ -34,7 +34,7 @@ impl Values {
     }
 
     // Adds the change of the variable at the place with a number, if there is one.
-    fn push_change<'a, 't: 'a, M: Readings>(
+    fn push_change<'a, 't: 'a, M: Inspect>(
         &mut self,
         vocabulary: &Vocabulary<'t>,
         number: usize,
@@ -59,7 +59,7 @@ impl Values {
     }
 
     /// Adds each change of the variables at these places, in their order.
-    pub(crate) fn push_changes<'a, 't: 'a, M: Readings>(
+    pub(crate) fn push_changes<'a, 't: 'a, M: Inspect>(
         &mut self,
         vocabulary: &Vocabulary<'t>,
         places: &'a [Place],

@@ -4,9 +4,9 @@ use crate::changes::Value;
 use crate::members::{name_of, word};
 use cp_base_names::{Key, NameTable};
 use cp_compile_symbols::Base;
+use cp_inspect::component_table::{ComponentTable, Member};
+use cp_inspect::inspect::Inspect;
 use cp_inspect::place;
-use cp_inspect::readings::Readings;
-use cp_inspect::roster::{Member, Roster};
 use cp_model::tree::{Defined, Identifier, Section, Tree, TypeDefinition};
 use cp_private::outside::Holder;
 use std::alloc::{AllocError, Global};
@@ -18,7 +18,7 @@ type Enumerations<'t> = NameTable<'t, &'t [Identifier]>;
 #[derive(Drop)]
 pub(crate) struct Vocabulary<'t> {
     alloc: Global,
-    pub(crate) roster: Roster<'t>,
+    pub(crate) component_table: ComponentTable<'t>,
     enumerations: Enumerations<'t>,
 }
 
@@ -51,12 +51,12 @@ impl<'t> Vocabulary<'t> {
     /// Returns the vocabulary of a text with this tree, whose processes and monitors these are.
     pub(crate) fn of(
         alloc: Global,
-        roster: Roster<'t>,
+        component_table: ComponentTable<'t>,
         tree: &'t Tree,
     ) -> Result<Vocabulary<'t>, AllocError> {
         Ok(Vocabulary {
             alloc,
-            roster,
+            component_table,
             enumerations: enumerations(alloc, tree)?,
         })
     }
@@ -66,16 +66,16 @@ impl<'t> Vocabulary<'t> {
         let component = match member {
             Member::Process(number) => {
                 let index = usize::try_from(number).ok()?.checked_sub(2)?;
-                self.roster.processes.get(index)?
+                self.component_table.processes.get(index)?
             }
-            Member::Monitor(number) => self.roster.monitor(number)?,
+            Member::Monitor(number) => self.component_table.monitor(number)?,
         };
         Some(component.of)
     }
 
     /// Returns the name of the process with a number.
     pub(crate) fn process(&self, number: u32) -> &'t str {
-        name_of(&self.roster, Member::Process(number))
+        name_of(&self.component_table, Member::Process(number))
     }
 
     /// Returns the names of the processes with these numbers.
@@ -120,7 +120,7 @@ impl<'t> Vocabulary<'t> {
     }
 
     /// Returns the value of a variable of a type with the number `of`, as it is told.
-    pub(crate) fn value<M: Readings>(
+    pub(crate) fn value<M: Inspect>(
         &self,
         machine: &M,
         of: usize,

@@ -89,7 +89,7 @@ impl<H: Clock + Eprint + Sync> TurnGate for Progress<'_, H> {
     }
 
     // No thread waits for these calls.
-    fn does_nothing(&self) -> bool {
+    fn allows_batching(&self) -> bool {
         true
     }
 }

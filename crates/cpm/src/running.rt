@@ -108,9 +108,9 @@ fn print_outcome<H: Clock + Eprint + Print + Threads + Wait + Sync, R: Read, S: 
 ) -> Result<Verdict, Refusal> {
     let progress = Progress::of(rt, progress);
     let mut out = progress.beside(io::writer(rt));
-    let told = execute_outcome(rt, alloc, text, input, how, form, &progress, &mut out);
+    let reported = execute_outcome(rt, alloc, text, input, how, form, &progress, &mut out);
     progress.erase();
-    let verdict = told?;
+    let verdict = reported?;
     flush(&mut out)?;
     Ok(verdict)
 }
@@ -159,9 +159,9 @@ fn print_trace<H: Clock + Eprint + Print + Threads + Wait + Sync, R: Read, S: Re
 ) -> Result<(), Refusal> {
     let progress = Progress::of(rt, progress);
     let mut out = progress.beside(io::writer(rt));
-    let told = execute_trace(rt, alloc, text, input, only, how, &progress, &mut out);
+    let reported = execute_trace(rt, alloc, text, input, only, how, &progress, &mut out);
     progress.erase();
-    told?;
+    reported?;
     flush(&mut out)
 }
 

@@ -5,9 +5,9 @@ use Rattle.cp_model_program.specs.Terms as terms
 use Rattle.cp_model_machine.specs.Values.{bind, place_of, value_of}
 use Rattle.cp_program.specs.Reaches.{cap_place, capped_result, chain_value, elements_place, offset_of, view_of}
 use Rattle.cp_program.specs.View as view
-use Rattle.cp_program.specs.declared.term.Spot.{out-Spot}
+use Rattle.cp_program.specs.declared.term.PlaceExpression.{out-PlaceExpression}
 use Rattle.cp_program.specs.declared.term.Term.{out-Term}
-use Rattle.cp_program.proofs.Chains.{elements_capped, index_is, place_elements, spot_is, term_is, value_chain}
+use Rattle.cp_program.proofs.Chains.{elements_capped, index_is, place_elements, place_expression_is, term_is, value_chain}
 use Rattle.cp_program.proofs.+value.Goals as goal
 
 pub evaluation::place_of_element-loop-i-preserved : goal.evaluation::place_of_element-loop-i-preserved
@@ -25,11 +25,11 @@ evaluation::place_of_element-loop-i-preserved t c =
     ∙ ap (λ k. c.i-item.result ∷ drop k c.args.indices.now) next in
     let valued : value_of v i.value ≡ Ok n = ap (λ x. value_of v x.value) (index_is c.i-item.result) ∙ sym c.value_here.ensures ∙ c.in_ok-n.was in
     let moved : offset_of i n ≡ Ok far = search rules in
-    let told : cap_place c.saturating_add-at.result ≡ cap_place (at + far) = omega (arith, c.saturating_add-at.ensures) in
+    let reported : cap_place c.saturating_add-at.result ≡ cap_place (at + far) = omega (arith, c.saturating_add-at.ensures) in
     record {
       small = c.saturating_add-at.type_inv;
       place =
-          elements_capped v c.saturating_add-at.result (at + far) rest told
+          elements_capped v c.saturating_add-at.result (at + far) rest reported
           ∙ (ap (λ r. capped_result (bind r (λ k. elements_place v (at + k) rest))) (sym moved)
           ∙ (ap (λ r. capped_result (bind r (λ m. bind (offset_of i m) (λ k. elements_place v (at + k) rest)))) (sym valued)
           ∙ (ap (λ xs. capped_result (elements_place v at (map view.index xs))) (sym split) ∙ c.loop-i.invariant.place)));
@@ -40,21 +40,21 @@ evaluation::place_of_element-returns t c =
     let v = view_of c.args.reach.now in
     let at = c.loop-i.at in
     let small : at < 2 ^ 64 = c.loop-i.invariant.small in
-    let told : at ≡ cap_place at = omega arith in
-    ap (λ n. Ok n) told
+    let reported : at ≡ cap_place at = omega arith in
+    ap (λ n. Ok n) reported
     ∙ (sym (at_drop_all (λ xs. capped_result (elements_place v at (map view.index xs))) c.args.indices.now c.loop-i.i-index c.loop-i-test.false)
     ∙ c.loop-i.invariant.place)
 
-pub term::Spot::place-returns : goal.term::Spot::place-returns
-term::Spot::place-returns t c =
+pub term::PlaceExpression::place-returns : goal.term::PlaceExpression::place-returns
+term::PlaceExpression::place-returns t c =
     let v = view_of c.args.reach.now in
     let s = c.args.self.now in
-    let is = map view.index (out-Spot s).indices.items in
+    let is = map view.index (out-PlaceExpression s).indices.items in
     c.place_of_element.ensures
     ∙ (ap (λ xs. capped_result (elements_place v c.root_place-from.result (map view.index xs))) c.deref.ensures.value
     ∙ (ap (λ n. capped_result (elements_place v n is)) c.root_place-from.ensures.place
-    ∙ (ap capped_result (sym (place_elements v (terms.Rooted (view.root (out-Spot s).root)) is))
-    ∙ ap (λ x. capped_result (place_of v x)) (sym (spot_is s)))))
+    ∙ (ap capped_result (sym (place_elements v (terms.Rooted (view.root (out-PlaceExpression s).root)) is))
+    ∙ ap (λ x. capped_result (place_of v x)) (sym (place_expression_is s)))))
 
 pub term::Term::value_here-returns-in_err-first : goal.term::Term::value_here-returns-in_err-first
 term::Term::value_here-returns-in_err-first t c =

@@ -1,6 +1,6 @@
 use Rattle.std.proofs.Common.{sym, ap, ◌∙◌, ◌≡◌, ◌≢◌, ◌||◌, ℕ, Bool, arith, false, length, get_or, below_more, length-set, get_or-set_same, get_or-set_other}
 use Rattle.std.proofs.lemmas.List.{ext_get_or}
-use Rattle.cp_board.specs.declared.view.TheConstants.{MOST_STRIPES}
+use Rattle.cp_board.specs.declared.view.TheConstants.{MAX_STRIPES}
 use Rattle.cp_board.proofs.MarkLists.{get_or-or_each, length-or_each}
 use Rattle.cp_board.proofs.marks.either.Goals as goal
 
@@ -11,7 +11,7 @@ loop-j-preserved c =
     let second = c.args.second.now in
     let j : ℕ = c.loop-j.j in
     let below = c.loop-j-test.true in
-    let len : length both ≡ MOST_STRIPES = was.len in
+    let len : length both ≡ MAX_STRIPES = was.len in
     let mark : Bool = get_or both j false || get_or second j false in
     let other : (i : ℕ) → i ≢ j → _ = λ i ne. get_or-set_other both j i mark false ne in
     record {
@@ -28,8 +28,8 @@ returns c =
     let first = c.args.first.now in
     let second = c.args.second.now in
     let ended = c.loop-j-test.false in
-    let len : length c.loop-j.both ≡ MOST_STRIPES = was.len in
-    let first_len : length first ≡ MOST_STRIPES = c.told-first in
-    let second_len : length second ≡ MOST_STRIPES = c.told-second in
+    let len : length c.loop-j.both ≡ MAX_STRIPES = was.len in
+    let first_len : length first ≡ MAX_STRIPES = c.reported-first in
+    let second_len : length second ≡ MAX_STRIPES = c.reported-second in
     let or_len = length-or_each first second (omega arith) in
     ext_get_or false c.loop-j.both _ (len ∙ sym (or_len ∙ first_len)) (λ i below. was.before i (omega arith) ∙ sym (get_or-or_each first second i))

@@ -11,7 +11,7 @@ use Rattle.cp_compile.proofs.ProgramsCompiled.{planner_after, planner_types}
 use Rattle.cp_compile.proofs.compiler.make_plans.Goals as goal
 
 pub returns-clause-plans : goal.returns-clause-plans
-returns-clause-plans c = λ g t stands planner.
+returns-clause-plans c = λ g t represents planner.
     let tables = c.args.tables.now in
     let s = (text_of t).initial in
     let old = c.args.planner.now in
@@ -20,13 +20,13 @@ returns-clause-plans c = λ g t stands planner.
     let declared = planner_types tables old g planner in
     let made = rw (c.deref.ensures.value, c.deref-2.ensures.value) at c.in_ok-initial.ensures.plan in
     let own =
-    made g s planner.knows (declared (map declared_entry tables.initial.parameters.items) (declarations g s.parameters) stands.initial.parameters)
-    (declared (map declared_entry tables.initial.variables.items) (declarations g s.variables) stands.initial.variables) in
+    made g s planner.knows (declared (map declared_entry tables.initial.parameters.items) (declarations g s.parameters) represents.initial.parameters)
+    (declared (map declared_entry tables.initial.variables.items) (declarations g s.variables) represents.initial.variables) in
     let after = planner_after tables old mid g c.in_ok-initial.ensures.extends (c.in_ok-initial.ensures.knows g planner.knows) planner in
     let there : c.in_ok-initial.initial < length mid.plans.items = omega (arith, c.in_ok-initial.ensures.number, c.in_ok-initial.ensures.added) in
     let plans = c.in_ok-first.ensures.plans g after.knows in
     record {
-      systems = (subst (λ (z : Tables). AreSystems g z.types z.systems.items → ArePlans g z (known_of new) c.in_ok-first.first) after.over plans) stands.systems;
+      systems = (subst (λ (z : Tables). AreSystems g z.types z.systems.items → ArePlans g z (known_of new) c.in_ok-first.first) after.over plans) represents.systems;
       initial_is = plan_kept mid new c.in_ok-initial.initial c.in_ok-first.ensures.extends (number_there mid c.in_ok-initial.initial there) ∙ own;
     }
 

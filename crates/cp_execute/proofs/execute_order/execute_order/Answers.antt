@@ -117,23 +117,23 @@ returns-in_err-events-clause-order g c =
 pub returns-in_err-report-clause-beginning : goal.returns-in_err-report-clause-beginning
 returns-in_err-report-clause-beginning g c =
     let p = err_from_is_err_and c.from_residual-in_err-report.result c.from_residual-in_err-report.ensures.1 in
-    let told : RefusesOrder (view.tree c.in_ok-tree.tree) c.in_ok-events.events.items c.in_err-report.field-0.0 = rw c.deref-2.ensures.value at c.in_err-report.ensures.refused in
-    let refused = refuses_order_of (g.O.Read.remaining c.args.order.now) (view.tree c.in_ok-tree.tree) c.in_ok-events.events.items c.in_err-report.field-0.0 c.in_ok-events.ensures.bytes told in
+    let reported : RefusesOrder (view.tree c.in_ok-tree.tree) c.in_ok-events.events.items c.in_err-report.field-0.0 = rw c.deref-2.ensures.value at c.in_err-report.ensures.refused in
+    let refused = refuses_order_of (g.O.Read.remaining c.args.order.now) (view.tree c.in_ok-tree.tree) c.in_ok-events.events.items c.in_err-report.field-0.0 c.in_ok-events.ensures.bytes reported in
     rw (p.1, p.2) (λ write. absurd (no_write_of_order c.in_err-report.field-0.0 refused.0 write))
 
 pub returns-in_err-report-clause-refused : goal.returns-in_err-report-clause-refused
 returns-in_err-report-clause-refused g c =
     let p = err_from_is_err_and c.from_residual-in_err-report.result c.from_residual-in_err-report.ensures.1 in
-    let told : RefusesOrder (view.tree c.in_ok-tree.tree) c.in_ok-events.events.items c.in_err-report.field-0.0 = rw c.deref-2.ensures.value at c.in_err-report.ensures.refused in
-    let refused = refuses_order_of (g.O.Read.remaining c.args.order.now) (view.tree c.in_ok-tree.tree) c.in_ok-events.events.items c.in_err-report.field-0.0 c.in_ok-events.ensures.bytes told in
+    let reported : RefusesOrder (view.tree c.in_ok-tree.tree) c.in_ok-events.events.items c.in_err-report.field-0.0 = rw c.deref-2.ensures.value at c.in_err-report.ensures.refused in
+    let refused = refuses_order_of (g.O.Read.remaining c.args.order.now) (view.tree c.in_ok-tree.tree) c.in_ok-events.events.items c.in_err-report.field-0.0 c.in_ok-events.ensures.bytes reported in
     rw (p.1, p.2) (λ other. replay_refused_order (g.R.Read.remaining c.args.text.now) (g.S.Read.remaining c.args.input.now) (g.O.Read.remaining c.args.order.now) (view.tree c.in_ok-tree.tree) c.in_err-report.field-0.0 c.in_ok-tree.ensures.text
     (input_is_fit (g.S.Read.remaining c.args.input.now) c.in_ok-bytes.bytes.items c.in_ok-bytes.ensures.input c.in_ok-bytes.ensures.judged) refused)
 
 pub returns-in_err-report-clause-accepted : goal.returns-in_err-report-clause-accepted
 returns-in_err-report-clause-accepted g c =
     let p = err_from_is_err_and c.from_residual-in_err-report.result c.from_residual-in_err-report.ensures.1 in
-    let told : RefusesOrder (view.tree c.in_ok-tree.tree) c.in_ok-events.events.items c.in_err-report.field-0.0 = rw c.deref-2.ensures.value at c.in_err-report.ensures.refused in
-    let refused = refuses_order_of (g.O.Read.remaining c.args.order.now) (view.tree c.in_ok-tree.tree) c.in_ok-events.events.items c.in_err-report.field-0.0 c.in_ok-events.ensures.bytes told in
+    let reported : RefusesOrder (view.tree c.in_ok-tree.tree) c.in_ok-events.events.items c.in_err-report.field-0.0 = rw c.deref-2.ensures.value at c.in_err-report.ensures.refused in
+    let refused = refuses_order_of (g.O.Read.remaining c.args.order.now) (view.tree c.in_ok-tree.tree) c.in_ok-events.events.items c.in_err-report.field-0.0 c.in_ok-events.ensures.bytes reported in
     rw (p.1, p.2) (order_refused (g.R.Read.remaining c.args.text.now) c.in_err-report.field-0.0 refused.0)
 
 pub returns-in_err-report-clause-text : goal.returns-in_err-report-clause-text
@@ -144,15 +144,15 @@ returns-in_err-report-clause-text g c =
 pub returns-in_err-report-clause-input : goal.returns-in_err-report-clause-input
 returns-in_err-report-clause-input g c =
     let p = err_from_is_err_and c.from_residual-in_err-report.result c.from_residual-in_err-report.ensures.1 in
-    let told : RefusesOrder (view.tree c.in_ok-tree.tree) c.in_ok-events.events.items c.in_err-report.field-0.0 = rw c.deref-2.ensures.value at c.in_err-report.ensures.refused in
-    let refused = refuses_order_of (g.O.Read.remaining c.args.order.now) (view.tree c.in_ok-tree.tree) c.in_ok-events.events.items c.in_err-report.field-0.0 c.in_ok-events.ensures.bytes told in
+    let reported : RefusesOrder (view.tree c.in_ok-tree.tree) c.in_ok-events.events.items c.in_err-report.field-0.0 = rw c.deref-2.ensures.value at c.in_err-report.ensures.refused in
+    let refused = refuses_order_of (g.O.Read.remaining c.args.order.now) (view.tree c.in_ok-tree.tree) c.in_ok-events.events.items c.in_err-report.field-0.0 c.in_ok-events.ensures.bytes reported in
     rw (p.1, p.2) (input_before _ _ (concern c.in_err-report.field-0.0) refused.0 c.in_ok-bytes.ensures.taken)
 
 pub returns-in_err-report-clause-order : goal.returns-in_err-report-clause-order
 returns-in_err-report-clause-order g c =
     let p = err_from_is_err_and c.from_residual-in_err-report.result c.from_residual-in_err-report.ensures.1 in
-    let told : RefusesOrder (view.tree c.in_ok-tree.tree) c.in_ok-events.events.items c.in_err-report.field-0.0 = rw c.deref-2.ensures.value at c.in_err-report.ensures.refused in
-    let refused = refuses_order_of (g.O.Read.remaining c.args.order.now) (view.tree c.in_ok-tree.tree) c.in_ok-events.events.items c.in_err-report.field-0.0 c.in_ok-events.ensures.bytes told in
+    let reported : RefusesOrder (view.tree c.in_ok-tree.tree) c.in_ok-events.events.items c.in_err-report.field-0.0 = rw c.deref-2.ensures.value at c.in_err-report.ensures.refused in
+    let refused = refuses_order_of (g.O.Read.remaining c.args.order.now) (view.tree c.in_ok-tree.tree) c.in_ok-events.events.items c.in_err-report.field-0.0 c.in_ok-events.ensures.bytes reported in
     rw (p.1, p.2) (order_at _ _ (concern c.in_err-report.field-0.0) refused.0 c.in_ok-events.ensures.front)
 
 -- ---- the report is written

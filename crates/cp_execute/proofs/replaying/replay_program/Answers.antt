@@ -9,7 +9,7 @@ use Rattle.cp_model.proofs.Results.{if_ok}
 use Rattle.cp_base_schedule.specs.Reading.{AllWithin}
 use Rattle.cp_base_schedule.specs.Rounds.{rounds_of}
 use Rattle.cp_program.specs.View as program_view
-use Rattle.cp_model_program.specs.StandsFor.{StandsFor}
+use Rattle.cp_model_program.specs.IsProgramFor.{IsProgramFor}
 use Rattle.cp_rounds.specs.Views.{machine_of}
 use Rattle.cp_rounds.proofs.InStates.{process_count_is}
 use Rattle.cp_execute_start.specs.Starts.{setup_of}
@@ -23,10 +23,10 @@ replay_machine-requires-clause-within c =
     let t = view.tree c.args.tree.now in
     let setup = setup_of t c.args.input.now c.args.replay.now.tick.rounds in
     let program = program_view.program c.args.program in
-    let stands : StandsFor program setup = c.requires.program setup refl in
+    let represents : IsProgramFor program setup = c.requires.program setup refl in
     let machine = c.in_ok-machine.machine in
     let I : IsIn (machine_of machine) setup (start setup) = c.in_ok-machine.ensures.state t c.requires.program in
-    let count = stands.process_rows ∙ sym (process_count_is machine setup (start setup) I) in
+    let count = represents.process_rows ∙ sym (process_count_is machine setup (start setup) I) in
     subst (λ n. AllWithin n (rounds_of c.args.orders.now)) count c.requires.within
 
 pub returns : goal.returns
@@ -38,10 +38,10 @@ returns c =
     let setup = setup_of t c.args.input.now how.tick.rounds in
     let machine = c.replay_machine.new.machine in
     let begun : IsIn (machine_of c.in_ok-machine.machine) setup (start setup) = c.in_ok-machine.ensures.state t c.requires.program in
-    let stand = lent (globals setup.tree) c.args.tree.now _ c.in_ok-machine.machine machine c.requires.tables c.in_ok-machine.ensures.tables done.1 in
+    let represent = lent (globals setup.tree) c.args.tree.now _ c.in_ok-machine.machine machine c.requires.tables c.in_ok-machine.ensures.tables done.1 in
     let rounds = timed how.turn.steps (rounds_of c.args.orders.now) in
     let s = replay setup (start setup) rounds in
     let I : IsIn (machine_of machine) setup s = done.0 setup (start setup) begun in
     reported how.chains machine.tables.now (machine_of machine) setup c.args.tree.now s bytes.items
-    c.reports.ensures.read c.waits.ensures.report I (replay_calm setup rounds (start setup) (start_calm setup)) refl stand done.2)
+    c.reports.ensures.read c.waits.ensures.report I (replay_calm setup rounds (start setup) (start_calm setup)) refl represent done.2)
     c.replay_machine.ensures

@@ -20,9 +20,9 @@ returns-clause-report g c =
     let setup = setup_of t c.args.input.now run.tick.rounds in
     let machine = c.run_machine.new.machine in
     let begun : IsIn (machine_of c.in_ok-machine.machine) setup (start setup) = c.in_ok-machine.ensures.state t program in
-    let stand = lent (globals setup.tree) text _ c.in_ok-machine.machine machine tables c.in_ok-machine.ensures.tables c.run_machine.ensures.text in
+    let represent = lent (globals setup.tree) text _ c.in_ok-machine.machine machine tables c.in_ok-machine.ensures.tables c.run_machine.ensures.text in
     let s = meaning.run setup run.plan.turn.steps run.rounds (start setup) in
     let I : IsIn (machine_of machine) setup s = done.0 setup (start setup) begun in
     reported run.chains machine.tables.now (machine_of machine) setup text s bytes.items
-    c.reports.ensures.read c.waits.ensures.report I (run_calm setup run.plan.turn.steps run.rounds (start setup) (start_calm setup)) refl stand done.1)
+    c.reports.ensures.read c.waits.ensures.report I (run_calm setup run.plan.turn.steps run.rounds (start setup) (start_calm setup)) refl represent done.1)
     c.run_machine.ensures.report

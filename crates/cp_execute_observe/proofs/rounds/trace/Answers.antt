@@ -13,7 +13,7 @@ pub trace_rounds-requires-clause-count : goal.trace_rounds-requires-clause-count
 trace_rounds-requires-clause-count g c =
     let how = c.args.how.now in
     let old = c.args.machine.now in
-    let n = c.min-untold.result in
+    let n = c.min-unreported.result in
     let made = from_ok c.run.result (sym c.if-is_err.ensures.value) c.run.ensures.done in
     let none = c.requires.first in
     let count = ap (λ (m : plain.Machine). m.rounds) made ∙ rounds_count how.plan.turn.steps (numbers_from 1 (processes_of old)) n (machine_of old) in
@@ -23,17 +23,17 @@ pub returns-clause-state : goal.returns-clause-state
 returns-clause-state g c =
     let how = c.args.how.now in
     let t = how.plan.turn.steps in
-    let n = c.min-untold.result in
+    let n = c.min-unreported.result in
     let first = from_ok c.run.result (sym c.if-is_err.ensures.value) c.run.ensures.state in
-    let sum : n + (how.rounds - n) ≡ how.rounds = Prim.omega (arith, c.min-untold.ensures) in
+    let sum : n + (how.rounds - n) ≡ how.rounds = Prim.omega (arith, c.min-unreported.ensures) in
     if_ok c.trace_rounds.result
-    (λ done told.
-    let all = more_made t n (how.rounds - n) c.args.machine.now c.run.new.self c.trace_rounds.new.machine first told in
+    (λ done reported.
+    let all = more_made t n (how.rounds - n) c.args.machine.now c.run.new.self c.trace_rounds.new.machine first reported in
     subst (λ (k : ℕ). MakesRounds t k c.args.machine.now c.trace_rounds.new.machine) sum all)
     c.trace_rounds.ensures.state
 
-pub returns-clause-told : goal.returns-clause-told
-returns-clause-told g c =
+pub returns-clause-reported : goal.returns-clause-reported
+returns-clause-reported g c =
     let out = g.W.Write.contents in
     subst (λ (f : TraceForm). OnOk c.trace_rounds.result (WritesTrace f (out c.args.out.now) (out c.trace_rounds.new.out)))
-    c.in_ok-tracer.ensures c.trace_rounds.ensures.told
+    c.in_ok-tracer.ensures c.trace_rounds.ensures.reported

@@ -1,9 +1,9 @@
 use Rattle.std.proofs.Common.{◌≡◌, ◌∙◌, ℕ, arith, refl, subst, take}
 use Rattle.cp_rounds.specs.InStates.{MakesRounds}
-use Rattle.cp_trace.specs.Telling.{Adds}
+use Rattle.cp_trace.specs.Reporting.{Adds}
 use Rattle.cp_trace.specs.Tracers.{IsPart, IsTrace, form_of}
 use Rattle.cp_base_config.specs.declared.trace.TraceForm.{TraceForm}
-use Rattle.cp_execute_observe.proofs.Told.{added, begun, finished, moved}
+use Rattle.cp_execute_observe.proofs.Reported.{added, begun, finished, moved}
 use Rattle.cp_execute_observe.proofs.RoundsMade.{extends_more, extends_nothing, more_made, none_made}
 use Rattle.cp_execute_observe.proofs.rounds.trace_rounds.Goals as goal
 
@@ -15,7 +15,7 @@ loop-round-init g c =
       made = none_made c.args.plan.now.turn.steps c.args.machine.now;
       count = Prim.omega arith;
       form = refl;
-      told = begun (form_of c.args.tracer.now) old c.begin.new.out.items first;
+      reported = begun (form_of c.args.tracer.now) old c.begin.new.out.items first;
       written = extends_nothing old;
     }
 
@@ -31,13 +31,13 @@ loop-round-preserved g c =
     let wrote = c.in_ok-write_if_long.ensures in
     let count = before.count in
     let one = round.count in
-    let more = subst (λ (k : TraceForm). Adds (IsPart k) c.loop-round.buffer.items c.trace_round.new.buffer.items) before.form round.told in
-    let told = added f old new c.loop-round.buffer.items c.trace_round.new.buffer.items before.told more in
+    let more = subst (λ (k : TraceForm). Adds (IsPart k) c.loop-round.buffer.items c.trace_round.new.buffer.items) before.form round.reported in
+    let reported = added f old new c.loop-round.buffer.items c.trace_round.new.buffer.items before.reported more in
     record {
       made = more_made t c.loop-round._round 1 c.args.machine.now c.loop-round.machine c.trace_round.new.machine before.made round.state;
       count = Prim.omega (arith, count, one);
       form = round.form ∙ before.form;
-      told = moved f old new newer c.trace_round.new.buffer.items c.write_if_long.new.buffer.items told wrote.whole;
+      reported = moved f old new newer c.trace_round.new.buffer.items c.write_if_long.new.buffer.items reported wrote.whole;
       written = extends_more old new newer before.written wrote.written;
     }
 
@@ -57,8 +57,8 @@ returns-clause-state g c =
     let all : c.loop-round._round ≡ c.args.rounds = Prim.omega arith in
     subst (λ (k : ℕ). MakesRounds c.args.plan.now.turn.steps k c.args.machine.now c.loop-round.machine) all c.loop-round.invariant.made
 
-pub returns-clause-told : goal.returns-clause-told
-returns-clause-told g c =
+pub returns-clause-reported : goal.returns-clause-reported
+returns-clause-reported g c =
     let f = form_of c.args.tracer.now in
     let old = g.W.Write.contents c.args.out.now in
     let new = g.W.Write.contents c.loop-round.out in
@@ -66,7 +66,7 @@ returns-clause-told g c =
     let before = c.loop-round.invariant in
     let last = subst (λ (k : TraceForm). Adds (IsTrace k) c.loop-round.buffer.items c.finish.new.out.items) before.form c.in_ok-finish.ensures in
     let whole = rw c.deref.ensures.value at c.in_ok-write_result.ensures.whole in
-    finished f old new newer c.loop-round.buffer.items c.finish.new.out.items before.told last whole
+    finished f old new newer c.loop-round.buffer.items c.finish.new.out.items before.reported last whole
 
 pub returns-clause-written : goal.returns-clause-written
 returns-clause-written g c =

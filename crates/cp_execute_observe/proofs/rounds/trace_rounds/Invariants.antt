@@ -2,7 +2,7 @@ use Rattle.std.proofs.Common.{◌≡◌, ◌+◌}
 use Rattle.cp_rounds.specs.InStates.{MakesRounds}
 use Rattle.cp_trace.specs.Tracers.{form_of}
 use Rattle.cp_execute_observe.specs.Writing.{Extends}
-use Rattle.cp_execute_observe.proofs.Told.{WritesPart}
+use Rattle.cp_execute_observe.proofs.Reported.{WritesPart}
 use Rattle.cp_execute_observe.proofs.rounds.trace_rounds.Given as goal
 
 -- so many rounds were made, and what is told of them is written, or held
@@ -11,6 +11,6 @@ invariant-loop-round g l = record {
   made : MakesRounds l.plan.turn.steps l._round l.fn.machine l.machine;
   count : l.machine.rounds ≡ l.fn.machine.rounds + l._round;
   form : form_of l.tracer ≡ form_of l.fn.tracer;
-  told : WritesPart (form_of l.fn.tracer) (g.W.Write.contents l.fn.out) (g.W.Write.contents l.out) l.buffer.items;
+  reported : WritesPart (form_of l.fn.tracer) (g.W.Write.contents l.fn.out) (g.W.Write.contents l.out) l.buffer.items;
   written : Extends (g.W.Write.contents l.fn.out) (g.W.Write.contents l.out);
 }

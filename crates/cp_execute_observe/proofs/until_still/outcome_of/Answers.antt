@@ -3,7 +3,7 @@ use Rattle.cp_model_machine.specs.InState.{IsIn}
 use Rattle.cp_model.specs.Start.{start}
 use Rattle.cp_rounds.specs.Views.{machine_of}
 use Rattle.cp_execute_start.specs.Starts.{setup_of}
-use Rattle.cp_execute_observe.specs.Forms.{Tells}
+use Rattle.cp_execute_observe.specs.Forms.{Reports}
 use Rattle.cp_execute_observe.specs.Outcomes.{state_after}
 use Rattle.cp_execute_observe.proofs.until_still.outcome_of.Goals as goal
 
@@ -13,17 +13,17 @@ returns-clause-outcome g c t input begun =
     let setup = setup_of t input how.tick.rounds in
     let none = c.requires.first in
     let n = c.in-Ok._rounds in
-    let told = c.in-Ok.ensures in
+    let reported = c.in-Ok.ensures in
     let machine = c.run_until_still.new.self in
     let s = state_after how t input n in
-    let I : IsIn (machine_of machine) setup s = told.state setup (start setup) begun in
-    let made = told.done.rounds in
+    let I : IsIn (machine_of machine) setup s = reported.state setup (start setup) begun in
+    let made = reported.done.rounds in
     let count : machine.rounds ≡ n = omega (arith, made, none) in
     record {
       rounds = n;
-      most = told.most;
-      still = λ below. told.still below setup s I;
-      first = λ k below. told.first setup (start setup) begun k below;
+      most = reported.most;
+      still = λ below. reported.still below setup s I;
+      first = λ k below. reported.first setup (start setup) begun k below;
       verdict = c.verdict_on-verdict.ensures setup s I;
-      told = subst (λ (r : ℕ). Tells c.args.form setup s c.verdict_on-verdict.result r c.in_ok-bytes.bytes.items) count (c.in_ok-bytes.ensures setup s I);
+      reported = subst (λ (r : ℕ). Reports c.args.form setup s c.verdict_on-verdict.result r c.in_ok-bytes.bytes.items) count (c.in_ok-bytes.ensures setup s I);
     }

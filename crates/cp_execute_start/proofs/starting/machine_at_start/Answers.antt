@@ -2,7 +2,7 @@ use Rattle.std.proofs.Common.{ap, refl, subst}
 use Rattle.cp_model.proofs.Results.{if_ok}
 use Rattle.cp_model_machine.specs.Machines as plain
 use Rattle.cp_program.specs.View as program_view
-use Rattle.cp_model_program.specs.StandsFor.{StandsFor}
+use Rattle.cp_model_program.specs.IsProgramFor.{IsProgramFor}
 use Rattle.cp_frontend.specs.Cutting.{AreParts}
 use Rattle.cp_execute_start.specs.Starts.{setup_of}
 use Rattle.cp_execute_start.proofs.Inputs.{have_inputs}
@@ -15,10 +15,10 @@ returns-clause-state c =
     let input = c.args.input.now in
     let setup = setup_of t input c.args.tick.rounds in
     let program = program_view.program c.args.program in
-    let stands : StandsFor program setup = is setup refl in
+    let represents : IsProgramFor program setup = is setup refl in
     let inputs = c.in_ok-inputs.inputs.items in
     let parts = subst (λ n. AreParts input n inputs) c.processes.ensures c.in_ok-inputs.ensures.parts in
-    started setup stands refl (have_inputs program setup input inputs parts refl))
+    started setup represents refl (have_inputs program setup input inputs parts refl))
     c.new.ensures.state
 
 pub returns-clause-rounds : goal.returns-clause-rounds

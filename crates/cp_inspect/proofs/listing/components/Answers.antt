@@ -7,7 +7,7 @@ use Rattle.cp_compile_symbols.specs.Standing.{entry}
 use Rattle.cp_compile_symbols.specs.Variables.{declared_entry}
 use Rattle.cp_compile_symbols.specs.declared.variables.Declared.{Declared}
 use Rattle.cp_inspect.proofs.Listed.{Listing, next_listed, none_listed}
-use Rattle.cp_inspect.proofs.MembersTold.{drop_first}
+use Rattle.cp_inspect.proofs.MembersReported.{drop_first}
 use Rattle.cp_inspect.proofs.listing.components.Goals as goal
 
 pub loop-variable-init : goal.loop-variable-init

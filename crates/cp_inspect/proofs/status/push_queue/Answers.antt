@@ -5,9 +5,9 @@ use Rattle.cp_model_machine.specs.Reports.{queue_visit, queues_text}
 use Rattle.cp_compile_symbols.specs.Standing.{entry}
 use Rattle.cp_compile_symbols.specs.declared.types.Field.{Field}
 use Rattle.cp_program.specs.View as view
-use Rattle.cp_inspect.proofs.MembersTold.{drop_first}
-use Rattle.cp_inspect.proofs.QueuesTold.{QueuesToTell, one_searched}
-use Rattle.cp_inspect.specs.Walks.{TellsComponent}
+use Rattle.cp_inspect.proofs.MembersReported.{drop_first}
+use Rattle.cp_inspect.proofs.QueuesReported.{QueuesToReport, one_searched}
+use Rattle.cp_inspect.specs.Walks.{ReportsComponent}
 use Rattle.cp_inspect.proofs.status.push_queue.Goals as goal
 
 pub loop-index-preserved : goal.loop-index-preserved
@@ -23,9 +23,9 @@ loop-index-preserved c =
     let text = c.args.out.now.items ++ queues_text g program place 1 vs in
     let below : i < length xs = search rules in
     let none : Field = record { name = record { ref_ptr = (0, 0); now = [] }; of = 0 } in
-    let before = subst (λ es. QueuesToTell g program place tables.types (suc i) es out text) (drop_first entry xs i none below) (c.loop-index.invariant g vs scope h) in
+    let before = subst (λ es. QueuesToReport g program place tables.types (suc i) es out text) (drop_first entry xs i none below) (c.loop-index.invariant g vs scope h) in
     let next : suc i ≡ i + 1 = omega arith in
     let start : c.monitor_start-start.result ≡ plain.monitor_start program (suc i) = c.monitor_start-start.ensures ∙ ap (plain.monitor_start program) (sym next) in
-    let tells = subst (λ at. TellsComponent tables (queue_visit place) (slice_index_or xs i none).of at out after) start c.in_ok-component.ensures in
-    subst (λ n. QueuesToTell g program place tables.types (suc n) (map entry (drop n xs)) after text) next
-    (one_searched g program place tables (suc i) (entry (slice_index_or xs i none)) (map entry (drop (suc i) xs)) out after text scope before tells)
+    let reports = subst (λ at. ReportsComponent tables (queue_visit place) (slice_index_or xs i none).of at out after) start c.in_ok-component.ensures in
+    subst (λ n. QueuesToReport g program place tables.types (suc n) (map entry (drop n xs)) after text) next
+    (one_searched g program place tables (suc i) (entry (slice_index_or xs i none)) (map entry (drop (suc i) xs)) out after text scope before reports)

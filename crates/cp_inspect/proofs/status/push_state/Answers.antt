@@ -27,7 +27,7 @@ returns-in_ok-extend_from_slice-in-Asking c =
 pub returns-in_ok-extend_from_slice-in-Delayed-2 : goal.returns-in_ok-extend_from_slice-in-Delayed-2
 returns-in_ok-extend_from_slice-in-Delayed-2 c =
     on_ok_weaker c.push_queue.result
-    (λ told setup scope listed.
+    (λ reported setup scope listed.
     let out = c.args.out.now.items in
     let m = c.in-Delayed.monitor in
     let program = view.program c.args.program.now in
@@ -38,7 +38,7 @@ returns-in_ok-extend_from_slice-in-Delayed-2 c =
     let named : c.push_monitor-in-Delayed.new.out.items ≡ out ++ (codes "delayed " ++ x) =
     c.in_ok-push_monitor-in-Delayed.ensures c.args.tables.now.types vs listed ∙ (ap (λ o. o ++ x) begun ∙ append_assoc out (codes "delayed ") x) in
     let spaced : c.extend_from_slice-in-Delayed-2.new.self.items ≡ c.push_monitor-in-Delayed.new.out.items ++ codes " " = search rules in
-    told (globals setup.tree) vs scope listed
+    reported (globals setup.tree) vs scope listed
     ∙ (ap (λ o. o ++ q) (spaced ∙ ap (λ o. o ++ codes " ") named)
     ∙ (append_assoc (out ++ (codes "delayed " ++ x)) (codes " ") q
     ∙ (append_assoc out (codes "delayed " ++ x) (codes " " ++ q)

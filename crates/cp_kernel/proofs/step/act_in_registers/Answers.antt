@@ -3,7 +3,7 @@ use Rattle.std.proofs.lemmas.Option.{IfSome_then}
 use Rattle.cp_program.specs.View as view
 use Rattle.cp_model_machine.specs.KernelSteps as plain
 use Rattle.cp_model_machine.specs.Steps.{step_with}
-use Rattle.cp_private.specs.Quick.{left_by}
+use Rattle.cp_private.specs.FastStep.{left_by}
 use Rattle.cp_private.specs.States as states
 use Rattle.cp_kernel.specs.KernelOf.{kernel_of, turning}
 use Rattle.cp_kernel.proofs.Parting.{lent}

@@ -1,7 +1,7 @@
 use Rattle.std.proofs.Common.{◌≡◌, ◌+◌, [], length, subst, sym, ap, ◌∙◌, arith}
 use Rattle.std.specs.Prelude.{Vec}
 use Rattle.std.specs.Global.{Global}
-use Rattle.cp_private.specs.declared.outside.Stage.{Stage}
+use Rattle.cp_private.specs.declared.outside.SchedulingState.{SchedulingState}
 use Rattle.cp_program.specs.View as view
 use Rattle.cp_model_machine.specs.KernelSteps as plain
 use Rattle.cp_private.specs.States as states
@@ -35,7 +35,7 @@ returns-clause-kept c =
     λ n begun h.
     let mid = c.act-effect.new.kernel in
     let numbered = c.number-p.ensures.number [] in
-    let stages = ap (λ (s : Vec Stage Global). length s.items) c.act-effect.ensures.stages in
+    let stages = ap (λ (s : Vec SchedulingState Global). length s.items) c.act-effect.ensures.stages in
     let among : IsAmong mid c.number-p.result = record {
       first = omega (arith, numbered, c.requires.among.first);
       last = omega (arith, numbered, stages, c.requires.among.last);

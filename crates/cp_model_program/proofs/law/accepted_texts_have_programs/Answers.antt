@@ -1,12 +1,12 @@
 use Rattle.std.proofs.Common.{sym, subst}
 use Rattle.cp_law_typing.specs.Magnitudes.{AreNegativesWithin}
 use Rattle.cp_law_typing.proofs.Texts.{accepted_texts_are_well_typed}
-use Rattle.cp_model_program.proofs.FactsStand.{text_facts}
-use Rattle.cp_model_program.proofs.KnownStand.{known}
-use Rattle.cp_model_program.proofs.TextsStand.{stands}
+use Rattle.cp_model_program.proofs.FactsRepresent.{text_facts}
+use Rattle.cp_model_program.proofs.KnownRepresent.{known}
+use Rattle.cp_model_program.proofs.TextsRepresent.{represents}
 use Rattle.cp_model_program.proofs.law.accepted_texts_have_programs.Goals as goal
 
 pub returns : goal.returns
 returns c = λ t accepted small setup is.
     let typed = accepted_texts_are_well_typed t setup accepted is in
-    stands setup (known setup typed (text_facts setup typed (subst (λ z. AreNegativesWithin 65535 z.definitions) (sym is) small)))
+    represents setup (known setup typed (text_facts setup typed (subst (λ z. AreNegativesWithin 65535 z.definitions) (sym is) small)))

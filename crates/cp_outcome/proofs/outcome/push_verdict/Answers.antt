@@ -21,7 +21,7 @@ returns c =
     ∙ ap (λ (t : Text). t ++ after) (c.in_ok-extend_from_slice.ensures.items ∙ ap (λ (t : Text). out ++ t) c.word_of.ensures)) in
     let all : OnOk c.extend_from_slice-3.result (c.extend_from_slice-3.new.self.items ≡ before ++ 10 ∷ []) = search rules in
     on_ok_weaker c.extend_from_slice-3.result
-    (λ told. told
+    (λ reported. reported
     ∙ (ap (λ (t : Text). t ++ 10 ∷ []) first
     ∙ (append_assoc ((out ++ word) ++ after) n (10 ∷ [])
     ∙ (append_assoc (out ++ word) after (n ++ 10 ∷ []) ∙ append_assoc out word (after ++ (n ++ 10 ∷ []))))))

@@ -6,4 +6,4 @@ use Rattle.cp_report.proofs.gates.push_askers.Goals as goal
 pub returns-else-is_empty : goal.returns-else-is_empty
 returns-else-is_empty c =
     let some : 1 ≤ length c.args.askers.now = search rules in
-    on_ok_weaker c.push_numbers.result (λ told. told ∙ ap (λ t. c.args.out.now.items ++ t) (askers_are c.args.askers.now some)) c.push_numbers.ensures
+    on_ok_weaker c.push_numbers.result (λ reported. reported ∙ ap (λ t. c.args.out.now.items ++ t) (askers_are c.args.askers.now some)) c.push_numbers.ensures

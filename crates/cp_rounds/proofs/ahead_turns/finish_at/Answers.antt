@@ -24,7 +24,7 @@ returns-then-index-gt0-clause-parts g c = λ rounds m time was.
     let within = c.requires.within in
     let y = got_at ys i within in
     let at = c.index.ensures ∙ turns_at ns i c.index.result.now (omega (arith, within, c.requires.room.turns)) in
-    ahead_made run.turns.setting.now run.turns.plan.turn.steps rounds m ns i ys c.args.kernel.now y.0 y.1
+    ahead_made run.turns.config.now run.turns.plan.turn.steps rounds m ns i ys c.args.kernel.now y.0 y.1
     (some_ahead c.index.result.now (turns_ahead ns i) at (omega (arith, c.if-index-gt0.true))) was
 
 pub returns-then-index-gt0-clause-room : goal.returns-then-index-gt0-clause-room
@@ -74,7 +74,7 @@ kernel_turn_of-requires-clause-transcript g c κs within' =
 pub returns-clause-parts : goal.returns-clause-parts
 returns-clause-parts g c = λ rounds m time was.
     let run = c.args.run.now in
-    let setting = run.turns.setting.now in
+    let config = run.turns.config.now in
     let t = run.turns.plan.turn.steps in
     let ns = c.args.ahead.now.turns.items in
     let i = c.args.index in
@@ -88,8 +88,8 @@ returns-clause-parts g c = λ rounds m time was.
     let at = c.index.ensures ∙ turns_at ns i c.index.result.now (omega (arith, within, c.requires.room.turns)) in
     let none : turns_ahead ns i ≡ 0 = omega (arith, at, c.if-index-gt0.false) in
     let back : (i + 1) - 1 ≡ i = omega arith in
-    let turn = subst (λ (j : ℕ). IsTurned (view.program setting.program) c.args.moment.clock t k k' y z (input_at setting.inputs.items j)) back c.kernel_turn_of.ensures.turn in
-    turn_made_ahead setting t rounds m ns c.args.moment time i ys k k' y z here (c.requires.room.numbers i y here) none turn was
+    let turn = subst (λ (j : ℕ). IsTurned (view.program config.program) c.args.round_time.clock t k k' y z (input_at config.inputs.items j)) back c.kernel_turn_of.ensures.turn in
+    turn_made_ahead config t rounds m ns c.args.round_time time i ys k k' y z here (c.requires.room.numbers i y here) none turn was
 
 pub returns-clause-room : goal.returns-clause-room
 returns-clause-room g c =
@@ -99,8 +99,8 @@ returns-clause-room g c =
     let y = c.index_mut.result.now in
     let made = c.kernel_turn_of.ensures in
     let run = c.args.run.now in
-    let input = input_at run.turns.setting.now.inputs.items ((i + 1) - 1) in
-    let written = (kernel_steps (view.program run.turns.setting.now.program) c.args.moment.clock run.turns.plan.turn.steps (turning k y input)).own.output in
+    let input = input_at run.turns.config.now.inputs.items ((i + 1) - 1) in
+    let written = (kernel_steps (view.program run.turns.config.now.program) c.args.round_time.clock run.turns.plan.turn.steps (turning k y input)).own.output in
     let bytes = c.args.run.now.turns.course.bytes in
     let here : slice_get ys i ≡ Some y = got_or ys i y c.requires.within ∙ ap (λ (z : Private). Some z) (sym c.index_mut.ensures.value) in
     ready_turned g.C.Course.most c.args.ahead.now.later i c.args.ahead.now.turns.items ys k c.requires.room c.requires.within y c.kernel_turn_of.new.private

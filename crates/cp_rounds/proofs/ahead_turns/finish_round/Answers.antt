@@ -26,7 +26,7 @@ loop-i-preserved g c =
 pub returns : goal.returns
 returns g c =
     let run = c.args.run.now in
-    let setting = run.turns.setting.now in
+    let config = run.turns.config.now in
     let t = run.turns.plan.turn.steps in
     let was = c.loop-i.invariant in
     let ends = c.close_round.ensures in
@@ -40,12 +40,12 @@ returns g c =
     record {
       parts = λ rounds m time before.
           let kept = turns_remain t (length first) m in
-          end_ahead setting t rounds (kernel_turns t m (numbers_from 1 (length first))) c.args.ahead.now.turns.items (kept.program ∙ time.program) ys
+          end_ahead config t rounds (kernel_turns t m (numbers_from 1 (length first))) c.args.ahead.now.turns.items (kept.program ∙ time.program) ys
           c.close_round.new.privates.items c.loop-i.kernel c.close_round.new.kernel ends
-          (subst (λ n. PartsAhead setting t rounds (kernel_turns t m (numbers_from 1 n)) c.args.ahead.now.turns.items ys c.loop-i.kernel) all
+          (subst (λ n. PartsAhead config t rounds (kernel_turns t m (numbers_from 1 n)) c.args.ahead.now.turns.items ys c.loop-i.kernel) all
           (was.parts rounds m time before));
       room =
-          ready_ended g.C.Course.most c.args.ahead.now.later c.args.ahead.now.turns.items setting ys c.close_round.new.privates.items c.loop-i.kernel
+          ready_ended g.C.Course.most c.args.ahead.now.later c.args.ahead.now.turns.items config ys c.close_round.new.privates.items c.loop-i.kernel
           c.close_round.new.kernel ends
           (subst (λ n. IsReadyAhead g.C.Course.most c.args.ahead.now.later n c.args.ahead.now.turns.items ys c.loop-i.kernel) (all ∙ sym count) was.ready);
       count = ends.count ∙ count;

@@ -14,13 +14,13 @@ loop-i-init g c =
     let run = c.args.run.now in
     record {
       later = refl;
-      turned = none_turned run.turns.setting.now run.turns.plan.turn.steps c.args.moment g.C.Course.most c.args.ahead.now.turns.items c.args.privates.now.items;
+      turned = none_turned run.turns.config.now run.turns.plan.turn.steps c.args.round_time g.C.Course.most c.args.ahead.now.turns.items c.args.privates.now.items;
     }
 
 pub loop-i-preserved : goal.loop-i-preserved
 loop-i-preserved g c =
     let run = c.args.run.now in
-    let setting = run.turns.setting.now in
+    let config = run.turns.config.now in
     let t = run.turns.plan.turn.steps in
     let i = c.loop-i.i in
     let was = c.loop-i.invariant in
@@ -42,13 +42,13 @@ loop-i-preserved g c =
     record {
       later = was.later;
       turned =
-          one_turned setting t c.args.moment g.C.Course.most i ns ys ms zs c.turn_unless_ahead.new.turns y c.turn_unless_ahead.new.private inside here
+          one_turned config t c.args.round_time g.C.Course.most i ns ys ms zs c.turn_unless_ahead.new.turns y c.turn_unless_ahead.new.private inside here
           (made.ahead ∙ ap (λ (q : ℕ). q - 1) at)
           (record {
             still = λ some. made.still (λ none. some (sym at ∙ none));
             turned = λ none.
-                subst (λ (j : ℕ). private_of c.turn_unless_ahead.new.private (input_at setting.inputs.items j)
-                ≡ take_turn (view.program setting.program) t c.args.moment (private_of y (input_at setting.inputs.items j))) back (made.turned (at ∙ none));
+                subst (λ (j : ℕ). private_of c.turn_unless_ahead.new.private (input_at config.inputs.items j)
+                ≡ take_turn (view.program config.program) t c.args.round_time (private_of y (input_at config.inputs.items j))) back (made.turned (at ∙ none));
             number = made.number;
             length = let long = made.length in let bytes = run.turns.course.bytes in omega (arith, long, bytes);
             capacity = made.capacity;
@@ -62,7 +62,7 @@ returns-clause-parts g c = λ m time was.
     let ys = c.args.privates.now.items in
     let past = c.loop-i-test.false in
     let len = c.len-i-end.ensures in
-    all_turned run.turns.setting.now run.turns.plan.turn.steps c.args.moment g.C.Course.most m time c.loop-i.i c.args.ahead.now.turns.items ys
+    all_turned run.turns.config.now run.turns.plan.turn.steps c.args.round_time g.C.Course.most m time c.loop-i.i c.args.ahead.now.turns.items ys
     c.loop-i.ahead.turns.items c.loop-i.privates.items c.args.kernel.now (omega (arith, past, len)) c.requires.room.turns c.loop-i.invariant.turned was
 
 pub returns-clause-room : goal.returns-clause-room
@@ -74,6 +74,6 @@ returns-clause-room g c =
     let later = c.loop-i.invariant.later in
     let some = c.requires.later in
     let next : c.args.ahead.now.later ≡ suc c.loop-i.ahead.later = omega (arith, later, some) in
-    ready_next run.turns.setting.now run.turns.plan.turn.steps c.args.moment g.C.Course.most c.loop-i.ahead.later c.loop-i.i c.args.ahead.now.turns.items ys
+    ready_next run.turns.config.now run.turns.plan.turn.steps c.args.round_time g.C.Course.most c.loop-i.ahead.later c.loop-i.i c.args.ahead.now.turns.items ys
     c.loop-i.ahead.turns.items c.loop-i.privates.items c.args.kernel.now (omega (arith, past, len)) c.loop-i.invariant.turned
     (subst (λ (n : ℕ). IsReadyAhead g.C.Course.most n (length ys) c.args.ahead.now.turns.items ys c.args.kernel.now) next c.requires.room)

@@ -7,7 +7,7 @@ pub returns-clause-parts : goal.returns-clause-parts
 returns-clause-parts g c = λ m was.
     let run = c.args.run.now in
     let passed = c.of_all-rounds.ensures in
-    rounds_passed run.turns.setting.now run.turns.plan.turn.steps c.of_all-rounds.result m c.args.ahead.now.turns.items c.pass.new.self.turns.items c.args.privates.now.items
+    rounds_passed run.turns.config.now run.turns.plan.turn.steps c.of_all-rounds.result m c.args.ahead.now.turns.items c.pass.new.self.turns.items c.args.privates.now.items
     c.args.kernel.now c.requires.room.stages (λ i within. passed.all i (omega (arith, within, c.requires.room.turns))) c.pass.ensures.less was
 
 pub returns-clause-room : goal.returns-clause-room

@@ -21,7 +21,7 @@ returns c =
     let numbers = rw ez at c.end_round.ensures.numbers in
     let outputs = rw ez at c.end_round.ensures.outputs in
     let kernel = c.end_round.ensures.kernel in
-    subst (λ (ws : List Private). RoundEnds c.args.setting.now zs k ws k3) (sym ew)
+    subst (λ (ws : List Private). RoundEnds c.args.config.now zs k ws k3) (sym ew)
     (record {
       kernel = kernel;
       transcripts = ap (λ v. map (λ (w : Bytes). w.items) v.items) c.end_round.ensures.transcripts;

@@ -12,8 +12,8 @@ use Rattle.cp_rounds.proofs.events.make_event.Goals as goal
 
 pub returns-in-P : goal.returns-in-P
 returns-in-P c =
-    let g = c.args.setting.now in
-    let w = c.args.moment in
+    let g = c.args.config.now in
+    let w = c.args.round_time in
     let t = c.args.turn.steps in
     let p = c.in-P.p in
     let xs = c.args.privates.now.items in
@@ -43,8 +43,8 @@ make_turn-requires c =
 
 pub returns-in-K : goal.returns-in-K
 returns-in-K c =
-    let g = c.args.setting.now in
-    let w = c.args.moment in
+    let g = c.args.config.now in
+    let w = c.args.round_time in
     let t = c.args.turn.steps in
     let p = c.in-K.p in
     let xs = c.args.privates.now.items in

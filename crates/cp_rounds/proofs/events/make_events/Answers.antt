@@ -10,7 +10,7 @@ use Rattle.cp_rounds.proofs.Replays.{all_lead, none_lead, one_more_leads, proces
 use Rattle.cp_rounds.proofs.events.make_events.Goals as goal
 
 pub loop-event-init : goal.loop-event-init
-loop-event-init c = none_lead c.args.setting.now c.args.moment c.args.privates.now.items c.args.kernel.now
+loop-event-init c = none_lead c.args.config.now c.args.round_time c.args.privates.now.items c.args.kernel.now
 
 pub make_event-requires : goal.make_event-requires
 make_event-requires c =
@@ -34,8 +34,8 @@ make_event-requires c =
 
 pub loop-event-preserved : goal.loop-event-preserved
 loop-event-preserved c =
-    let g = c.args.setting.now in
-    let w = c.args.moment in
+    let g = c.args.config.now in
+    let w = c.args.round_time in
     let t = c.args.turn.steps in
     let events = c.args.events.now in
     let i = c.loop-event.event-index in
@@ -55,5 +55,5 @@ returns c =
     let events = c.args.events.now in
     let all = length-map events event_of in
     let past : length (events_of events) ≤ c.loop-event.event-index = omega (arith, all, c.loop-event-test.false) in
-    all_lead c.args.setting.now c.args.moment c.args.turn.steps (events_of events) c.loop-event.event-index c.args.privates.now.items
+    all_lead c.args.config.now c.args.round_time c.args.turn.steps (events_of events) c.loop-event.event-index c.args.privates.now.items
     c.loop-event.privates.items c.args.kernel.now c.loop-event.kernel past c.loop-event.invariant

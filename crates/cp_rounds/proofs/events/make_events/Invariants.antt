@@ -7,5 +7,5 @@ use Rattle.cp_rounds.proofs.events.make_events.Given as goal
 
 abbrev pub invariant-loop-event : goal.invariant-loop-event
 invariant-loop-event l =
-    Leads l.setting l.moment (λ m. fold (event l.turn.steps) m (take l.event-index (events_of l.events))) l.fn.privates.items l.privates.items
+    Leads l.config l.round_time (λ m. fold (event l.turn.steps) m (take l.event-index (events_of l.events))) l.fn.privates.items l.privates.items
     l.fn.kernel l.kernel

@@ -8,9 +8,9 @@ use Rattle.cp_rounds.proofs.events.make_step.Goals as goal
 
 pub returns : goal.returns
 returns c =
-    let program = view.program c.args.setting.now.program in
-    let now = c.args.moment.clock in
-    let input = input_at c.args.setting.now.inputs.items (c.args.p - 1) in
+    let program = view.program c.args.config.now.program in
+    let now = c.args.round_time.clock in
+    let input = input_at c.args.config.now.inputs.items (c.args.p - 1) in
     record {
       own = subst (λ (l : List ℕ). private_of c.private_turn.new.private l ≡ private_steps program now 1 (private_of c.reserve.new.self l))
           c.input-input.ensures c.private_turn.ensures.steps

@@ -33,12 +33,12 @@ kernel_turn-requires c =
 
 pub returns : goal.returns
 returns c =
-    let program = view.program c.args.setting.now.program in
-    let now = c.args.moment.clock in
+    let program = view.program c.args.config.now.program in
+    let now = c.args.round_time.clock in
     let t = c.args.turn.steps in
     let x1 = c.reserve.new.self in
     let k2 = c.reserve_bytes.new.self in
-    let input = input_at c.args.setting.now.inputs.items (c.args.p - 1) in
+    let input = input_at c.args.config.now.inputs.items (c.args.p - 1) in
     let number : x1.number ≡ c.args.private.now.number = ap (λ (o : PrivateState). o.number) (c.reserve.ensures.content []) in
     turn_with_room program now t c.args.p c.args.kernel.now k2 c.kernel_turn.new.kernel c.args.private.now x1 c.kernel_turn.new.private input
     (c.reserve_bytes.ensures.same ∙ c.reserve_askers.ensures.same)

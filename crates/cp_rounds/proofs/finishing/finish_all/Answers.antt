@@ -15,7 +15,7 @@ loop-i-init g c = record {
   ready = c.requires.ready;
   numbers = λ j x e. absurd (none_some x e);
   taken = λ rounds time.
-      none_taken c.args.run.now.turns.setting.now c.args.run.now.turns.plan.turn.steps rounds c.args.round.now.start.value.items
+      none_taken c.args.run.now.turns.config.now c.args.run.now.turns.plan.turn.steps rounds c.args.round.now.start.value.items
       (take 0 c.args.privates.now.items) c.args.kernel.now refl;
 }
 
@@ -45,7 +45,7 @@ returns g c =
     let all = take_all c.loop-i.i ys end in
     record {
       taken = λ rounds time.
-          subst (λ (l : List Private). TurnsTaken c.args.run.now.turns.setting.now c.args.run.now.turns.plan.turn.steps rounds xs c.args.kernel.now l c.loop-i.kernel) all
+          subst (λ (l : List Private). TurnsTaken c.args.run.now.turns.config.now c.args.run.now.turns.plan.turn.steps rounds xs c.args.kernel.now l c.loop-i.kernel) all
           (was.taken rounds time);
       numbers = subst (λ (l : List Private). AreNumbered l) all was.numbers;
       count = count ∙ sym first;

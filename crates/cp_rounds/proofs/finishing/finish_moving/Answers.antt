@@ -10,7 +10,7 @@ use Rattle.cp_rounds.proofs.finishing.finish_moving.Goals as goal
 pub returns-clause-taken : goal.returns-clause-taken
 returns-clause-taken g c = λ rounds k time was.
     let run = c.args.run.now in
-    let setting = run.turns.setting.now in
+    let config = run.turns.config.now in
     let t = run.turns.plan.turn.steps in
     let i = c.args.index in
     let ys = c.args.privates.now.items in
@@ -20,8 +20,8 @@ returns-clause-taken g c = λ rounds k time was.
     let z = c.kernel_turn_of.new.private in
     let taken = c.bring_back.ensures.taken in
     let turn = c.kernel_turn_of.ensures.turn in
-    subst (λ (l : List Private). TurnsTaken setting t rounds xs k l k2) (sym (take_more_set ys i z c.requires.within))
-    (taken_more g.C.Course.quiet g.C.Course.turned g.C.Course.input g.C.Course.most setting t run.turns.course rounds c.args.round.now.moment xs ys k c.args.kernel.now k2 i y z
+    subst (λ (l : List Private). TurnsTaken config t rounds xs k l k2) (sym (take_more_set ys i z c.requires.within))
+    (taken_more g.C.Course.quiet g.C.Course.turned g.C.Course.input g.C.Course.most config t run.turns.course rounds c.args.round.now.round_time xs ys k c.args.kernel.now k2 i y z
     c.requires.within c.requires.count time taken turn was)
 
 pub returns-clause-numbers : goal.returns-clause-numbers

@@ -32,10 +32,10 @@ returns-clause-opened g c =
     let k = c.reserve_room.new.kernel in
     let shares = c.args.shares in
     let start : c.of.result.value.items ≡ ys = search rules in
-    let laid = c.lay_turns.ensures in
+    let published = c.publish_turns.ensures in
     let ready : IsReadyFor most shares.rounds ys k =
     ready_fewer most shares.rounds c.rounds_of_room-room.result ys k c.rounds_of_room-room.ensures
     (subst (λ (b : ℕ). IsReadyFor b c.rounds_of_room-room.result ys k) (sym bytes) c.in_ok-reserve_room.ensures.ready) in
-    subst (λ (l : List Private). IsOpened most c.args.moment.wakes (is_none c.in_ok-token.token) shares.rounds c.args.privates.now.items c.args.kernel.now l
-    c.lay_turns.new.privates.items k) (sym start)
-    (record { same = c.reserve_room.ensures.same; ready = ready; left = laid.left; here = laid.here; count = laid.count })
+    subst (λ (l : List Private). IsOpened most c.args.round_time.wakes (is_none c.in_ok-token.token) shares.rounds c.args.privates.now.items c.args.kernel.now l
+    c.publish_turns.new.privates.items k) (sym start)
+    (record { same = c.reserve_room.ensures.same; ready = ready; left = published.left; here = published.here; count = published.count })

@@ -2,7 +2,7 @@ use Rattle.std.proofs.Common.{◌≡◌, ◌≢◌, ◌+◌, ◌-◌, ◌*◌, �
 use Rattle.cp_kernel.specs.KernelOf.{HasRoomForAskers, HasRoomForBytes}
 use Rattle.cp_kernel.proofs.Asking.{room_kept}
 use Rattle.cp_private.specs.declared.private.Private.{Private}
-use Rattle.cp_rounds_handoff.specs.Tasks.{HasRoomLeft}
+use Rattle.cp_rounds_handoff.specs.Tasks.{HasRoom}
 use Rattle.cp_rounds_handoff.proofs.Lists.{got_below, got_or, got_set}
 use Rattle.cp_rounds.proofs.Rooms.{same_more, same_stages}
 use Rattle.cp_rounds.proofs.round.reserve_room.Goals as goal
@@ -38,7 +38,7 @@ loop-i-preserved c =
       same = same_more c.args.privates.now.items c.args.kernel.now xs c.loop-i.kernel i x y k2 here made.private made.kernel made.transcripts was.same;
       asking = subst (λ (l : ℕ). HasRoomForAskers k2 (n * l)) (sym (length-set xs i y)) (room_kept c.loop-i.kernel k2 (n * length xs) made.gates was.asking);
       free = λ j z b e. ⊎_elim
-          (λ (h : (j ≡ i) × (y ≡ z)). subst (λ (w : Private). HasRoomLeft (11 * t) false w) h.1 c.in_ok-reserve_output.ensures.free)
+          (λ (h : (j ≡ i) × (y ≡ z)). subst (λ (w : Private). HasRoom (11 * t) false w) h.1 c.in_ok-reserve_output.ensures.free)
           (λ (h : (j ≢ i) × (slice_get xs j ≡ Some z)). let apart = h.0 in was.free j z (omega (arith, b, apart)) h.1)
           (got_set xs i j y z e);
       room = λ j z b e. ⊎_elim

@@ -6,19 +6,19 @@ use denote.Param.SendFields.{as_row_sync, declared_sync}
 use mir.Syntax.{named}
 use Rattle.std.proofs.Crossing.{crosses}
 use Rattle.cp_base_config.proofs.plan.Plan.TheSendSync as plan
-use Rattle.cp_rounds_handoff.proofs.desk.Desk.TheSendSync as desk
-use Rattle.cp_rounds_handoff.specs.contracts.desk.Desk as desks
-use Rattle.cp_rounds_handoff.specs.contracts.desk_turns.DeskTurns as turns
+use Rattle.cp_rounds_handoff.proofs.handoff.HandoffQueue.TheSendSync as handoff
+use Rattle.cp_rounds_handoff.specs.contracts.handoff.HandoffQueue as handoffs
+use Rattle.cp_rounds_handoff.specs.contracts.handoff_turns.HandoffTurns as turns
 use Rattle.cp_rounds.proofs.run.make_rounds_at.Goals as goal
 
 pub start-requires-sync-W : goal.start-requires-sync-W
 start-requires-sync-W g c κs within =
     let shared : IsSync (turns.the_row (record { mir = named 6; lft = κs.1.1.1.1.1.1.0 }) (param 1 g.row.C) (param 3 g.row.G) g.C.Course g.C.Sheets) =
     declared_sync (turns.the_type (record { mir = named 6; lft = κs.1.1.1.1.1.1.0 }) (param 1 g.row.C) (param 3 g.row.G) g.C.Course g.C.Sheets) (
-      as_row_sync (desks.the_field (record { mir = named 6; lft = κs.1.1.1.1.1.1.0 }) (param 1 g.row.C) g.C.Course g.C.Sheets)
-          (desk.the_field_sync (record { mir = named 6; lft = κs.1.1.1.1.1.1.0 }) (param 1 g.row.C) g.C.Course g.C.Sheets),
+      as_row_sync (handoffs.the_field (record { mir = named 6; lft = κs.1.1.1.1.1.1.0 }) (param 1 g.row.C) g.C.Course g.C.Sheets)
+          (handoff.the_field_sync (record { mir = named 6; lft = κs.1.1.1.1.1.1.0 }) (param 1 g.row.C) g.C.Course g.C.Sheets),
       (
-        search (sendable, crosses, c.settings_are_shared.ensures) depth 40 fits 4000,
+        search (sendable, crosses, c.configs_are_shared.ensures) depth 40 fits 4000,
         (
           search (sendable, crosses, plan.the_field_sync) depth 40 fits 4000,
           (search (sendable, crosses, c.type_bounds.sync-G) depth 40 fits 4000, (search (sendable, crosses) depth 40 fits 4000, (search (sendable, crosses) depth 40 fits 4000, (search (sendable, crosses) depth 40 fits 4000, tt)))),

@@ -8,5 +8,5 @@ returns-clause-made g c =
     let parts = c.args.parts in
     let after = c.make_rounds_by_threads.result in
     let all : length c.deref.result.now ≡ c.args.count = search rules in
-    subst (λ (n : ℕ). IfOk after.1 (λ x. PartsAfter c.args.rounds.now.setting.now c.args.rounds.now.plan.now.turn.steps c.args.rounds.now.done n parts after.0)) all
+    subst (λ (n : ℕ). IfOk after.1 (λ x. PartsAfter c.args.rounds.now.config.now c.args.rounds.now.plan.now.turn.steps c.args.rounds.now.done n parts after.0)) all
     c.make_rounds_by_threads.ensures.made

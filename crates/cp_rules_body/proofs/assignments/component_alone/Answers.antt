@@ -1,5 +1,5 @@
 use Rattle.std.proofs.Common.{sym}
-use Rattle.cp_rules_body.proofs.StatementsTold.{component_alone_some}
+use Rattle.cp_rules_body.proofs.StatementsReported.{component_alone_some}
 use Rattle.cp_rules_body.proofs.assignments.component_alone.Goals as goal
 
 pub returns-in_default : goal.returns-in_default

@@ -1,4 +1,4 @@
-use Rattle.cp_rules_body.proofs.StatementsTold.{own_result_some}
+use Rattle.cp_rules_body.proofs.StatementsReported.{own_result_some}
 use Rattle.cp_rules_body.proofs.assignments.own_result.Goals as goal
 
 pub returns-in_default : goal.returns-in_default

@@ -14,9 +14,9 @@ use Rattle.cp_model.specs.View.{designator, expression, index, operation, indice
 use Rattle.cp_rules_body.specs.Arguments.{form_rules}
 use Rattle.cp_rules_body.specs.Callees.{wants_of, result_if}
 use Rattle.cp_rules_body.specs.ExpressionParts as parts
-use Rattle.cp_rules_body.proofs.ExpressionsTold.{argument_parts, first_operand_again, judge_chain, more_step, first_told, count_expressions, wants_told, result_told}
-use Rattle.cp_rules_body.proofs.CalleesTold.{also_callee}
-use Rattle.cp_rules_body.proofs.Tells.{also_told}
+use Rattle.cp_rules_body.proofs.ExpressionsReported.{argument_parts, first_operand_again, judge_chain, more_step, first_reported, count_expressions, wants_reported, result_reported}
+use Rattle.cp_rules_body.proofs.CalleesReported.{also_callee}
+use Rattle.cp_rules_body.proofs.Reports.{also_reported}
 use Rattle.cp_model.proofs.Views.{view_call, view_chain, view_index, view_operation}
 use Rattle.cp_rules_body.proofs.expressions.+judge.Goals as goal
 
@@ -26,13 +26,13 @@ argument-returns t c =
     let e = expression c.args.e.now in
     let w = c.in-Some.want in
     rw (c.in-Some.is, argument_parts env w e (x.judge env (x.mode_of w) e), c.answer_if.ensures)
-    (also_told c.args.told.now c.has_form-has_form.new.told c.type_of_argument-t.new.told c.has_form-has_form.result (form_rules env w e)
+    (also_reported c.args.diagnostics.now c.has_form-has_form.new.diagnostics c.type_of_argument-t.new.diagnostics c.has_form-has_form.result (form_rules env w e)
     c.type_of_argument-t.result (parts.type_of_argument env w e) c.has_form-has_form.ensures c.type_of_argument-t.ensures)
 
 pub chain-loop-o-preserved : goal.chain-loop-o-preserved
-chain-loop-o-preserved t c = λ t0 m e told.
+chain-loop-o-preserved t c = λ t0 m e diagnostics.
     let env = c.args.env.now in
-    let so_far = c.loop-o.invariant t0 m e told in
+    let so_far = c.loop-o.invariant t0 m e diagnostics in
     let f = so_far.0 in
     let o = c.o-item.result in
     let i = c.loop-o.o-index in
@@ -41,14 +41,14 @@ chain-loop-o-preserved t c = λ t0 m e told.
     at_drop_more (λ os. chain_of f (map operation os)) rest i o c.loop-o-test.true ∙ ap (λ p. chain_of f (map operation (p ∷ drop (i + 1) rest))) (sym c.o-item.is) in
     let view = ap (λ p. chain_of f (p ∷ map operation (drop (i + 1) rest))) (view_operation o) in (
       s.Binary f o.operator o.at (expression o.operand),
-      rw (first_operand_again m) (c.judge_operation-left.ensures t0 c.loop-o.told (x.judge env (x.first_operand m) f) (x.judge env mode.Value (expression o.operand)) so_far.1 c.judge-right.ensures),
+      rw (first_operand_again m) (c.judge_operation-left.ensures t0 c.loop-o.diagnostics (x.judge env (x.first_operand m) f) (x.judge env mode.Value (expression o.operand)) so_far.1 c.judge-right.ensures),
       sym (step ∙ view) ∙ so_far.2,
     )
 
 pub select_elements-loop-i-preserved : goal.select_elements-loop-i-preserved
-select_elements-loop-i-preserved t c = λ t0 j told.
+select_elements-loop-i-preserved t c = λ t0 j diagnostics.
     let env = c.args.env.now in
-    let so_far = c.loop-i.invariant t0 j told in
+    let so_far = c.loop-i.invariant t0 j diagnostics in
     let k = so_far.0 in
     let o = c.i-item.result in
     let i = c.loop-i.i-index in
@@ -58,7 +58,7 @@ select_elements-loop-i-preserved t c = λ t0 j told.
     at_drop_more (λ os. x.apply_indices env k (indices_of (map index os))) all i o c.loop-i-test.true ∙ ap (λ p. x.apply_indices env k (indices_of (map index (p ∷ drop (i + 1) all)))) (sym c.i-item.is) in
     let view = ap (λ p. x.apply_indices env k (indices_of (p ∷ map index (drop (i + 1) all)))) (view_index o) in (
       both (parts.array_of env o.at k) (x.judge env mode.Value e) (n.c2_index env (n.first_token e)),
-      (rw c.first_token.ensures at c.element_if-part.ensures) t0 c.array_if-of.new.told (parts.array_of env o.at k) (x.judge env mode.Value e)
+      (rw c.first_token.ensures at c.element_if-part.ensures) t0 c.array_if-of.new.diagnostics (parts.array_of env o.at k) (x.judge env mode.Value e)
           (c.array_if-of.ensures t0 k so_far.1) c.judge-t.ensures,
       sym (step ∙ view) ∙ so_far.2,
     )
@@ -80,7 +80,7 @@ arguments-loop-number-preserved t c =
     let next = more_step env j ws (i + 1) (i + 1 + 1) e (expressions_of (map expression (drop (i + 1) rest))) refl in
     let k = parts.argument_for env (slice_get ws (i + 1)) e in (
       both j k x.first_type,
-      rw c.and-t.ensures (first_told c.args.told.now c.loop-number.told c.argument-u.new.told c.loop-number.t c.argument-u.result j k so_far.1
+      rw c.and-t.ensures (first_reported c.args.diagnostics.now c.loop-number.diagnostics c.argument-u.new.diagnostics c.loop-number.t c.argument-u.result j k so_far.1
           (rw c.want-in-loop-number.ensures at c.argument-u.ensures)),
       sym (step ∙ next) ∙ so_far.2,
     )
@@ -93,7 +93,7 @@ judge-returns-else-is_empty t c =
     let v : expression c.args.e.now ≡ chain_of e (map operation rest) = rw c.in-Chain.is (view_chain c.in-Chain.first c.in-Chain.rest) in
     let some : 1 ≤ length rest = grind (arith, nat_tests) in
     let left = rw (c.first_operand-in-Chain.ensures, c.deref-in-Chain.ensures) at c.judge-left.ensures in
-    rw (v, judge_chain env c.args.mode e rest some) (rw c.deref-in-Chain-2.ensures.value at (c.chain.ensures c.args.told.now c.args.mode e left))
+    rw (v, judge_chain env c.args.mode e rest some) (rw c.deref-in-Chain-2.ensures.value at (c.chain.ensures c.args.diagnostics.now c.args.mode e left))
 
 pub judge-returns-in-Call : goal.judge-returns-in-Call
 judge-returns-in-Call t c =
@@ -108,8 +108,8 @@ judge-returns-in-Call t c =
     let callee = rw (c.deref-in-Call.ensures, count) at c.judge_callee-called.ensures.callee in
     let wanted = rw (c.deref-in-Call.ensures, count) at c.judge_callee-called.ensures.wants in
     let given = rw (wanted, c.deref-in-Call-2.ensures.value) at c.arguments-t.ensures in
-    let result = result_told env c.names_fit-fits.new.told c.judge_callee-called.new.told c.arguments-t.new.told c.judge_callee-called.result.callee c.arguments-t.result jc ja callee given in
-    rw (v, c.answer_if.ensures, c.result.ensures) (also_told c.args.told.now c.names_fit-fits.new.told c.arguments-t.new.told c.names_fit-fits.result
+    let result = result_reported env c.names_fit-fits.new.diagnostics c.judge_callee-called.new.diagnostics c.arguments-t.new.diagnostics c.judge_callee-called.result.callee c.arguments-t.result jc ja callee given in
+    rw (v, c.answer_if.ensures, c.result.ensures) (also_reported c.args.diagnostics.now c.names_fit-fits.new.diagnostics c.arguments-t.new.diagnostics c.names_fit-fits.result
     (n.c2_c5_c8_named env (x.first_operand c.args.mode) d) (result_if env c.judge_callee-called.result.callee c.arguments-t.result) (both jc ja (x.result_of env))
     (rw (c.first_operand.ensures, c.deref.ensures) at c.names_fit-fits.ensures) result)
 
@@ -117,7 +117,7 @@ pub judge_use-returns : goal.judge_use-returns
 judge_use-returns t c =
     let env = c.args.env.now in
     let d = designator c.args.d.now in
-    rw c.answer_if.ensures (also_told c.args.told.now c.names_fit-fits.new.told c.type_of_designator-t.new.told c.names_fit-fits.result (n.c2_c5_c8_named env c.args.mode d)
+    rw c.answer_if.ensures (also_reported c.args.diagnostics.now c.names_fit-fits.new.diagnostics c.type_of_designator-t.new.diagnostics c.names_fit-fits.result (n.c2_c5_c8_named env c.args.mode d)
     c.type_of_designator-t.result (parts.type_of_designator env c.args.mode d) c.names_fit-fits.ensures c.type_of_designator-t.ensures)
 
 pub judge_callee-returns-clause-callee : goal.judge_callee-returns-clause-callee
@@ -125,8 +125,8 @@ judge_callee-returns-clause-callee t c =
     let env = c.args.env.now in
     let d = designator c.args.d.now in
     let je = x.designate env d in
-    let t1 = c.no_indexed_value-no_value.new.told in
-    rw c.answer_if-callee.ensures (also_callee env c.args.told.now t1 c.function_if-function.new.told c.no_indexed_value-no_value.result (n.c2_indexed env c.args.mode d)
+    let t1 = c.no_indexed_value-no_value.new.diagnostics in
+    rw c.answer_if-callee.ensures (also_callee env c.args.diagnostics.now t1 c.function_if-function.new.diagnostics c.no_indexed_value-no_value.result (n.c2_indexed env c.args.mode d)
     c.function_if-function.result (parts.function_if env c.args.mode d c.args.count je) c.no_indexed_value-no_value.ensures
     (c.function_if-function.ensures t1 je c.judge_designator-entity.ensures))
 
@@ -135,5 +135,5 @@ judge_callee-returns-clause-wants t c =
     let env = c.args.env.now in
     let d = designator c.args.d.now in
     let je = x.designate env d in
-    c.wants_of_call.ensures ∙ wants_told env c.judge_designator-entity.result je c.answer_if-callee.result (parts.callee_of env c.args.mode d c.args.count) c.judge_designator-entity.ensures.1
+    c.wants_of_call.ensures ∙ wants_reported env c.judge_designator-entity.result je c.answer_if-callee.result (parts.callee_of env c.args.mode d c.args.count) c.judge_designator-entity.ensures.1
     (judge_callee-returns-clause-callee t c).1

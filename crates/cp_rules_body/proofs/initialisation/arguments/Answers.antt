@@ -4,8 +4,8 @@ use Rattle.cp_model.specs.RulesJudged.{violations_of}
 use Rattle.cp_model.specs.RulesStatements as st
 use Rattle.cp_model.specs.View.{expression, expressions_of}
 use Rattle.cp_rules_body.specs.InitParts as parts
-use Rattle.cp_rules_body.proofs.InitTold.{arguments_step}
-use Rattle.cp_rules_body.proofs.Tells.{rest_told}
+use Rattle.cp_rules_body.proofs.InitReported.{arguments_step}
+use Rattle.cp_rules_body.proofs.Reports.{rest_reported}
 use Rattle.cp_rules_body.proofs.initialisation.arguments.Goals as goal
 
 pub loop-number-preserved : goal.loop-number-preserved
@@ -20,5 +20,5 @@ loop-number-preserved c =
     ∙ ap (λ p. st.init_arguments env (drop i ps) (expressions_of (map expression (p ∷ drop (i + 1) all)))) (sym c.index-list-number.is) in
     let rest = expressions_of (map expression (drop (i + 1) all)) in
     let next = arguments_step env ps i (i + 1) (expression o) rest refl in
-    rest_told c.loop-number.told c.argument.new.told (violations_of (st.init_argument env (parts.type_if (slice_get ps i)) (expression o))) (st.init_arguments env (drop (i + 1) ps) rest) _
+    rest_reported c.loop-number.diagnostics c.argument.new.diagnostics (violations_of (st.init_argument env (parts.type_if (slice_get ps i)) (expression o))) (st.init_arguments env (drop (i + 1) ps) rest) _
     (rw c.parameter_type.ensures at c.argument.ensures).0 (step ∙ next) ∙ c.loop-number.invariant

@@ -10,5 +10,5 @@ abbrev pub invariant-loop-number : goal.invariant-loop-number
 invariant-loop-number l =
     let env = l.env in
     let ps = parameters_if env l.system in
-    least l.told (st.init_arguments env (drop l.number ps) (expressions_of (map expression (drop l.number l.list))))
-    ≡ least l.fn.told (st.init_arguments env ps (expressions_of (map expression l.list)))
+    least l.diagnostics (st.init_arguments env (drop l.number ps) (expressions_of (map expression (drop l.number l.list))))
+    ≡ least l.fn.diagnostics (st.init_arguments env ps (expressions_of (map expression l.list)))

@@ -4,7 +4,7 @@ use Rattle.cp_model.specs.RulesNames.{first_token}
 use Rattle.cp_model.specs.RulesStatements as st
 use Rattle.cp_model.specs.View.{expression}
 use Rattle.cp_model.specs.declared.rules.Rule.TheVariants.{C12}
-use Rattle.cp_rules_body.proofs.InitTold.{argument_named, argument_unnamed}
+use Rattle.cp_rules_body.proofs.InitReported.{argument_named, argument_unnamed}
 use Rattle.cp_rules_body.proofs.initialisation.component_argument.Goals as goal
 
 pub returns-in-Some : goal.returns-in-Some
@@ -14,6 +14,6 @@ pub returns-in-None : goal.returns-in-None
 returns-in-None c =
     let env = c.args.env.now in
     let e = expression c.args.e.now in
-    let told : c.tell.new.told ≡ earlier c.args.told.now (violation C12 (first_token e)) = rw c.first_token.ensures at c.tell.ensures in
+    let diagnostics : c.report.new.diagnostics ≡ earlier c.args.diagnostics.now (violation C12 (first_token e)) = rw c.first_token.ensures at c.report.ensures in
     rw (argument_unnamed env c.args.wanted e c.in-None.ensures)
-    (c.unwanted_argument.ensures.0 ∙ ap (λ t. least t (violations_of (st.surplus_argument env e))) told, refl)
+    (c.unwanted_argument.ensures.0 ∙ ap (λ t. least t (violations_of (st.surplus_argument env e))) diagnostics, refl)

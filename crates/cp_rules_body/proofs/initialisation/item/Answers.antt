@@ -5,9 +5,9 @@ use Rattle.cp_model.specs.RulesNames as n
 use Rattle.cp_model.specs.RulesStatements as st
 use Rattle.cp_model.specs.View.{expression, expressions_of}
 use Rattle.cp_rules_body.specs.InitParts as parts
-use Rattle.cp_rules_body.proofs.ExpressionsTold.{count_expressions}
-use Rattle.cp_rules_body.proofs.InitTold.{parameters_told}
-use Rattle.cp_rules_body.proofs.Tells.{more_told}
+use Rattle.cp_rules_body.proofs.ExpressionsReported.{count_expressions}
+use Rattle.cp_rules_body.proofs.InitReported.{parameters_reported}
+use Rattle.cp_rules_body.proofs.Reports.{more_reported}
 use Rattle.cp_rules_body.proofs.initialisation.item.Goals as goal
 
 pub returns : goal.returns
@@ -18,9 +18,9 @@ returns c =
     let es = expressions_of (map expression list) in
     let count : c.len.result ≡ n.count_of es = c.len.ensures ∙ sym c.deref.ensures.len ∙ ap length c.deref.ensures.value ∙ sym (count_expressions list) in
     let j = parts.component env x (n.count_of es) in
-    let told = rw count at c.item_component-system.ensures.told in
-    let ps = parameters_told env c.item_component-system.result (parts.system env x) c.item_component-system.ensures.system in
+    let diagnostics = rw count at c.item_component-system.ensures.diagnostics in
+    let ps = parameters_reported env c.item_component-system.result (parts.system env x) c.item_component-system.ensures.system in
     let rest = rw (ps, c.deref.ensures.value) at c.arguments.ensures in
     let arguments = st.init_arguments env (st.parameters_in env (parts.system env x)) es in
     let named = n.c8_named env mode.Value x in
-    more_told c.args.told.now c.item_component-system.new.told c.arguments.new.told (named ++ violations_of j) arguments told rest
+    more_reported c.args.diagnostics.now c.item_component-system.new.diagnostics c.arguments.new.diagnostics (named ++ violations_of j) arguments diagnostics rest

@@ -9,4 +9,4 @@ use Rattle.cp_rules_body.proofs.initialisation.judge_init.Given as goal
 abbrev pub invariant-loop-i : goal.invariant-loop-i
 invariant-loop-i l =
     let env = l.env in
-    least l.told (st.init_items env (map init_item (drop l.i-index l.items))) ≡ least l.fn.told (judge_init env l.fn.at (map init_item l.fn.items))
+    least l.diagnostics (st.init_items env (map init_item (drop l.i-index l.items))) ≡ least l.fn.diagnostics (judge_init env l.fn.at (map init_item l.fn.items))

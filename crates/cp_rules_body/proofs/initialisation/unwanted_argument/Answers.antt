@@ -1,5 +1,5 @@
 use Rattle.cp_model.specs.View.{designator, expression}
-use Rattle.cp_rules_body.proofs.InitTold.{unwanted_some, unwanted_none}
+use Rattle.cp_rules_body.proofs.InitReported.{unwanted_some, unwanted_none}
 use Rattle.cp_rules_body.proofs.initialisation.unwanted_argument.Goals as goal
 
 pub returns-in-Some : goal.returns-in-Some

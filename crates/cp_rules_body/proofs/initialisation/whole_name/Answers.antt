@@ -1,5 +1,5 @@
 use Rattle.std.proofs.Common.{sym}
-use Rattle.cp_rules_body.proofs.InitTold.{whole_name_some}
+use Rattle.cp_rules_body.proofs.InitReported.{whole_name_some}
 use Rattle.cp_rules_body.proofs.initialisation.whole_name.Goals as goal
 
 pub returns-in_default : goal.returns-in_default

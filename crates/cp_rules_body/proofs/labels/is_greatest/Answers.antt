@@ -1,5 +1,5 @@
 use Rattle.std.proofs.Common.{◌≡◌, of_z, rules, to_z, w32}
-use Rattle.cp_rules_body.proofs.LabelsTold.{greatest}
+use Rattle.cp_rules_body.proofs.LabelsReported.{greatest}
 use Rattle.cp_rules_body.proofs.labels.is_greatest.Goals as goal
 
 ordinal_is : (c : goal.After-result-1) → to_z w32 (of_z w32 c.args.ordinal) ≡ c.args.ordinal

@@ -4,8 +4,8 @@ use Rattle.cp_model.specs.RulesJudged.{then_judge, violations_of}
 use Rattle.cp_model.specs.RulesStatements as st
 use Rattle.cp_model.specs.RulesTypes as types
 use Rattle.cp_model.specs.declared.tree.Constant.{Constant}
-use Rattle.cp_rules_body.proofs.LabelsTold.{labels_same, labels_told}
-use Rattle.cp_rules_body.proofs.Tells.{rest_told}
+use Rattle.cp_rules_body.proofs.LabelsReported.{labels_same, labels_reported}
+use Rattle.cp_rules_body.proofs.Reports.{rest_reported}
 use Rattle.cp_rules_body.proofs.labels.judge_labels.Goals as goal
 
 pub loop-c-preserved : goal.loop-c-preserved
@@ -23,10 +23,10 @@ loop-c-preserved c =
     let of = λ (cs : List Constant). st.labels env base seen cs in
     let step : of (drop i all) ≡ of (o ∷ rest) = at_drop_more of all i o c.loop-c-test.true ∙ ap (λ p. of (p ∷ rest)) (sym c.c-item.is) in
     let same = c.in_ok-judge_label.ensures.seen in
-    let behind = labels_told env base new (st.more_seen seen one) rest same in
+    let behind = labels_reported env base new (st.more_seen seen one) rest same in
     record {
-      told = rest_told c.loop-c.told c.judge_label.new.told label (st.labels env base new rest).violations (of (drop i all)).violations c.in_ok-judge_label.ensures.told
+      diagnostics = rest_reported c.loop-c.diagnostics c.judge_label.new.diagnostics label (st.labels env base new rest).violations (of (drop i all)).violations c.in_ok-judge_label.ensures.diagnostics
           (ap (λ (l : st.Labelled). l.violations) step ∙ ap (λ vs. label ++ vs) (sym behind))
-          ∙ c.loop-c.invariant.told;
+          ∙ c.loop-c.invariant.diagnostics;
       seen = λ x. labels_same env base new (st.more_seen seen one) rest same x ∙ sym (ap (λ (l : st.Labelled). st.is_among x l.seen) step) ∙ c.loop-c.invariant.seen x;
     }

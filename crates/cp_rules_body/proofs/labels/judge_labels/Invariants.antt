@@ -10,6 +10,6 @@ invariant-loop-c l =
     let rest = st.labels l.env l.base l.seen (drop l.c-index l.list) in
     let all = st.labels l.env l.base l.fn.seen l.list in
     record {
-      told : least l.told rest.violations ≡ least l.fn.told all.violations;
+      diagnostics : least l.diagnostics rest.violations ≡ least l.fn.diagnostics all.violations;
       seen : SameLabels rest.seen all.seen;
     }

@@ -5,8 +5,8 @@ use Rattle.cp_model.specs.RulesJudged.{both, violations_of}
 use Rattle.cp_model.specs.RulesNames as n
 use Rattle.cp_model.specs.View.{designator, expression, expressions_of}
 use Rattle.cp_rules_body.specs.StatementParts as parts
-use Rattle.cp_rules_body.proofs.ExpressionsTold.{count_expressions, result_told}
-use Rattle.cp_rules_body.proofs.Tells.{more_told}
+use Rattle.cp_rules_body.proofs.ExpressionsReported.{count_expressions, result_reported}
+use Rattle.cp_rules_body.proofs.Reports.{more_reported}
 use Rattle.cp_rules_body.proofs.procedures.judge_call.Goals as goal
 
 pub returns : goal.returns
@@ -21,5 +21,5 @@ returns c =
     let callee = rw count at c.judge_callee-called.ensures.callee in
     let wanted = rw count at c.judge_callee-called.ensures.wants in
     let given = rw wanted at c.arguments.ensures in
-    let result = result_told env c.names_fit.new.told c.judge_callee-called.new.told c.arguments.new.told c.judge_callee-called.result.callee c.arguments.result jc ja callee given in
-    more_told c.args.told.now c.names_fit.new.told c.arguments.new.told (n.c2_c5_c8_named env mode.Value d) (violations_of (both jc ja (x.result_of env))) c.names_fit.ensures.0 result.0
+    let result = result_reported env c.names_fit.new.diagnostics c.judge_callee-called.new.diagnostics c.arguments.new.diagnostics c.judge_callee-called.result.callee c.arguments.result jc ja callee given in
+    more_reported c.args.diagnostics.now c.names_fit.new.diagnostics c.arguments.new.diagnostics (n.c2_c5_c8_named env mode.Value d) (violations_of (both jc ja (x.result_of env))) c.names_fit.ensures.0 result.0

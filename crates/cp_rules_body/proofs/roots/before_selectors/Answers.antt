@@ -6,7 +6,7 @@ use Rattle.cp_model.specs.View.{selector, selectors_of}
 use Rattle.cp_model.specs.declared.tree.Identifier.{Identifier}
 use Rattle.cp_model.specs.declared.tree.Selector.{Selector}
 use Rattle.cp_model.specs.declared.rules.Entity.{Entity}
-use Rattle.cp_rules_body.proofs.Tells.{also_told}
+use Rattle.cp_rules_body.proofs.Reports.{also_reported}
 use Rattle.cp_rules_body.proofs.roots.before_selectors.Goals as goal
 
 of_some : (env : r.Environment) (x : Identifier) (e : Entity) (xs : List Selector) → 1 ≤ length xs
@@ -19,6 +19,6 @@ returns-in_default c =
     let env = c.args.env.now in
     let x = c.args.x.now in
     let e = c.args.entity in
-    let t1 = c.anywhere-in_place.new.told in
+    let t1 = c.anywhere-in_place.new.diagnostics in
     rw (of_some env x e c.args.selectors.now c.in_default.len_at_least, c.answer_if.ensures)
-    (also_told c.args.told.now t1 t1 c.anywhere-in_place.result (r.c4_c9_named env x e) (Some e) (Sound e) c.anywhere-in_place.ensures (refl, refl))
+    (also_reported c.args.diagnostics.now t1 t1 c.anywhere-in_place.result (r.c4_c9_named env x e) (Some e) (Sound e) c.anywhere-in_place.ensures (refl, refl))

@@ -8,10 +8,10 @@ use Rattle.cp_rules_body.proofs.statements.+statement.Given as goal
 abbrev pub invariant-statements-loop-s : goal.invariant-statements-loop-s
 invariant-statements-loop-s l =
     let env = l.env in
-    least l.told (st.statements env (statements_of (map statement (drop l.s-index l.list)))) ≡ least l.fn.told (st.statements env (statements_of (map statement l.list)))
+    least l.diagnostics (st.statements env (statements_of (map statement (drop l.s-index l.list)))) ≡ least l.fn.diagnostics (st.statements env (statements_of (map statement l.list)))
 
 -- what is reported in the end, from this labelled statement on
 abbrev pub invariant-judge_arms-loop-a : goal.invariant-judge_arms-loop-a
 invariant-judge_arms-loop-a l =
     let env = l.env in
-    least l.told (st.arms env l.base l.seen (arms_of (map arm (drop l.a-index l.list)))) ≡ least l.fn.told (st.arms env l.base [] (arms_of (map arm l.list)))
+    least l.diagnostics (st.arms env l.base l.seen (arms_of (map arm (drop l.a-index l.list)))) ≡ least l.fn.diagnostics (st.arms env l.base [] (arms_of (map arm l.list)))

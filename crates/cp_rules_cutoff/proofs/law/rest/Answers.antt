@@ -1,5 +1,5 @@
-use Rattle.cp_rules_cutoff.proofs.NothingEarlier.{rest_told}
+use Rattle.cp_rules_cutoff.proofs.NothingEarlier.{rest_reported}
 use Rattle.cp_rules_cutoff.proofs.law.rest.Goals as goal
 
 pub returns : goal.returns
-returns c = rest_told
+returns c = rest_reported

@@ -1,6 +1,6 @@
 use Rattle.std.proofs.Common.{arith, ◌<◌}
 use Rattle.cp_scan.proofs.FirstPiece.{left}
-use Rattle.cp_scan.proofs.Loop.{ends, fails, goes, moves_on, within, told}
+use Rattle.cp_scan.proofs.Loop.{ends, fails, goes, moves_on, within, reported}
 use Rattle.cp_scan.proofs.scanning.all_tokens.Goals as goal
 
 pub loop-progress-smaller : goal.loop-progress-smaller
@@ -18,7 +18,7 @@ loop-progress-preserved c = record {
 
 pub returns-in_err-read_piece-clause-fails : goal.returns-in_err-read_piece-clause-fails
 returns-in_err-read_piece-clause-fails c =
-    told c.args.text.now _ _ c.from_residual.ensures.1
+    reported c.args.text.now _ _ c.from_residual.ensures.1
     (fails _ _ _ c.loop-progress.invariant.so_far _ _ (left _ _ c.loop-progress-test.true) _ c.in_err-read_piece.ensures)
 
 pub returns-clause-tokens : goal.returns-clause-tokens

@@ -1,4 +1,4 @@
-use Rattle.cp_trace.specs.Telling.{Adds, AreObjects}
+use Rattle.cp_trace.specs.Reporting.{Adds, AreObjects}
 use Rattle.cp_trace.proofs.objects.push_each.Given as goal
 
 -- only objects were added

@@ -12,7 +12,7 @@ abbrev nothing : Declared
 nothing = record { name = record { ref_ptr = (0, 0); now = [] }; by_reference = false; of = 0 }
 
 pub loop-d-init : goal.loop-d-init
-loop-d-init c = λ plans g firsts groups vs before i are. record { others = vs; stand = rw c.deref-d-items.ensures.value i.declared; so_far = before; are = are; rest = refl }
+loop-d-init c = λ plans g firsts groups vs before i are. record { others = vs; represent = rw c.deref-d-items.ensures.value i.declared; so_far = before; are = are; rest = refl }
 
 pub loop-d-preserved : goal.loop-d-preserved
 loop-d-preserved c = λ plans g firsts groups vs before i are.
@@ -28,7 +28,7 @@ loop-d-preserved c = λ plans g firsts groups vs before i are.
     let some =
     subst (λ xs. PartlyOwned plans g types firsts groups s xs all c.loop-d.owners.items) step (c.loop-d.invariant plans g firsts groups vs before i are) in
     one_owned plans g types firsts groups s (declared_entry d) (map declared_entry (drop (k + 1) ds)) all c.loop-d.owners.items c.add_owner.new.owners.items some
-    (λ v xs stands so. c.in_ok-add_owner.ensures plans g firsts groups vs v xs i stands so)
+    (λ v xs represents so. c.in_ok-add_owner.ensures plans g firsts groups vs v xs i represents so)
 
 pub returns : goal.returns
 returns c = λ plans g firsts groups vs before i are.

@@ -6,7 +6,7 @@ use Rattle.cp_compile.proofs.ComponentsCompiled.{component_counted, waiting_coun
 use Rattle.cp_compile.proofs.components.Owner.of.Goals as goal
 
 pub returns : goal.returns
-returns c = λ plans g types s ps vs rs stands written plan.
+returns c = λ plans g types s ps vs rs represents written plan.
     let table = c.args.table.now in
     let words : table.members.words ≡ Some c.in_ok-ok_or.field-0 = search rules in
     let waiting : c.in_ok-small_sum.field-0 ≡ c.in_ok-waiting.waiting + 1 = search rules in
@@ -14,7 +14,7 @@ returns c = λ plans g types s ps vs rs stands written plan.
     let all : ℕ = suc (rights_of g ps) + words_of_members g (own_members g ps vs) in
     record {
       body = refl;
-      words = subst (λ (o : Option ℕ). Counts o all) words stands.members.words ∙ component_counted g s ps vs rs written;
-      waiting = waiting ∙ waiting_counted g types s ps vs rs table.parameters.items c.in_ok-waiting.waiting written stands.parameters count;
+      words = subst (λ (o : Option ℕ). Counts o all) words represents.members.words ∙ component_counted g s ps vs rs written;
+      waiting = waiting ∙ waiting_counted g types s ps vs rs table.parameters.items c.in_ok-waiting.waiting written represents.parameters count;
       plan = plan;
     }

@@ -1,6 +1,6 @@
 use Rattle.std.proofs.Common.{◌∙◌, None, ap, sym}
 use Rattle.std.proofs.lemmas.Result.{on_ok_weaker}
-use Rattle.cp_model_program.specs.StandsFor.{end_of}
+use Rattle.cp_model_program.specs.IsProgramFor.{end_of}
 use Rattle.cp_compile_emit.specs.Planning.{known_of}
 use Rattle.cp_program.specs.View as view
 use Rattle.cp_compile.specs.Compiles.{body_of}

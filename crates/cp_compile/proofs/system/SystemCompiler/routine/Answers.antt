@@ -18,14 +18,14 @@ returns-clause-code c =
     let table = c.args.table.now in
     let is = c.is_some-is_function.ensures in
     on_ok_weaker c.compile_unit.result
-    (λ made g s firsts d i stands so.
+    (λ made g s firsts d i represents so.
     let planned = rw (c.deref.ensures.value, c.deref-2.ensures.value) at c.in_ok-starts.ensures in
     let declared = planner_knows of g s firsts i in
     routine_compiled of g s firsts r (view.plan_of (known_of of.planner.now) c.in_ok-starts.starts.items) (Return c.is_some-is_function.result) d c.compile_unit.new.emitter
-    (planned g r i.knows (declared (map declared_entry table.parameters.items) (declarations g r.parameters) stands.parameters)
-    (declared (map declared_entry table.variables.items) (declarations g r.variables) stands.variables) (is ∙ result_written text.result_type))
+    (planned g r i.knows (declared (map declared_entry table.parameters.items) (declarations g r.parameters) represents.parameters)
+    (declared (map declared_entry table.variables.items) (declarations g r.variables) represents.variables) (is ∙ result_written text.result_type))
     (ap Return (is ∙ function_written text.result_type))
-    (rw c.deref-3.ensures.value at (made (known_of of.planner.now) (unit_scope of g s firsts (Some r)) d (scope_made of g s firsts i c.new-scope.result (Some c.args.table) (Some r) c.new-scope.ensures stands) so)))
+    (rw c.deref-3.ensures.value at (made (known_of of.planner.now) (unit_scope of g s firsts (Some r)) d (scope_made of g s firsts i c.new-scope.result (Some c.args.table) (Some r) c.new-scope.ensures represents) so)))
     c.compile_unit.ensures.code
 
 pub returns-clause-origin : goal.returns-clause-origin
@@ -33,6 +33,6 @@ returns-clause-origin c =
     let of = c.args.self.now in
     let r = erase.routine (tree.routine c.args.text.now) in
     on_ok_weaker c.compile_unit.result
-    (λ added g s firsts i stands.
-    added (unit_scope of g s firsts (Some r)) (scope_made of g s firsts i c.new-scope.result (Some c.args.table) (Some r) c.new-scope.ensures stands))
+    (λ added g s firsts i represents.
+    added (unit_scope of g s firsts (Some r)) (scope_made of g s firsts i c.new-scope.result (Some c.args.table) (Some r) c.new-scope.ensures represents))
     c.compile_unit.ensures.origin

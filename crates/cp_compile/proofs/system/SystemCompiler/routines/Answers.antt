@@ -28,17 +28,17 @@ loop-i-preserved c =
     let here : slice_get of.system.now.routines.items k ≡ Some table = search rules in
     record {
       code = λ g s firsts d i all is.
-          let stands = routine_known of g s firsts i texts (drop (k + 1) texts) k x table all step here in
+          let represents = routine_known of g s firsts i texts (drop (k + 1) texts) k x table all step here in
           let some =
           subst (λ (rs : List Routine). PartlyCompiled of g s firsts (routines_of rs) (routines_of texts) d c.loop-i.emitter) step
           (c.loop-i.invariant.code g s firsts d i all is) in
           one_routine of g s firsts (erase.routine (tree.routine x)) (routines_of (drop (k + 1) texts)) (routines_of texts) d c.loop-i.emitter c.routine.new.emitter some
-          (λ e so. c.in_ok-routine.ensures.code g s firsts e i stands so);
+          (λ e so. c.in_ok-routine.ensures.code g s firsts e i represents so);
       origins = λ g s firsts i all.
-          let stands = routine_known of g s firsts i texts (drop (k + 1) texts) k x table all step here in
+          let represents = routine_known of g s firsts i texts (drop (k + 1) texts) k x table all step here in
           let before = c.loop-i.emitter.origins.items in
           continues_more c.args.emitter.now.origins.items before c.routine.new.emitter.origins.items (c.loop-i.invariant.origins g s firsts i all)
-          (continues_after before x.name.at c.routine.new.emitter.origins.items (c.in_ok-routine.ensures.origin g s firsts i stands));
+          (continues_after before x.name.at c.routine.new.emitter.origins.items (c.in_ok-routine.ensures.origin g s firsts i represents));
     }
 
 pub loop-i-preserved-in_default : goal.loop-i-preserved-in_default

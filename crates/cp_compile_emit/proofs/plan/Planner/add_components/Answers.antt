@@ -47,15 +47,15 @@ loop-table-preserved c =
           let found : slice_get old.tables.now.systems.items count ≡ Some table = sym c.table.ensures ∙ ap (option_map (λ (b : Bor SystemTable). b.now)) c.in-Some.is in
           let same : t ≡ table =
           same_Some t table (sym there ∙ ap (λ (b : Bor Tables). slice_get b.now.systems.items count) (sym so_far.extends.tables_are) ∙ found) in
-          let stands = has_table g start.tables.now.types start.tables.now.systems.items count y t systems here there in
+          let represents = has_table g start.tables.now.types start.tables.now.systems.items count y t systems here there in
           let s = erase.system (tree_view.system y.now) in
           let made = (rw (c.deref.ensures.value, c.deref-in-Some.ensures.value) at one.plan) g s known in
           let own =
           made
           (subst (λ (b : Bor Tables). AreDeclared b.now.types (map declared_entry table.parameters.items) (declarations g s.parameters)) (sym so_far.extends.tables_are)
-          (subst (λ (z : SystemTable). AreDeclared start.tables.now.types (map declared_entry z.parameters.items) (declarations g s.parameters)) same stands.parameters))
+          (subst (λ (z : SystemTable). AreDeclared start.tables.now.types (map declared_entry z.parameters.items) (declarations g s.parameters)) same represents.parameters))
           (subst (λ (b : Bor Tables). AreDeclared b.now.types (map declared_entry table.variables.items) (declarations g s.variables)) (sym so_far.extends.tables_are)
-          (subst (λ (z : SystemTable). AreDeclared start.tables.now.types (map declared_entry z.variables.items) (declarations g s.variables)) same stands.variables)) in
+          (subst (λ (z : SystemTable). AreDeclared start.tables.now.types (map declared_entry z.variables.items) (declarations g s.variables)) same represents.variables)) in
           ap (plan_at (known_of new)) (sym (one.number ∙ many)) ∙ own)
           (so_far.plans g knows systems);
     }

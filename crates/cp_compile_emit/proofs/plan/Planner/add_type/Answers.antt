@@ -1,5 +1,5 @@
 use Rattle.std.proofs.Common.{rules, ◌≡◌, ◌∙◌, ◌∷◌, ◌++◌, [], Option, Vec, Global, ap, length, subst}
-use Rattle.cp_compile_symbols.specs.Standing.{Stands}
+use Rattle.cp_compile_symbols.specs.Standing.{Represents}
 use Rattle.cp_compile_emit.specs.declared.plan.Planner.{Planner}
 use Rattle.cp_compile_emit.specs.declared.plan.TypePlans.{TypePlans}
 use Rattle.cp_compile_emit.specs.Planning.{Extends, types_of}
@@ -18,4 +18,4 @@ returns-clause-knows c = λ g knows.
     c.in_ok-push.ensures.items ∙ ap (λ (v : Vec (Option TypePlans) Global). v.items ++ o ∷ []) c.add_type_plans.ensures.types in
     let number : length old.types.items ≡ c.len-of.result = search rules in
     type_added old new g o extends all
-    (λ p t is known stands. (rw is at c.in_ok-plans.ensures.plans) g t known (subst (λ n. Stands (types_of old) n t) number stands)) knows
+    (λ p t is known represents. (rw is at c.in_ok-plans.ensures.plans) g t known (subst (λ n. Represents (types_of old) n t) number represents)) knows

@@ -32,11 +32,11 @@ returns c = if_ok c.plan_members.result (λ draft made g s knows parameters vari
     ∙ ap (λ fs. map member_of own ++ fs) (sym (append-nil last))) in
     let inner = declared_members types c.args.variables.now vs [] NoMembers variables tt in
     let whole = declared_members types own (own_variables ps) (last ++ []) (members_from vs NoMembers) (own_declared types c.args.parameters.now ps parameters) inner in
-    let stand : AreMembers types (map entry members) (reported_members g s) =
+    let represent : AreMembers types (map entry members) (reported_members g s) =
     subst (λ fs. AreMembers types fs (reported_members g s)) (sym all) whole in
     let counted = rights_counted types c.args.parameters.now ps parameters in
     let listed : c.in_ok-head.head ≡ suc (length c.args.parameters.now - length c.in_ok-own.own.items) = search rules in
     let many = ap length c.in_ok-own.ensures in
     let head : c.in_ok-head.head ≡ head_words g s = omega (arith, counted, listed, many) in
-    plan g (reported_members g s) knows stand ∙ ap (λ n. plan_of_parts (placed true g (reported_members g s) n)) head)
+    plan g (reported_members g s) knows represent ∙ ap (λ n. plan_of_parts (placed true g (reported_members g s) n)) head)
     c.plan_members.ensures

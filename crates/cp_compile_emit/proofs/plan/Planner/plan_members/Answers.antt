@@ -16,6 +16,6 @@ returns c =
     let same : c.deref.result.now ≡ c.arrange.new.parts =
     c.deref.ensures.value ∙ take_first c.arrange.new.parts (drop (length c.arrange.new.parts) parts.items) parts.len (long ∙ sym (kept ∙ before)) in
     if_ok c.plan_in_order.result
-    (λ draft made g ms knows stand.
-    made ∙ ap (λ (ps : List Placed). plan_in_order (map f ps)) same ∙ ap plan_in_order (c.arrange.ensures ∙ ap (λ (ps : List Placed). arranged (map f ps)) c.deref_mut.ensures.value ∙ ap arranged (c.in_ok-parts.ensures g ms knows stand)))
+    (λ draft made g ms knows represent.
+    made ∙ ap (λ (ps : List Placed). plan_in_order (map f ps)) same ∙ ap plan_in_order (c.arrange.ensures ∙ ap (λ (ps : List Placed). arranged (map f ps)) c.deref_mut.ensures.value ∙ ap arranged (c.in_ok-parts.ensures g ms knows represent)))
     c.plan_in_order.ensures

@@ -17,8 +17,8 @@ returns-in-Some-Simple c =
     let at : row_at types c.args.of ≡ Some (row.Simple s) = search rules in
     let same : narrow s.start ≡ s.start = search rules in
     if_ok c.plan_word.result
-    (λ draft made g t knows stands.
-    as_simple types c.args.of (λ u. plan_of known draft ≡ plan c.args.zeros g u) s at (λ u is. made known ∙ ap (plan_of_word c.args.zeros) same ∙ ap (plan c.args.zeros g) is) t stands)
+    (λ draft made g t knows represents.
+    as_simple types c.args.of (λ u. plan_of known draft ≡ plan c.args.zeros g u) s at (λ u is. made known ∙ ap (plan_of_word c.args.zeros) same ∙ ap (plan c.args.zeros g) is) t represents)
     c.plan_word.ensures
 
 pub returns-in-Some-Array : goal.returns-in-Some-Array
@@ -30,8 +30,8 @@ returns-in-Some-Array c =
     let element = c.in-Some-Array.element in
     let at : row_at types c.args.of ≡ Some (row.Array low high element) = search rules in
     if_ok c.plan_array.result
-    (λ draft made g t knows stands.
-    as_array types c.args.of (λ u. plan_of known draft ≡ plan c.args.zeros g u) low high element at (λ u one. made g u knows one) t stands)
+    (λ draft made g t knows represents.
+    as_array types c.args.of (λ u. plan_of known draft ≡ plan c.args.zeros g u) low high element at (λ u one. made g u knows one) t represents)
     c.plan_array.ensures
 
 pub returns-in-Some-Record : goal.returns-in-Some-Record
@@ -41,8 +41,8 @@ returns-in-Some-Record c =
     let fields = c.in-Some-Record.fields in
     let at : row_at types c.args.of ≡ Some (row.Record fields) = search rules in
     if_ok c.plan_members.result
-    (λ draft made g t knows stands.
-    as_record types c.args.of (λ u. plan_of known draft ≡ plan c.args.zeros g u) fields at (λ ms all. (rw c.deref.ensures.value at made) g ms knows all) t stands)
+    (λ draft made g t knows represents.
+    as_record types c.args.of (λ u. plan_of known draft ≡ plan c.args.zeros g u) fields at (λ ms all. (rw c.deref.ensures.value at made) g ms knows all) t represents)
     c.plan_members.ensures
 
 pub returns-in-Some-Queue : goal.returns-in-Some-Queue
@@ -51,5 +51,5 @@ returns-in-Some-Queue c =
     let known = known_of c.args.self.now in
     let at : row_at types c.args.of ≡ Some row.Queue = search rules in
     if_ok c.plan_word-in-Some-Queue.result
-    (λ draft made g t knows stands. as_queue types c.args.of (λ u. plan_of known draft ≡ plan c.args.zeros g u) at (made known) t stands)
+    (λ draft made g t knows represents. as_queue types c.args.of (λ u. plan_of known draft ≡ plan c.args.zeros g u) at (made known) t represents)
     c.plan_word-in-Some-Queue.ensures

@@ -19,11 +19,11 @@ returns c = λ g r knows parameters variables is.
     c.in_ok-add_members.ensures
     ∙ (ap (λ (fs : List Field). map entry fs ++ map member_of c.args.variables.now) c.new-members.ensures.items
     ∙ sym (append-nil (map member_of c.args.variables.now))) in
-    let stand : AreMembers types (map entry members) (members_from vs NoMembers) =
+    let represent : AreMembers types (map entry members) (members_from vs NoMembers) =
     subst (λ fs. AreMembers types fs (members_from vs NoMembers)) (sym all) (declared_members types c.args.variables.now vs [] NoMembers variables tt) in
     let plan = rw c.deref.ensures.value at c.in_ok-draft.ensures in
     let known = known_of c.args.self.now in
     c.into_starts.ensures known
     ∙ routine_planned g r c.args.is_function c.result_words.result c.in_ok-first.first (plan_of known c.in_ok-draft.draft) (plan_of known c.mark_result.new.draft) is
     c.result_words.ensures (c.in_ok-first.ensures g (declarations g r.parameters) knows parameters)
-    (plan g (members_from vs NoMembers) knows stand) (c.in_ok-mark_result.ensures known)
+    (plan g (members_from vs NoMembers) knows represent) (c.in_ok-mark_result.ensures known)

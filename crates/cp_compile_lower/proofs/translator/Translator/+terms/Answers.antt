@@ -16,16 +16,16 @@ use Rattle.cp_compile_symbols.specs.Standing.{simple_of}
 use Rattle.cp_model.specs.Syntax as syntax
 use Rattle.cp_model.specs.View as tree
 use Rattle.cp_model.specs.declared.tree.Expression.{Expression}
-use Rattle.cp_model_program.specs.CodedTerms.{CodedArguments, argument_of, coded_arguments, coded_spot, coded_standard, coded_term, coded_variable, lone_term, name_or_item, no_arguments, parameters_of, term_of_name, with_argument}
+use Rattle.cp_model_program.specs.CodedTerms.{CodedArguments, argument_of, coded_arguments, coded_place_expression, coded_standard, coded_term, coded_variable, lone_term, name_or_item, no_arguments, parameters_of, term_of_name, with_argument}
 use Rattle.cp_model_program.specs.Terms.{Number}
 use Rattle.cp_compile_emit.specs.Emission.{coded_call}
 use Rattle.cp_compile_symbols.proofs.ValueTypes.{is_name}
 use Rattle.cp_compile_emit.specs.declared.call.MadeTerm.{MadeTerm}
 use Rattle.cp_program.proofs.Wide.{narrow}
-use Rattle.cp_compile_lower.specs.Translated.{AreArguments, IsPlace, IsSpot, IsTerm}
+use Rattle.cp_compile_lower.specs.Translated.{AreArguments, IsPlace, IsPlaceExpression, IsTerm}
 use Rattle.cp_compile_lower.proofs.ArgumentsMade.{Finishes, all_made, declared_at, got, no_parameters, one_made, parameters_past}
 use Rattle.cp_compile_lower.proofs.CallsMade.{called_as, called_by, first_at, none_called, nothing_passed, standard_as, standard_empty, valued}
-use Rattle.cp_compile_lower.proofs.Consisting.{bare_call, bare_chain, meant, no_bare_call, no_bare_chain, no_character, no_not, no_number, no_signed, other_spot}
+use Rattle.cp_compile_lower.proofs.Consisting.{bare_call, bare_chain, meant, no_bare_call, no_bare_chain, no_character, no_not, no_number, no_signed, other_place_expression}
 use Rattle.cp_compile_lower.proofs.TermsMade.{lone_made, part_held, seen_as}
 use Rattle.cp_model.proofs.Views.{view_call, view_chain, view_character, view_designator, view_field, view_index, view_not, view_number, view_operation, view_signed}
 use Rattle.cp_model.proofs.Results.{if_ok}
@@ -93,16 +93,16 @@ select-returns-in-Field t c =
     subst (λ y. IsPlace c.args.self.now.scope s low before calls (erase.select d y) made) (sym (view_field c.in-Field.at c.in-Field.name))
     ((rw c.as_bytes.ensures at h) calls s low before d scope place)) c.field.ensures)
 
-pub spot-loop-selector-init : goal.spot-loop-selector-init
-spot-loop-selector-init t c = λ s scope. (
+pub place_expression-loop-selector-init : goal.place_expression-loop-selector-init
+place_expression-loop-selector-init t c = λ s scope. (
   a.Plain c.args.d.now.root.name,
   rw c.as_bytes.ensures at (c.in_ok-made.ensures s c.args.calls.now.items scope),
   ap (λ ys. erase.with_selectors (a.Plain c.args.d.now.root.name) (tree.selectors_of (map tree.selector ys))) c.deref-selector-items.ensures.value
       ∙ sym (ap erase.designator (view_designator c.args.d.now)),
 )
 
-pub spot-loop-selector-preserved : goal.spot-loop-selector-preserved
-spot-loop-selector-preserved t c = λ s scope.
+pub place_expression-loop-selector-preserved : goal.place_expression-loop-selector-preserved
+place_expression-loop-selector-preserved t c = λ s scope.
     let so_far = c.loop-selector.invariant s scope in
     let p = so_far.0 in
     let o = c.selector-item.result in
@@ -116,8 +116,8 @@ spot-loop-selector-preserved t c = λ s scope.
       sym step ∙ so_far.2,
     )
 
-pub spot-returns : goal.spot-returns
-spot-returns t c = λ s scope.
+pub place_expression-returns : goal.place_expression-returns
+place_expression-returns t c = λ s scope.
     let so_far = c.loop-selector.invariant s scope in
     let all = c.deref-selector-items.result.now in
     let end : so_far.0 ≡ erase.designator (tree.designator c.args.d.now) =
@@ -132,19 +132,19 @@ place_term-returns-then-not-is_part t c = λ s scope.
     let calls = c.args.calls.now.items in
     let named = is_name d (sym c.is_part.ensures ∙ c.if-not-is_part.true) in
     let made : MadeTerm = record { term = c.in_ok-term.term; temps = c.args.low } in
-    subst (λ x. IsTerm (map coded_call calls) calls made (name_or_item s x (coded_spot s x c.args.low) c.args.low)) (sym named)
+    subst (λ x. IsTerm (map coded_call calls) calls made (name_or_item s x (coded_place_expression s x c.args.low) c.args.low)) (sym named)
     (lone_made calls made (term_of_name s d.root.name) c.args.low (rw c.as_bytes.ensures at (c.in_ok-term.ensures s scope)) refl)
 
 pub place_term-returns : goal.place_term-returns
 place_term-returns t c =
     let x = erase.designator (tree.designator c.args.d.now) in
     let before = map coded_call c.args.calls.now.items in
-    let after = c.spot.new.calls.items in
+    let after = c.place_expression.new.calls.items in
     let low = c.args.low in
     let part = sym c.is_part.ensures ∙ c.if-not-is_part.false in
     if_ok c.item.result
     (λ made h s scope.
-    subst (IsTerm before after made) (sym (part_held s x (coded_spot s x low) low part)) (h before after (coded_spot s x low) (c.in_ok-made.ensures s scope).spot))
+    subst (IsTerm before after made) (sym (part_held s x (coded_place_expression s x low) low part)) (h before after (coded_place_expression s x low) (c.in_ok-made.ensures s scope).place_expression))
     c.item.ensures
 
 pub select_element-returns-in-None : goal.select_element-returns-in-None
@@ -274,7 +274,7 @@ user_call-returns t c =
 pub standard_call-returns-then-is_empty_test : goal.standard_call-returns-then-is_empty_test
 standard_call-returns-then-is_empty_test t c =
     let before = map coded_call c.args.calls.now.items in
-    let after = c.argument_spot.new.calls.items in
+    let after = c.argument_place_expression.new.calls.items in
     let low = c.args.low in
     let e = erase.expression (tree.expression c.args.e.now) in
     if_ok c.empty.result
@@ -295,16 +295,16 @@ use_term-returns-in-Some t c =
     (λ made h s scope.
     let found = called_by c.args.self.now.scope s c.in-Some.callee (callee (environment s) d) (rw c.in-Some.is at (c.callee.ensures s scope)) in
     subst (IsTerm (map coded_call calls) after made) (sym (called_as s d a.NoExpression low found.callee found.is))
-    (h s found.callee (map coded_call calls) (no_arguments low) scope found.stands
+    (h s found.callee (map coded_call calls) (no_arguments low) scope found.represents
     (nothing_passed calls c.no_arguments-none.result low c.no_arguments-none.ensures.arguments c.no_arguments-none.ensures.temps)))
     c.function_call.ensures.term
 
 pub argument-returns-in_ok-made-in-Some : goal.argument-returns-in_ok-made-in-Some
-argument-returns-in_ok-made-in-Some t c = λ s v scope reference stands.
+argument-returns-in_ok-made-in-Some t c = λ s v scope reference represents.
     let before = map coded_call c.args.calls.now.items in
     let after = c.term.new.calls.items in
     let e = erase.expression (tree.expression c.args.e.now) in
-    let simple = (rw (c.tables.ensures, c.in-Some.is) at c.simple.ensures) v.type stands in
+    let simple = (rw (c.tables.ensures, c.in-Some.is) at c.simple.ensures) v.type represents in
     valued before after c.simple_value.result s.globals v c.args.at (coded_term s e c.args.low) (coded_variable s e c.args.low) (simple_of c.in-Some.simple)
     (sym reference ∙ c.if-parameter.false) simple
     (c.simple_value.ensures before after s.globals (coded_term s e c.args.low) (coded_variable s e c.args.low) (c.in_ok-made-in-Some.ensures s scope))
@@ -312,14 +312,14 @@ argument-returns-in_ok-made-in-Some t c = λ s v scope reference stands.
 pub argument-returns-in_ok-made-in-None : goal.argument-returns-in_ok-made-in-None
 argument-returns-in_ok-made-in-None t c =
     let before = map coded_call c.args.calls.now.items in
-    let after = c.argument_spot-in-None.new.calls.items in
+    let after = c.argument_place_expression-in-None.new.calls.items in
     let e = erase.expression (tree.expression c.args.e.now) in
     if_ok c.copy_argument.result
-    (λ made h s v scope reference stands.
-    let other = (rw (c.tables.ensures, c.in-None.is) at c.simple.ensures) v.type stands in
+    (λ made h s v scope reference represents.
+    let other = (rw (c.tables.ensures, c.in-None.is) at c.simple.ensures) v.type represents in
     valued before after made s.globals v c.args.at (coded_term s e c.args.low) (coded_variable s e c.args.low) v.type
     (sym reference ∙ c.if-parameter.false) refl
-    (h before after s v.type (coded_term s e c.args.low) (coded_variable s e c.args.low) scope stands other (c.in_ok-made-in-None.ensures s scope)))
+    (h before after s v.type (coded_term s e c.args.low) (coded_variable s e c.args.low) scope represents other (c.in_ok-made-in-None.ensures s scope)))
     c.copy_argument.ensures
 
 pub term-returns-in-Some : goal.term-returns-in-Some
@@ -336,7 +336,7 @@ term-returns-in-Some t c =
     (rw (c.in-Some.is, c.deref-in-len1-up.ensures) at (c.callee.ensures s scope)) in
     seen_as before after made s low (tree.expression c.args.e.now) (syntax.Call d es) v
     (subst (IsTerm before after made) (sym (called_as s (erase.designator d) (erase.expressions es) low found.callee found.is))
-    ((rw c.deref-in-Some.ensures.value at h) s found.callee scope found.stands)))
+    ((rw c.deref-in-Some.ensures.value at h) s found.callee scope found.represents)))
     c.user_call.ensures
 
 pub term-returns-in-None : goal.term-returns-in-None
@@ -369,31 +369,31 @@ term-returns-in-empty t c =
     if_ok c.use_term-in-empty.result
     (λ made h s scope. subst (λ x. made_of made (coded_term s x c.args.low)) (sym is) (h s scope)) (rw c.deref.ensures at c.use_term-in-empty.ensures)
 
-pub argument_spot-returns-in-len1-up : goal.argument_spot-returns-in-len1-up
-argument_spot-returns-in-len1-up t c = λ s scope.
-    other_spot _ _ s _ _ _ c.in-Call.is (no_bare_call _ _ (rw c.as_slice.ensures.value at c.in-len1-up.len_at_least)) (c.first_word.ensures _)
+pub argument_place_expression-returns-in-len1-up : goal.argument_place_expression-returns-in-len1-up
+argument_place_expression-returns-in-len1-up t c = λ s scope.
+    other_place_expression _ _ s _ _ _ c.in-Call.is (no_bare_call _ _ (rw c.as_slice.ensures.value at c.in-len1-up.len_at_least)) (c.first_word.ensures _)
 
-pub argument_spot-returns-in-empty-as_slice : goal.argument_spot-returns-in-empty-as_slice
-argument_spot-returns-in-empty-as_slice t c =
-    let made_of = IsSpot (map coded_call c.args.calls.now.items) c.argument_spot-in-empty-as_slice.new.calls.items in
+pub argument_place_expression-returns-in-empty-as_slice : goal.argument_place_expression-returns-in-empty-as_slice
+argument_place_expression-returns-in-empty-as_slice t c =
+    let made_of = IsPlaceExpression (map coded_call c.args.calls.now.items) c.argument_place_expression-in-empty-as_slice.new.calls.items in
     let is = ap meant c.in-Chain.is ∙ bare_chain c.in-Chain.first c.in-Chain.rest (rw c.as_slice-in-Chain.ensures.value at c.in-empty-as_slice.len_below) in
-    if_ok c.argument_spot-in-empty-as_slice.result
+    if_ok c.argument_place_expression-in-empty-as_slice.result
     (λ made h s scope. subst (λ x. made_of made (coded_variable s x c.args.low)) (sym is) ((rw c.deref-in-empty-as_slice.ensures at h) s scope))
-    c.argument_spot-in-empty-as_slice.ensures
+    c.argument_place_expression-in-empty-as_slice.ensures
 
-pub argument_spot-returns-in-len1-up-as_slice : goal.argument_spot-returns-in-len1-up-as_slice
-argument_spot-returns-in-len1-up-as_slice t c = λ s scope.
-    other_spot _ _ s _ _ _ c.in-Chain.is (no_bare_chain _ _ (rw c.as_slice-in-Chain.ensures.value at c.in-len1-up-as_slice.len_at_least))
+pub argument_place_expression-returns-in-len1-up-as_slice : goal.argument_place_expression-returns-in-len1-up-as_slice
+argument_place_expression-returns-in-len1-up-as_slice t c = λ s scope.
+    other_place_expression _ _ s _ _ _ c.in-Chain.is (no_bare_chain _ _ (rw c.as_slice-in-Chain.ensures.value at c.in-len1-up-as_slice.len_at_least))
     (c.first_word-in-len1-up-as_slice.ensures _)
 
-pub argument_spot-returns-in-Number : goal.argument_spot-returns-in-Number
-argument_spot-returns-in-Number t c = λ s scope. other_spot _ _ s _ _ _ c.in-Number.is (no_number _ _) (c.first_word-in-Number.ensures _)
+pub argument_place_expression-returns-in-Number : goal.argument_place_expression-returns-in-Number
+argument_place_expression-returns-in-Number t c = λ s scope. other_place_expression _ _ s _ _ _ c.in-Number.is (no_number _ _) (c.first_word-in-Number.ensures _)
 
-pub argument_spot-returns-in-Character : goal.argument_spot-returns-in-Character
-argument_spot-returns-in-Character t c = λ s scope. other_spot _ _ s _ _ _ c.in-Character.is (no_character _ _) (c.first_word-in-Character.ensures _)
+pub argument_place_expression-returns-in-Character : goal.argument_place_expression-returns-in-Character
+argument_place_expression-returns-in-Character t c = λ s scope. other_place_expression _ _ s _ _ _ c.in-Character.is (no_character _ _) (c.first_word-in-Character.ensures _)
 
-pub argument_spot-returns-in-Not : goal.argument_spot-returns-in-Not
-argument_spot-returns-in-Not t c = λ s scope. other_spot _ _ s _ _ _ c.in-Not.is (no_not _ _) (c.first_word-in-Not.ensures _)
+pub argument_place_expression-returns-in-Not : goal.argument_place_expression-returns-in-Not
+argument_place_expression-returns-in-Not t c = λ s scope. other_place_expression _ _ s _ _ _ c.in-Not.is (no_not _ _) (c.first_word-in-Not.ensures _)
 
-pub argument_spot-returns-in-Signed : goal.argument_spot-returns-in-Signed
-argument_spot-returns-in-Signed t c = λ s scope. other_spot _ _ s _ _ _ c.in-Signed.is (no_signed _ _ _) (c.first_word-in-Signed.ensures _)
+pub argument_place_expression-returns-in-Signed : goal.argument_place_expression-returns-in-Signed
+argument_place_expression-returns-in-Signed t c = λ s scope. other_place_expression _ _ s _ _ _ c.in-Signed.is (no_signed _ _ _) (c.first_word-in-Signed.ensures _)

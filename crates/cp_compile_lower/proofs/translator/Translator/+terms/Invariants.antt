@@ -25,8 +25,8 @@ invariant-chain-loop-o l =
     × (chain_of f (map tree.operation (drop l.o-index l.rest)) ≡ chain_of e (map tree.operation l.fn.rest))
 
 -- The spot so far is that of the selectors so far.
-abbrev pub invariant-spot-loop-selector : goal.invariant-spot-loop-selector
-invariant-spot-loop-selector l =
+abbrev pub invariant-place_expression-loop-selector : goal.invariant-place_expression-loop-selector
+invariant-place_expression-loop-selector l =
     (s : code.Scope) → IsScope l.self.scope s
     → (d : a.Designator) × IsPlace l.self.scope s l.fn.low (map coded_call l.fn.calls.items) l.calls.items d l.made
     × (erase.with_selectors d (tree.selectors_of (map tree.selector (drop l.selector-index l.selector-items)))

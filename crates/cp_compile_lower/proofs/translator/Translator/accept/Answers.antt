@@ -20,7 +20,7 @@ returns c =
     let passed = c.in_ok-to.ensures s scope in
     let of = c.in_ok-expression_type.ensures s scope in
     entered c.args.emitter.now c.emit.new.self place c.in_ok-to.calls.items d.calls
-    (operation.Accept c.in_ok-to.to c.bounds_of-bounds.result c.args.next) (op.Accept d.spot (low_of t) (high_of t) c.args.next)
+    (operation.Accept c.in_ok-to.to c.bounds_of-bounds.result c.args.next) (op.Accept d.place_expression (low_of t) (high_of t) c.args.next)
     passed.0
     (λ i. op.Accept (passed.1 i) (c.bounds_of-bounds.ensures.low t of i) (c.bounds_of-bounds.ensures.high t of i) c.args.next) at emits)
     c.emit.ensures.entry c.emit.ensures.emits

@@ -5,6 +5,6 @@ use Rattle.cp_compile_lower.proofs.ArgumentsMade.{copied_made}
 use Rattle.cp_compile_lower.proofs.translator.Translator.copy_argument.Goals as goal
 
 pub returns : goal.returns
-returns c = λ before after s type t d scope stands other place.
-    let one : MadeArgument = record { argument = argument.Copy c.args.at c.in_ok-words.field-0 c.args.made.spot; temps = c.args.made.temps } in
-    copied_made s.globals before after c.args.at c.in_ok-words.field-0 c.args.made one t d place refl refl type other (c.in_ok-words.ensures s type scope stands)
+returns c = λ before after s type t d scope represents other place.
+    let one : MadeArgument = record { argument = argument.Copy c.args.at c.in_ok-words.field-0 c.args.made.place_expression; temps = c.args.made.temps } in
+    copied_made s.globals before after c.args.at c.in_ok-words.field-0 c.args.made one t d place refl refl type other (c.in_ok-words.ensures s type scope represents)

@@ -13,7 +13,7 @@ returns c = λ calls s low before d scope place.
     let types = c.args.self.now.scope.tables.now.types in
     let t = place_type (environment s) d in
     let begins = c.in_ok-at.ensures types (part s.globals t (ByName c.args.name.now ∷ [])) (c.part.ensures s t scope place.typed) in
-    let spot = rw c.in_ok-spot.ensures.ok_part at c.advance.ensures in
+    let place_expression = rw c.in_ok-place_expression.ensures.ok_part at c.advance.ensures in
     field_made c.args.self.now.scope s low before calls d c.args.name.now of
-    (record { spot = c.in_ok-spot.spot; temps = of.temps; of = c.field_type.result }) c.in_ok-at.at begins spot
+    (record { place_expression = c.in_ok-place_expression.place_expression; temps = of.temps; of = c.field_type.result }) c.in_ok-at.at begins place_expression
     refl (c.field_type.ensures s t scope place.typed) place

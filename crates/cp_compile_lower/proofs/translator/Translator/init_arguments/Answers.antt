@@ -7,7 +7,7 @@ use Rattle.cp_model.specs.declared.tree.Expression.{Expression}
 use Rattle.cp_model_program.specs.CodedTerms.{CodedArguments, init_argument, init_arguments, with_argument}
 use Rattle.cp_compile_emit.specs.Emission.{coded_call}
 use Rattle.cp_compile_lower.proofs.ArgumentsMade.{Finishes, all_made, declared_at, got, no_init_parameters, none_made, one_made, parameters_past}
-use Rattle.cp_compile_lower.proofs.Initialising.{parameters_stand}
+use Rattle.cp_compile_lower.proofs.Initialising.{parameters_represent}
 use Rattle.cp_compile_lower.proofs.translator.Translator.init_arguments.Goals as goal
 
 pub loop-e-init : goal.loop-e-init
@@ -41,7 +41,7 @@ loop-e-preserved c =
       count = omega (arith, longer, length-append made.arguments.items (next.argument ∷ []), c.loop-e.invariant.count);
       so_far = λ s y scope is.
           let ps = declarations s.globals y.parameters in
-          let declared = parameters_stand s.globals types c.args.table.now y is in
+          let declared = parameters_represent s.globals types c.args.table.now y is in
           let p = declared_at types c.args.table.now.parameters.items ps k c.in-Some.parameter.now declared there in
           let v = p.declared in
           let split : drop k ps ≡ v ∷ drop (k + 1) ps = p.split ∙ ap (λ n. v ∷ drop n ps) (sym (add-one k)) in
@@ -93,5 +93,5 @@ returns-in_default c = λ s y scope is.
     let past : length table.parameters.items ≤ k = omega (arith, none, same, c.len.ensures, c.loop-e.invariant.count, made.arguments.ok.0) in
     all_made before c.loop-e.calls.items made whole
     (subst (λ r. Finishes before c.loop-e.calls.items made r whole)
-    (ap (λ qs. init_arguments s y es qs made.temps) (parameters_past types table.parameters.items ps k (parameters_stand s.globals types table y is) past)
+    (ap (λ qs. init_arguments s y es qs made.temps) (parameters_past types table.parameters.items ps k (parameters_represent s.globals types table y is) past)
     ∙ no_init_parameters s y es made.temps) (c.loop-e.invariant.so_far s y scope is))

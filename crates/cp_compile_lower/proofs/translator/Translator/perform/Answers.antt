@@ -19,7 +19,7 @@ returns-in-Some c =
     (λ entry h s scope.
     let found = called_by c.args.self.now.scope s c.in-Some.called (callee (environment s) d) (rw c.in-Some.is at (c.callee.ensures s scope)) in
     subst (λ o. Enters old c.procedure_call.new.emitter entry (perform_by s d es c.args.low (place_of old) c.args.next o)) (sym found.is)
-    (h s d found.callee scope found.stands))
+    (h s d found.callee scope found.represents))
     c.procedure_call.ensures
 
 pub returns-in-None : goal.returns-in-None

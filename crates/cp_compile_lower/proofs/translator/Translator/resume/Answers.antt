@@ -15,6 +15,6 @@ returns c =
     let passed = c.in_ok-queue.ensures s scope in
     let d = coded_variable s (erase.expression (tree.expression c.args.e.now)) c.args.low in
     entered c.args.emitter.now c.emit.new.self place c.in_ok-queue.calls.items d.calls
-    (operation.Continue c.in_ok-queue.queue c.runs_function-function.result) (op.Continue d.spot (runs_function s.routine)) passed.0
+    (operation.Continue c.in_ok-queue.queue c.runs_function-function.result) (op.Continue d.place_expression (runs_function s.routine)) passed.0
     (λ i. op.Continue (passed.1 i) (c.runs_function-function.ensures s scope i)) at emits)
     c.emit.ensures.entry c.emit.ensures.emits

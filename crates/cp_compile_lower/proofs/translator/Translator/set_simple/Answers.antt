@@ -16,7 +16,7 @@ returns c =
     let d = coded_term s (erase.expression (tree.expression c.args.e.now)) c.args.to.temps in
     let made = c.in_ok-made.ensures s scope in
     entered c.args.emitter.now c.emit.new.self place c.term.new.calls.items (to.calls ++ d.calls)
-    c.set-set.result (op.Set to.spot x.low x.high d.term c.args.next)
+    c.set-set.result (op.Set to.place_expression x.low x.high d.term c.args.next)
     (made.calls ∙ ap (λ cs. cs ++ d.calls) there.calls)
-    (c.set-set.ensures ∙ (λ i. op.Set (there.spot i) (bounds.low i) (bounds.high i) (made.term i) c.args.next)) at emits)
+    (c.set-set.ensures ∙ (λ i. op.Set (there.place_expression i) (bounds.low i) (bounds.high i) (made.term i) c.args.next)) at emits)
     c.emit.ensures.entry c.emit.ensures.emits

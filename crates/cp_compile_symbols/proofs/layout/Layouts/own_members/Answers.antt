@@ -38,11 +38,11 @@ returns c =
           let scope_1 = still_scope t0 t1 one.grows names g scope in
           let scope_2 = still_scope t0 t2 to_2 names g scope in
           let lies = laid_later g t2 later c.extend.new.self.rows.items grows (c.in_ok-extend.ensures.laid g scope_2 (laid_later g t0 t2 ls to_2 laid)) in
-          let inner = two.stands g later [] NoMembers scope_1 grows tt in
-          let all = one.stands g later (two.added ++ []) (with_groups vs g NoMembers) scope (grows_more t1 t2 later two.grows grows) inner in
-          let stand : AreMembers later (map entry members.items) (own_members g ps vs) =
+          let inner = two.represents g later [] NoMembers scope_1 grows tt in
+          let all = one.represents g later (two.added ++ []) (with_groups vs g NoMembers) scope (grows_more t1 t2 later two.grows grows) inner in
+          let represent : AreMembers later (map entry members.items) (own_members g ps vs) =
           subst (λ ms. AreMembers later (map entry members.items) (with_parameters ps g ms)) (variables_are g vs) (rw own all) in
-          laysout g later (suc (rights_of g ps)) (own_members g ps vs) lies stand
+          laysout g later (suc (rights_of g ps)) (own_members g ps vs) lies represent
           (subst (Counts c.sum-head.result) (omega arith) (c.sum-head.ensures 1 (rights_of g ps) refl (c.rights.ensures g scope_2)));
     })
     lays

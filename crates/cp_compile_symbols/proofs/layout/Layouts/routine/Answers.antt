@@ -35,7 +35,7 @@ returns c =
         grows = to_3;
         laid = λ g scope laid. c.in_ok-extend.ensures.laid g (still_scope t0 t3 to_3 names g scope) (laid_later g t0 t3 ls to_3 laid);
       };
-      stands = λ g later scope laid grows.
+      represents = λ g later scope laid grows.
           let scope_1 = still_scope t0 t1 one.grows names g scope in
           let scope_2 = still_scope t0 t2 to_2 names g scope in
           let scope_3 = still_scope t0 t3 to_3 names g scope in
@@ -50,6 +50,6 @@ returns c =
                 locals g later (result_words (erase.name_if text.result_type)) (parameters_of g ps ++ variables_of g vs) lies
                 (rw all (both_declared later (listed own) (listed more) (parameters_of g ps) (variables_of g vs) parameters variables))
                 c.words_of_result.ensures;
-            result = result_still g t3 later grows c.in_ok-result.result (erase.name_if text.result_type) (three.stands g scope_2);
+            result = result_still g t3 later grows c.in_ok-result.result (erase.name_if text.result_type) (three.represents g scope_2);
           };
     }

@@ -9,7 +9,7 @@ use Rattle.cp_compile_symbols.proofs.layout.Layouts.routines.Goals as goal
 pub loop-text-init : goal.loop-text-init
 loop-text-init c = record {
   builds = builds_nothing c.args.names.now c.args.types.now c.args.self.now.rows.items;
-  stands = λ g later rest scope laid grows r.
+  represents = λ g later rest scope laid grows r.
       subst (λ (ts : List RoutineTable). AreRoutines g later (ts ++ rest) (routines_of c.args.texts.now)) (sym c.new-tables.ensures.items) r;
 }
 

@@ -43,7 +43,7 @@ returns c =
     let builds_3 = builds_more names t0 t2 t3 ls ls ms before three.builds in
     record {
       builds = builds_more names t0 t3 t4 ls ms ns builds_3 four.builds;
-      stands = λ g later scope laid grows.
+      represents = λ g later scope laid grows.
           let scope_1 = still_scope t0 t1 one.grows names g scope in
           let scope_2 = still_scope t0 t2 to_2 names g scope in
           let scope_3 = still_scope t0 t3 to_3 names g scope in
@@ -69,7 +69,7 @@ returns c =
                 ((rw c.deref-4.ensures.value at c.in_ok-variable_names.ensures) (variables_of g vs) (variables t3 three.builds.grows) x);
             parameter_types = c.in_ok-parameter_types.ensures;
             variable_types = c.in_ok-variable_types.ensures;
-            routines = four.stands g later scope_3 (builds_3.laid g scope laid) grows;
+            routines = four.represents g later scope_3 (builds_3.laid g scope laid) grows;
             routine_names = c.in_ok-routine_names.ensures;
           };
     }

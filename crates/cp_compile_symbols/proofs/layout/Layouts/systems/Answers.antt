@@ -11,7 +11,7 @@ loop-number-init c = record {
   count = ap length c.new-tables.ensures.items;
   made = record {
     builds = builds_nothing c.args.names.now c.args.types.now c.args.self.now.rows.items;
-    stands = λ g later scope laid grows. no_tables g later c.new-tables.result.items c.new-tables.ensures.items;
+    represents = λ g later scope laid grows. no_tables g later c.new-tables.result.items c.new-tables.ensures.items;
   };
 }
 
@@ -39,12 +39,12 @@ loop-number-preserved c =
       count = grind (arith, length-append, items, before.count);
       made = record {
         builds = builds_more names old here new ls ms ns before.made.builds one.builds;
-        stands = λ g later scope laid grows.
+        represents = λ g later scope laid grows.
             let from = grows_more here new later one.builds.grows grows in
             subst (AreTables g later) (sym items)
             (one_table g later tables c.in_ok-table.table y (same_system here later from (length tables) ∙ at)
-            (one.stands g later (still_scope old here before.made.builds.grows names g scope) (before.made.builds.laid g scope laid) grows)
-            (before.made.stands g later scope laid from));
+            (one.represents g later (still_scope old here before.made.builds.grows names g scope) (before.made.builds.laid g scope laid) grows)
+            (before.made.represents g later scope laid from));
       };
     }
 
@@ -59,9 +59,9 @@ index-y-requires c =
 pub returns : goal.returns
 returns c = record {
   builds = c.loop-number.invariant.made.builds;
-  stands = λ g later scope laid grows.
+  represents = λ g later scope laid grows.
       let count : c.len-number-end.result ≡ length c.args.types.now.systems.items = search rules in
       let same = ap length (grows.systems ∙ c.loop-number.invariant.made.builds.grows.systems) in
       all_tables g later c.loop-number.tables.items (omega (arith, count, same, c.loop-number-test.false, c.loop-number.invariant.count))
-      (c.loop-number.invariant.made.stands g later scope laid grows);
+      (c.loop-number.invariant.made.represents g later scope laid grows);
 }

@@ -3,4 +3,4 @@ use Rattle.cp_compile_symbols.proofs.Standing.{grows_not}
 use Rattle.cp_compile_symbols.proofs.layout.Layouts.words.Goals as goal
 
 pub returns : goal.returns
-returns c = λ g types t laid stands. (laid types (grows_not types) c.args.number c.in_ok-layout.field-0.now t (sym c.in_ok-layout.ensures) stands).words
+returns c = λ g types t laid represents. (laid types (grows_not types) c.args.number c.in_ok-layout.field-0.now t (sym c.in_ok-layout.ensures) represents).words

@@ -9,5 +9,5 @@ returns c =
     let old = c.args.self.now in
     let later : Names = record { constants = old.names.constants; types = c.set.new.self } in
     on_ok_weaker c.set.result
-    (λ front g t scope stands. type_named old.names later old.types g c.args.name.now c.args.of t scope refl front stands)
+    (λ front g t scope represents. type_named old.names later old.types g c.args.name.now c.args.of t scope refl front represents)
     c.set.ensures

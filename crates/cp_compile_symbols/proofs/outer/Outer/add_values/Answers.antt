@@ -4,7 +4,7 @@ use Rattle.cp_model.specs.Abstract.{BaseType, Name}
 use Rattle.cp_model.specs.Types.{GlobalScope}
 use Rattle.cp_model.specs.declared.tree.Identifier.{Identifier}
 use Rattle.cp_compile_symbols.specs.declared.outer.Outer.{Outer}
-use Rattle.cp_compile_symbols.specs.Outer.{Defines, OuterStands, with_value, with_values}
+use Rattle.cp_compile_symbols.specs.Outer.{Defines, OuterRepresents, with_value, with_values}
 use Rattle.cp_compile_symbols.specs.Standing.{base_of}
 use Rattle.cp_compile_symbols.proofs.outer.Outer.add_values.Goals as goal
 
@@ -12,17 +12,17 @@ pub loop-left-init : goal.loop-left-init
 loop-left-init c = record {
   within = omega arith;
   defines = λ g scope.
-      subst (λ (xs : List Identifier). OuterStands c.args.self.now (with_values (base_of c.args.base) (length c.args.values.now) xs g))
+      subst (λ (xs : List Identifier). OuterRepresents c.args.self.now (with_values (base_of c.args.base) (length c.args.values.now) xs g))
       (sym (drop_all (length c.args.values.now) c.args.values.now (omega arith))) scope;
 }
 
 -- One value more, before the others.
 value_in_front : (new : Outer) (b : BaseType) (all : List Identifier) (j k : ℕ) (x : Identifier) (name : Name) (v : BaseType × ℤ) (g : GlobalScope) → k ≡ j + 1
     → k ≤ length all → x ≡ get_or all j x → name ≡ x.name → v ≡ (b, pos j)
-    → OuterStands new (with_value name v (with_values b k (drop k all) g)) → OuterStands new (with_values b j (drop j all) g)
+    → OuterRepresents new (with_value name v (with_values b k (drop k all) g)) → OuterRepresents new (with_values b j (drop j all) g)
 value_in_front new b all j k x name v g next within is named valued scope =
-    subst (λ (xs : List Identifier). OuterStands new (with_values b j xs g)) (sym step)
-    (subst (λ m. OuterStands new (with_value x.name (b, pos j) (with_values b m (drop k all) g))) (next ∙ add-one j)
+    subst (λ (xs : List Identifier). OuterRepresents new (with_values b j xs g)) (sym step)
+    (subst (λ m. OuterRepresents new (with_value x.name (b, pos j) (with_values b m (drop k all) g))) (next ∙ add-one j)
     (rw (← named, ← valued) scope))
   where
     step : drop j all ≡ x ∷ drop k all

@@ -6,7 +6,7 @@ use Rattle.cp_model.specs.Declarations.{define}
 use Rattle.cp_model.specs.Erase as erase
 use Rattle.cp_model.specs.Types.{GlobalScope, ResolvedType, Simple}
 use Rattle.cp_model.specs.declared.tree.Identifier.{Identifier}
-use Rattle.cp_compile_symbols.specs.Outer.{OuterStands, with_type, with_values}
+use Rattle.cp_compile_symbols.specs.Outer.{OuterRepresents, with_type, with_values}
 use Rattle.cp_compile_symbols.proofs.outer.Outer.define_enumeration.Goals as goal
 
 same_length : (xs : List Identifier) → length (map erase.name xs) ≡ length xs
@@ -25,7 +25,7 @@ returns c =
     let last = c.saturating_sub-last.result in
     on_ok_weaker c.add_values.result
     (λ defines g scope.
-    subst (OuterStands c.add_values.new.self)
+    subst (OuterRepresents c.add_values.new.self)
     (enumeration_is g x y c.args.values.now last _ c.as_bytes-name.ensures c.saturating_sub-last.ensures c.in_ok-enumeration.ensures)
     (defines _ (c.in_ok-add_base.ensures g scope)))
     c.add_values.ensures

@@ -6,7 +6,7 @@ use Rattle.cp_model.specs.Erase as erase
 use Rattle.cp_model.specs.View as view
 use Rattle.cp_model.specs.Types.{GlobalScope}
 use Rattle.cp_model.specs.declared.tree.Section.{Section}
-use Rattle.cp_compile_symbols.specs.Outer.{OuterStands}
+use Rattle.cp_compile_symbols.specs.Outer.{OuterRepresents}
 use Rattle.cp_compile_symbols.proofs.outer.Outer.define_sections.Goals as goal
 
 abbrev definitions : List Section → List a.Definition
@@ -35,4 +35,4 @@ returns c = λ g scope.
     let all = c.args.sections.now in
     let before = c.loop-section.invariant g scope in
     let none = at_drop_all (λ ds. define_all before.0 (definitions ds)) all c.loop-section.section-index c.loop-section-test.false in
-    subst (OuterStands c.loop-section.self) (sym none ∙ before.2) before.1
+    subst (OuterRepresents c.loop-section.self) (sym none ∙ before.2) before.1

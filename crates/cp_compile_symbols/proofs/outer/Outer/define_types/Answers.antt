@@ -5,7 +5,7 @@ use Rattle.cp_model.specs.Declarations.{define, define_all}
 use Rattle.cp_model.specs.Erase as erase
 use Rattle.cp_model.specs.View as view
 use Rattle.cp_model.specs.declared.tree.TypeDefinition.{TypeDefinition}
-use Rattle.cp_compile_symbols.specs.Outer.{OuterStands}
+use Rattle.cp_compile_symbols.specs.Outer.{OuterRepresents}
 use Rattle.cp_compile_symbols.proofs.outer.Outer.define_types.Goals as goal
 
 abbrev definitions : List TypeDefinition → List a.Definition
@@ -28,4 +28,4 @@ returns c = λ g scope.
     let all = c.args.list.now in
     let before = c.loop-d.invariant g scope in
     let none = at_drop_all (λ ds. define_all before.0 (definitions ds)) all c.loop-d.d-index c.loop-d-test.false in
-    subst (OuterStands c.loop-d.self) (sym none ∙ before.2) before.1
+    subst (OuterRepresents c.loop-d.self) (sym none ∙ before.2) before.1

@@ -3,11 +3,11 @@ use Rattle.cp_model.specs.Declarations.{define_all}
 use Rattle.cp_model.specs.Erase as erase
 use Rattle.cp_model.specs.View as view
 use Rattle.cp_model.specs.Types.{GlobalScope}
-use Rattle.cp_compile_symbols.specs.Outer.{OuterStands}
+use Rattle.cp_compile_symbols.specs.Outer.{OuterRepresents}
 use Rattle.cp_compile_symbols.proofs.outer.Outer.define_types.Given as goal
 
 -- Defining the remaining types gives the scope that defining all of them gives.
 abbrev pub invariant-loop-d : goal.invariant-loop-d
 invariant-loop-d l =
-    (g : GlobalScope) → OuterStands l.fn.self g
-    → (h : GlobalScope) × OuterStands l.self h × (define_all h (map erase.type_definition (map view.type_definition (drop l.d-index l.list))) ≡ define_all g (map erase.type_definition (map view.type_definition l.fn.list)))
+    (g : GlobalScope) → OuterRepresents l.fn.self g
+    → (h : GlobalScope) × OuterRepresents l.self h × (define_all h (map erase.type_definition (map view.type_definition (drop l.d-index l.list))) ≡ define_all g (map erase.type_definition (map view.type_definition l.fn.list)))

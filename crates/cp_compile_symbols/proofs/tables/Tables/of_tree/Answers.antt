@@ -22,6 +22,6 @@ returns c =
     record {
       scope = scope_2;
       laid = record { laid = c.in_ok-extend.ensures.laid g scope_2 (two.builds.laid g scope_1 laid_1); complete = c.in_ok-extend.ensures.complete };
-      systems = one.stands g t2 scope laid two.builds.grows;
-      initial = two.stands g t2 scope_1 laid_1 (grows_not t2);
+      systems = one.represents g t2 scope laid two.builds.grows;
+      initial = two.represents g t2 scope_1 laid_1 (grows_not t2);
     }

@@ -1,4 +1,4 @@
--- Rows of types are only added, so what stood for a type before a call stands for it after (`still_stands`). Each answer
+-- Rows of types are only added, so what stood for a type before a call stands for it after (`still_represents`). Each answer
 -- puts the rows made by the calls under the new one. The loops over groups and indices keep what was added so far, and
 -- that the definition's list is this followed by what the rest adds.
 use Rattle.std.proofs.Common.{◌≡◌, ◌++◌, ◌∷◌, ◌≤◌, ◌∙◌, ◌-◌, ◌+◌, ℕ, List, [], drop, get_or, map, length, ap, arith, refl, sym, subst}
@@ -8,7 +8,7 @@ use Rattle.cp_model.specs.Types.{NoMembers}
 use Rattle.cp_model.specs.declared.tree.Fields.{Fields}
 use Rattle.cp_model.proofs.Results.{if_ok}
 use Rattle.cp_compile_symbols.specs.Standing.{AreMembers, MakesIndexed, entries_of, entry, with_group, with_groups, type_from}
-use Rattle.cp_compile_symbols.proofs.Standing.{grows_more, indexed_more, indexed_none, still_scope, still_stands}
+use Rattle.cp_compile_symbols.proofs.Standing.{grows_more, indexed_more, indexed_none, still_scope, still_represents}
 use Rattle.cp_compile_symbols.specs.declared.types.Field.{Field}
 use Rattle.cp_compile_symbols.proofs.Groups.{GroupsAdded, all_added, none_added, one_added}
 use Rattle.cp_compile_symbols.proofs.Written.{array_written, groups_written, names_written, record_written}
@@ -24,9 +24,9 @@ group-returns t c =
       grows = c.in_ok-of.ensures.grows;
       added = entries_of xs n;
       all = rw c.deref.ensures.value at c.in_ok-add_fields.ensures;
-      stands = λ g later rest ms scope grows r.
+      represents = λ g later rest ms scope grows r.
           names_written later xs n (type_from c.args.group.now.of g) rest ms
-          (still_stands new later grows n (type_from c.args.group.now.of g) (c.in_ok-of.ensures.stands g scope)) r;
+          (still_represents new later grows n (type_from c.args.group.now.of g) (c.in_ok-of.ensures.represents g scope)) r;
     }
 
 pub fields-loop-group-init : goal.fields-loop-group-init
@@ -65,8 +65,8 @@ record-returns t c =
     if_ok c.add.result
     (λ n adds. record {
       grows = grows_more c.args.self.now last new made.grows adds.grows;
-      stands = λ g scope.
-          let members : AreMembers new (made.added ++ []) (with_groups all g NoMembers) = made.stands g new [] NoMembers scope adds.grows tt in
+      represents = λ g scope.
+          let members : AreMembers new (made.added ++ []) (with_groups all g NoMembers) = made.represents g new [] NoMembers scope adds.grows tt in
           let same : map entry fields.items ≡ made.added ++ [] =
           made.all ∙ ap (λ (fs : List Field). map entry fs ++ made.added) c.new-fields.ensures.items ∙ sym (append-nil made.added) in
           (fields, adds.added, rw (same, ← groups_written g all) members);
@@ -120,9 +120,9 @@ resolve-returns-in_ok-of-in-Array t c =
     (λ n makes. rw c.in-Array.is
     (record {
       grows = grows_more old c.resolve.new.self c.arrays.new.self element.grows makes.grows;
-      stands = λ g scope.
+      represents = λ g scope.
           rw (← array_written g c.in-Array.at is e)
-          (makes.stands g (type_from e.value g) (still_scope old c.resolve.new.self element.grows names g scope) (element.stands g scope));
+          (makes.represents g (type_from e.value g) (still_scope old c.resolve.new.self element.grows names g scope) (element.represents g scope));
     }))
     arrays
 
@@ -131,5 +131,5 @@ resolve-returns-in-Record t c =
     let records = rw (c.deref-in-Record-2.ensures.value, c.deref-in-Record.ensures) at c.record.ensures in
     if_ok c.record.result
     (λ n makes. rw c.in-Record.is
-    (record { grows = makes.grows; stands = λ g scope. rw (← record_written g c.in-Record.at c.in-Record.groups) (makes.stands g scope) }))
+    (record { grows = makes.grows; represents = λ g scope. rw (← record_written g c.in-Record.at c.in-Record.groups) (makes.represents g scope) }))
     records

@@ -30,13 +30,13 @@ returns c =
     let after_a = kept_more a b new (kept a b two.grows) after_b in
     record {
       keeps = kept_more old a new (kept old a one.grows) after_a;
-      stands = λ g scope.
-          let inner = two.stands g b [] NoMembers (still_scope old a one.grows names g scope) (grows_not b) tt in
-          let all = one.stands g b (two.added ++ []) (with_groups y.variables.items g NoMembers) scope two.grows inner in
+      represents = λ g scope.
+          let inner = two.represents g b [] NoMembers (still_scope old a one.grows names g scope) (grows_not b) tt in
+          let all = one.represents g b (two.added ++ []) (with_groups y.variables.items g NoMembers) scope two.grows inner in
           let same : map entry members.items ≡ one.added ++ (two.added ++ []) =
           two.all ∙ ap (λ fs. fs ++ two.added) (one.all ∙ ap (λ (fs : List Field). map entry fs ++ one.added) c.new-members.ensures.items)
           ∙ ap (λ fs. one.added ++ fs) (sym (append-nil two.added)) in
-          let stand : AreMembers b (map entry members.items) (reported_members g (erase.system (view.system y))) =
+          let represent : AreMembers b (map entry members.items) (reported_members g (erase.system (view.system y))) =
           rw (same, ← variables_are g y.variables.items) all in (
             c.in_ok-number.number,
             members,
@@ -44,7 +44,7 @@ returns c =
             adds.added,
             same_system d new adds.grows c.in_ok-number.number ∙ three.added,
             ap (λ z. erase.system (view.system z)) three.is,
-            kept_members b new after_b (map entry members.items) (reported_members g (erase.system (view.system y))) stand,
+            kept_members b new after_b (map entry members.items) (reported_members g (erase.system (view.system y))) represent,
           );
     })
     c.add.ensures

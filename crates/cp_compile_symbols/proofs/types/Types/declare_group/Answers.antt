@@ -2,7 +2,7 @@ use Rattle.std.proofs.Common.{false}
 use Rattle.cp_compile_symbols.specs.Variables.{declared_entries}
 use Rattle.cp_compile_symbols.specs.Standing.{type_from}
 use Rattle.cp_compile_symbols.proofs.Declaring.{each_declared}
-use Rattle.cp_compile_symbols.proofs.Standing.{still_stands}
+use Rattle.cp_compile_symbols.proofs.Standing.{still_represents}
 use Rattle.cp_compile_symbols.proofs.types.Types.declare_group.Goals as goal
 
 pub returns : goal.returns
@@ -15,6 +15,6 @@ returns c =
       grows = made.grows;
       added = declared_entries xs (false) n;
       all = rw (c.deref.ensures.value) at c.in_ok-declare_each.ensures;
-      stands = λ g later rest vs scope grows r.
-          each_declared later xs (false) n (type_from c.args.group.now.of g) rest vs (still_stands new later grows n (type_from c.args.group.now.of g) (made.stands g scope)) r;
+      represents = λ g later rest vs scope grows r.
+          each_declared later xs (false) n (type_from c.args.group.now.of g) rest vs (still_represents new later grows n (type_from c.args.group.now.of g) (made.represents g scope)) r;
     }

@@ -2,7 +2,7 @@ use Rattle.std.proofs.Common.{is_some}
 use Rattle.cp_compile_symbols.specs.Variables.{declared_entries}
 use Rattle.cp_compile_symbols.specs.Standing.{name_type}
 use Rattle.cp_compile_symbols.proofs.Declaring.{each_declared}
-use Rattle.cp_compile_symbols.proofs.Standing.{still_stands}
+use Rattle.cp_compile_symbols.proofs.Standing.{still_represents}
 use Rattle.cp_compile_symbols.proofs.types.Types.declare_parameter.Goals as goal
 
 pub returns : goal.returns
@@ -15,6 +15,6 @@ returns c =
       grows = made.grows;
       added = declared_entries xs (is_some c.args.group.now.by_reference) n;
       all = rw (c.deref.ensures.value, c.is_some.ensures) at c.in_ok-declare_each.ensures;
-      stands = λ g later rest vs scope grows r.
-          each_declared later xs (is_some c.args.group.now.by_reference) n (name_type c.args.group.now.of.name g) rest vs (still_stands new later grows n (name_type c.args.group.now.of.name g) (made.stands g scope)) r;
+      represents = λ g later rest vs scope grows r.
+          each_declared later xs (is_some c.args.group.now.by_reference) n (name_type c.args.group.now.of.name g) rest vs (still_represents new later grows n (name_type c.args.group.now.of.name g) (made.represents g scope)) r;
     }

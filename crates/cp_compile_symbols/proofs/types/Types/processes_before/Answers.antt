@@ -17,13 +17,13 @@ loop-d-preserved c =
     let other : bytes_eq c.args.name.now d.name.now ≡ false = search rules in
     record {
       few = omega (arith, c.loop-d.invariant.few, one.ensures.most);
-      partly = λ vs stand.
+      partly = λ vs represent.
           one_counted c.args.self.now vs (declared_entry d) (map declared_entry (drop (i + 1) all)) c.args.name.now c.loop-d.count one.result other one.ensures.count
-          (subst (λ ds. PartlyCounted c.args.self.now vs ds c.args.name.now c.loop-d.count) step (c.loop-d.invariant.partly vs stand));
+          (subst (λ ds. PartlyCounted c.args.self.now vs ds c.args.name.now c.loop-d.count) step (c.loop-d.invariant.partly vs represent));
     }
 
 pub returns-then-eq : goal.returns-then-eq
-returns-then-eq c = λ vs stand.
+returns-then-eq c = λ vs represent.
     let all = c.args.list.now in
     let i = c.loop-d.d-index in
     let d = get_or all i nothing in
@@ -31,9 +31,9 @@ returns-then-eq c = λ vs stand.
     at_drop_more (λ (ds : List Declared). map declared_entry ds) all i nothing c.loop-d-test.true in
     let here : bytes_eq c.args.name.now d.name.now ≡ true = search rules in
     counted_here c.args.self.now vs (declared_entry d) (map declared_entry (drop (i + 1) all)) c.args.name.now c.loop-d.count here
-    (subst (λ ds. PartlyCounted c.args.self.now vs ds c.args.name.now c.loop-d.count) step (c.loop-d.invariant.partly vs stand))
+    (subst (λ ds. PartlyCounted c.args.self.now vs ds c.args.name.now c.loop-d.count) step (c.loop-d.invariant.partly vs represent))
 
 pub returns : goal.returns
-returns c = λ vs stand.
+returns c = λ vs represent.
     counted_all c.args.self.now vs (map declared_entry (drop c.loop-d.d-index c.args.list.now)) c.args.name.now c.loop-d.count
-    (at_drop_all (λ (ds : List Declared). map declared_entry ds) c.args.list.now c.loop-d.d-index c.loop-d-test.false) (c.loop-d.invariant.partly vs stand)
+    (at_drop_all (λ (ds : List Declared). map declared_entry ds) c.args.list.now c.loop-d.d-index c.loop-d-test.false) (c.loop-d.invariant.partly vs represent)

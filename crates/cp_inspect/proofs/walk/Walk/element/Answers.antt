@@ -3,7 +3,7 @@ use Rattle.std.specs.Prelude.{◌+ℤ◌, codes, take}
 use Rattle.std.proofs.lemmas.Result.{on_ok_weaker}
 use Rattle.cp_model.specs.Decimal.{decimal}
 use Rattle.cp_model.specs.Integers.{count_between}
-use Rattle.cp_inspect.specs.Tellings.{visit_of}
+use Rattle.cp_inspect.specs.WalkOutputs.{visit_of}
 use Rattle.cp_inspect.specs.Walks.{cursor}
 use Rattle.cp_inspect.proofs.Going.{element_goes, no_element}
 use Rattle.cp_inspect.proofs.walk.Walk.element.Goals as goal
@@ -11,7 +11,7 @@ use Rattle.cp_inspect.proofs.walk.Walk.element.Goals as goal
 pub returns-then-count_between-cursor : goal.returns-then-count_between-cursor
 returns-then-count_between-cursor c =
     let count : c.count_between.result ≡ count_between c.args.low c.args.high = search rules in
-    no_element c.args.tables.now (visit_of c.args.telling.now) c.args.cursor c.args.self.now c.args.out.now.items c.args.low c.args.high c.args.element c.requires
+    no_element c.args.tables.now (visit_of c.args.walk_output.now) c.args.cursor c.args.self.now c.args.out.now.items c.args.low c.args.high c.args.element c.requires
     (omega (arith, count, c.if-count_between-cursor.true))
 
 pub returns : goal.returns
@@ -23,7 +23,7 @@ returns c =
     let index : to_z w64 (of_z w64 c.index_at.result) ≡ c.args.low +ℤ pos k.next = search rules in
     on_ok_weaker c.enter.result
     (λ E.
-    element_goes c.args.tables.now (visit_of c.args.telling.now) k old mid c.enter.new.self c.args.out.now.items c.enter.new.out.items c.args.low c.args.high c.args.element E
+    element_goes c.args.tables.now (visit_of c.args.walk_output.now) k old mid c.enter.new.self c.args.out.now.items c.enter.new.out.items c.args.low c.args.high c.args.element E
     (ap (λ p. p.items) c.leave_rest.ensures.path ∙ (c.in_ok-name_element.ensures.path ∙ ap (λ i. take k.path old.path.items ++ (codes "[" ++ (decimal i ++ codes "]"))) index))
     (c.in_ok-leave_rest.ensures.stack ∙ ap (λ s. s.items ++ cursor k.row (k.next + 1) k.path ∷ []) c.name_element.ensures.stack)
     (c.leave_rest.ensures.place ∙ c.name_element.ensures.place) c.requires

@@ -1,13 +1,13 @@
 use Rattle.std.proofs.Common.{◌+◌, ◌++◌, List}
 use Rattle.cp_model.specs.Types.{GlobalScope}
-use Rattle.cp_compile_symbols.specs.Standing.{ScopeStands}
-use Rattle.cp_inspect.specs.Left.{Left, left_text, left_words}
-use Rattle.cp_inspect.specs.Tellings.{visit_of}
-use Rattle.cp_inspect.specs.Walks.{GoesOn, WalkStands}
+use Rattle.cp_compile_symbols.specs.Standing.{ScopeRepresents}
+use Rattle.cp_inspect.specs.Remaining.{Remaining, left_text, left_words}
+use Rattle.cp_inspect.specs.WalkOutputs.{visit_of}
+use Rattle.cp_inspect.specs.Walks.{Advances, WalkRepresents}
 use Rattle.cp_inspect.proofs.walk.Walk.finish.Given as goal
 
 -- What has been reported and what is left make up what was left at first.
 abbrev pub invariant-loop-visit : goal.invariant-loop-visit
 invariant-loop-visit l =
-    (g : GlobalScope) (rest : List Left) → ScopeStands l.tables.names l.tables.types g → WalkStands l.tables.types l.fn.self rest
-    → GoesOn g (visit_of l.telling) l.tables.types l.self l.out.items (l.fn.out.items ++ left_text g (visit_of l.telling) rest l.fn.self.at) (l.fn.self.at + left_words g rest)
+    (g : GlobalScope) (rest : List Remaining) → ScopeRepresents l.tables.names l.tables.types g → WalkRepresents l.tables.types l.fn.self rest
+    → Advances g (visit_of l.walk_output) l.tables.types l.self l.out.items (l.fn.out.items ++ left_text g (visit_of l.walk_output) rest l.fn.self.at) (l.fn.self.at + left_words g rest)

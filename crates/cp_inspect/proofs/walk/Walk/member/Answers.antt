@@ -4,7 +4,7 @@ use Rattle.std.proofs.lemmas.Option.{slice_get-get_or}
 use Rattle.std.proofs.lemmas.Result.{on_ok_weaker}
 use Rattle.cp_compile_symbols.specs.Standing.{entry}
 use Rattle.cp_compile_symbols.specs.declared.types.Field.{Field}
-use Rattle.cp_inspect.specs.Tellings.{visit_of}
+use Rattle.cp_inspect.specs.WalkOutputs.{visit_of}
 use Rattle.cp_inspect.specs.Walks.{cursor}
 use Rattle.cp_inspect.proofs.Going.{drop_got, member_goes}
 use Rattle.cp_inspect.proofs.walk.Walk.member.Goals as goal
@@ -22,7 +22,7 @@ returns c =
     let next : suc k.next ≡ k.next + 1 = omega arith in
     on_ok_weaker c.enter.result
     (λ E.
-    member_goes c.args.tables.now (visit_of c.args.telling.now) k old mid c.enter.new.self c.args.out.now.items c.enter.new.out.items es x.name.now x.of E
+    member_goes c.args.tables.now (visit_of c.args.walk_output.now) k old mid c.enter.new.self c.args.out.now.items c.enter.new.out.items es x.name.now x.of E
     (ap (λ p. p.items) c.leave_rest.ensures.path ∙ c.in_ok-name_member.ensures.path)
     (c.in_ok-leave_rest.ensures.stack ∙ ap (λ s. s.items ++ cursor k.row (k.next + 1) k.path ∷ []) c.name_member.ensures.stack)
     (c.leave_rest.ensures.place ∙ c.name_member.ensures.place) c.requires

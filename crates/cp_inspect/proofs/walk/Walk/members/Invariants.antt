@@ -1,13 +1,13 @@
 use Rattle.std.proofs.Common.{◌++◌, [], drop, map}
 use Rattle.cp_model.specs.Types.{GlobalScope, Members}
 use Rattle.cp_model_machine.specs.Reports.{visit_members}
-use Rattle.cp_compile_symbols.specs.Standing.{AreMembers, ScopeStands, entry}
-use Rattle.cp_inspect.specs.Tellings.{visit_of}
-use Rattle.cp_inspect.proofs.MembersTold.{MembersToTell}
+use Rattle.cp_compile_symbols.specs.Standing.{AreMembers, ScopeRepresents, entry}
+use Rattle.cp_inspect.specs.WalkOutputs.{visit_of}
+use Rattle.cp_inspect.proofs.MembersReported.{MembersToReport}
 use Rattle.cp_inspect.proofs.walk.Walk.members.Given as goal
 
 -- What has been reported and the members that are left make up the whole.
 abbrev pub invariant-loop-member : goal.invariant-loop-member
 invariant-loop-member l =
-    (g : GlobalScope) (ms : Members) → ScopeStands l.tables.names l.tables.types g → AreMembers l.tables.types (map entry l.members) ms
-    → MembersToTell g (visit_of l.telling) l.tables.types (map entry (drop l.member-index l.members)) l.self.at l.out.items (l.fn.out.items ++ visit_members g (visit_of l.telling) [] l.fn.self.at ms)
+    (g : GlobalScope) (ms : Members) → ScopeRepresents l.tables.names l.tables.types g → AreMembers l.tables.types (map entry l.members) ms
+    → MembersToReport g (visit_of l.walk_output) l.tables.types (map entry (drop l.member-index l.members)) l.self.at l.out.items (l.fn.out.items ++ visit_members g (visit_of l.walk_output) [] l.fn.self.at ms)

@@ -1,6 +1,6 @@
 use Rattle.std.proofs.Common.{rules, ◌≡◌, [], refl}
 use Rattle.std.proofs.lemmas.Result.{on_ok_weaker}
-use Rattle.cp_inspect.specs.Tellings.{visit_of}
+use Rattle.cp_inspect.specs.WalkOutputs.{visit_of}
 use Rattle.cp_inspect.specs.declared.walk.Walk.{Walk}
 use Rattle.cp_inspect.proofs.Visiting.{visited}
 use Rattle.cp_inspect.proofs.walk.Walk.variable.Goals as goal
@@ -8,7 +8,7 @@ use Rattle.cp_inspect.proofs.walk.Walk.variable.Goals as goal
 pub returns : goal.returns
 returns c =
     let tables = c.args.tables.now in
-    let v = visit_of c.args.telling.now in
+    let v = visit_of c.args.walk_output.now in
     let old = c.args.self.now in
     let start : Walk = record { stack = c.clear.new.self; path = c.extend_from_slice.new.self; at = old.at; places = old.places } in
     let none : start.stack.items ≡ [] = search rules in

@@ -1,14 +1,14 @@
 use Rattle.std.proofs.Common.{◌++◌, [], drop, map}
 use Rattle.cp_model.specs.Types.{GlobalScope, Members}
 use Rattle.cp_model_machine.specs.Reports.{visit_members}
-use Rattle.cp_compile_symbols.specs.Standing.{AreMembers, ScopeStands}
+use Rattle.cp_compile_symbols.specs.Standing.{AreMembers, ScopeRepresents}
 use Rattle.cp_inspect.specs.Lists.{declared_member}
-use Rattle.cp_inspect.specs.Tellings.{visit_of}
-use Rattle.cp_inspect.proofs.MembersTold.{MembersToTell}
+use Rattle.cp_inspect.specs.WalkOutputs.{visit_of}
+use Rattle.cp_inspect.proofs.MembersReported.{MembersToReport}
 use Rattle.cp_inspect.proofs.walk.Walk.variables.Given as goal
 
 -- What has been reported and the variables that are left make up the whole.
 abbrev pub invariant-loop-declared : goal.invariant-loop-declared
 invariant-loop-declared l =
-    (g : GlobalScope) (ms : Members) → ScopeStands l.tables.names l.tables.types g → AreMembers l.tables.types (map declared_member l.variables) ms
-    → MembersToTell g (visit_of l.telling) l.tables.types (map declared_member (drop l.declared-index l.variables)) l.self.at l.out.items (l.fn.out.items ++ visit_members g (visit_of l.telling) [] l.fn.self.at ms)
+    (g : GlobalScope) (ms : Members) → ScopeRepresents l.tables.names l.tables.types g → AreMembers l.tables.types (map declared_member l.variables) ms
+    → MembersToReport g (visit_of l.walk_output) l.tables.types (map declared_member (drop l.declared-index l.variables)) l.self.at l.out.items (l.fn.out.items ++ visit_members g (visit_of l.walk_output) [] l.fn.self.at ms)

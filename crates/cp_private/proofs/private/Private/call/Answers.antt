@@ -2,39 +2,39 @@
 -- The lemmas of `Calling` say how it ends: without a unit, by a fault, or by entering the unit. Passing
 -- arguments and starting words write words alone, so the registers still have room for the unit.
 use Rattle.std.proofs.Common.{rules, arith, ◌≡◌, true, false, Err, length, refl, ap, sym, ◌∙◌}
-use Rattle.cp_model_machine.specs.PrivateStates.{Outside, PrivateState}
+use Rattle.cp_model_machine.specs.PrivateStates.{StepContext, PrivateState}
 use Rattle.cp_model_machine.specs.Calling.{call_step, enter}
 use Rattle.cp_program.specs.View as view
 use Rattle.cp_private.specs.Calls.{back, called_of, passing_of}
 use Rattle.cp_private.specs.States.{join, outcome, outside_of}
-use Rattle.cp_private.proofs.Calling.{Attempt, call_of, end_of, passed, refused, unfound}
+use Rattle.cp_private.proofs.Calling.{FastPath, call_of, end_of, passed, refused, unfound}
 use Rattle.cp_private.proofs.private.Private.call.Goals as goal
 use Rattle.cp_private.proofs.private.Private.call.Goals.{After-callee-callee}
 
 module _ (c : After-callee-callee) where
-  abbrev w : Outside
+  abbrev w : StepContext
   w = outside_of c.args.outside.now (length c.args.self.now.memory.words.items)
 
   abbrev o : PrivateState
   o = join c.args.self.now c.args.outside.now.input.now c.args.shared.now
 
-  abbrev attempt : Attempt
-  attempt = call_of (view.program c.args.program.now) w o (view.call c.args.call.now) (back c.args.link) (called_of c.callee-callee.result)
+  abbrev fast_path : FastPath
+  fast_path = call_of (view.program c.args.program.now) w o (view.call c.args.call.now) (back c.args.link) (called_of c.callee-callee.result)
 
-  named : end_of attempt ≡ call_step (view.program c.args.program.now) w o (view.call c.args.call.now) (back c.args.link)
+  named : end_of fast_path ≡ call_step (view.program c.args.program.now) w o (view.call c.args.call.now) (back c.args.link)
   named = ap (λ k. end_of (call_of (view.program c.args.program.now) w o (view.call c.args.call.now) (back c.args.link) k)) (c.callee-callee.ensures c.args.outside.now.input.now)
 
 pub returns-in_default-clause-step : goal.returns-in_default-clause-step
 returns-in_default-clause-step c =
     let k = (goal.at.returns-in_default-clause-step c).After-callee-callee in
-    unfound (attempt k) (c.in_default.ensures.unit (w k) c.args.outside.now.input.now refl) ∙ named k
+    unfound (fast_path k) (c.in_default.ensures.unit (w k) c.args.outside.now.input.now refl) ∙ named k
 
 pub returns-then-not-callee-clause-step : goal.returns-then-not-callee-clause-step
 returns-then-not-callee-clause-step c =
     let k = (goal.at.returns-then-not-callee-clause-step c).After-callee-callee in
     let unset : c.callee-callee.result.is_set ≡ false = search rules in
     let there = c.in-Some.ensures.unit (w k) c.args.outside.now.input.now refl in
-    refused (attempt k) (view.code_unit (view.plans_of c.args.program.now) c.in-Some.unit.now) there unset ∙ named k
+    refused (fast_path k) (view.code_unit (view.plans_of c.args.program.now) c.in-Some.unit.now) there unset ∙ named k
 
 pub returns-in_err-pass_all-clause-step : goal.returns-in_err-pass_all-clause-step
 returns-in_err-pass_all-clause-step c =
@@ -45,7 +45,7 @@ returns-in_err-pass_all-clause-step c =
     let given : c.from_residual.result ≡ Err c.in_err-pass_all.field-0.0 = search rules in
     let passing = rw c.deref.ensures.value at c.pass_all.ensures.step (length c.args.self.now.memory.words.items) in
     ap (outcome p) given
-    ∙ (passed (attempt k) (view.code_unit (view.plans_of c.args.program.now) c.in-Some.unit.now) _ there set (ap (passing_of p) (sym c.in_err-pass_all.was) ∙ passing) ∙ named k)
+    ∙ (passed (fast_path k) (view.code_unit (view.plans_of c.args.program.now) c.in-Some.unit.now) _ there set (ap (passing_of p) (sym c.in_err-pass_all.was) ∙ passing) ∙ named k)
 
 pub enter-requires : goal.enter-requires
 enter-requires c =
@@ -71,4 +71,4 @@ returns-clause-step c =
     let begun = rw c.deref-2.ensures.value at c.start_words.ensures.step input in
     let entered = c.enter.ensures.step (view.plans_of c.args.program.now) input c.start_words.new.shared
     ∙ ap (λ q. enter q (called_of c.callee-callee.result) unit (view.call c.args.call.now) (back c.args.link)) begun in
-    (λ i. (entered i, c.enters.ensures i)) ∙ (passed (attempt k) unit _ there set passing ∙ named k)
+    (λ i. (entered i, c.enters.ensures i)) ∙ (passed (fast_path k) unit _ there set passing ∙ named k)

@@ -25,9 +25,9 @@ returns-in-MonitorRight c =
     let o = join c.args.self.now input c.args.shared.now in
     let w = outside_of c.args.outside.now (length c.args.self.now.memory.words.items) in
     let place = o.component + c.in-MonitorRight.at in
-    let told : cap_place place ≡ c.member-in-MonitorRight.result =
+    let reported : cap_place place ≡ c.member-in-MonitorRight.result =
     omega (arith, c.member-in-MonitorRight.ensures.place, c.member-in-MonitorRight.ensures.small) in
     let whole : to_z w32 (of_z w32 c.word.result) ≡ c.word.result = search rules in
-    let number = c.natural-monitor.ensures ∙ ap natural (whole ∙ c.word.ensures input place told) in
+    let number = c.natural-monitor.ensures ∙ ap natural (whole ∙ c.word.ensures input place reported) in
     rw c.in-MonitorRight.is
     (c.monitor_callee-in-MonitorRight.ensures ∙ ap (plain.monitor_called (view.program c.args.program.now) w) number)

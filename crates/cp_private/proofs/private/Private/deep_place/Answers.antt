@@ -6,4 +6,4 @@ use Rattle.cp_private.proofs.private.Private.deep_place.Goals as goal
 
 pub returns : goal.returns
 returns c =
-    λ input own. c.place.ensures ∙ ap (λ v. capped_result (place_of v (view.spot c.args.spot.now))) (c.reach.ensures input own)
+    λ input own. c.place.ensures ∙ ap (λ v. capped_result (place_of v (view.place_expression c.args.place_expression.now))) (c.reach.ensures input own)

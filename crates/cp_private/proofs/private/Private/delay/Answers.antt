@@ -21,7 +21,7 @@ module _ (c : In_ok-at) where
   abbrev o : PrivateState
   o = join c.args.self.now c.args.outside.now.input.now c.args.shared.now
 
-  found : (n : ℕ) × (place_of (view_of (outside_of c.args.outside.now own) o) (view.spot c.args.queue.now) ≡ Ok n) × (cap_place n ≡ c.in_ok-at.at)
+  found : (n : ℕ) × (place_of (view_of (outside_of c.args.outside.now own) o) (view.place_expression c.args.queue.now) ≡ Ok n) × (cap_place n ≡ c.in_ok-at.at)
   found = placed _ _ (sym c.in_ok-at.was ∙ c.place.ensures c.args.outside.now.input.now own)
 
   count : length o.words ≡ own + length c.args.shared.now

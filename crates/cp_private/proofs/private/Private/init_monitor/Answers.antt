@@ -4,25 +4,25 @@
 use Rattle.std.proofs.Common.{rules, arith, ◌≡◌, ◌+◌, map, true, false, Err, length, refl, ap, sym, ◌∙◌}
 use Rattle.std.proofs.lemmas.List.{length-map}
 use Rattle.std.specs.Prelude.{not}
-use Rattle.cp_model_machine.specs.PrivateStates.{Acting, Opens, Outside, PrivateState}
+use Rattle.cp_model_machine.specs.PrivateStates.{Acting, Opens, StepContext, PrivateState}
 use Rattle.cp_model_machine.specs.Calling.{enter, init_monitor, settle}
 use Rattle.cp_model_machine.specs.Passing.{component_called}
 use Rattle.cp_program.specs.View as view
 use Rattle.cp_private.specs.Calls.{called_of, passing_of}
 use Rattle.cp_private.specs.States.{join, outcome, outside_of}
-use Rattle.cp_private.proofs.Calling.{Attempt, end_of, init_of_monitor, passed, refused, unfound}
+use Rattle.cp_private.proofs.Calling.{FastPath, end_of, init_of_monitor, passed, refused, unfound}
 use Rattle.cp_private.proofs.private.Private.init_monitor.Goals as goal
 use Rattle.cp_private.proofs.private.Private.init_monitor.Goals.{After-monitor_callee-monitor}
 
 module _ (c : After-monitor_callee-monitor) where
-  abbrev w : Outside
+  abbrev w : StepContext
   w = outside_of c.args.outside.now (length c.args.self.now.memory.words.items)
 
   abbrev o : PrivateState
   o = join c.args.self.now c.args.outside.now.input.now c.args.shared.now
 
-  abbrev attempt : Attempt
-  attempt =
+  abbrev fast_path : FastPath
+  fast_path =
       init_of_monitor (view.program c.args.program.now) w o (view.call c.args.call.now) c.args.next c.callee-number.result.gate
       (called_of c.monitor_callee-monitor.result)
 
@@ -32,7 +32,7 @@ module _ (c : After-monitor_callee-monitor) where
       let call = view.call c.args.call.now in
       init_monitor program w o call (component_called program w o call.target).gate c.args.next
 
-  named : end_of attempt ≡ defined
+  named : end_of fast_path ≡ defined
   named =
       let program = view.program c.args.program.now in
       let call = view.call c.args.call.now in
@@ -42,14 +42,14 @@ module _ (c : After-monitor_callee-monitor) where
 pub returns-in_default-clause-step : goal.returns-in_default-clause-step
 returns-in_default-clause-step c =
     let k = (goal.at.returns-in_default-clause-step c).After-monitor_callee-monitor in
-    unfound (attempt k) (c.in_default.ensures.unit (w k) c.args.outside.now.input.now refl) ∙ named k
+    unfound (fast_path k) (c.in_default.ensures.unit (w k) c.args.outside.now.input.now refl) ∙ named k
 
 pub returns-then-monitor-clause-step : goal.returns-then-monitor-clause-step
 returns-then-monitor-clause-step c =
     let k = (goal.at.returns-then-monitor-clause-step c).After-monitor_callee-monitor in
     let set : not c.monitor_callee-monitor.result.is_set ≡ false = search rules in
     let there = c.in-Some.ensures.unit (w k) c.args.outside.now.input.now refl in
-    refused (attempt k) (view.code_unit (view.plans_of c.args.program.now) c.in-Some.unit.now) there set ∙ named k
+    refused (fast_path k) (view.code_unit (view.plans_of c.args.program.now) c.in-Some.unit.now) there set ∙ named k
 
 pub returns-in_err-pass_all-clause-step : goal.returns-in_err-pass_all-clause-step
 returns-in_err-pass_all-clause-step c =
@@ -60,7 +60,7 @@ returns-in_err-pass_all-clause-step c =
     let given : c.from_residual.result ≡ Err c.in_err-pass_all.field-0.0 = search rules in
     let passing = rw c.deref.ensures.value at c.pass_all.ensures.step (length c.args.self.now.memory.words.items) in
     ap (outcome p) given
-    ∙ (passed (attempt k) (view.code_unit (view.plans_of c.args.program.now) c.in-Some.unit.now) _ there unset (ap (passing_of p) (sym c.in_err-pass_all.was) ∙ passing) ∙ named k)
+    ∙ (passed (fast_path k) (view.code_unit (view.plans_of c.args.program.now) c.in-Some.unit.now) _ there unset (ap (passing_of p) (sym c.in_err-pass_all.was) ∙ passing) ∙ named k)
 
 pub enter-requires : goal.enter-requires
 enter-requires c =
@@ -90,4 +90,4 @@ returns-clause-step c =
     let settled = c.settle.ensures.step input ∙ ap (settle p from monitor.component) count in
     let entered = c.enter.ensures.step (view.plans_of c.args.program.now) input c.settle.new.shared
     ∙ ap (λ q. enter q monitor unit (view.call c.args.call.now) (record { counter = c.args.next; into = 0 })) settled in
-    (λ i. (entered i, Opens c.callee-number.result.gate)) ∙ (passed (attempt k) unit _ there unset passing ∙ named k)
+    (λ i. (entered i, Opens c.callee-number.result.gate)) ∙ (passed (fast_path k) unit _ there unset passing ∙ named k)

@@ -24,7 +24,7 @@ pub returns-in-MonitorRight : goal.returns-in-MonitorRight
 returns-in-MonitorRight c =
     λ input.
     let place = c.args.self.now.memory.component + c.in-MonitorRight.at in
-    let told : cap_place place ≡ c.member-in-MonitorRight.result =
+    let reported : cap_place place ≡ c.member-in-MonitorRight.result =
     omega (arith, c.member-in-MonitorRight.ensures.place, c.member-in-MonitorRight.ensures.small) in
     let whole : to_z w32 (of_z w32 c.word.result) ≡ c.word.result = search rules in
-    rw c.in-MonitorRight.is (whole ∙ c.word.ensures input place told)
+    rw c.in-MonitorRight.is (whole ∙ c.word.ensures input place reported)

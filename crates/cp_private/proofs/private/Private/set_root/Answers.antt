@@ -24,11 +24,11 @@ returns-clause-step c =
     let root = view.root c.args.root in
     let place = root_place (view_of (outside_of c.args.outside.now own) o) root in
     let at : c.root_place-at.result ≡ place = c.root_place-at.ensures.place ∙ ap (λ v. root_place v root) (c.reach.ensures input own) in
-    let told : cap_place place ≡ c.root_place-at.result = omega (arith, c.root_place-at.ensures.small) in
+    let reported : cap_place place ≡ c.root_place-at.result = omega (arith, c.root_place-at.ensures.small) in
     let is = sym c.in_ok-n.was ∙ c.evaluate.ensures input own in
     let whole : to_z w32 (of_z w32 c.in_ok-n.n) ≡ c.in_ok-n.n = search rules in
     let to = c.args.assignment.now in
     let done : outcome (join c.set_within.new.self input c.set_within.new.shared) c.set_within.result ≡ set_within o to.bounds.low to.bounds.high place c.in_ok-n.n to.next =
-    c.set_within.ensures.step input place told
+    c.set_within.ensures.step input place reported
     ∙ ap (λ n. set_within o to.bounds.low to.bounds.high place n to.next) whole in
     rw (← is) done

@@ -4,86 +4,86 @@ use Rattle.cp_model.specs.Erase.{operator_of}
 use Rattle.cp_model_program.specs.Terms as plain
 use Rattle.cp_program.specs.Reaches.{view_with}
 use Rattle.cp_program.specs.View as view
-use Rattle.cp_program.proofs.Found.{add_local, add_member, after_known, before_known, found, kept, local_before, member_before, multiply_local, multiply_member, subtract_local, subtract_member, told}
+use Rattle.cp_program.proofs.Found.{add_local, add_member, after_known, before_known, found, kept, local_before, member_before, multiply_local, multiply_member, subtract_local, subtract_member, reported}
 use Rattle.cp_program.proofs.term.Application.arithmetic_value_after.Goals as goal
 
-pub returns-in_ok-near_local-in-AddLocal : goal.returns-in_ok-near_local-in-AddLocal
-returns-in_ok-near_local-in-AddLocal g c clock =
+pub returns-in_ok-fast_local-in-AddLocal : goal.returns-in_ok-fast_local-in-AddLocal
+returns-in_ok-fast_local-in-AddLocal g c clock =
     let v = view_with c.args.memory.now c.args.shared.now clock in
-    let n = c.in_ok-near_local-in-AddLocal.field-0 in
-    let known = told _ n _ c.in_ok-near_local-in-AddLocal.was (c.near_local.ensures clock) in
+    let n = c.in_ok-fast_local-in-AddLocal.field-0 in
+    let known = reported _ n _ c.in_ok-fast_local-in-AddLocal.was (c.fast_local.ensures clock) in
     let left : kept c.args.left ≡ c.args.left = search rules in
     let right : kept n ≡ n = search rules in
     let whole = ap view.application c.in-AddLocal.is ∙ add_local c.in-AddLocal.at in
     found _ _ _ (sym (after_known v c.args.left n operator.Add (view.local c.in-AddLocal.at) _ whole known left right)) c.sum-in-AddLocal.ensures
 
-pub returns-in_ok-near_member-in-AddMember : goal.returns-in_ok-near_member-in-AddMember
-returns-in_ok-near_member-in-AddMember g c clock =
+pub returns-in_ok-fast_member-in-AddMember : goal.returns-in_ok-fast_member-in-AddMember
+returns-in_ok-fast_member-in-AddMember g c clock =
     let v = view_with c.args.memory.now c.args.shared.now clock in
-    let n = c.in_ok-near_member-in-AddMember.field-0 in
-    let known = told _ n _ c.in_ok-near_member-in-AddMember.was (c.near_member.ensures clock) in
+    let n = c.in_ok-fast_member-in-AddMember.field-0 in
+    let known = reported _ n _ c.in_ok-fast_member-in-AddMember.was (c.fast_member.ensures clock) in
     let left : kept c.args.left ≡ c.args.left = search rules in
     let right : kept n ≡ n = search rules in
     let whole = ap view.application c.in-AddMember.is ∙ add_member c.in-AddMember.at in
     found _ _ _ (sym (after_known v c.args.left n operator.Add (view.member c.in-AddMember.at) _ whole known left right)) c.sum-in-AddMember.ensures
 
-pub returns-in_ok-near_local-in-SubtractLocal : goal.returns-in_ok-near_local-in-SubtractLocal
-returns-in_ok-near_local-in-SubtractLocal g c clock =
+pub returns-in_ok-fast_local-in-SubtractLocal : goal.returns-in_ok-fast_local-in-SubtractLocal
+returns-in_ok-fast_local-in-SubtractLocal g c clock =
     let v = view_with c.args.memory.now c.args.shared.now clock in
-    let n = c.in_ok-near_local-in-SubtractLocal.field-0 in
-    let known = told _ n _ c.in_ok-near_local-in-SubtractLocal.was (c.near_local-in-SubtractLocal.ensures clock) in
+    let n = c.in_ok-fast_local-in-SubtractLocal.field-0 in
+    let known = reported _ n _ c.in_ok-fast_local-in-SubtractLocal.was (c.fast_local-in-SubtractLocal.ensures clock) in
     let left : kept c.args.left ≡ c.args.left = search rules in
     let right : kept n ≡ n = search rules in
     let whole = ap view.application c.in-SubtractLocal.is ∙ subtract_local c.in-SubtractLocal.at in
     found _ _ _ (sym (after_known v c.args.left n operator.Subtract (view.local c.in-SubtractLocal.at) _ whole known left right)) c.difference-in-SubtractLocal.ensures
 
-pub returns-in_ok-near_member-in-SubtractMember : goal.returns-in_ok-near_member-in-SubtractMember
-returns-in_ok-near_member-in-SubtractMember g c clock =
+pub returns-in_ok-fast_member-in-SubtractMember : goal.returns-in_ok-fast_member-in-SubtractMember
+returns-in_ok-fast_member-in-SubtractMember g c clock =
     let v = view_with c.args.memory.now c.args.shared.now clock in
-    let n = c.in_ok-near_member-in-SubtractMember.field-0 in
-    let known = told _ n _ c.in_ok-near_member-in-SubtractMember.was (c.near_member-in-SubtractMember.ensures clock) in
+    let n = c.in_ok-fast_member-in-SubtractMember.field-0 in
+    let known = reported _ n _ c.in_ok-fast_member-in-SubtractMember.was (c.fast_member-in-SubtractMember.ensures clock) in
     let left : kept c.args.left ≡ c.args.left = search rules in
     let right : kept n ≡ n = search rules in
     let whole = ap view.application c.in-SubtractMember.is ∙ subtract_member c.in-SubtractMember.at in
     found _ _ _ (sym (after_known v c.args.left n operator.Subtract (view.member c.in-SubtractMember.at) _ whole known left right)) c.difference-in-SubtractMember.ensures
 
-pub returns-in_ok-near_local-in-MultiplyLocal : goal.returns-in_ok-near_local-in-MultiplyLocal
-returns-in_ok-near_local-in-MultiplyLocal g c clock =
+pub returns-in_ok-fast_local-in-MultiplyLocal : goal.returns-in_ok-fast_local-in-MultiplyLocal
+returns-in_ok-fast_local-in-MultiplyLocal g c clock =
     let v = view_with c.args.memory.now c.args.shared.now clock in
-    let n = c.in_ok-near_local-in-MultiplyLocal.field-0 in
-    let known = told _ n _ c.in_ok-near_local-in-MultiplyLocal.was (c.near_local-in-MultiplyLocal.ensures clock) in
+    let n = c.in_ok-fast_local-in-MultiplyLocal.field-0 in
+    let known = reported _ n _ c.in_ok-fast_local-in-MultiplyLocal.was (c.fast_local-in-MultiplyLocal.ensures clock) in
     let left : kept c.args.left ≡ c.args.left = search rules in
     let right : kept n ≡ n = search rules in
     let whole = ap view.application c.in-MultiplyLocal.is ∙ multiply_local c.in-MultiplyLocal.at in
     found _ _ _ (sym (after_known v c.args.left n operator.Multiply (view.local c.in-MultiplyLocal.at) _ whole known left right)) c.product-in-MultiplyLocal.ensures
 
-pub returns-in_ok-near_member-in-MultiplyMember : goal.returns-in_ok-near_member-in-MultiplyMember
-returns-in_ok-near_member-in-MultiplyMember g c clock =
+pub returns-in_ok-fast_member-in-MultiplyMember : goal.returns-in_ok-fast_member-in-MultiplyMember
+returns-in_ok-fast_member-in-MultiplyMember g c clock =
     let v = view_with c.args.memory.now c.args.shared.now clock in
-    let n = c.in_ok-near_member-in-MultiplyMember.field-0 in
-    let known = told _ n _ c.in_ok-near_member-in-MultiplyMember.was (c.near_member-in-MultiplyMember.ensures clock) in
+    let n = c.in_ok-fast_member-in-MultiplyMember.field-0 in
+    let known = reported _ n _ c.in_ok-fast_member-in-MultiplyMember.was (c.fast_member-in-MultiplyMember.ensures clock) in
     let left : kept c.args.left ≡ c.args.left = search rules in
     let right : kept n ≡ n = search rules in
     let whole = ap view.application c.in-MultiplyMember.is ∙ multiply_member c.in-MultiplyMember.at in
     found _ _ _ (sym (after_known v c.args.left n operator.Multiply (view.member c.in-MultiplyMember.at) _ whole known left right)) c.product-in-MultiplyMember.ensures
 
-pub returns-in_ok-near_local-in-LocalBefore : goal.returns-in_ok-near_local-in-LocalBefore
-returns-in_ok-near_local-in-LocalBefore g c clock =
+pub returns-in_ok-fast_local-in-LocalBefore : goal.returns-in_ok-fast_local-in-LocalBefore
+returns-in_ok-fast_local-in-LocalBefore g c clock =
     let v = view_with c.args.memory.now c.args.shared.now clock in
-    let n = c.in_ok-near_local-in-LocalBefore.field-0 in
+    let n = c.in_ok-fast_local-in-LocalBefore.field-0 in
     let op = c.in-LocalBefore.operator in
-    let known = told _ n _ c.in_ok-near_local-in-LocalBefore.was (c.near_local-in-LocalBefore.ensures clock) in
+    let known = reported _ n _ c.in_ok-fast_local-in-LocalBefore.was (c.fast_local-in-LocalBefore.ensures clock) in
     let left : kept c.args.left ≡ c.args.left = search rules in
     let right : kept n ≡ n = search rules in
     let whole = ap view.application c.in-LocalBefore.is ∙ local_before op c.in-LocalBefore.at in
     found _ _ _ (sym (before_known v c.args.left n (operator_of op) (plain.Local c.in-LocalBefore.at) _ whole known left right)) c.difference_of.ensures
 
-pub returns-in_ok-near_member-in-MemberBefore : goal.returns-in_ok-near_member-in-MemberBefore
-returns-in_ok-near_member-in-MemberBefore g c clock =
+pub returns-in_ok-fast_member-in-MemberBefore : goal.returns-in_ok-fast_member-in-MemberBefore
+returns-in_ok-fast_member-in-MemberBefore g c clock =
     let v = view_with c.args.memory.now c.args.shared.now clock in
-    let n = c.in_ok-near_member-in-MemberBefore.field-0 in
+    let n = c.in_ok-fast_member-in-MemberBefore.field-0 in
     let op = c.in-MemberBefore.operator in
-    let known = told _ n _ c.in_ok-near_member-in-MemberBefore.was (c.near_member-in-MemberBefore.ensures clock) in
+    let known = reported _ n _ c.in_ok-fast_member-in-MemberBefore.was (c.fast_member-in-MemberBefore.ensures clock) in
     let left : kept c.args.left ≡ c.args.left = search rules in
     let right : kept n ≡ n = search rules in
     let whole = ap view.application c.in-MemberBefore.is ∙ member_before op c.in-MemberBefore.at in

@@ -19,7 +19,7 @@ returns-in-Local g c clock =
     term_is t
     ∙ (ap (λ xs. chain_of (view.operand (out-Term t).first) (map view.application xs)) none
     ∙ (ap view.operand c.in-Local.is ∙ operand_local c.in-Local.at)) in
-    found c.near_local.result _ _ (sym (ap (value_of v) there)) (c.near_local.ensures clock)
+    found c.fast_local.result _ _ (sym (ap (value_of v) there)) (c.fast_local.ensures clock)
 
 pub returns-in-Member : goal.returns-in-Member
 returns-in-Member g c clock =
@@ -31,4 +31,4 @@ returns-in-Member g c clock =
     term_is t
     ∙ (ap (λ xs. chain_of (view.operand (out-Term t).first) (map view.application xs)) none
     ∙ (ap view.operand c.in-Member.is ∙ operand_member c.in-Member.at)) in
-    found c.near_member.result _ _ (sym (ap (value_of v) there)) (c.near_member.ensures clock)
+    found c.fast_member.result _ _ (sym (ap (value_of v) there)) (c.fast_member.ensures clock)

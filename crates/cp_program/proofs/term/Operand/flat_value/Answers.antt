@@ -8,11 +8,11 @@ use Rattle.cp_program.proofs.term.Operand.flat_value.Goals as goal
 pub returns-in-Local : goal.returns-in-Local
 returns-in-Local g c clock =
     let v = view_with c.args.memory.now c.args.shared.now clock in
-    found c.near_local.result _ _ (sym (ap (λ x. value_of v (view.operand x)) c.in-Local.is ∙ ap (value_of v) (operand_local c.in-Local.at)))
-    (c.near_local.ensures clock)
+    found c.fast_local.result _ _ (sym (ap (λ x. value_of v (view.operand x)) c.in-Local.is ∙ ap (value_of v) (operand_local c.in-Local.at)))
+    (c.fast_local.ensures clock)
 
 pub returns-in-Member : goal.returns-in-Member
 returns-in-Member g c clock =
     let v = view_with c.args.memory.now c.args.shared.now clock in
-    found c.near_member.result _ _ (sym (ap (λ x. value_of v (view.operand x)) c.in-Member.is ∙ ap (value_of v) (operand_member c.in-Member.at)))
-    (c.near_member.ensures clock)
+    found c.fast_member.result _ _ (sym (ap (λ x. value_of v (view.operand x)) c.in-Member.is ∙ ap (value_of v) (operand_member c.in-Member.at)))
+    (c.fast_member.ensures clock)

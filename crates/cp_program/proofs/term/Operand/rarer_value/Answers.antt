@@ -17,7 +17,7 @@ returns-in_ok-at-in-Through g c clock =
     let there : value_of v (view.operand c.args.self.now) ≡ Ok (word v.words at) =
     ap (λ y. value_of v (view.operand y)) x.is
     ∙ (ap (value_of v) (operand_through x.parameter x.plus) ∙ ap (λ a. Ok (word v.words a)) (c.in_ok-at-in-Through.ensures clock)) in
-    found_as c.near_word.result _ _ there (c.near_word.ensures)
+    found_as c.fast_word.result _ _ there (c.fast_word.ensures)
 
 pub returns-in_ok-flat_value-in-Not : goal.returns-in_ok-flat_value-in-Not
 returns-in_ok-flat_value-in-Not g c clock =

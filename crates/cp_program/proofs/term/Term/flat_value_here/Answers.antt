@@ -4,7 +4,7 @@ use Rattle.cp_program.specs.declared.term.Term.{out-Term}
 use Rattle.cp_program.specs.Reaches.{chain_value, view_with}
 use Rattle.cp_program.specs.View as view
 use Rattle.cp_program.proofs.Chains.{term_is, value_chain}
-use Rattle.cp_program.proofs.Found.{found, told}
+use Rattle.cp_program.proofs.Found.{found, reported}
 use Rattle.cp_program.proofs.term.Term.flat_value_here.Goals as goal
 
 pub returns : goal.returns
@@ -13,7 +13,7 @@ returns g c clock =
     let s = c.args.self.now in
     let xs = map view.application (out-Term s).rest.items in
     let first = c.in_ok-first.first in
-    let known : value_of v (view.operand (out-Term s).first) ≡ Ok first = told _ first _ c.in_ok-first.was (c.flat_value.ensures clock) in
+    let known : value_of v (view.operand (out-Term s).first) ≡ Ok first = reported _ first _ c.in_ok-first.was (c.flat_value.ensures clock) in
     let same : to_z w32 (of_z w32 first) ≡ first = search rules in
     let chained : IfSome c.flat_value_of_chain.result (λ n. chain_value v first (map view.application c.deref.result.now) ≡ Ok n) =
     subst (λ y. IfSome c.flat_value_of_chain.result (λ n. chain_value v y (map view.application c.deref.result.now) ≡ Ok n)) same (c.flat_value_of_chain.ensures clock) in

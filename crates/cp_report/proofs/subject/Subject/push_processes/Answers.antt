@@ -6,8 +6,8 @@ use Rattle.cp_model_machine.specs.Reports.{head_of, process_lines, processes_lin
 use Rattle.cp_compile_symbols.specs.Standing.{entry}
 use Rattle.cp_compile_symbols.specs.declared.types.Field.{Field}
 use Rattle.cp_report.specs.Subjects.{machine_in}
-use Rattle.cp_report.proofs.LinesTold.{LinesToTell, one_component}
-use Rattle.cp_inspect.proofs.MembersTold.{drop_first}
+use Rattle.cp_report.proofs.LinesReported.{LinesToReport, one_component}
+use Rattle.cp_inspect.proofs.MembersReported.{drop_first}
 use Rattle.cp_report.proofs.subject.Subject.push_processes.Goals as goal
 
 pub loop-index-preserved : goal.loop-index-preserved
@@ -26,11 +26,11 @@ loop-index-preserved c =
     let below : i < length xs = search rules in
     let none : Field = record { name = record { ref_ptr = (0, 0); now = [] }; of = 0 } in
     let x = slice_index_or xs i none in
-    let before = subst (λ es. LinesToTell types all (suc (suc i)) es out text) (drop_first entry xs i none below) (c.loop-index.invariant setup vs of listed) in
+    let before = subst (λ es. LinesToReport types all (suc (suc i)) es out text) (drop_first entry xs i none below) (c.loop-index.invariant setup vs of listed) in
     let next : suc i ≡ i + 1 = omega arith in
     let number : c.in_ok-number.number ≡ suc (suc i) = omega (arith, c.in_ok-number.ensures) in
-    subst (λ n. LinesToTell types all (suc (suc n)) (map entry (drop n xs)) after text) next
+    subst (λ n. LinesToReport types all (suc (suc n)) (map entry (drop n xs)) after text) next
     (one_component types (λ n v. process_lines setup m n v.0 (head_of g v.1.type) (component_members v.1.type)) all (suc (suc i)) (entry x) (map entry (drop (suc i) xs)) out after text
     (λ v vs. refl) before
-    (λ v same stands. c.in_ok-push_process.ensures setup v.1.type of stands
+    (λ v same represents. c.in_ok-push_process.ensures setup v.1.type of represents
     ∙ (λ j. out ++ process_lines setup m (number j) (same j) (head_of g v.1.type) (component_members v.1.type))))

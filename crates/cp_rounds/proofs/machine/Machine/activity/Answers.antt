@@ -9,7 +9,7 @@ use Rattle.cp_rounds.proofs.machine.Machine.activity.Goals as goal
 pub returns-in-Some : goal.returns-in-Some
 returns-in-Some c =
     let parts = (machine_of c.args.self.now).parts in
-    let input = input_of c.args.self.now.setting.inputs.items c.args.p in
+    let input = input_of c.args.self.now.config.inputs.items c.args.p in
     let there : slice_get parts (c.args.p - 1) ≡ Some (private_of c.in-Some.private.now input) =
     sym c.private.ensures ∙ ap (option_map (λ x. private_of x.now input)) c.in-Some.is in
     c.activity.ensures input ∙ ap (λ (o : Option PrivateState). elim o as (λ x. Activity) [ None ↦ Ended | Some q ↦ q.activity ]) (sym there)
@@ -17,6 +17,6 @@ returns-in-Some c =
 pub returns-in-None : goal.returns-in-None
 returns-in-None c =
     let parts = (machine_of c.args.self.now).parts in
-    let input = input_of c.args.self.now.setting.inputs.items c.args.p in
+    let input = input_of c.args.self.now.config.inputs.items c.args.p in
     let none : slice_get parts (c.args.p - 1) ≡ None = sym c.private.ensures ∙ ap (option_map (λ x. private_of x.now input)) c.in-None.is in
     ap (λ (o : Option PrivateState). elim o as (λ x. Activity) [ None ↦ Ended | Some q ↦ q.activity ]) (sym none)

@@ -12,11 +12,11 @@ returns-in-Ok-clause-made g c =
     let after = c.make_rounds_of-parts.result.0 in
     let taken = c.replace-parts.ensures.value in
     record {
-      made = subst (λ r. IfOk r (λ x. PartsAfter old.setting t old.rounds n old.parts after)) c.in-Ok.is
-          (subst (λ (p : Parts). IfOk c.make_rounds_of-parts.result.1 (λ x. PartsAfter old.setting t old.rounds n p after)) taken c.make_rounds_of-parts.ensures.made);
+      made = subst (λ r. IfOk r (λ x. PartsAfter old.config t old.rounds n old.parts after)) c.in-Ok.is
+          (subst (λ (p : Parts). IfOk c.make_rounds_of-parts.result.1 (λ x. PartsAfter old.config t old.rounds n p after)) taken c.make_rounds_of-parts.ensures.made);
       processes = subst (λ (p : Parts). length after.privates.items ≡ length p.privates.items) taken c.make_rounds_of-parts.ensures.count;
       rounds = refl;
-      text = record { setting = refl; tables = refl };
+      text = record { config = refl; tables = refl };
     }
 
 pub returns-in-Err-clause-partly : goal.returns-in-Err-clause-partly
@@ -26,13 +26,13 @@ returns-in-Err-clause-partly g c =
     let n = c.args.rounds in
     let after = c.make_rounds_of-parts.result.0 in
     let taken = c.replace-parts.ensures.value in
-    let partly = subst (λ r. IfErr r (λ m. (m < n) × PartsAfter old.setting t old.rounds m old.parts after)) c.in-Err.is
-    (subst (λ (p : Parts). IfErr c.make_rounds_of-parts.result.1 (λ m. (m < n) × PartsAfter old.setting t old.rounds m p after)) taken c.make_rounds_of-parts.ensures.partly) in (
+    let partly = subst (λ r. IfErr r (λ m. (m < n) × PartsAfter old.config t old.rounds m old.parts after)) c.in-Err.is
+    (subst (λ (p : Parts). IfErr c.make_rounds_of-parts.result.1 (λ m. (m < n) × PartsAfter old.config t old.rounds m p after)) taken c.make_rounds_of-parts.ensures.partly) in (
       partly.0,
       record {
         made = partly.1;
         processes = subst (λ (p : Parts). length after.privates.items ≡ length p.privates.items) taken c.make_rounds_of-parts.ensures.count;
         rounds = refl;
-        text = record { setting = refl; tables = refl };
+        text = record { config = refl; tables = refl };
       },
     )

@@ -13,10 +13,10 @@ returns-in-Some c =
     let below : i < length xs = search rules in
     let is : held ≡ slice_index_or xs i held = search rules in
     let here : slice_get xs i ≡ Some x = got_or xs i held below ∙ ap (λ (z : Private). Some z) (sym (c.private.ensures ∙ is)) in
-    sym (part_at c.args.self.now.setting.inputs.items i xs x here)
+    sym (part_at c.args.self.now.config.inputs.items i xs x here)
 
 pub returns-in-None : goal.returns-in-None
 returns-in-None c =
     let xs = c.args.self.now.parts.privates.items in
     let past : length xs ≤ c.args.p - 1 = search rules in
-    sym (part_past c.args.self.now.setting.inputs.items (c.args.p - 1) xs past)
+    sym (part_past c.args.self.now.config.inputs.items (c.args.p - 1) xs past)

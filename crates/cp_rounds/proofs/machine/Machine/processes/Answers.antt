@@ -7,7 +7,7 @@ use Rattle.cp_rounds.proofs.machine.Machine.processes.Goals as goal
 pub returns-clause-parts : goal.returns-clause-parts
 returns-clause-parts c =
     let count : c.len.result ≡ length c.args.self.now.parts.privates.items = search rules in
-    count ∙ sym (parts_count (input_of c.args.self.now.setting.inputs.items) 1 c.args.self.now.parts.privates.items)
+    count ∙ sym (parts_count (input_of c.args.self.now.config.inputs.items) 1 c.args.self.now.parts.privates.items)
 
 pub returns-clause-few : goal.returns-clause-few
 returns-clause-few c =

@@ -1,5 +1,5 @@
 use Rattle.std.proofs.Common.{rules, ◌≡◌, ◌<◌, ◌+◌, ◌-◌, ℕ, Bool, false, true, arith, subst}
-use Rattle.cp_rounds.specs.Stillness.{Advances, TellsStill}
+use Rattle.cp_rounds.specs.Stillness.{Advances, ReportsStill}
 use Rattle.cp_rounds.specs.Views.{IsAfter}
 use Rattle.cp_rounds.proofs.After.{after_more}
 use Rattle.cp_rounds.proofs.InStates.{makes_rounds}
@@ -17,10 +17,10 @@ rounds-preserved-in-Ok-true g c =
     let bound = c.rounds.invariant.bound in
     let below = c.rounds-test.true in
     let count = c.min-count.ensures in
-    let stretch = c.rounds.stretch.some in
-    let some : 0 < n = omega (arith, below, count, stretch) in
+    let gallop = c.rounds.gallop.some in
+    let some : 0 < n = omega (arith, below, count, gallop) in
     let tested : c.is_still.result ≡ false = search rules in
-    let still : TellsStill mid false = subst (λ (b : Bool). TellsStill mid b) tested c.is_still.ensures in
+    let still : ReportsStill mid false = subst (λ (b : Bool). ReportsStill mid b) tested c.is_still.ensures in
     let made : Advances t n true mid new = subst (λ (b : Bool). Advances t n b mid new) c.in-Ok-true.field-0-test c.in-Ok-true.ensures.made in
     record {
       bound = omega (arith, bound, below, count);
@@ -35,16 +35,16 @@ returns-in-Err-clause-partly g c =
     let round = c.in-Err.field-0.0 in
     let old = c.args.self.now in
     let new = c.advance.new.self in
-    let told = c.in-Err.ensures.partly in
-    let first = told.0 in
-    let last = told.1 in
+    let reported = c.in-Err.ensures.partly in
+    let first = reported.0 in
+    let last = reported.1 in
     let bound = c.rounds.invariant.bound in
     let below = c.rounds-test.true in
     let count = c.min-count.ensures in
     let back : done + (round - 1) ≡ done + round - 1 = omega (arith, first) in (
       omega (arith, first),
       omega (arith, last, bound, below, count),
-      subst (λ (n : ℕ). IsAfter t n old new) back (after_more t done (round - 1) old c.rounds.self new c.rounds.invariant.after told.2),
+      subst (λ (n : ℕ). IsAfter t n old new) back (after_more t done (round - 1) old c.rounds.self new c.rounds.invariant.after reported.2),
     )
 
 pub returns-else-not-is_still-clause-state : goal.returns-else-not-is_still-clause-state

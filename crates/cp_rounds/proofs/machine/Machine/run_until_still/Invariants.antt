@@ -14,4 +14,4 @@ invariant-rounds g l = record {
 -- A stretch makes rounds, or leads past the first still state for the first time, or is shorter than
 -- the last one.
 abbrev pub decreases-rounds : goal.decreases-rounds
-decreases-rounds g l = l.limit - l.done + (if l.stretch.past then l.stretch.rounds else 65537)
+decreases-rounds g l = l.limit - l.done + (if l.gallop.past then l.gallop.rounds else 65537)

@@ -9,7 +9,7 @@ use Rattle.cp_rounds.proofs.machine.Machine.transcript.Goals as goal
 pub returns-in-Some-clause-output : goal.returns-in-Some-clause-output
 returns-in-Some-clause-output c =
     let parts = (machine_of c.args.self.now).parts in
-    let input = input_of c.args.self.now.setting.inputs.items c.args.p in
+    let input = input_of c.args.self.now.config.inputs.items c.args.p in
     let there : slice_get parts (c.args.p - 1) ≡ Some (private_of c.in-Some.private.now input) =
     sym c.private.ensures ∙ ap (option_map (λ x. private_of x.now input)) c.in-Some.is in
     c.output.ensures input ∙ ap (λ (o : Option PrivateState). elim o as (λ x. List ℕ) [ None ↦ [] | Some q ↦ q.output ]) (sym there)

@@ -11,7 +11,7 @@ pub returns-in-Some : goal.returns-in-Some
 returns-in-Some c =
     let same : to_z w32 (of_z w32 c.value.result) ≡ c.value.result = search rules in
     let parts = (machine_of c.args.self.now).parts in
-    let input = input_of c.args.self.now.setting.inputs.items c.args.p in
+    let input = input_of c.args.self.now.config.inputs.items c.args.p in
     let there : slice_get parts (c.args.p - 1) ≡ Some (private_of c.in-Some.private.now input) =
     sym c.private.ensures ∙ ap (option_map (λ x. private_of x.now input)) c.in-Some.is in
     same ∙ (c.value.ensures input ∙ ap (λ (o : Option PrivateState). word (elim o as (λ x. List ℤ) [ None ↦ [] | Some q ↦ q.words ]) c.args.at) (sym there))

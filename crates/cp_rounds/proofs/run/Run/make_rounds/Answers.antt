@@ -10,7 +10,7 @@ rounds-init g c =
     record {
       bound = omega arith;
       count = refl;
-      made = no_round_made turns.setting.now turns.plan.turn.steps turns.done parts.privates.items parts.kernel parts.privates.items parts.kernel
+      made = no_round_made turns.config.now turns.plan.turn.steps turns.done parts.privates.items parts.kernel parts.privates.items parts.kernel
           (all_same parts.privates.items parts.kernel parts.kernel refl refl);
     }
 
@@ -24,6 +24,6 @@ rounds-preserved g c =
     record {
       bound = c.in-Ok.ensures.few;
       count = c.make_next.ensures.count ∙ was.count;
-      made = more_rounds_made turns.setting.now turns.plan.turn.steps turns.done c.rounds.round c.in-Ok.count first.privates.items before.privates.items
+      made = more_rounds_made turns.config.now turns.plan.turn.steps turns.done c.rounds.round c.in-Ok.count first.privates.items before.privates.items
           after.privates.items first.kernel before.kernel after.kernel was.count was.made c.in-Ok.ensures.made;
     }

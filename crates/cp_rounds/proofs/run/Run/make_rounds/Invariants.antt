@@ -6,7 +6,7 @@ abbrev pub invariant-rounds : goal.invariant-rounds
 invariant-rounds g l = record {
   bound : l.round ≤ length l.self.cells.now;
   count : length l.parts.privates.items ≡ length l.fn.parts.privates.items;
-  made : PartsAfter l.self.turns.setting.now l.self.turns.plan.turn.steps l.self.turns.done l.round l.fn.parts l.parts;
+  made : PartsAfter l.self.turns.config.now l.self.turns.plan.turn.steps l.self.turns.done l.round l.fn.parts l.parts;
 }
 
 abbrev pub decreases-rounds : goal.decreases-rounds

@@ -5,8 +5,8 @@ use Rattle.cp_private.specs.declared.private.Private.{Private}
 use Rattle.cp_program.specs.View as view
 use Rattle.cp_rounds_handoff.specs.Inputs.{input_at}
 use Rattle.cp_rounds_handoff.specs.Turned as plain
-use Rattle.cp_rounds_handoff.specs.Tasks.{AreMade, HasRoomLeft, IsShort, bytes_to_write, bytes_written, is_some}
-use Rattle.cp_rounds_handoff.specs.declared.moment.Moment.{Moment}
+use Rattle.cp_rounds_handoff.specs.Tasks.{AreMade, HasRoom, IsShort, bytes_to_write, bytes_written, is_some}
+use Rattle.cp_rounds_handoff.specs.declared.round_time.RoundTime.{RoundTime}
 use Rattle.cp_rounds_handoff.proofs.MadeTurns.{is_some_next, made_more, quiet_is}
 use Rattle.cp_rounds_handoff.proofs.Lists.{zero_or}
 use Rattle.cp_rounds_handoff.proofs.task.Task.make_turn.Goals as goal
@@ -14,14 +14,14 @@ use Rattle.cp_rounds_handoff.proofs.task.Task.make_turn.Goals as goal
 pub invariant_of-self : goal.invariant_of-self
 invariant_of-self g c =
     let task = c.args.self.now in
-    let program = view.program c.args.setting.now.program in
+    let program = view.program c.args.config.now.program in
     let steps = c.args.turn.steps in
     let old = task.private in
     let new = c.turn_in_place.new.private in
     let lent = c.private_mut-private.ensures.value in
     let quiet = g.C.Course.quiet in
     let turned = g.C.Course.turned in
-    let moment = g.C.Course.moment in
+    let round_time = g.C.Course.round_time in
     let most = g.C.Course.most in
     let at = task.process - 1 in
     let xs = task.start.value.value.items in
@@ -41,14 +41,14 @@ invariant_of-self g c =
       time = task.time;
       number = c.turn_in_place.ensures.number ∙ (ap (λ (x : Private). x.number) lent ∙ task.number);
       comes = λ x e.
-          let now : private_of new input ≡ turned (moment (task.round + task.made)) (private_of old input) =
-          subst (λ (l : List ℕ). private_of new l ≡ plain.take_turn program steps c.args.moment (private_of old l)) (sym (course.inputs at))
-          (subst (λ (x : Private). private_of new (input_at c.args.setting.now.inputs.items at)
-          ≡ plain.take_turn program steps c.args.moment (private_of x (input_at c.args.setting.now.inputs.items at))) lent c.turn_in_place.ensures.turned)
-          ∙ (sym (course.steps c.args.moment (private_of old input)) ∙ ap (λ (w : Moment). turned w (private_of old input)) c.requires.time) in
-          subst (λ (o : PrivateState). AreMade quiet turned moment task.round (task.made + 1) (private_of x input) o) (sym now)
-          (made_more quiet turned moment task.round task.made (private_of x input) (private_of old input) (task.comes x e)
-          (λ some. course.tells (private_of old input) ∙ c.requires.quiet some input));
+          let now : private_of new input ≡ turned (round_time (task.round + task.made)) (private_of old input) =
+          subst (λ (l : List ℕ). private_of new l ≡ plain.take_turn program steps c.args.round_time (private_of old l)) (sym (course.inputs at))
+          (subst (λ (x : Private). private_of new (input_at c.args.config.now.inputs.items at)
+          ≡ plain.take_turn program steps c.args.round_time (private_of x (input_at c.args.config.now.inputs.items at))) lent c.turn_in_place.ensures.turned)
+          ∙ (sym (course.steps c.args.round_time (private_of old input)) ∙ ap (λ (w : RoundTime). turned w (private_of old input)) c.requires.time) in
+          subst (λ (o : PrivateState). AreMade quiet turned round_time task.round (task.made + 1) (private_of x input) o) (sym now)
+          (made_more quiet turned round_time task.round task.made (private_of x input) (private_of old input) (task.comes x e)
+          (λ some. course.reports (private_of old input) ∙ c.requires.quiet some input));
       short =
           subst (λ (b : Bool). IsShort most xs at b new) (sym (is_some_next task.made))
           (λ x e.
@@ -60,7 +60,7 @@ invariant_of-self g c =
           (λ (h : task.made ≢ 0). let none = silent h in omega (arith, none, grown, bytes))
           (zero_or task.made));
       room =
-          subst (λ (b : Bool). HasRoomLeft most b new) (sym (is_some_next task.made))
+          subst (λ (b : Bool). HasRoom most b new) (sym (is_some_next task.made))
           (⊎_elim
           (λ (h : task.made ≡ 0).
           let was = task.room in

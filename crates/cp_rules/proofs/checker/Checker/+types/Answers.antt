@@ -74,7 +74,7 @@ added t c =
     group_added c.args.self.now c.type_of.new.self c.judge_position-of.new.self c.add_fields.new.self g
     c.args.fields.now.members c.note.new.self.members c.args.fields.now.first c.add_fields.new.fields.first c.note.new.self.first
     c.in_ok-of.of c.judge_position-of.result c.number_or_any.result c.in_ok-of.ensures c.judge_position-of.ensures c.number_or_any.ensures
-    (rw c.deref.ensures.value at c.in_ok-add_fields.ensures.told)
+    (rw c.deref.ensures.value at c.in_ok-add_fields.ensures.diagnostics)
     (ap (λ f. f.members) c.note.ensures ∙ (rw c.deref.ensures.value at c.in_ok-add_fields.ensures.members))
     (rw c.deref.ensures.value at c.in_ok-add_fields.ensures.first) (ap (λ f. f.first) c.note.ensures)
 

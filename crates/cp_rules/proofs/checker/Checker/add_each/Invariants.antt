@@ -10,5 +10,5 @@ invariant-loop-x l =
     let before = l.fn.self in
     record {
       env : (d.declare_each now.env (map lent (drop l.x-index l.names))).env ≡ (d.declare_each before.env (map lent l.fn.names)).env;
-      told : now.told ≡ before.told;
+      diagnostics : now.diagnostics ≡ before.diagnostics;
     }

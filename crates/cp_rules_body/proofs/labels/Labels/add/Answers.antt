@@ -5,7 +5,7 @@ use Rattle.std.specs.List.{list_any}
 use Rattle.std.specs.Ordering.{int_eq}
 use Rattle.cp_model.specs.RulesStatements.{is_among, with_label}
 use Rattle.cp_rules_body.specs.Labels.{IsGreatest, SameLabels, labels_of}
-use Rattle.cp_rules_body.proofs.LabelsTold.{among_others, ascending_added, found, greater_is_new, none_added, not_found, other_added, seen_again, seen_ascending}
+use Rattle.cp_rules_body.proofs.LabelsReported.{among_others, ascending_added, found, greater_is_new, none_added, not_found, other_added, seen_again, seen_ascending}
 use Rattle.cp_rules_body.proofs.labels.Labels.add.Goals as goal
 use Rattle.cp_rules_body.proofs.labels.Labels.add.Goals.{then-label-self+else-is_greatest+else-is_ok, else-label-self}
 

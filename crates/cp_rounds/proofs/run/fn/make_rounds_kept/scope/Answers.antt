@@ -6,7 +6,7 @@ use Rattle.cp_rounds.proofs.run.fn.make_rounds_kept.scope.Goals as goal
 
 pub returns : goal.returns
 returns g c =
-    let setting = c.captures.run.now.turns.setting.now in
+    let config = c.captures.run.now.turns.config.now in
     let t = c.captures.run.now.turns.plan.turn.steps in
     let done = c.captures.run.now.turns.done in
     let n = length c.captures.run.now.cells.now in
@@ -17,10 +17,10 @@ returns g c =
     let taken : parts ≡ held = c.into_parts-parts.ensures.same in
     let out : g.H.Holder.holds c.of.result ≡ after = c.of.ensures.same in
     record {
-      made = subst (λ (q : Parts). IfOk r (λ x. PartsAfter setting t done n held q)) (sym out)
-          (subst (λ (p : Parts). IfOk r (λ x. PartsAfter setting t done n p after)) taken c.make_rounds_at-parts.ensures.made);
-      partly = subst (λ (q : Parts). IfErr r (λ m. (m < n) × PartsAfter setting t done m held q)) (sym out)
-          (subst (λ (p : Parts). IfErr r (λ m. (m < n) × PartsAfter setting t done m p after)) taken c.make_rounds_at-parts.ensures.partly);
+      made = subst (λ (q : Parts). IfOk r (λ x. PartsAfter config t done n held q)) (sym out)
+          (subst (λ (p : Parts). IfOk r (λ x. PartsAfter config t done n p after)) taken c.make_rounds_at-parts.ensures.made);
+      partly = subst (λ (q : Parts). IfErr r (λ m. (m < n) × PartsAfter config t done m held q)) (sym out)
+          (subst (λ (p : Parts). IfErr r (λ m. (m < n) × PartsAfter config t done m p after)) taken c.make_rounds_at-parts.ensures.partly);
       count = subst (λ (q : Parts). length q.privates.items ≡ length held.privates.items) (sym out)
           (subst (λ (p : Parts). length after.privates.items ≡ length p.privates.items) taken c.make_rounds_at-parts.ensures.count);
     }

@@ -1,0 +1,101 @@
+//! Who there is: the processes and the monitors of a text by number, and their names.
+
+ghost use Rattle.std.specs.Prelude.{◌≡◌, ◌-◌, IfOk, map, option_map, slice_get};
+ghost use Rattle.cp_model.specs.Abstract.{Monitor, Process};
+ghost use Rattle.cp_compile_symbols.specs.Standing.{entry};
+ghost use Rattle.cp_compile_symbols.specs.Variables.{declared_entry};
+ghost use Rattle.cp_inspect.specs.Lists.{Lists};
+
+use crate::listing::components;
+pub use crate::place::Owner as Member;
+use cp_compile_symbols::{Field, Tables, small_number};
+use cp_model::tree::Sort;
+use std::alloc::{AllocError, Global};
+
+/// The name of process 1, unless another process or a monitor has it.
+pub const INITIAL: &[u8] = b"initial";
+
+/// The processes and the monitors of a text.
+#[derive(Drop)]
+pub struct ComponentTable<'t> {
+    /// The processes by number, without the initial one.
+    pub processes: Vec<Field<'t>>,
+    /// The monitors by number.
+    pub monitors: Vec<Field<'t>>,
+}
+
+// The place of a name in a list, from 0.
+fn place_of(list: &[Field<'_>], name: &[u8]) -> Option<usize> {
+    list.iter().position(|field| field.name == name)
+}
+
+impl<'t> ComponentTable<'t> {
+    /// Returns the processes and the monitors of a text with these tables.
+    ///
+    /// # Errors
+    ///
+    /// `AllocError` if memory runs out.
+    pub fn of(alloc: Global, tables: &Tables<'t>) -> Result<ComponentTable<'t>, AllocError>
+        ensures processes { IfOk result (λ component_table. Lists tables.now.types Process
+            (map declared_entry tables.now.initial.variables.items)
+            (map entry component_table.processes.items)) }
+        ensures monitors { IfOk result (λ component_table. Lists tables.now.types Monitor
+            (map declared_entry tables.now.initial.variables.items)
+            (map entry component_table.monitors.items)) }
+    {
+        let monitors = components(alloc, tables, Sort::Monitor)?;
+        let processes = components(alloc, tables, Sort::Process)?;
+        Ok(ComponentTable {
+            processes,
+            monitors,
+        })
+    }
+
+    /// Returns the monitor with this number. The number 0 is read as 1.
+    pub fn monitor(&self, number: u32) -> Option<&Field<'t>>
+        ensures { option_map (λ f. f.now) result
+            ≡ slice_get self.now.monitors.items (number - 1) }
+    {
+        self.monitors.get((number as usize).saturating_sub(1))
+    }
+
+    /// Returns the name of the process with this number, or no bytes if there is none.
+    pub fn process_name(&self, number: u32) -> &'t [u8] {
+        if number == 1 {
+            return INITIAL;
+        }
+        match self.processes.get((number as usize).saturating_sub(2)) {
+            Some(process) => process.name,
+            None => &[],
+        }
+    }
+
+    /// Returns the name of the monitor with this number, or no bytes if there is none.
+    pub fn monitor_name(&self, number: u32) -> &'t [u8] {
+        match self.monitor(number) {
+            Some(monitor) => monitor.name,
+            None => &[],
+        }
+    }
+
+    /// Returns the process or the monitor with this name, if there is one.
+    ///
+    /// # Errors
+    ///
+    /// `AllocError` if its number has more than 32 bits, as none has that fits in memory.
+    pub fn member(&self, name: &[u8]) -> Result<Option<Member>, AllocError> {
+        if let Some(at) = place_of(&self.processes, name) {
+            let number = small_number(at.saturating_add(2))?;
+            return Ok(Some(Member::Process(number)));
+        }
+        if let Some(at) = place_of(&self.monitors, name) {
+            let number = small_number(at.saturating_add(1))?;
+            return Ok(Some(Member::Monitor(number)));
+        }
+        Ok(if name == INITIAL {
+            Some(Member::Process(1))
+        } else {
+            None
+        })
+    }
+}

@@ -1,0 +1,352 @@
+-- The compiled program of a text stands for it, if `TextKnown` holds for the text.
+use Rattle.std.proofs.Common.{◌≡◌, ◌≤◌, ◌<◌, inl, ℕ, zero, suc, ◌+◌, ◌-◌, List, [], ◌∷◌, ◌++◌, Option, Some, None, refl, ap, sym, subst, ◌∙◌, Bool, true, false, if◌then◌else◌, slice_get, length, arith, append-nil, bytes_eq, codes}
+use Rattle.std.specs.Option.{option_or}
+use Rattle.std.proofs.lemmas.Bool.{true≢false}
+use Rattle.cp_model.specs.Abstract as a
+use Rattle.cp_model.specs.Abstract.{Group, Monitor, Name, Process, Sort, System, Tree}
+use Rattle.cp_model.specs.Names.{lookup}
+use Rattle.cp_model.specs.Types.{ArrayOf, ComponentOf, GlobalScope, Members, NoType, Queue, RecordOf, ResolvedType, Simple, full_range, standard_scope}
+use Rattle.cp_model.specs.Declarations.{Variable, declarations, globals, is_component}
+use Rattle.cp_model.specs.Components.{Component, as_component, component_named, is_component_of}
+use Rattle.cp_model.specs.States.{Setup, count_components, monitor_count, process_count}
+use Rattle.cp_law_typing.specs.Declared.{Distinct, Each}
+use Rattle.cp_law_typing.specs.Needs.{some_environment}
+use Rattle.cp_law_typing.specs.WellTyped.{text_systems}
+use Rattle.cp_model_program.specs.Programs.{Program}
+use Rattle.cp_model_program.specs.Layout.{component_words}
+use Rattle.cp_model_program.specs.Sites.{UnitText}
+use Rattle.cp_model_program.specs.IsProgramFor.{MonitorRepresents, ProcessRepresents, IsProgramFor, component_at, component_in, system_of_monitor, system_of_process}
+use Rattle.cp_model_program.specs.Scopes.{declared_type, or_zero}
+use Rattle.cp_model_program.specs.Compile.{Compiled, CompiledTypes, Owner, compile, nothing_compiled, of_sort, owner_before, owners_of, sum_words, system_texts, unit_texts, with_definitions, with_system}
+use Rattle.cp_model_program.specs.Known.{TextKnown}
+use Rattle.cp_model_program.proofs.DefinitionsRepresent.{Represent, definitions_represent, system_first, system_here}
+use Rattle.cp_model_program.proofs.InitRepresent.{all_found}
+use Rattle.cp_model_program.proofs.RowsRepresent.{monitor_row, monitor_there, monitor_within, monitors_apart, monitors_counted, process_row, process_there, process_within, processes_apart, processes_counted}
+use Rattle.cp_model_program.proofs.ScopesRepresent.{UnitsThere}
+use Rattle.cp_model_program.proofs.StartsRepresent.{component_starts}
+use Rattle.cp_model_program.proofs.SystemsRepresent.{After, Within, begins_same, get_some, system_represents, system_there, units_later}
+use Rattle.cp_model_program.proofs.UnitTexts.{in_text}
+
+-- ---- Components of a sort
+
+abbrev AllComponents : List (Name × Variable) → Type 0
+AllComponents vs = Each (λ v. is_component v.1.type ≡ true) vs
+
+sorted_is_component : (s : Sort) (t : ResolvedType) → is_component_of s t ≡ true → is_component t ≡ true
+sorted_is_component s (ComponentOf r inner) h = refl
+sorted_is_component s (Simple b low high start) h = h
+sorted_is_component s (ArrayOf low high t) h = h
+sorted_is_component s (RecordOf ms) h = h
+sorted_is_component s Queue h = h
+sorted_is_component s NoType h = h
+
+all_components : (s : Sort) (vs : List (Name × Variable)) → AllComponents (of_sort s vs)
+all_components s [] = tt
+all_components s (v ∷ vs) = go (is_component_of s v.1.type) refl (all_components s vs)
+  where
+    go : (b : Bool) → is_component_of s v.1.type ≡ b → AllComponents (of_sort s vs) → AllComponents (if b then v ∷ of_sort s vs else of_sort s vs)
+    go true is rest = (sorted_is_component s v.1.type is, rest)
+    go false is rest = rest
+
+sorted_count : (s : Sort) (vs : List (Name × Variable)) → length (of_sort s vs) ≡ count_components s vs
+sorted_count s [] = refl
+sorted_count s (v ∷ vs) = go (is_component_of s v.1.type) (sorted_count s vs)
+  where
+    go : (b : Bool) → length (of_sort s vs) ≡ count_components s vs
+        → length (if b then v ∷ of_sort s vs else of_sort s vs) ≡ (if b then suc (count_components s vs) else count_components s vs)
+    go true rest = ap suc rest
+    go false rest = rest
+
+sorted_each : (P : Name × Variable → Type 0) (s : Sort) (vs : List (Name × Variable)) → Each P vs → Each P (of_sort s vs)
+sorted_each P s [] h = tt
+sorted_each P s (v ∷ vs) h = go (is_component_of s v.1.type) (sorted_each P s vs h.1)
+  where
+    go : (b : Bool) → Each P (of_sort s vs) → Each P (if b then v ∷ of_sort s vs else of_sort s vs)
+    go true rest = (h.0, rest)
+    go false rest = rest
+
+each_at : (P : Name × Variable → Type 0) (vs : List (Name × Variable)) (k : ℕ) (v : Name × Variable) → Each P vs → slice_get vs k ≡ Some v → P v
+each_at P [] k v h is = absurd (cc)
+each_at P (w ∷ vs) zero v h is = subst P (ap (or_first w) is) h.0
+  where
+    or_first : Name × Variable → Option (Name × Variable) → Name × Variable
+    or_first z None = z
+    or_first z (Some y) = y
+each_at P (w ∷ vs) (suc k) v h is = each_at P vs k v h.1 is
+
+component_type : (t : ResolvedType) → is_component t ≡ true → (s : System) × ((inner : Members) × (t ≡ ComponentOf s inner))
+component_type (ComponentOf s inner) h = (s, (inner, refl))
+component_type (Simple b low high start) h = absurd (true≢false (sym h))
+component_type (ArrayOf low high t) h = absurd (true≢false (sym h))
+component_type (RecordOf ms) h = absurd (true≢false (sym h))
+component_type Queue h = absurd (true≢false (sym h))
+component_type NoType h = absurd (true≢false (sym h))
+
+abbrev owner_for : List (Name × ℕ) → List Group → Name → System → Owner
+owner_for firsts groups x s = record { system = s; body = or_zero (lookup (declared_type x groups) firsts) + length s.routines }
+
+owner_is : (firsts : List (Name × ℕ)) (groups : List Group) (x : Name) (b : Bool) (t : ResolvedType) (s : System) (inner : Members) (rest : List Owner) → t ≡ ComponentOf s inner
+    → owner_before firsts groups (x, record { by_reference = b; type = t }) rest ≡ owner_for firsts groups x s ∷ rest
+owner_is firsts groups x b t s inner rest is =
+    subst (λ z. owner_before firsts groups (x, record { by_reference = b; type = z }) rest ≡ owner_for firsts groups x s ∷ rest) (sym is) refl
+
+owner_at : (firsts : List (Name × ℕ)) (groups : List Group) (vs : List (Name × Variable)) → AllComponents vs → (k : ℕ) (v : Name × Variable) (s : System) (inner : Members)
+    → slice_get vs k ≡ Some v → v.1.type ≡ ComponentOf s inner → slice_get (owners_of firsts groups vs) k ≡ Some (owner_for firsts groups v.0 s)
+owner_at firsts groups [] h k v s inner is type = absurd (cc)
+owner_at firsts groups (w ∷ vs) h zero v s inner is type =
+    let same : w ≡ v = ap (or_first w) is in
+    ap (λ l. slice_get l 0) (owner_is firsts groups w.0 w.1.by_reference w.1.type s inner (owners_of firsts groups vs) (ap (λ z. z.1.type) same ∙ type))
+    ∙ ap (λ z. Some (owner_for firsts groups z.0 s)) same
+  where
+    or_first : Name × Variable → Option (Name × Variable) → Name × Variable
+    or_first z None = z
+    or_first z (Some y) = y
+owner_at firsts groups (w ∷ vs) h (suc k) v s inner is type =
+    let t = component_type w.1.type h.0 in
+    ap (λ l. slice_get l (suc k)) (owner_is firsts groups w.0 w.1.by_reference w.1.type t.0 t.1.0 (owners_of firsts groups vs) t.1.1)
+    ∙ owner_at firsts groups vs h.1 k v s inner is type
+
+owners_counted : (firsts : List (Name × ℕ)) (groups : List Group) (vs : List (Name × Variable)) → AllComponents vs → length (owners_of firsts groups vs) ≡ length vs
+owners_counted firsts groups [] h = refl
+owners_counted firsts groups (v ∷ vs) h =
+    let t = component_type v.1.type h.0 in
+    ap length (owner_is firsts groups v.0 v.1.by_reference v.1.type t.0 t.1.0 (owners_of firsts groups vs) t.1.1) ∙ ap suc (owners_counted firsts groups vs h.1)
+
+component_there : (vs : List (Name × Variable)) (k : ℕ) (v : Name × Variable) → slice_get vs k ≡ Some v → component_at vs k ≡ component_in v.1.type
+component_there [] k v h = absurd (cc)
+component_there (w ∷ vs) zero v h = ap (or_none w) h
+  where
+    or_none : Name × Variable → Option (Name × Variable) → Option System
+    or_none z None = component_in z.1.type
+    or_none z (Some y) = component_in y.1.type
+component_there (w ∷ vs) (suc k) v h = component_there vs k v h
+
+component_inside : (vs : List (Name × Variable)) (k : ℕ) (s : System) → component_at vs k ≡ Some s → k < length vs
+component_inside [] k s h = absurd (cc)
+component_inside (v ∷ vs) zero s h = omega arith
+component_inside (v ∷ vs) (suc k) s h = omega (arith, component_inside vs k s h)
+
+-- ---- The standard types
+
+no_standard_component : (y : Name) (q : System) (inner : Members) → lookup y standard_scope.types ≡ Some (ComponentOf q inner) → ⊥
+no_standard_component y q inner h =
+    go (bytes_eq y (codes "integer")) (bytes_eq y (codes "boolean")) (bytes_eq y (codes "char")) (bytes_eq y (codes "queue")) h
+  where
+    go : (b c d e : Bool)
+        → (if b then Some (full_range a.Integer) else if c then Some (full_range a.Boolean) else if d then Some (full_range a.Char) else if e then Some Queue else None)
+        ≡ Some (ComponentOf q inner) → ⊥
+    go true c d e h = cc
+    go false true d e h = cc
+    go false false true e h = cc
+    go false false false true h = cc
+    go false false false false h = cc
+
+-- ---- The text
+
+module _ (setup : Setup) where
+  abbrev tree : Tree
+  tree = setup.tree
+
+  abbrev g : GlobalScope
+  g = globals tree
+
+  abbrev program : Program
+  program = compile tree
+
+  abbrev texts : List UnitText
+  texts = unit_texts tree
+
+  abbrev types : CompiledTypes
+  types = with_definitions g tree.definitions nothing_compiled
+
+  abbrev all : Compiled
+  all = with_system g types.firsts tree.initial types.compiled
+
+  abbrev variables : List (Name × Variable)
+  variables = declarations g tree.initial.variables
+
+  module _ (known : TextKnown setup) where
+    within : Within g program texts all
+    within = record { operations = begins_same all.operations; units = begins_same all.units }
+
+    before : Within g program texts types.compiled
+    before = system_first g program texts tree.initial types.firsts types.compiled within
+
+    defined : Represent g program texts g types (system_texts tree.initial)
+    defined =
+        definitions_represent g program texts tree.definitions standard_scope [] nothing_compiled (system_texts tree.initial) known.in_order
+        (record {
+          good = λ n u t h is. absurd (cc);
+          firsts = λ y q inner h. absurd (no_standard_component y q inner h);
+          texts_at = λ i t h. ap (slice_get texts) (nothing_before i) ∙ h;
+        })
+        before
+      where
+        nothing_before : (n : ℕ) → 0 + n ≡ n
+        nothing_before n = omega arith
+
+    last : Represent g program texts g types (system_texts tree.initial ++ [])
+    last = record { good = defined.good; firsts = defined.firsts; texts_at = λ i t h. defined.texts_at i t (ap (λ l. slice_get l i) (sym (append-nil (system_texts tree.initial))) ∙ h) }
+
+    after : After g program texts tree.initial (text_systems setup) known.initial types.firsts types.compiled (suc (length tree.initial.routines)) all
+    after =
+        system_represents g program texts tree.initial (text_systems setup) known.initial types.firsts types.compiled
+        (system_here g program texts tree.initial g types [] (text_systems setup) known.initial known.named last) defined.good within
+
+    initial_there : UnitsThere program texts all.units (length types.compiled.units) tree.initial
+    initial_there =
+        system_there g program texts tree.initial (text_systems setup) known.initial types.firsts types.compiled
+        (system_here g program texts tree.initial g types [] (text_systems setup) known.initial known.named last) after within
+
+    -- ---- Components
+
+    -- A component variable of the initial process: its system type, and its units.
+    pub record OwnerHere (s : Sort) (k : ℕ) : Type 0 where
+      pub variable : Name × Variable
+      pub there : slice_get (of_sort s variables) k ≡ Some variable
+      pub system : System
+      pub inner : Members
+      pub type : variable.1.type ≡ ComponentOf system inner
+      pub found : lookup variable.0 variables ≡ Some variable.1
+      pub row : slice_get (owners_of types.firsts tree.initial.variables (of_sort s variables)) k ≡ Some (owner_for types.firsts tree.initial.variables variable.0 system)
+      pub units : UnitsThere program texts all.units (or_zero (lookup (declared_type variable.0 tree.initial.variables) types.firsts)) system
+
+    last_distinct : (vs ws : List (Name × Variable)) → Distinct (vs ++ ws) → Distinct ws
+    last_distinct [] ws d = d
+    last_distinct (v ∷ vs) ws d = last_distinct vs ws d.1
+
+    component_is : (x : Name) (v : Variable) (s : System) (inner : Members) → lookup x variables ≡ Some v → v.type ≡ ComponentOf s inner
+        → component_named (some_environment g tree.initial None) x ≡ Some (record { name = x; system = s; is_parameter = false })
+    component_is x v s inner found type =
+        ap (λ o. option_or (as_component x true o) (as_component x false (lookup x variables))) (ap (λ ps. lookup x (declarations g ps)) known.no_parameters)
+        ∙ ap (as_component x false) found ∙ ap (λ t. as_component x false (Some (record { by_reference = v.by_reference; type = t }))) type
+
+    owner_here : (s : Sort) (k : ℕ) → k < length (of_sort s variables) → OwnerHere s k
+    owner_here s k less =
+        let v = get_some (of_sort s variables) k less in
+        let alone : Distinct variables = last_distinct (declarations g tree.initial.parameters) variables known.initial.bodies.distinct in
+        let found : lookup v.0.0 variables ≡ Some v.0.1 =
+        each_at (λ w. lookup w.0 variables ≡ Some w.1) (of_sort s variables) k v.0 (sorted_each (λ w. lookup w.0 variables ≡ Some w.1) s variables (all_found variables alone)) v.1 in
+        let t = component_type v.0.1.type (each_at (λ w. is_component w.1.type ≡ true) (of_sort s variables) k v.0 (all_components s variables) v.1) in
+        let n : Component = record { name = v.0.0; system = t.0; is_parameter = false } in
+        let named = known.named n (component_is v.0.0 v.0.1 t.0 t.1.0 found t.1.1) in
+        record {
+          variable = v.0;
+          there = v.1;
+          system = t.0;
+          inner = t.1.0;
+          type = t.1.1;
+          found = found;
+          row = owner_at types.firsts tree.initial.variables (of_sort s variables) (all_components s variables) k v.0 t.0 t.1.0 v.1 t.1.1;
+          units = units_later g program texts types.compiled.units all.units (or_zero (lookup (declared_type v.0.0 tree.initial.variables) types.firsts)) t.0 after.grows
+              (defined.firsts (declared_type v.0.0 tree.initial.variables) t.0 named.0 named.1);
+        }
+
+    abbrev monitors : List Owner
+    monitors = owners_of types.firsts tree.initial.variables (of_sort Monitor variables)
+
+    abbrev initial_owner : Owner
+    initial_owner = record { system = tree.initial; body = length types.compiled.units + length tree.initial.routines }
+
+    abbrev owners : List Owner
+    owners = initial_owner ∷ owners_of types.firsts tree.initial.variables (of_sort Process variables)
+
+    abbrev start : ℕ
+    start = sum_words (component_words g) monitors
+
+    initial_represents : ProcessRepresents program texts setup 1
+    initial_represents =
+        let r = process_there g owners start 0 initial_owner refl in
+        record {
+          system = tree.initial;
+          is_system = refl;
+          row = process_row g r.0 initial_owner;
+          there = r.1;
+          words = refl;
+          starts = component_starts g tree.initial known.initial_planned;
+          waiting = refl;
+          waits = r.2;
+          body = initial_there.body.text;
+          unit = initial_there.body.unit;
+          unit_there = initial_there.body.there;
+        }
+
+    one_less : (n : ℕ) → suc n - 1 ≡ n
+    one_less n = omega arith
+
+    other_represents : (k : ℕ) → k < length (of_sort Process variables) → ProcessRepresents program texts setup (suc (suc k))
+    other_represents k less =
+        let h = owner_here Process k less in
+        let x = owner_for types.firsts tree.initial.variables h.variable.0 h.system in
+        let r = process_there g owners start (suc k) x h.row in
+        record {
+          system = h.system;
+          is_system = component_there (of_sort Process variables) k h.variable h.there ∙ ap component_in h.type;
+          row = process_row g r.0 x;
+          there = ap (slice_get program.processes) (one_less (suc k)) ∙ r.1;
+          words = refl;
+          starts = component_starts g h.system (known.planned h.variable.0 h.variable.1 h.system h.inner h.found h.type);
+          waiting = refl;
+          waits = r.2;
+          body = h.units.body.text;
+          unit = h.units.body.unit;
+          unit_there = h.units.body.there;
+        }
+
+    processes_represent : (p : ℕ) → 1 ≤ p → p ≤ process_count setup → ProcessRepresents program texts setup p
+    processes_represent zero low high = absurd (omega (arith, low))
+    processes_represent (suc zero) low high = initial_represents
+    processes_represent (suc (suc k)) low high = other_represents k (omega (arith, high, sorted_count Process variables))
+
+    monitors_represent : (m : ℕ) → 1 ≤ m → m ≤ monitor_count setup → MonitorRepresents program texts setup m
+    monitors_represent zero low high = absurd (omega (arith, low))
+    monitors_represent (suc k) low high =
+        let h = owner_here Monitor k (omega (arith, high, sorted_count Monitor variables)) in
+        let x = owner_for types.firsts tree.initial.variables h.variable.0 h.system in
+        let r = monitor_there g monitors 0 k x h.row in
+        record {
+          system = h.system;
+          is_system = component_there (of_sort Monitor variables) k h.variable h.there ∙ ap component_in h.type;
+          row = monitor_row g r.0 x;
+          there = ap (slice_get program.monitors) (one_less k) ∙ r.1;
+          words = refl;
+          starts = component_starts g h.system (known.planned h.variable.0 h.variable.1 h.system h.inner h.found h.type);
+          lies = omega (arith, r.2);
+          body = h.units.body.text;
+        }
+
+    sorted_owners : (s : Sort) → length (owners_of types.firsts tree.initial.variables (of_sort s variables)) ≡ count_components s variables
+    sorted_owners s = owners_counted types.firsts tree.initial.variables (of_sort s variables) (all_components s variables) ∙ sorted_count s variables
+
+    -- ---- Apart
+
+    index_apart : (m k : ℕ) → 1 ≤ m → 1 ≤ k → (m ≡ k → ⊥) → m - 1 ≡ k - 1 → ⊥
+    index_apart m k low least ne e = ne (omega (arith, low, least, e))
+
+    monitor_number : (m : ℕ) (s : System) → system_of_monitor setup m ≡ Some s → 1 ≤ m
+    monitor_number zero s h = absurd (cc)
+    monitor_number (suc m) s h = omega arith
+
+    process_number : (p : ℕ) (s : System) → system_of_process setup p ≡ Some s → 1 ≤ p
+    process_number zero s h = absurd (cc)
+    process_number (suc p) s h = omega arith
+
+    pub represents : IsProgramFor program setup
+    represents = record {
+      typed = known.typed;
+      set_apart = known.set_apart;
+      texts = texts;
+      units = after.good;
+      systems = in_text setup;
+      process_rows = processes_counted g owners start ∙ ap suc (sorted_owners Process);
+      monitor_rows = monitors_counted g monitors 0 ∙ sorted_owners Monitor;
+      processes = processes_represent;
+      monitors = monitors_represent;
+      monitors_apart = λ m k M N ne.
+          monitors_apart g monitors 0 (m - 1) (k - 1) M.row N.row M.there N.there (index_apart m k (monitor_number m M.system M.is_system) (monitor_number k N.system N.is_system) ne);
+      parameters_apart = λ p q P Q ne.
+          processes_apart g owners start (p - 1) (q - 1) P.row Q.row P.there Q.there (index_apart p q (process_number p P.system P.is_system) (process_number q Q.system Q.is_system) ne);
+      both_apart = λ m p M P.
+          inl (omega (arith, (monitor_within g monitors 0 (m - 1) M.row M.there).1, process_within g owners start (p - 1) P.row P.there));
+      members = known.members;
+    }

@@ -1,0 +1,18 @@
+use Rattle.std.proofs.Common.{ap, sym, ◌∙◌}
+use Rattle.cp_model_machine.specs.Values.{value_of}
+use Rattle.cp_program.specs.Reaches.{view_with}
+use Rattle.cp_program.specs.View as view
+use Rattle.cp_program.proofs.Found.{found, operand_local, operand_member}
+use Rattle.cp_program.proofs.term.Operand.fast_value.Goals as goal
+
+pub returns-in-Local : goal.returns-in-Local
+returns-in-Local g c clock =
+    let v = view_with c.args.memory.now c.args.shared.now clock in
+    found c.fast_local.result _ _ (sym (ap (λ x. value_of v (view.operand x)) c.in-Local.is ∙ ap (value_of v) (operand_local c.in-Local.at)))
+    (c.fast_local.ensures clock)
+
+pub returns-in-Member : goal.returns-in-Member
+returns-in-Member g c clock =
+    let v = view_with c.args.memory.now c.args.shared.now clock in
+    found c.fast_member.result _ _ (sym (ap (λ x. value_of v (view.operand x)) c.in-Member.is ∙ ap (value_of v) (operand_member c.in-Member.at)))
+    (c.fast_member.ensures clock)

@@ -1,0 +1,61 @@
+//! What a trace reads of a machine.
+
+use crate::machine::Machine;
+use cp_compile_symbols::{Base, Field, TypeRow};
+use cp_inspect::inspect::Inspect;
+use cp_inspect::place;
+use cp_inspect::places::{Place, initial_places, places};
+use cp_inspect::state::ProcState;
+use cp_inspect::status::push_state;
+use cp_inspect::walk::Walk;
+use cp_private::outside::Holder;
+use std::alloc::{AllocError, Global};
+
+impl Inspect for Machine<'_, '_> {
+    fn state_of(&self, process: u32) -> ProcState {
+        self.state(process)
+    }
+
+    fn words_of(
+        &self,
+        alloc: Global,
+        monitors: &[Field<'_>],
+        state: ProcState,
+    ) -> Result<String, AllocError> {
+        let mut walk = Walk::new(alloc, 0);
+        let mut words = Vec::new(alloc);
+        let (tables, program) = (self.tables(), self.program());
+        push_state(&mut walk, tables, program, monitors, state, &mut words)?;
+        String::from_utf8_lossy(alloc, &words)
+    }
+
+    fn transcript_of(&self, process: u32) -> (&[u8], &[u8]) {
+        self.transcript(process as usize)
+    }
+
+    fn holder_of(&self, monitor: u32) -> Holder {
+        self.gate(monitor)
+    }
+
+    fn askers_of(&self, monitor: u32) -> &[u32] {
+        self.askers(monitor)
+    }
+
+    fn value_at(&self, place: &place::Place) -> place::Value {
+        self.value(place)
+    }
+
+    fn base_of(&self, number: usize) -> Option<Base<'_>> {
+        match self.tables().types.row(number) {
+            Some(TypeRow::Simple(simple)) => Some(simple.base),
+            _ => None,
+        }
+    }
+
+    fn places_of(&self, alloc: Global, number: Option<usize>) -> Result<Vec<Place>, AllocError> {
+        match number {
+            Some(number) => places(alloc, self.tables(), number),
+            None => initial_places(alloc, self.tables()),
+        }
+    }
+}
