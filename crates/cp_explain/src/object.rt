@@ -58,7 +58,7 @@ struct RefusedObject {
     violations: Vec<ViolationObject>,
     // How many more violations there are.
     #[serde(skip_serializing_if = "Option::is_none")]
-    unreported: Option<usize>,
+    untold: Option<usize>,
 }
 
 fn first_line(bytes: &[u8]) -> &[u8] {
@@ -151,15 +151,11 @@ fn refused(
         Extent::All => violations(alloc, tree)?,
     };
     let violations = violation_objects(alloc, text, tree, &list)?;
-    let unreported = list.len().saturating_sub(violations.len());
+    let untold = list.len().saturating_sub(violations.len());
     Ok(RefusedObject {
         accepted: false,
         violations,
-        unreported: if unreported == 0 {
-            None
-        } else {
-            Some(unreported)
-        },
+        untold: if unreported == 0 { None } else { Some(untold) },
     })
 }
 
@@ -199,7 +195,7 @@ fn of_refusal(alloc: Global, text: &[u8], refusal: Refusal) -> Result<Explanatio
     let refused = RefusedObject {
         accepted: false,
         violations,
-        unreported: None,
+        untold: None,
     };
     page_of(alloc, &refused, Some(refusal))
 }
