@@ -18,7 +18,7 @@ silent_visit = record { simple = λ path at. []; queue = λ path at. [] }
 abbrev pub visit_of : WalkOutput → Visit
 visit_of (walk_output.Lines ws) = lines_visit ws.now
 visit_of (walk_output.PathOf at) = queue_visit at
-visit_of walk_output.Places = silent_visit
+visit_of walk_output.Leaves = silent_visit
 
 abbrev pub report_leaf : Visit → Kind → Path → ℕ → Text
 report_leaf v kind.Simple path at = v.simple path at

@@ -7,7 +7,7 @@ ghost use Rattle.cp_compile_symbols.specs.Variables.{declared_entry};
 ghost use Rattle.cp_inspect.specs.Lists.{Lists};
 
 use crate::listing::components;
-pub use crate::place::Owner as Member;
+pub use crate::place::Owner;
 use cp_compile_symbols::{Field, Tables, small_number};
 use cp_model::tree::Sort;
 use std::alloc::{AllocError, Global};
@@ -83,17 +83,17 @@ impl<'t> ComponentTable<'t> {
     /// # Errors
     ///
     /// `AllocError` if its number has more than 32 bits, as none has that fits in memory.
-    pub fn member(&self, name: &[u8]) -> Result<Option<Member>, AllocError> {
+    pub fn owner(&self, name: &[u8]) -> Result<Option<Owner>, AllocError> {
         if let Some(at) = place_of(&self.processes, name) {
             let number = small_number(at.saturating_add(2))?;
-            return Ok(Some(Member::Process(number)));
+            return Ok(Some(Owner::Process(number)));
         }
         if let Some(at) = place_of(&self.monitors, name) {
             let number = small_number(at.saturating_add(1))?;
-            return Ok(Some(Member::Monitor(number)));
+            return Ok(Some(Owner::Monitor(number)));
         }
         Ok(if name == INITIAL {
-            Some(Member::Process(1))
+            Some(Owner::Process(1))
         } else {
             None
         })

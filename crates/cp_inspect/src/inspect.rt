@@ -1,7 +1,7 @@
 //! What a trace reads of a machine.
 
+use crate::leaves::Leaf;
 use crate::place;
-use crate::places::Place;
 use crate::state::ProcState;
 use cp_compile_symbols::{Base, Field};
 use cp_private::outside::Holder;
@@ -47,5 +47,5 @@ pub trait Inspect {
     /// # Errors
     ///
     /// `AllocError` if memory runs out.
-    fn places_of(&self, alloc: Global, number: Option<usize>) -> Result<Vec<Place>, AllocError>;
+    fn leaves_of(&self, alloc: Global, number: Option<usize>) -> Result<Vec<Leaf>, AllocError>;
 }

@@ -8,7 +8,7 @@
 //! - `listing`, `component_table`: the processes or monitors by number, and all of them by name.
 //! - `walk_output`, `walk`: what is told of a part of a variable, and the walk over all parts.
 //! - `heads`, `components`: how many words come before members, and the parts of whole components.
-//! - `places`: the places of the variables of a component.
+//! - `leaves`: the places of the variables of a component.
 //! - `status`: the state of a process in words.
 //! - `inspect`: what a trace reads of a machine, which stands above.
 //! - `text`: queues and bytes as text.
@@ -18,9 +18,9 @@ pub mod component_table;
 mod components;
 mod heads;
 pub mod inspect;
+pub mod leaves;
 pub mod listing;
 pub mod place;
-pub mod places;
 pub mod state;
 pub mod status;
 pub mod text;

@@ -19,8 +19,8 @@ ghost use Rattle.cp_inspect.specs.WalkOutputs.{report_leaf, visit_of};
 ghost use Rattle.cp_inspect.specs.Walks.{Continues, Enters, Finishes, Visits, cursor as cursor_of, members_in};
 
 use crate::heads::class_head;
+use crate::leaves::Leaf;
 use crate::place::Kind;
-use crate::places::Place;
 use crate::walk_output::WalkOutput;
 use cp_base_digits::decimal::push_integer;
 use cp_compile_symbols::{Field, Tables, TypeRow, count_between};
@@ -50,7 +50,7 @@ pub struct Walk {
     /// The address of the next word.
     pub(crate) at: usize,
     /// The places that were visited to be kept.
-    pub(crate) places: Vec<Place>,
+    pub(crate) leaves: Vec<Leaf>,
 }
 
 // Returns the index of an element of an array.
@@ -63,14 +63,14 @@ fn index_at(low: i32, next: usize) -> i64
 
 impl Walk {
     /// Returns the places that were kept.
-    pub(crate) fn into_places(self) -> Vec<Place> {
+    pub(crate) fn into_leaves(self) -> Vec<Leaf> {
         let Walk {
             stack: _,
             path: _,
             at: _,
-            places,
+            leaves,
         } = self;
-        places
+        leaves
     }
 
     /// Returns a walk that begins at an address.
@@ -81,7 +81,7 @@ impl Walk {
             stack: Vec::new(alloc),
             path: Vec::new(alloc),
             at,
-            places: Vec::new(alloc),
+            leaves: Vec::new(alloc),
         }
     }
 
@@ -113,7 +113,7 @@ impl Walk {
         ensures path { self.new.path ≡ self.old.path }
         ensures place { self.new.at ≡ self.old.at }
     {
-        self.places.push(Place {
+        self.leaves.push(Leaf {
             path: self.path.clone()?,
             at: self.at,
             kind,
@@ -138,7 +138,7 @@ impl Walk {
         ensures stack { self.new.stack ≡ self.old.stack }
         ensures path { self.new.path ≡ self.old.path }
     {
-        if let WalkOutput::Places = walk_output {
+        if let WalkOutput::Leaves = walk_output {
             self.keep(kind, row)?;
         }
         walk_output.report(out, kind, &self.path, self.at)?;

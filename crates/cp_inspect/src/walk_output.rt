@@ -37,7 +37,7 @@ pub enum WalkOutput<'w> {
     /// The path of the queue at this address.
     PathOf(usize),
     /// Nothing. The walk keeps the places.
-    Places,
+    Leaves,
 }
 
 fn push_value_line(out: &mut Vec<u8>, path: &[u8], n: i32) -> Result<(), AllocError>
@@ -88,7 +88,7 @@ impl<'w> WalkOutput<'w> {
                 Kind::Simple => Ok(()),
                 Kind::Queue => push_path_if(out, at == target, path),
             },
-            WalkOutput::Places => Ok(()),
+            WalkOutput::Leaves => Ok(()),
         }
     }
 }

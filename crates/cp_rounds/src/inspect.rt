@@ -3,8 +3,8 @@
 use crate::machine::Machine;
 use cp_compile_symbols::{Base, Field, TypeRow};
 use cp_inspect::inspect::Inspect;
+use cp_inspect::leaves::{Leaf, initial_leaves, leaves};
 use cp_inspect::place;
-use cp_inspect::places::{Place, initial_places, places};
 use cp_inspect::state::ProcState;
 use cp_inspect::status::push_state;
 use cp_inspect::walk::Walk;
@@ -52,10 +52,10 @@ impl Inspect for Machine<'_, '_> {
         }
     }
 
-    fn places_of(&self, alloc: Global, number: Option<usize>) -> Result<Vec<Place>, AllocError> {
+    fn leaves_of(&self, alloc: Global, number: Option<usize>) -> Result<Vec<Leaf>, AllocError> {
         match number {
-            Some(number) => places(alloc, self.tables(), number),
-            None => initial_places(alloc, self.tables()),
+            Some(number) => leaves(alloc, self.tables(), number),
+            None => initial_leaves(alloc, self.tables()),
         }
     }
 }

@@ -2,8 +2,8 @@
 
 use crate::colours::colour;
 use crate::grid::Cell;
-use crate::members::name_of;
-use cp_inspect::component_table::{ComponentTable, Member};
+use crate::owners::name_of;
+use cp_inspect::component_table::{ComponentTable, Owner};
 use cp_inspect::status::fault_number;
 use std::alloc::{AllocError, Global};
 
@@ -86,10 +86,10 @@ impl Bar {
     ) -> Result<Option<String>, AllocError> {
         let about = match self.cell {
             Cell::Asking(monitor) | Cell::Delayed(monitor) => {
-                String::from_str(alloc, name_of(component_table, Member::Monitor(monitor)))
+                String::from_str(alloc, name_of(component_table, Owner::Monitor(monitor)))
             }
             Cell::Held(process) => {
-                String::from_str(alloc, name_of(component_table, Member::Process(process)))
+                String::from_str(alloc, name_of(component_table, Owner::Process(process)))
             }
             Cell::Fault(fault) => fault_number(fault).to_string(alloc),
             _ => return Ok(None),

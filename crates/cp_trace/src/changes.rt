@@ -1,6 +1,6 @@
 //! What changed of a process or a monitor.
 
-use cp_inspect::component_table::Member;
+use cp_inspect::component_table::Owner;
 use serde::Serialize;
 
 /// The value of a simple variable or of a queue.
@@ -69,7 +69,7 @@ impl Change<'_> {
 /// What changed of a process or a monitor, in the order in which it is told.
 #[derive(Drop)]
 pub(crate) struct Changes<'t> {
-    pub(crate) member: Member,
+    pub(crate) owner: Owner,
     pub(crate) name: &'t str,
     pub(crate) changes: Vec<Change<'t>>,
 }

@@ -1,8 +1,8 @@
 //! What the processes and monitors of a machine are after each of some rounds.
 
-use crate::members::{chosen, name_of};
+use crate::owners::{chosen, name_of};
 use crate::topic::Topic;
-use cp_inspect::component_table::{ComponentTable, Member};
+use cp_inspect::component_table::{ComponentTable, Owner};
 use cp_inspect::inspect::Inspect;
 use cp_inspect::state::ProcState;
 use cp_model::state::Fault;
@@ -28,7 +28,7 @@ pub(crate) enum Cell {
 /// A process or a monitor, and a cell for each round.
 #[derive(Drop)]
 pub(crate) struct Row<'t> {
-    pub(crate) member: Member,
+    pub(crate) owner: Owner,
     pub(crate) name: &'t str,
     pub(crate) cells: Vec<Cell>,
 }
@@ -66,10 +66,10 @@ fn cell_of_monitor<M: Inspect>(machine: &M, number: u32) -> Cell {
     }
 }
 
-fn cell_of<M: Inspect>(machine: &M, member: Member) -> Cell {
-    match member {
-        Member::Process(number) => cell_of_process(machine, number),
-        Member::Monitor(number) => cell_of_monitor(machine, number),
+fn cell_of<M: Inspect>(machine: &M, owner: Owner) -> Cell {
+    match owner {
+        Owner::Process(number) => cell_of_process(machine, number),
+        Owner::Monitor(number) => cell_of_monitor(machine, number),
     }
 }
 
@@ -81,10 +81,10 @@ impl<'t> Grid<'t> {
     /// `AllocError` if memory runs out.
     pub(crate) fn of(alloc: Global, topic: Topic<'_, 't>) -> Result<Grid<'t>, AllocError> {
         let mut rows = Vec::new(alloc);
-        for member in chosen(alloc, &topic.component_table, topic.only)? {
+        for owner in chosen(alloc, &topic.component_table, topic.only)? {
             rows.push(Row {
-                member,
-                name: name_of(&topic.component_table, member),
+                owner,
+                name: name_of(&topic.component_table, owner),
                 cells: Vec::new(alloc),
             })?;
         }
@@ -104,7 +104,7 @@ impl<'t> Grid<'t> {
     /// `AllocError` if memory runs out. The grid is then of no more use.
     pub(crate) fn see<M: Inspect>(&mut self, machine: &M) -> Result<(), AllocError> {
         for row in self.rows.iter_mut() {
-            row.cells.push(cell_of(machine, row.member))?;
+            row.cells.push(cell_of(machine, row.owner))?;
         }
         self.columns = self.columns.saturating_add(1);
         Ok(())

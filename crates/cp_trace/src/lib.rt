@@ -2,7 +2,7 @@
 //!
 //! - `tracer`: follows a machine, and tells of it in one of four forms.
 //! - `topic`: of what is told.
-//! - `members`: of whom is told.
+//! - `owners`: of whom is told.
 //! - `trace`: what was seen of a machine, and what changed since: of a `process`, of a `monitor`,
 //!   and of the `values` of variables, whose places are their `shapes`. `vocabulary`: names in
 //!   place of numbers.
@@ -21,9 +21,9 @@ mod colours;
 mod grid;
 mod lines;
 mod markup;
-mod members;
 mod monitor;
 mod objects;
+mod owners;
 mod process;
 mod shapes;
 mod svg;

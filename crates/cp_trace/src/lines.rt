@@ -5,7 +5,7 @@ ghost use Rattle.cp_trace.specs.WalkOutput.{Adds, IsRound};
 
 use crate::changes::{Change, Changes, Output, Step, Value, VariableChange};
 use cp_base_digits::decimal::{push_integer, push_natural};
-use cp_inspect::component_table::Member;
+use cp_inspect::component_table::Owner;
 use cp_inspect::text::push_all_escaped;
 use std::alloc::{AllocError, Global};
 
@@ -94,13 +94,13 @@ fn push_change(out: &mut Vec<u8>, change: &Change<'_>) -> Result<(), AllocError>
 }
 
 fn push_subject(out: &mut Vec<u8>, changes: &Changes<'_>) -> Result<(), AllocError> {
-    match changes.member {
-        Member::Process(number) => {
+    match changes.owner {
+        Owner::Process(number) => {
             out.extend_from_slice(b"  process ")?;
             push_natural(out, u64::from(number))?;
             out.extend_from_slice(b" ")?;
         }
-        Member::Monitor(_) => out.extend_from_slice(b"  monitor ")?,
+        Owner::Monitor(_) => out.extend_from_slice(b"  monitor ")?,
     }
     out.extend_from_slice(changes.name.as_bytes())
 }

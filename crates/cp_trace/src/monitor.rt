@@ -3,9 +3,9 @@
 use crate::changes::{Change, Step};
 use crate::values::Values;
 use crate::vocabulary::Vocabulary;
-use cp_inspect::component_table::Member;
+use cp_inspect::component_table::Owner;
 use cp_inspect::inspect::Inspect;
-use cp_inspect::places::Place;
+use cp_inspect::leaves::Leaf;
 use cp_private::outside::Holder;
 use std::alloc::{AllocError, Global};
 
@@ -23,14 +23,14 @@ impl SeenMonitor {
     pub(crate) fn of<M: Inspect>(
         alloc: Global,
         number: u32,
-        places: &[Place],
+        leaves: &[Leaf],
         machine: &M,
     ) -> Result<SeenMonitor, AllocError> {
         Ok(SeenMonitor {
             number,
             holder: machine.holder_of(number),
             askers: Vec::from_slice(alloc, machine.askers_of(number))?,
-            values: Values::of(alloc, Member::Monitor(number), places, machine)?,
+            values: Values::of(alloc, Owner::Monitor(number), leaves, machine)?,
         })
     }
 
@@ -76,14 +76,14 @@ impl SeenMonitor {
         &mut self,
         alloc: Global,
         vocabulary: &Vocabulary<'t>,
-        places: &'a [Place],
+        leaves: &'a [Leaf],
         machine: &M,
     ) -> Result<Vec<Change<'a>>, AllocError> {
         let mut changes = Vec::new(alloc);
         self.push_holder(vocabulary, machine, &mut changes)?;
         self.push_askers(vocabulary, machine, &mut changes)?;
         self.values
-            .push_changes(vocabulary, places, machine, &mut changes)?;
+            .push_changes(vocabulary, leaves, machine, &mut changes)?;
         Ok(changes)
     }
 }

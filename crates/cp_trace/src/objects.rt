@@ -4,7 +4,7 @@ ghost use Rattle.std.specs.Prelude.{OnOk};
 ghost use Rattle.cp_trace.specs.WalkOutput.{Adds, AreObjects};
 
 use crate::changes::{Change, Changes};
-use cp_inspect::component_table::Member;
+use cp_inspect::component_table::Owner;
 use cp_output_formats::object::line;
 use serde::Serialize;
 use std::alloc::{AllocError, Global};
@@ -32,9 +32,9 @@ fn push_each(
 ) -> Result<(), AllocError>
     ensures { OnOk result (Adds AreObjects out.old.items out.new.items) }
 {
-    let (process, monitor) = match changes.member {
-        Member::Process(number) => (Some(number), None),
-        Member::Monitor(number) => (None, Some(number)),
+    let (process, monitor) = match changes.owner {
+        Owner::Process(number) => (Some(number), None),
+        Owner::Monitor(number) => (None, Some(number)),
     };
     for change in &changes.changes {
         let object = ChangeObject {

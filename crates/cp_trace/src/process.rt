@@ -1,12 +1,12 @@
 //! What was seen of a process, and what changed since.
 
 use crate::changes::{Change, Output, Step};
-use crate::members::word;
+use crate::owners::word;
 use crate::values::Values;
 use crate::vocabulary::Vocabulary;
-use cp_inspect::component_table::Member;
+use cp_inspect::component_table::Owner;
 use cp_inspect::inspect::Inspect;
-use cp_inspect::places::Place;
+use cp_inspect::leaves::Leaf;
 use cp_inspect::state::ProcState;
 use std::alloc::{AllocError, Global};
 
@@ -36,14 +36,14 @@ impl SeenProcess {
     pub(crate) fn of<M: Inspect>(
         alloc: Global,
         number: u32,
-        places: &[Place],
+        leaves: &[Leaf],
         machine: &M,
     ) -> Result<SeenProcess, AllocError> {
         Ok(SeenProcess {
             number,
             state: machine.state_of(number),
             written: written(machine, number),
-            values: Values::of(alloc, Member::Process(number), places, machine)?,
+            values: Values::of(alloc, Owner::Process(number), leaves, machine)?,
         })
     }
 
@@ -92,14 +92,14 @@ impl SeenProcess {
         &mut self,
         alloc: Global,
         vocabulary: &Vocabulary<'t>,
-        places: &'a [Place],
+        leaves: &'a [Leaf],
         machine: &M,
     ) -> Result<Vec<Change<'a>>, AllocError> {
         let mut changes = Vec::new(alloc);
         self.push_status(alloc, vocabulary, machine, &mut changes)?;
         self.push_output(alloc, machine, &mut changes)?;
         self.values
-            .push_changes(vocabulary, places, machine, &mut changes)?;
+            .push_changes(vocabulary, leaves, machine, &mut changes)?;
         Ok(changes)
     }
 }

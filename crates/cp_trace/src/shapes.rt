@@ -1,7 +1,7 @@
 //! Where the variables of components lie. Components of one type share their places.
 
 use cp_inspect::inspect::Inspect;
-use cp_inspect::places::Place;
+use cp_inspect::leaves::Leaf;
 use std::alloc::{AllocError, Global};
 
 // The places of the components of a type.
@@ -9,7 +9,7 @@ use std::alloc::{AllocError, Global};
 struct Shape {
     /// The number of the type, or `None` for the initial process.
     row: Option<usize>,
-    places: Vec<Place>,
+    leaves: Vec<Leaf>,
 }
 
 /// The places of the components of some types, by number from 0.
@@ -37,16 +37,16 @@ impl Shapes {
         if let Some(number) = self.shapes.iter().position(|shape| shape.row == row) {
             return Ok(number);
         }
-        let places = machine.places_of(alloc, row)?;
+        let leaves = machine.leaves_of(alloc, row)?;
         let number = self.shapes.len();
-        self.shapes.push(Shape { row, places })?;
+        self.shapes.push(Shape { row, leaves })?;
         Ok(number)
     }
 
     /// Returns the places of the shape with a number.
-    pub(crate) fn places(&self, number: usize) -> &[Place] {
+    pub(crate) fn leaves(&self, number: usize) -> &[Leaf] {
         match self.shapes.get(number) {
-            Some(shape) => &shape.places,
+            Some(shape) => &shape.leaves,
             None => &[],
         }
     }

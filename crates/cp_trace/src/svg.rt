@@ -10,7 +10,7 @@ use crate::bars::{Bar, bars};
 use crate::colours::{LEGEND_HEIGHT, LEGEND_WIDTH, STYLE, colour, push_legend};
 use crate::grid::{Cell, Grid, Row};
 use crate::markup::{Area, begin_rectangle, push_rectangle, push_text};
-use cp_inspect::component_table::Member;
+use cp_inspect::component_table::Owner;
 use cp_inspect::inspect::Inspect;
 use std::alloc::AllocError;
 use std::fmt::Write;
@@ -160,7 +160,7 @@ viewBox=\"0 0 {width} {height}\">"
     // Adds the name of a row and, of a process, its number on its colour.
     fn push_name(&self, page: &mut String, row: &Row<'_>, y: usize) -> Result<(), AllocError> {
         let foot = y.saturating_add(FOOT);
-        if let Member::Process(number) = row.member {
+        if let Owner::Process(number) = row.owner {
             let (x, width, height) = (8, 22, BAR);
             push_rectangle(
                 page,
@@ -261,9 +261,9 @@ viewBox=\"0 0 {width} {height}\">"
 
     // The top of a row of the band, by its number from 0.
     fn row_top(&self, index: usize, row: &Row<'_>) -> usize {
-        let gap = match row.member {
-            Member::Process(_) => 0,
-            Member::Monitor(_) => GAP,
+        let gap = match row.owner {
+            Owner::Process(_) => 0,
+            Owner::Monitor(_) => GAP,
         };
         let above = index.saturating_mul(ROW).saturating_add(ABOVE + gap);
         self.top(self.band).saturating_add(above)

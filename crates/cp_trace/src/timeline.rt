@@ -4,7 +4,7 @@ ghost use Rattle.std.specs.Prelude.{OnOk};
 ghost use Rattle.cp_trace.specs.WalkOutput.{Adds, IsAnything, IsSomething};
 
 use crate::grid::{Cell, Grid, Row};
-use cp_inspect::component_table::Member;
+use cp_inspect::component_table::Owner;
 use cp_inspect::inspect::Inspect;
 use std::alloc::AllocError;
 use std::fmt::Write;
@@ -92,9 +92,9 @@ impl<'t> Timeline<'t> {
 
     // Adds the line of a process or monitor.
     fn push_row(&self, page: &mut String, row: &Row<'_>) -> Result<(), AllocError> {
-        let sign = match row.member {
-            Member::Process(number) => sign(number),
-            Member::Monitor(_) => ' ',
+        let sign = match row.owner {
+            Owner::Process(number) => sign(number),
+            Owner::Monitor(_) => ' ',
         };
         let (name, width) = (row.name, self.margin.saturating_sub(2));
         write!(page, "{sign} {name:<width$}")?;

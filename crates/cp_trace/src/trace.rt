@@ -1,15 +1,15 @@
 //! What was seen of a machine, and what changed since.
 
 use crate::changes::{Change, Changes};
-use crate::members::{chosen, name_of};
 use crate::monitor::SeenMonitor;
+use crate::owners::{chosen, name_of};
 use crate::process::SeenProcess;
 use crate::shapes::Shapes;
 use crate::topic::Topic;
 use crate::vocabulary::Vocabulary;
-use cp_inspect::component_table::Member;
+use cp_inspect::component_table::Owner;
 use cp_inspect::inspect::Inspect;
-use cp_inspect::places::Place;
+use cp_inspect::leaves::Leaf;
 use std::alloc::{AllocError, Global};
 
 // A process or monitor as it was seen last.
@@ -23,16 +23,16 @@ impl Seen {
     // Returns a process or monitor with variables at these places, as it is.
     fn of<M: Inspect>(
         alloc: Global,
-        member: Member,
-        places: &[Place],
+        owner: Owner,
+        leaves: &[Leaf],
         machine: &M,
     ) -> Result<Seen, AllocError> {
-        Ok(match member {
-            Member::Process(number) => {
-                Seen::Process(SeenProcess::of(alloc, number, places, machine)?)
+        Ok(match owner {
+            Owner::Process(number) => {
+                Seen::Process(SeenProcess::of(alloc, number, leaves, machine)?)
             }
-            Member::Monitor(number) => {
-                Seen::Monitor(SeenMonitor::of(alloc, number, places, machine)?)
+            Owner::Monitor(number) => {
+                Seen::Monitor(SeenMonitor::of(alloc, number, leaves, machine)?)
             }
         })
     }
@@ -41,12 +41,12 @@ impl Seen {
         &mut self,
         alloc: Global,
         vocabulary: &Vocabulary<'t>,
-        places: &'a [Place],
+        leaves: &'a [Leaf],
         machine: &M,
     ) -> Result<Vec<Change<'a>>, AllocError> {
         match self {
-            Seen::Process(process) => process.changes(alloc, vocabulary, places, machine),
-            Seen::Monitor(monitor) => monitor.changes(alloc, vocabulary, places, machine),
+            Seen::Process(process) => process.changes(alloc, vocabulary, leaves, machine),
+            Seen::Monitor(monitor) => monitor.changes(alloc, vocabulary, leaves, machine),
         }
     }
 }
@@ -54,7 +54,7 @@ impl Seen {
 // A process or monitor of which a trace tells.
 #[derive(Drop)]
 struct Traced {
-    member: Member,
+    owner: Owner,
     /// The number of the shape of its variables.
     shape: usize,
     seen: Seen,
@@ -80,27 +80,27 @@ impl<'t> Trace<'t> {
         topic: Topic<'_, 't>,
         machine: &M,
     ) -> Result<Trace<'t>, AllocError> {
-        let members = chosen(alloc, &topic.component_table, topic.only)?;
+        let owners = chosen(alloc, &topic.component_table, topic.only)?;
         let mut trace = Trace {
             alloc,
             vocabulary: Vocabulary::of(alloc, topic.component_table, topic.tree)?,
             shapes: Shapes::new(alloc),
             all: Vec::new(alloc),
         };
-        for member in &members {
-            trace.add(machine, *member)?;
+        for owner in &owners {
+            trace.add(machine, *owner)?;
         }
         Ok(trace)
     }
 
-    fn add<M: Inspect>(&mut self, machine: &M, member: Member) -> Result<(), AllocError> {
-        let row = self.vocabulary.type_of(member);
+    fn add<M: Inspect>(&mut self, machine: &M, owner: Owner) -> Result<(), AllocError> {
+        let row = self.vocabulary.type_of(owner);
         let shape = self.shapes.number_of(self.alloc, machine, row)?;
-        let places = self.shapes.places(shape);
+        let leaves = self.shapes.leaves(shape);
         self.all.push(Traced {
-            member,
+            owner,
             shape,
-            seen: Seen::of(self.alloc, member, places, machine)?,
+            seen: Seen::of(self.alloc, owner, leaves, machine)?,
         })?;
         Ok(())
     }
@@ -135,12 +135,12 @@ fn changes_of<'a, 't: 'a, M: Inspect>(
 ) -> Result<Vec<Changes<'a>>, AllocError> {
     let mut changed = Vec::new(alloc);
     for traced in all.iter_mut() {
-        let places = shapes.places(traced.shape);
-        let changes = traced.seen.changes(alloc, vocabulary, places, machine)?;
+        let leaves = shapes.leaves(traced.shape);
+        let changes = traced.seen.changes(alloc, vocabulary, leaves, machine)?;
         if !changes.is_empty() {
             changed.push(Changes {
-                member: traced.member,
-                name: name_of(&vocabulary.component_table, traced.member),
+                owner: traced.owner,
+                name: name_of(&vocabulary.component_table, traced.owner),
                 changes,
             })?;
         }

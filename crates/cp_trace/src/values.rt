@@ -1,18 +1,18 @@
 //! The values of the variables of a component.
 
 use crate::changes::{Change, VariableChange};
-use crate::members::word;
+use crate::owners::word;
 use crate::vocabulary::Vocabulary;
-use cp_inspect::component_table::Member;
+use cp_inspect::component_table::Owner;
 use cp_inspect::inspect::Inspect;
+use cp_inspect::leaves::Leaf;
 use cp_inspect::place::Value;
-use cp_inspect::places::Place;
 use std::alloc::{AllocError, Global};
 
 /// The values of the variables of a component when they were seen last.
 #[derive(Drop)]
 pub(crate) struct Values {
-    of: Member,
+    of: Owner,
     /// A value for each place of the component.
     seen: Vec<Value>,
 }
@@ -22,12 +22,12 @@ impl Values {
     /// machine.
     pub(crate) fn of<M: Inspect>(
         alloc: Global,
-        of: Member,
-        places: &[Place],
+        of: Owner,
+        leaves: &[Leaf],
         machine: &M,
     ) -> Result<Values, AllocError> {
-        let mut seen = Vec::with_capacity(alloc, places.len())?;
-        for place in places {
+        let mut seen = Vec::with_capacity(alloc, leaves.len())?;
+        for place in leaves {
             seen.push(machine.value_at(&place.in_owner(of)))?;
         }
         Ok(Values { of, seen })
@@ -38,7 +38,7 @@ impl Values {
         &mut self,
         vocabulary: &Vocabulary<'t>,
         number: usize,
-        place: &'a Place,
+        place: &'a Leaf,
         machine: &M,
         changes: &mut Vec<Change<'a>>,
     ) -> Result<(), AllocError> {
@@ -62,11 +62,11 @@ impl Values {
     pub(crate) fn push_changes<'a, 't: 'a, M: Inspect>(
         &mut self,
         vocabulary: &Vocabulary<'t>,
-        places: &'a [Place],
+        leaves: &'a [Leaf],
         machine: &M,
         changes: &mut Vec<Change<'a>>,
     ) -> Result<(), AllocError> {
-        for (number, place) in places.iter().enumerate() {
+        for (number, place) in leaves.iter().enumerate() {
             self.push_change(vocabulary, number, place, machine, changes)?;
         }
         Ok(())

@@ -1,10 +1,10 @@
 //! What a text calls its components and its values: names in place of numbers.
 
 use crate::changes::Value;
-use crate::members::{name_of, word};
+use crate::owners::{name_of, word};
 use cp_base_names::{Key, NameTable};
 use cp_compile_symbols::Base;
-use cp_inspect::component_table::{ComponentTable, Member};
+use cp_inspect::component_table::{ComponentTable, Owner};
 use cp_inspect::inspect::Inspect;
 use cp_inspect::place;
 use cp_model::tree::{Defined, Identifier, Section, Tree, TypeDefinition};
@@ -62,20 +62,20 @@ impl<'t> Vocabulary<'t> {
     }
 
     /// Returns the number of the type of a process or monitor, or `None` for the initial process.
-    pub(crate) fn type_of(&self, member: Member) -> Option<usize> {
-        let component = match member {
-            Member::Process(number) => {
+    pub(crate) fn type_of(&self, owner: Owner) -> Option<usize> {
+        let component = match owner {
+            Owner::Process(number) => {
                 let index = usize::try_from(number).ok()?.checked_sub(2)?;
                 self.component_table.processes.get(index)?
             }
-            Member::Monitor(number) => self.component_table.monitor(number)?,
+            Owner::Monitor(number) => self.component_table.monitor(number)?,
         };
         Some(component.of)
     }
 
     /// Returns the name of the process with a number.
     pub(crate) fn process(&self, number: u32) -> &'t str {
-        name_of(&self.component_table, Member::Process(number))
+        name_of(&self.component_table, Owner::Process(number))
     }
 
     /// Returns the names of the processes with these numbers.

@@ -10,7 +10,7 @@ returns c =
     let tables = c.args.tables.now in
     let v = visit_of c.args.walk_output.now in
     let old = c.args.self.now in
-    let start : Walk = record { stack = c.clear.new.self; path = c.extend_from_slice.new.self; at = old.at; places = old.places } in
+    let start : Walk = record { stack = c.clear.new.self; path = c.extend_from_slice.new.self; at = old.at; leaves = old.leaves } in
     let none : start.stack.items ≡ [] = search rules in
     let named : start.path.items ≡ c.args.name.now = search rules in
     on_ok_weaker c.finish.result

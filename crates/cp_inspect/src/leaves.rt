@@ -2,8 +2,7 @@
 
 ghost use Rattle.std.specs.Prelude.{◌≡◌};
 
-use crate::place as machine;
-use crate::place::{Kind, Owner};
+use crate::place::{self, Kind, Owner};
 use crate::walk::Walk;
 use crate::walk_output::WalkOutput;
 use cp_compile_symbols::Tables;
@@ -11,7 +10,7 @@ use std::alloc::{AllocError, Global};
 
 /// A simple part or a queue of a component.
 #[derive(Drop)]
-pub struct Place {
+pub struct Leaf {
     /// The text of its path.
     pub path: Vec<u8>,
     /// The address of its word. The first word of the component has the address 0.
@@ -21,14 +20,14 @@ pub struct Place {
     pub of: usize,
 }
 
-impl Place {
+impl Leaf {
     /// Returns the place in a machine of this part of a process or a monitor.
-    pub fn in_owner(&self, owner: Owner) -> machine::Place
+    pub fn in_owner(&self, owner: Owner) -> place::Place
         ensures owner { result.owner ≡ owner }
         ensures place { result.at ≡ self.now.at }
         ensures kind { result.kind ≡ self.now.kind }
     {
-        machine::Place {
+        place::Place {
             owner,
             at: self.at,
             kind: self.kind,
@@ -41,11 +40,11 @@ impl Place {
 /// # Errors
 ///
 /// `AllocError` if memory runs out.
-pub fn places(alloc: Global, tables: &Tables, row: usize) -> Result<Vec<Place>, AllocError> {
+pub fn leaves(alloc: Global, tables: &Tables, row: usize) -> Result<Vec<Leaf>, AllocError> {
     let mut walk = Walk::new(alloc, 0);
     let mut nothing = Vec::new(alloc);
-    walk.component(tables, &WalkOutput::Places, &mut nothing, row, 0)?;
-    Ok(walk.into_places())
+    walk.component(tables, &WalkOutput::Leaves, &mut nothing, row, 0)?;
+    Ok(walk.into_leaves())
 }
 
 /// Returns the places of the initial process.
@@ -53,9 +52,9 @@ pub fn places(alloc: Global, tables: &Tables, row: usize) -> Result<Vec<Place>, 
 /// # Errors
 ///
 /// `AllocError` if memory runs out.
-pub fn initial_places(alloc: Global, tables: &Tables) -> Result<Vec<Place>, AllocError> {
+pub fn initial_leaves(alloc: Global, tables: &Tables) -> Result<Vec<Leaf>, AllocError> {
     let mut walk = Walk::new(alloc, 0);
     let mut nothing = Vec::new(alloc);
-    walk.initial(tables, &WalkOutput::Places, &mut nothing)?;
-    Ok(walk.into_places())
+    walk.initial(tables, &WalkOutput::Leaves, &mut nothing)?;
+    Ok(walk.into_leaves())
 }

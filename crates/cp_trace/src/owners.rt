@@ -1,7 +1,7 @@
 //! The processes and monitors of which a trace tells, and their names.
 
 use cp_compile_symbols::small_number;
-use cp_inspect::component_table::{ComponentTable, Member};
+use cp_inspect::component_table::{ComponentTable, Owner};
 use std::alloc::{AllocError, Global};
 
 /// Returns bytes of a name, a path or a transcript as a string. They are ASCII, as texts are.
@@ -10,21 +10,21 @@ pub(crate) fn word(bytes: &[u8]) -> &str {
 }
 
 /// Returns the name of a process or monitor.
-pub(crate) fn name_of<'t>(component_table: &ComponentTable<'t>, member: Member) -> &'t str {
-    word(match member {
-        Member::Process(number) => component_table.process_name(number),
-        Member::Monitor(number) => component_table.monitor_name(number),
+pub(crate) fn name_of<'t>(component_table: &ComponentTable<'t>, owner: Owner) -> &'t str {
+    word(match owner {
+        Owner::Process(number) => component_table.process_name(number),
+        Owner::Monitor(number) => component_table.monitor_name(number),
     })
 }
 
 // All processes by number, and then all monitors.
-fn all(alloc: Global, component_table: &ComponentTable<'_>) -> Result<Vec<Member>, AllocError> {
+fn all(alloc: Global, component_table: &ComponentTable<'_>) -> Result<Vec<Owner>, AllocError> {
     // The roster has no initial process.
     let processes = small_number(component_table.processes.len().saturating_add(1))?;
     let monitors = small_number(component_table.monitors.len())?;
     (1..=processes)
-        .map(Member::Process)
-        .chain((1..=monitors).map(Member::Monitor))
+        .map(Owner::Process)
+        .chain((1..=monitors).map(Owner::Monitor))
         .collect(alloc)
 }
 
@@ -38,17 +38,17 @@ pub(crate) fn chosen(
     alloc: Global,
     component_table: &ComponentTable<'_>,
     only: &[&str],
-) -> Result<Vec<Member>, AllocError> {
+) -> Result<Vec<Owner>, AllocError> {
     let mut all = all(alloc, component_table)?;
     if only.is_empty() {
         return Ok(all);
     }
     let mut named = Vec::new(alloc);
     for name in only {
-        if let Some(member) = component_table.member(name.as_bytes())? {
-            named.push(member)?;
+        if let Some(owner) = component_table.owner(name.as_bytes())? {
+            named.push(owner)?;
         }
     }
-    all.retain(|member| named.contains(member));
+    all.retain(|owner| named.contains(owner));
     Ok(all)
 }
