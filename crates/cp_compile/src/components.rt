@@ -55,7 +55,7 @@ impl<'s, 't> InitialCompiler<'s, 't> {
     // The component that a variable is, whose system type has this number, text and table.
     fn component(
         &self,
-        d: &Declared<'t>,
+        declared: &Declared<'t>,
         number: usize,
         text: &'t System,
         table: &SystemTable,
@@ -63,13 +63,13 @@ impl<'s, 't> InitialCompiler<'s, 't> {
         ensures { IfOk result (λ o. (plans : List StartPlan) (g : GlobalScope)
             (firsts : List (Name × ℕ)) (groups : List Group) (vs : List (Name × Variable))
             (v : Variable) → IsInitial self.now plans g firsts groups vs
-            → Represents self.now.tables.now.types d.now.of v.type
-            → system_of (row_at self.now.tables.now.types d.now.of) ≡ Some number
+            → Represents self.now.tables.now.types declared.now.of v.type
+            → system_of (row_at self.now.tables.now.types declared.now.of) ≡ Some number
             → system_at self.now.tables.now.types number ≡ Some text.entry
             → slice_get self.now.tables.now.systems.items number ≡ Some table.now
-            → PutsOwner plans g firsts groups (d.now.name.now, v) o) }
+            → PutsOwner plans g firsts groups (declared.now.name.now, v) o) }
     {
-        let of = self.tables.initial.variable_type(d.name);
+        let of = self.tables.initial.variable_type(declared.name);
         let first = self.firsts.find(of).unwrap_or(0);
         let routines = small_number(text.routines.len())?;
         let body = small_sum(first, routines)?;
@@ -82,22 +82,22 @@ impl<'s, 't> InitialCompiler<'s, 't> {
     fn add_owner(
         &self,
         sort: Sort,
-        d: &Declared<'t>,
+        declared: &Declared<'t>,
         owners: &mut Vec<Owner>,
     ) -> Result<(), AllocError>
         ensures { OnOk result ((plans : List StartPlan) (g : GlobalScope)
             (firsts : List (Name × ℕ)) (groups : List Group) (vs : List (Name × Variable))
             (v : Variable) (before : List code.Owner) → IsInitial self.now plans g firsts groups vs
-            → Represents self.now.tables.now.types d.now.of v.type
+            → Represents self.now.tables.now.types declared.now.of v.type
             → AreOwners plans g owners.old.items before → AreOwners plans g owners.new.items
             (before ++ owners_of firsts groups
-            (of_sort (erase.sort_of sort) ((d.now.name.now, v) ∷ [])))) }
+            (of_sort (erase.sort_of sort) ((declared.now.name.now, v) ∷ [])))) }
     {
         let types = &self.tables.types;
-        if !types.is_component_of(sort, d.of) {
+        if !types.is_component_of(sort, declared.of) {
             return Ok(());
         }
-        let Some(number) = types.system_of(d.of) else {
+        let Some(number) = types.system_of(declared.of) else {
             return Ok(());
         };
         let Some(text) = types.system(number) else {
@@ -106,7 +106,7 @@ impl<'s, 't> InitialCompiler<'s, 't> {
         let Some(table) = self.tables.system(number) else {
             return Ok(());
         };
-        owners.push(self.component(d, number, text, table)?)?;
+        owners.push(self.component(declared, number, text, table)?)?;
         Ok(())
     }
 

@@ -29,11 +29,11 @@ pub struct TextCompiler<'s, 't> {
 }
 
 // The first unit of a written type. For a name, it is that of the type that the name means.
-fn first_of_type_expression(t: &TypeExpression, firsts: &NameTable<u32>) -> u32
+fn first_of_type_expression(written: &TypeExpression, firsts: &NameTable<u32>) -> u32
     ensures { result
-        ≡ first_of_type firsts.now (erase.type_expression (tree.type_expression t.now)) }
+        ≡ first_of_type firsts.now (erase.type_expression (tree.type_expression written.now)) }
 {
-    match t {
+    match written {
         TypeExpression::Named(x) => firsts.find(x.name.as_bytes()).unwrap_or(0),
         TypeExpression::Array {
             indices,
@@ -111,32 +111,37 @@ impl<'s, 't> TextCompiler<'s, 't> {
     // Compiles the type that is defined, if it is a system type, and returns its first unit.
     fn first_of(
         &self,
-        d: &TypeDefinition,
+        definition: &TypeDefinition,
         firsts: &NameTable<'t, u32>,
         emitter: &mut Emitter,
     ) -> Result<u32, AllocError>
         ensures { IfOk result (DefinesType self.now emitter.old emitter.new firsts.now
-            (erase.type_definition (tree.type_definition d.now))) }
+            (erase.type_definition (tree.type_definition definition.now))) }
     {
-        match &d.defined {
+        match &definition.defined {
             Defined::Written(t) => Ok(first_of_type_expression(t, firsts)),
             Defined::Enumeration(_) => Ok(0),
-            Defined::System(text) => self.system(d.name.name.as_bytes(), text, firsts, emitter),
+            Defined::System(text) => self.system(
+                definition.name.name.as_bytes(),
+                text,
+                firsts,
+                emitter,
+            ),
         }
     }
 
     // Compiles the definition of a type, and records its first unit.
     fn definition(
         &self,
-        d: &'t TypeDefinition,
+        definition: &'t TypeDefinition,
         firsts: &mut NameTable<'t, u32>,
         emitter: &mut Emitter,
     ) -> Result<(), AllocError>
         ensures { OnOk result (CompilesOne self.now emitter.old emitter.new firsts.old firsts.new
-            (erase.type_definition (tree.type_definition d.now))) }
+            (erase.type_definition (tree.type_definition definition.now))) }
     {
-        let first = self.first_of(d, firsts, emitter)?;
-        firsts.set(d.name.name.as_bytes(), first)
+        let first = self.first_of(definition, firsts, emitter)?;
+        firsts.set(definition.name.name.as_bytes(), first)
     }
 
     // Compiles the type definitions of a section.

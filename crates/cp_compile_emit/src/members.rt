@@ -11,13 +11,13 @@ use std::alloc::{AllocError, Global};
 fn keep<'t>(
     types: &Types<'t>,
     kept: &mut Vec<Declared<'t>>,
-    d: Declared<'t>,
+    declared: Declared<'t>,
 ) -> Result<(), AllocError>
-    ensures { OnOk result (kept.new.items ≡ (if is_own types.now d.entry
-        then kept.old.items ++ d.entry ∷ [] else kept.old.items)) }
+    ensures { OnOk result (kept.new.items ≡ (if is_own types.now declared.entry
+        then kept.old.items ++ declared.entry ∷ [] else kept.old.items)) }
 {
-    if types.system_of(d.of).is_none() {
-        kept.push(d)?;
+    if types.system_of(declared.of).is_none() {
+        kept.push(declared)?;
     }
     Ok(())
 }

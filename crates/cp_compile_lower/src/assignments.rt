@@ -44,41 +44,41 @@ impl<'s, 't> Translator<'s, 't> {
     }
 
     // Whether a designator means the result of the running function.
-    fn is_result(&self, d: &Designator) -> bool
+    fn is_result(&self, designator: &Designator) -> bool
         ensures { (s : code.Scope) → IsScope self.now.scope s
-            → result ≡ coded.is_result s (erase.designator (tree.designator d.now)) }
+            → result ≡ coded.is_result s (erase.designator (tree.designator designator.now)) }
     {
-        if is_part(d) {
+        if is_part(designator) {
             return false;
         }
-        self.names_result(d.root.name.as_bytes())
+        self.names_result(designator.root.name.as_bytes())
     }
 
     // Emits an assignment to the result of the running function.
     fn set_result(
         &self,
-        d: &Designator,
-        e: &Expression,
+        designator: &Designator,
+        expression: &Expression,
         low: u32,
         next: u32,
         emitter: &mut Emitter,
     ) -> Result<u32, AllocError>
         ensures { IfOk result (λ entry. (s : code.Scope) → IsScope self.now.scope s
             → Enters emitter.old emitter.new entry (coded.set_result
-            (place_type (environment s) (erase.designator (tree.designator d.now)))
-            (coded_term s (erase.expression (tree.expression e.now)) low)
+            (place_type (environment s) (erase.designator (tree.designator designator.now)))
+            (coded_term s (erase.expression (tree.expression expression.now)) low)
             (place_of emitter.old) next)) }
     {
-        let of = self.scope.place_type(d);
+        let of = self.scope.place_type(designator);
         let bounds = bounds_of(self.scope.tables().types.simple(of));
         let mut calls = Vec::new(self.alloc);
-        let made = self.term(e, low, &mut calls)?;
+        let made = self.term(expression, low, &mut calls)?;
         let set = Operation::SetResult(Assignment {
             value: made.term,
             bounds,
             next,
         });
-        emitter.emit(calls, set, d.root.at)
+        emitter.emit(calls, set, designator.root.at)
     }
 
     // Emits an assignment to a variable of a simple type. `calls` has the calls of its place.
@@ -86,7 +86,7 @@ impl<'s, 't> Translator<'s, 't> {
         &self,
         to: MadePlaceExpression,
         simple: Simple,
-        e: &Expression,
+        expression: &Expression,
         calls: Vec<CodedCall>,
         next: u32,
         origin: usize,
@@ -95,11 +95,11 @@ impl<'s, 't> Translator<'s, 't> {
         ensures { IfOk result (λ entry. (s : code.Scope) (c : CodedPlaceExpression) (f : CodedPlaceExpression)
             → IsScope self.now.scope s → IsPlaceExpression [] calls.items to c
             → Enters emitter.old emitter.new entry (coded.store s.globals (simple_of simple.entry) c
-            (coded_term s (erase.expression (tree.expression e.now)) to.temps) f
+            (coded_term s (erase.expression (tree.expression expression.now)) to.temps) f
             (place_of emitter.old) next)) }
     {
         let mut calls = calls;
-        let made = self.term(e, to.temps, &mut calls)?;
+        let made = self.term(expression, to.temps, &mut calls)?;
         let assignment = Assignment {
             value: made.term,
             bounds: simple_bounds(simple),
@@ -113,7 +113,7 @@ impl<'s, 't> Translator<'s, 't> {
     fn copy_words(
         &self,
         to: MadePlaceExpression,
-        e: &Expression,
+        expression: &Expression,
         calls: Vec<CodedCall>,
         next: u32,
         origin: usize,
@@ -124,12 +124,12 @@ impl<'s, 't> Translator<'s, 't> {
             → TypeIs self.now.scope.tables.now.types to.of t → is_simple t ≡ false
             → IsPlaceExpression [] calls.items to c
             → Enters emitter.old emitter.new entry (coded.store s.globals t c f
-            (coded_variable s (erase.expression (tree.expression e.now)) to.temps)
+            (coded_variable s (erase.expression (tree.expression expression.now)) to.temps)
             (place_of emitter.old) next)) }
     {
         let mut calls = calls;
         let size = self.place_words(to.of)?;
-        let from = self.argument_place_expression(e, to.temps, &mut calls)?;
+        let from = self.argument_place_expression(expression, to.temps, &mut calls)?;
         let copy = Operation::CopyWords {
             to: to.place_expression,
             from: from.place_expression,
@@ -142,45 +142,53 @@ impl<'s, 't> Translator<'s, 't> {
     // Emits an assignment to a variable.
     fn store(
         &self,
-        d: &Designator,
-        e: &Expression,
+        designator: &Designator,
+        expression: &Expression,
         low: u32,
         next: u32,
         emitter: &mut Emitter,
     ) -> Result<u32, AllocError>
         ensures { IfOk result (λ entry. (s : code.Scope) → IsScope self.now.scope s
-            → let to = coded_place_expression s (erase.designator (tree.designator d.now)) low in
+            → let to = coded_place_expression s (erase.designator (tree.designator designator.now)) low in
             Enters emitter.old emitter.new entry (coded.store s.globals
-            (place_type (environment s) (erase.designator (tree.designator d.now))) to
-            (coded_term s (erase.expression (tree.expression e.now)) to.temps)
-            (coded_variable s (erase.expression (tree.expression e.now)) to.temps)
+            (place_type (environment s) (erase.designator (tree.designator designator.now))) to
+            (coded_term s (erase.expression (tree.expression expression.now)) to.temps)
+            (coded_variable s (erase.expression (tree.expression expression.now)) to.temps)
             (place_of emitter.old) next)) }
     {
         let mut calls = Vec::new(self.alloc);
-        let to = self.place_expression(d, low, &mut calls)?;
+        let to = self.place_expression(designator, low, &mut calls)?;
         match self.scope.tables().types.simple(to.of) {
-            Some(simple) => self.set_simple(to, simple, e, calls, next, d.root.at, emitter),
-            None => self.copy_words(to, e, calls, next, d.root.at, emitter),
+            Some(simple) => self.set_simple(
+                to,
+                simple,
+                expression,
+                calls,
+                next,
+                designator.root.at,
+                emitter,
+            ),
+            None => self.copy_words(to, expression, calls, next, designator.root.at, emitter),
         }
     }
 
     /// Emits an assignment to the result of the running function or to a variable.
     pub fn assign(
         &self,
-        d: &Designator,
-        e: &Expression,
+        designator: &Designator,
+        expression: &Expression,
         low: u32,
         next: u32,
         emitter: &mut Emitter,
     ) -> Result<u32, AllocError>
         ensures { IfOk result (StatementOf self.now.scope emitter.old emitter.new
-            (a.Assign (erase.designator (tree.designator d.now))
-            (erase.expression (tree.expression e.now))) low next) }
+            (a.Assign (erase.designator (tree.designator designator.now))
+            (erase.expression (tree.expression expression.now))) low next) }
     {
-        if self.is_result(d) {
-            self.set_result(d, e, low, next, emitter)
+        if self.is_result(designator) {
+            self.set_result(designator, expression, low, next, emitter)
         } else {
-            self.store(d, e, low, next, emitter)
+            self.store(designator, expression, low, next, emitter)
         }
     }
 }

@@ -45,10 +45,10 @@ pub fn right_at(table: &SystemTable, name: &[u8]) -> Result<u32, AllocError>
 }
 
 // The name that an argument consists of, perhaps in parentheses, empty for any other argument.
-fn argument_name(e: &Expression) -> &[u8]
-    ensures { result.now ≡ name_of (designator_of (erase.expression (tree.expression e.now))) }
+fn argument_name(expression: &Expression) -> &[u8]
+    ensures { result.now ≡ name_of (designator_of (erase.expression (tree.expression expression.now))) }
 {
-    match e {
+    match expression {
         Expression::Designated(d) => lone_name(d),
         Expression::Call(d, es) => match es.as_slice() {
             [] => lone_name(d),
@@ -101,11 +101,11 @@ impl<'s, 't> Translator<'s, 't> {
     }
 
     /// The component that an argument names, for passing a right to it.
-    pub fn named_target(&self, e: &Expression) -> Result<Target, AllocError>
+    pub fn named_target(&self, expression: &Expression) -> Result<Target, AllocError>
         ensures { IfOk result (λ t. (s : code.Scope) → IsScope self.now.scope s
             → view.target t ≡ target_named (environment s)
-            (erase.expression (tree.expression e.now))) }
+            (erase.expression (tree.expression expression.now))) }
     {
-        self.target(self.component(argument_name(e)))
+        self.target(self.component(argument_name(expression)))
     }
 }

@@ -40,14 +40,14 @@ impl<'s, 't> Translator<'s, 't> {
     #[cycle(terms)]
     pub fn term(
         &self,
-        e: &Expression,
+        expression: &Expression,
         low: u32,
         calls: &mut Vec<CodedCall>,
     ) -> Result<MadeTerm, AllocError>
         ensures { IfOk result (TermOf self.now.scope calls.old.items calls.new.items
-            (erase.expression (tree.expression e.now)) low) }
+            (erase.expression (tree.expression expression.now)) low) }
     {
-        match e {
+        match expression {
             Expression::Number { value, .. } => Ok(self.number(i32::from(*value), low)),
             Expression::Character { ordinal, .. } => Ok(self.number(i32::from(*ordinal), low)),
             Expression::Designated(d) => self.use_term(d, low, calls),
@@ -98,19 +98,19 @@ impl<'s, 't> Translator<'s, 't> {
     #[cycle(terms)]
     fn use_term(
         &self,
-        d: &Designator,
+        designator: &Designator,
         low: u32,
         calls: &mut Vec<CodedCall>,
     ) -> Result<MadeTerm, AllocError>
         ensures { IfOk result (TermOf self.now.scope calls.old.items calls.new.items
-            (a.Use (erase.designator (tree.designator d.now))) low) }
+            (a.Use (erase.designator (tree.designator designator.now))) low) }
     {
-        match self.scope.callee(d) {
+        match self.scope.callee(designator) {
             Some(callee) => {
                 let none = no_arguments(self.alloc, low);
-                self.function_call(&callee, none, low, d.root.at, calls)
+                self.function_call(&callee, none, low, designator.root.at, calls)
             }
-            None => self.place_term(d, low, calls),
+            None => self.place_term(designator, low, calls),
         }
     }
 
@@ -118,20 +118,20 @@ impl<'s, 't> Translator<'s, 't> {
     #[cycle(terms)]
     fn place_term(
         &self,
-        d: &Designator,
+        designator: &Designator,
         low: u32,
         calls: &mut Vec<CodedCall>,
     ) -> Result<MadeTerm, AllocError>
         ensures { IfOk result (λ made. (s : code.Scope) → IsScope self.now.scope s
             → IsTerm (map coded_call calls.old.items) calls.new.items made
-            (name_or_item s (erase.designator (tree.designator d.now))
-            (coded_place_expression s (erase.designator (tree.designator d.now)) low) low)) }
+            (name_or_item s (erase.designator (tree.designator designator.now))
+            (coded_place_expression s (erase.designator (tree.designator designator.now)) low) low)) }
     {
-        if !is_part(d) {
-            let term = self.named_term(d.root.name.as_bytes())?;
+        if !is_part(designator) {
+            let term = self.named_term(designator.root.name.as_bytes())?;
             return Ok(MadeTerm { term, temps: low });
         }
-        let made = self.place_expression(d, low, calls)?;
+        let made = self.place_expression(designator, low, calls)?;
         self.item(made)
     }
 
@@ -139,15 +139,15 @@ impl<'s, 't> Translator<'s, 't> {
     #[cycle(terms)]
     pub fn place_expression(
         &self,
-        d: &Designator,
+        designator: &Designator,
         low: u32,
         calls: &mut Vec<CodedCall>,
     ) -> Result<MadePlaceExpression, AllocError>
         ensures { IfOk result (PlaceExpressionOf self.now.scope calls.old.items calls.new.items
-            (erase.designator (tree.designator d.now)) low) }
+            (erase.designator (tree.designator designator.now)) low) }
     {
-        let mut made = self.variable(d.root.name.as_bytes(), low)?;
-        for selector in &d.selectors {
+        let mut made = self.variable(designator.root.name.as_bytes(), low)?;
+        for selector in &designator.selectors {
             made = self.select(made, selector, calls)?;
         }
         Ok(made)
@@ -212,14 +212,14 @@ impl<'s, 't> Translator<'s, 't> {
     #[cycle(terms)]
     pub fn argument_place_expression(
         &self,
-        e: &Expression,
+        expression: &Expression,
         low: u32,
         calls: &mut Vec<CodedCall>,
     ) -> Result<MadePlaceExpression, AllocError>
         ensures { IfOk result (VariableOf self.now.scope calls.old.items calls.new.items
-            (erase.expression (tree.expression e.now)) low) }
+            (erase.expression (tree.expression expression.now)) low) }
     {
-        match e {
+        match expression {
             Expression::Designated(d) => self.place_expression(d, low, calls),
             Expression::Call(d, es) => match es.as_slice() {
                 [] => self.place_expression(d, low, calls),
@@ -266,7 +266,7 @@ impl<'s, 't> Translator<'s, 't> {
     fn standard_call(
         &self,
         name: &[u8],
-        e: &Expression,
+        expression: &Expression,
         low: u32,
         calls: &mut Vec<CodedCall>,
     ) -> Result<MadeTerm, AllocError>
@@ -274,14 +274,14 @@ impl<'s, 't> Translator<'s, 't> {
             → IsScope self.now.scope s
             → IsTerm (map coded_call calls.old.items) calls.new.items made
             (coded_standard s name.now
-            (a.MoreExpressions (erase.expression (tree.expression e.now)) es) low)) }
+            (a.MoreExpressions (erase.expression (tree.expression expression.now)) es) low)) }
     {
         if is_empty_test(name) {
-            let made = self.argument_place_expression(e, low, calls)?;
+            let made = self.argument_place_expression(expression, low, calls)?;
             return self.empty(made);
         }
-        let made = self.term(e, low, calls)?;
-        self.apply(self.function(name, e)?, made)
+        let made = self.term(expression, low, calls)?;
+        self.apply(self.function(name, expression)?, made)
     }
 
     /// Makes the arguments for these parameters, the first of which lies `at` words from the first
@@ -322,7 +322,7 @@ impl<'s, 't> Translator<'s, 't> {
         &self,
         parameter: &Declared,
         at: u32,
-        e: &Expression,
+        expression: &Expression,
         low: u32,
         calls: &mut Vec<CodedCall>,
     ) -> Result<MadeArgument, AllocError>
@@ -331,20 +331,20 @@ impl<'s, 't> Translator<'s, 't> {
             → Represents self.now.scope.tables.now.types parameter.now.of v.type
             → IsArgument (map coded_call calls.old.items) calls.new.items made
             (argument_of s.globals v at
-            (coded_term s (erase.expression (tree.expression e.now)) low)
-            (coded_variable s (erase.expression (tree.expression e.now)) low))) }
+            (coded_term s (erase.expression (tree.expression expression.now)) low)
+            (coded_variable s (erase.expression (tree.expression expression.now)) low))) }
     {
         if parameter.by_reference {
-            let made = self.argument_place_expression(e, low, calls)?;
+            let made = self.argument_place_expression(expression, low, calls)?;
             return Ok(reference(at, made));
         }
         match self.scope.tables().types.simple(Some(parameter.of)) {
             Some(simple) => {
-                let made = self.term(e, low, calls)?;
+                let made = self.term(expression, low, calls)?;
                 Ok(simple_value(at, simple, made))
             }
             None => {
-                let made = self.argument_place_expression(e, low, calls)?;
+                let made = self.argument_place_expression(expression, low, calls)?;
                 self.copy_argument(at, parameter.of, made)
             }
         }

@@ -48,12 +48,12 @@ fn no_value(low: u32) -> MadeArgument
 
 impl<'s, 't> Translator<'s, 't> {
     // Passes a right to a component.
-    fn right(&self, at: u32, e: &Expression, low: u32) -> Result<MadeArgument, AllocError>
+    fn right(&self, at: u32, expression: &Expression, low: u32) -> Result<MadeArgument, AllocError>
         ensures { IfOk result (λ made. (calls : List CodedCall) (s : code.Scope)
             → IsScope self.now.scope s → IsArgument (map coded_call calls) calls made
-            (right_argument s at low (erase.expression (tree.expression e.now)))) }
+            (right_argument s at low (erase.expression (tree.expression expression.now)))) }
     {
-        let of = self.named_target(e)?;
+        let of = self.named_target(expression)?;
         Ok(MadeArgument {
             argument: Argument::Right { at, of },
             temps: low,
@@ -65,7 +65,7 @@ impl<'s, 't> Translator<'s, 't> {
         &self,
         table: &SystemTable,
         parameter: &Declared,
-        e: &Expression,
+        expression: &Expression,
         low: u32,
         calls: &mut Vec<CodedCall>,
     ) -> Result<MadeArgument, AllocError>
@@ -75,20 +75,20 @@ impl<'s, 't> Translator<'s, 't> {
             → parameter.now.name.now ≡ p.0
             → Represents self.now.scope.tables.now.types parameter.now.of p.1.type
             → IsArgument (map coded_call calls.old.items) calls.new.items made
-            (init_argument s y p (erase.expression (tree.expression e.now)) low)) }
+            (init_argument s y p (erase.expression (tree.expression expression.now)) low)) }
     {
         let types = &self.scope.tables().types;
         match types.simple(Some(parameter.of)) {
             Some(simple) => {
                 let at = member_at(table, parameter.name)?;
-                let made = self.term(e, low, calls)?;
+                let made = self.term(expression, low, calls)?;
                 Ok(simple_value(at, simple, made))
             }
             None => {
                 if !types.is_component(parameter.of) {
                     return Ok(no_value(low));
                 }
-                self.right(right_at(table, parameter.name)?, e, low)
+                self.right(right_at(table, parameter.name)?, expression, low)
             }
         }
     }

@@ -36,48 +36,48 @@ impl<'s, 't> Translator<'s, 't> {
     /// Emits a test, which leads to `yes` or `no`.
     pub fn test(
         &self,
-        e: &Expression,
+        expression: &Expression,
         low: u32,
         yes: u32,
         no: u32,
         emitter: &mut Emitter,
     ) -> Result<u32, AllocError>
         ensures { IfOk result (λ entry. (s : code.Scope) → IsScope self.now.scope s
-            → let c = coded_term s (erase.expression (tree.expression e.now)) low in
+            → let c = coded_term s (erase.expression (tree.expression expression.now)) low in
             Enters emitter.old emitter.new entry
             (with_calls c.calls (op.Test c.term yes no) (place_of emitter.old))) }
     {
         let mut calls = Vec::new(self.alloc);
-        let made = self.term(e, low, &mut calls)?;
+        let made = self.term(expression, low, &mut calls)?;
         let test = Operation::Test {
             value: made.term,
             yes,
             no,
         };
-        emitter.emit(calls, test, first_token(e))
+        emitter.emit(calls, test, first_token(expression))
     }
 
     /// Emits the operation of a `case` with these arms.
     pub fn choose(
         &self,
-        e: &Expression,
+        expression: &Expression,
         arms: Vec<Arm>,
         low: u32,
         emitter: &mut Emitter,
     ) -> Result<u32, AllocError>
         ensures { IfOk result (λ entry. (s : code.Scope) → IsScope self.now.scope s
-            → let c = coded_term s (erase.expression (tree.expression e.now)) low in
+            → let c = coded_term s (erase.expression (tree.expression expression.now)) low in
             Enters emitter.old emitter.new entry (with_calls c.calls
             (op.Case c.term (coded.table_of (map arm arms.items))) (place_of emitter.old))) }
     {
         let mut calls = Vec::new(self.alloc);
-        let made = self.term(e, low, &mut calls)?;
+        let made = self.term(expression, low, &mut calls)?;
         let table = table_of(self.alloc, arms)?;
         let case = Operation::Case {
             value: made.term,
             table,
         };
-        emitter.emit(calls, case, first_token(e))
+        emitter.emit(calls, case, first_token(expression))
     }
 
     // Adds an arm for a label that leads to `place`, if the label has a value.

@@ -17,8 +17,8 @@ pub fn first_place(list: &[Statement]) -> Option<usize> {
 }
 
 #[cycle(statements)]
-fn place(s: &Statement) -> Option<usize> {
-    match s {
+fn place(statement: &Statement) -> Option<usize> {
+    match statement {
         Statement::Empty => None,
         Statement::Assign(a) => Some(a.target.root.at),
         Statement::Call(call) => Some(call.procedure.root.at),

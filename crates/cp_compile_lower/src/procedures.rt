@@ -41,23 +41,23 @@ impl<'s, 't> Translator<'s, 't> {
     // Emits a `display` of a value.
     fn display(
         &self,
-        e: &Expression,
+        expression: &Expression,
         low: u32,
         next: u32,
         origin: usize,
         emitter: &mut Emitter,
     ) -> Result<u32, AllocError>
         ensures { IfOk result (λ entry. (s : code.Scope) → IsScope self.now.scope s
-            → let x = erase.expression (tree.expression e.now) in let c = coded_term s x low in
+            → let x = erase.expression (tree.expression expression.now) in let c = coded_term s x low in
             Enters emitter.old emitter.new entry (with_calls c.calls (op.Display c.term
             (coded.is_char (base_of_type (expression_type (environment s) x))) next)
             (place_of emitter.old))) }
     {
         let mut calls = Vec::new(self.alloc);
-        let made = self.term(e, low, &mut calls)?;
+        let made = self.term(expression, low, &mut calls)?;
         let display = Operation::Display {
             value: made.term,
-            as_byte: is_char(self.base(e)?),
+            as_byte: is_char(self.base(expression)?),
             next,
         };
         emitter.emit(calls, display, origin)
@@ -67,35 +67,35 @@ impl<'s, 't> Translator<'s, 't> {
     // it.
     fn passed_place_expression(
         &self,
-        e: &Expression,
+        expression: &Expression,
         low: u32,
     ) -> Result<(PlaceExpression, Vec<CodedCall>), AllocError>
         ensures { IfOk result (λ p. (s : code.Scope) → IsScope self.now.scope s
-            → let c = coded_variable s (erase.expression (tree.expression e.now)) low in
+            → let c = coded_variable s (erase.expression (tree.expression expression.now)) low in
             (map coded_call p.1.items ≡ c.calls) × (view.place_expression p.0 ≡ c.place_expression)) }
     {
         let mut calls = Vec::new(self.alloc);
-        let made = self.argument_place_expression(e, low, &mut calls)?;
+        let made = self.argument_place_expression(expression, low, &mut calls)?;
         Ok((made.place_expression, calls))
     }
 
     // Emits an `accept`, which takes a value from the input.
     fn accept(
         &self,
-        e: &Expression,
+        expression: &Expression,
         low: u32,
         next: u32,
         origin: usize,
         emitter: &mut Emitter,
     ) -> Result<u32, AllocError>
         ensures { IfOk result (λ entry. (s : code.Scope) → IsScope self.now.scope s
-            → let x = erase.expression (tree.expression e.now) in let c = coded_variable s x low in
+            → let x = erase.expression (tree.expression expression.now) in let c = coded_variable s x low in
             let t = expression_type (environment s) x in Enters emitter.old emitter.new entry
             (with_calls c.calls (op.Accept c.place_expression (coded.low_of t) (coded.high_of t) next)
             (place_of emitter.old))) }
     {
-        let bounds = bounds_of(self.scope.expression_type(e)?);
-        let (to, calls) = self.passed_place_expression(e, low)?;
+        let bounds = bounds_of(self.scope.expression_type(expression)?);
+        let (to, calls) = self.passed_place_expression(expression, low)?;
         let accept = Operation::Accept { to, bounds, next };
         emitter.emit(calls, accept, origin)
     }
@@ -103,18 +103,18 @@ impl<'s, 't> Translator<'s, 't> {
     // Emits a `delay` in a queue.
     fn delay(
         &self,
-        e: &Expression,
+        expression: &Expression,
         low: u32,
         next: u32,
         origin: usize,
         emitter: &mut Emitter,
     ) -> Result<u32, AllocError>
         ensures { IfOk result (λ entry. (s : code.Scope) → IsScope self.now.scope s
-            → let c = coded_variable s (erase.expression (tree.expression e.now)) low in
+            → let c = coded_variable s (erase.expression (tree.expression expression.now)) low in
             Enters emitter.old emitter.new entry
             (with_calls c.calls (op.Delay c.place_expression next) (place_of emitter.old))) }
     {
-        let (queue, calls) = self.passed_place_expression(e, low)?;
+        let (queue, calls) = self.passed_place_expression(expression, low)?;
         emitter.emit(calls, Operation::Delay { queue, next }, origin)
     }
 
@@ -132,17 +132,17 @@ impl<'s, 't> Translator<'s, 't> {
     // Emits a `continue`, which lets the process in a queue continue.
     fn resume(
         &self,
-        e: &Expression,
+        expression: &Expression,
         low: u32,
         origin: usize,
         emitter: &mut Emitter,
     ) -> Result<u32, AllocError>
         ensures { IfOk result (λ entry. (s : code.Scope) → IsScope self.now.scope s
-            → let c = coded_variable s (erase.expression (tree.expression e.now)) low in
+            → let c = coded_variable s (erase.expression (tree.expression expression.now)) low in
             Enters emitter.old emitter.new entry (with_calls c.calls
             (op.Continue c.place_expression (coded.runs_function s.routine)) (place_of emitter.old))) }
     {
-        let (queue, calls) = self.passed_place_expression(e, low)?;
+        let (queue, calls) = self.passed_place_expression(expression, low)?;
         let function = self.runs_function();
         emitter.emit(calls, Operation::Continue { queue, function }, origin)
     }
@@ -152,26 +152,26 @@ impl<'s, 't> Translator<'s, 't> {
     fn standard_procedure(
         &self,
         name: &[u8],
-        e: &Expression,
+        expression: &Expression,
         low: u32,
         next: u32,
         origin: usize,
         emitter: &mut Emitter,
     ) -> Result<u32, AllocError>
         ensures { IfOk result (λ entry. (s : code.Scope) → IsScope self.now.scope s
-            → let x = erase.expression (tree.expression e.now) in
+            → let x = erase.expression (tree.expression expression.now) in
             Enters emitter.old emitter.new entry (coded.standard_procedure s name.now
             (expression_type (environment s) x) (coded_term s x low) (coded_variable s x low)
             (place_of emitter.old) next)) }
     {
         if name == b"display".as_slice() {
-            self.display(e, low, next, origin, emitter)
+            self.display(expression, low, next, origin, emitter)
         } else if name == b"accept".as_slice() {
-            self.accept(e, low, next, origin, emitter)
+            self.accept(expression, low, next, origin, emitter)
         } else if name == b"delay".as_slice() {
-            self.delay(e, low, next, origin, emitter)
+            self.delay(expression, low, next, origin, emitter)
         } else {
-            self.resume(e, low, origin, emitter)
+            self.resume(expression, low, origin, emitter)
         }
     }
 
@@ -223,19 +223,33 @@ impl<'s, 't> Translator<'s, 't> {
     /// Emits a procedure statement.
     pub fn perform(
         &self,
-        d: &Designator,
+        designator: &Designator,
         es: &[Expression],
         low: u32,
         next: u32,
         emitter: &mut Emitter,
     ) -> Result<u32, AllocError>
         ensures { IfOk result (StatementOf self.now.scope emitter.old emitter.new
-            (a.Perform (erase.designator (tree.designator d.now))
+            (a.Perform (erase.designator (tree.designator designator.now))
             (erase.expressions (tree.expressions_of (map tree.expression es.now)))) low next) }
     {
-        match self.scope.callee(d) {
-            Some(called) => self.procedure_call(&called, es, low, next, d.root.at, emitter),
-            None => self.standard_statement(lone_name(d), es, low, next, d.root.at, emitter),
+        match self.scope.callee(designator) {
+            Some(called) => self.procedure_call(
+                &called,
+                es,
+                low,
+                next,
+                designator.root.at,
+                emitter,
+            ),
+            None => self.standard_statement(
+                lone_name(designator),
+                es,
+                low,
+                next,
+                designator.root.at,
+                emitter,
+            ),
         }
     }
 }

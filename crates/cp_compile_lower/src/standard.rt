@@ -28,13 +28,13 @@ use cp_program::term::{Function, Term};
 use std::alloc::AllocError;
 
 /// The name that a designator consists of, empty for a designator of a part.
-pub fn lone_name(d: &Designator) -> &[u8]
-    ensures { result.now ≡ name_of (erase.designator (tree.designator d.now)) }
+pub fn lone_name(designator: &Designator) -> &[u8]
+    ensures { result.now ≡ name_of (erase.designator (tree.designator designator.now)) }
 {
-    if is_part(d) {
+    if is_part(designator) {
         return &[];
     }
-    d.root.name.as_bytes()
+    designator.root.name.as_bytes()
 }
 
 /// Whether a name is that of the standard function `empty`, which takes a queue.
@@ -59,27 +59,27 @@ fn shift(by: i32, base: Base) -> Result<Function, AllocError>
 
 impl<'s, 't> Translator<'s, 't> {
     /// The base type of the value of an expression.
-    pub fn base(&self, e: &Expression) -> Result<Base<'t>, AllocError>
+    pub fn base(&self, expression: &Expression) -> Result<Base<'t>, AllocError>
         ensures { IfOk result (λ b. (s : code.Scope) → IsScope self.now.scope s → base_of b
             ≡ base_of_type (expression_type (environment s)
-            (erase.expression (tree.expression e.now)))) }
+            (erase.expression (tree.expression expression.now)))) }
     {
-        Ok(base_type(self.scope.expression_type(e)?))
+        Ok(base_type(self.scope.expression_type(expression)?))
     }
 
     /// The standard function with this name, for the argument `e`. Any name not listed counts as
     /// `chr`.
-    pub fn function(&self, name: &[u8], e: &Expression) -> Result<Function, AllocError>
+    pub fn function(&self, name: &[u8], expression: &Expression) -> Result<Function, AllocError>
         ensures { IfOk result (λ f. (s : code.Scope) → IsScope self.now.scope s
             → view.function f ≡ function_named name.now (base_of_type
-            (expression_type (environment s) (erase.expression (tree.expression e.now))))) }
+            (expression_type (environment s) (erase.expression (tree.expression expression.now))))) }
     {
         if name == b"abs".as_slice() {
             Ok(Function::Abs)
         } else if name == b"succ".as_slice() {
-            shift(1, self.base(e)?)
+            shift(1, self.base(expression)?)
         } else if name == b"pred".as_slice() {
-            shift(-1, self.base(e)?)
+            shift(-1, self.base(expression)?)
         } else if name == b"ord".as_slice() {
             Ok(Function::Ord)
         } else {

@@ -25,15 +25,15 @@ impl<'s, 't> Translator<'s, 't> {
     #[cycle(statements)]
     pub fn statement(
         &self,
-        s: &Statement,
+        statement: &Statement,
         low: u32,
         next: u32,
         emitter: &mut Emitter,
     ) -> Result<u32, AllocError>
         ensures { IfOk result (StatementOf self.now.scope emitter.old emitter.new
-            (erase.statement (tree.statement s.now)) low next) }
+            (erase.statement (tree.statement statement.now)) low next) }
     {
-        match s {
+        match statement {
             Statement::Empty => Ok(next),
             Statement::Assign(a) => self.assign(&a.target, &a.value, low, next, emitter),
             Statement::Call(c) => self.perform(&c.procedure, &c.arguments, low, next, emitter),

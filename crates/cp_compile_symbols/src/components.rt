@@ -22,12 +22,16 @@ pub struct Right {
 
 impl<'t> Types<'t> {
     // Adds the parameter `d` if it is a right to a component.
-    fn pick(&self, components: &mut Vec<Declared<'t>>, d: Declared<'t>) -> Result<(), AllocError>
-        ensures { OnOk result (Picks self.now (declared_entry d.entry)
+    fn pick(
+        &self,
+        components: &mut Vec<Declared<'t>>,
+        declared: Declared<'t>,
+    ) -> Result<(), AllocError>
+        ensures { OnOk result (Picks self.now (declared_entry declared.entry)
             (map declared_entry components.old.items) (map declared_entry components.new.items)) }
     {
-        if self.is_component(d.of) {
-            components.push(d)?;
+        if self.is_component(declared.of) {
+            components.push(declared)?;
         }
         Ok(())
     }

@@ -36,8 +36,8 @@ pub fn first_part(selectors: &[Selector]) -> Option<(&Selector, &[Selector])>
 }
 
 /// Whether a designator is more than a bare name.
-pub fn is_part(d: &Designator) -> bool
-    ensures { result ≡ is_part (erase.designator (view.designator d.now)) }
+pub fn is_part(designator: &Designator) -> bool
+    ensures { result ≡ is_part (erase.designator (view.designator designator.now)) }
 {
-    first_part(&d.selectors).is_some()
+    first_part(&designator.selectors).is_some()
 }

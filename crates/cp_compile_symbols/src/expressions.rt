@@ -154,14 +154,14 @@ impl<'s, 't> Scope<'s, 't> {
     }
 
     // The type of the value of a designator that calls nothing.
-    fn own_type(&self, d: &Designator) -> Result<Option<Simple<'t>>, AllocError>
+    fn own_type(&self, designator: &Designator) -> Result<Option<Simple<'t>>, AllocError>
         ensures { IfOk result (λ of. (s : code.Scope) → IsScope self.now s → SimpleIs of
-            (static.own_value_type (environment s) (erase.designator (view.designator d.now)))) }
+            (static.own_value_type (environment s) (erase.designator (view.designator designator.now)))) }
     {
-        if is_part(d) {
-            Ok(self.tables.types.simple(self.place_type(d)))
+        if is_part(designator) {
+            Ok(self.tables.types.simple(self.place_type(designator)))
         } else {
-            self.name_type(d.root.name.as_bytes())
+            self.name_type(designator.root.name.as_bytes())
         }
     }
 
@@ -178,34 +178,34 @@ impl<'s, 't> Scope<'s, 't> {
     }
 
     // The type of a designator that is used as a value.
-    fn use_type(&self, d: &Designator) -> Result<Option<Simple<'t>>, AllocError>
+    fn use_type(&self, designator: &Designator) -> Result<Option<Simple<'t>>, AllocError>
         ensures { IfOk result (λ of. (s : code.Scope) → IsScope self.now s → SimpleIs of
             (static.expression_type (environment s)
-            (a.Use (erase.designator (view.designator d.now))))) }
+            (a.Use (erase.designator (view.designator designator.now))))) }
     {
-        match self.callee(d) {
+        match self.callee(designator) {
             Some(callee) => self.answer_type(&callee),
-            None => self.own_type(d),
+            None => self.own_type(designator),
         }
     }
 
     // The type of the result of a call whose first argument has the type `argument`.
     fn call_type(
         &self,
-        d: &Designator,
+        designator: &Designator,
         argument: Option<Simple<'t>>,
     ) -> Result<Option<Simple<'t>>, AllocError>
         ensures { IfOk result (λ of. (s : code.Scope) (e : syntax.Expression)
             (es : syntax.Expressions) → IsScope self.now s → ValueIs s argument.entry e
-            → ValueIs s of (syntax.Call (view.designator d.now) (syntax.MoreExpressions e es))) }
+            → ValueIs s of (syntax.Call (view.designator designator.now) (syntax.MoreExpressions e es))) }
     {
-        match self.callee(d) {
+        match self.callee(designator) {
             Some(callee) => self.answer_type(&callee),
             None => {
-                if is_part(d) {
+                if is_part(designator) {
                     standard_type(&[], argument)
                 } else {
-                    standard_type(d.root.name.as_bytes(), argument)
+                    standard_type(designator.root.name.as_bytes(), argument)
                 }
             }
         }
@@ -216,11 +216,11 @@ impl<'s, 't> Scope<'s, 't> {
     /// # Errors
     ///
     /// If the last value of an enumeration has no ordinal of 32 bits.
-    pub fn expression_type(&self, e: &Expression) -> Result<Option<Simple<'t>>, AllocError>
+    pub fn expression_type(&self, expression: &Expression) -> Result<Option<Simple<'t>>, AllocError>
         ensures { IfOk result (λ of. (s : code.Scope) → IsScope self.now s
-            → ValueIs s of (view.expression e.now)) }
+            → ValueIs s of (view.expression expression.now)) }
     {
-        match e {
+        match expression {
             Expression::Number { .. } => full_range(Base::Integer),
             Expression::Character { .. } => full_range(Base::Char),
             Expression::Designated(d) => self.use_type(d),

@@ -40,10 +40,10 @@ pub struct Layouts<'t> {
 }
 
 /// The sum of two sizes, or `None` if it is too large.
-pub fn sum(a: Option<u32>, b: Option<u32>) -> Option<u32>
-    ensures { (m n : ℕ) → Counts a m → Counts b n → Counts result (m + n) }
+pub fn sum(found: Option<u32>, other: Option<u32>) -> Option<u32>
+    ensures { (m n : ℕ) → Counts found m → Counts other n → Counts result (m + n) }
 {
-    a?.checked_add(b?)
+    found?.checked_add(other?)
 }
 
 fn product(count: Option<u32>, words: Option<u32>) -> Option<u32>

@@ -182,21 +182,25 @@ impl<'t> Outer<'t> {
         Ok(outer)
     }
 
-    fn define_constant(&mut self, d: &'t ConstantDefinition) -> Result<(), AllocError>
+    fn define_constant(&mut self, definition: &'t ConstantDefinition) -> Result<(), AllocError>
         ensures { OnOk result (Defines self.old self.new
-            (defining (erase.constant_definition d.now))) }
+            (defining (erase.constant_definition definition.now))) }
     {
-        match self.names.value(&d.value) {
-            Some(value) => self.add_constant(d.name.name.as_bytes(), value),
+        match self.names.value(&definition.value) {
+            Some(value) => self.add_constant(definition.name.name.as_bytes(), value),
             None => Ok(()),
         }
     }
 
-    fn define_type(&mut self, x: &'t Identifier, t: &'t TypeExpression) -> Result<(), AllocError>
-        ensures { OnOk result (Defines self.old self.new (with_type x.now.name (type_from t.now))) }
+    fn define_type(
+        &mut self,
+        name: &'t Identifier,
+        written: &'t TypeExpression,
+    ) -> Result<(), AllocError>
+        ensures { OnOk result (Defines self.old self.new (with_type name.now.name (type_from written.now))) }
     {
-        let of = self.types.resolve(&self.names, t)?;
-        self.add_type(x.name.as_bytes(), of)
+        let of = self.types.resolve(&self.names, written)?;
+        self.add_type(name.name.as_bytes(), of)
     }
 
     // Adds the values of an enumeration, the last one first.
@@ -215,35 +219,35 @@ impl<'t> Outer<'t> {
 
     fn define_enumeration(
         &mut self,
-        x: &'t Identifier,
+        identifier: &'t Identifier,
         values: &'t [Identifier],
     ) -> Result<(), AllocError>
         ensures { OnOk result (Defines self.old self.new
-            (defining (a.EnumDef x.now.name (map erase.name values.now)))) }
+            (defining (a.EnumDef identifier.now.name (map erase.name values.now)))) }
     {
         let last = values.len().saturating_sub(1);
-        let name = x.name.as_bytes();
+        let name = identifier.name.as_bytes();
         let base = Base::Enumeration { name, last };
         self.add_base(name, enumeration(base, last)?)?;
         self.add_values(base, values)
     }
 
-    fn define_system(&mut self, x: &'t Identifier, system: &'t System) -> Result<(), AllocError>
+    fn define_system(&mut self, name: &'t Identifier, system: &'t System) -> Result<(), AllocError>
         ensures { OnOk result (Defines self.old self.new
-            (with_type x.now.name (component_of system.now))) }
+            (with_type name.now.name (component_of system.now))) }
     {
         let of = self.types.component(&self.names, system)?;
-        self.add_type(x.name.as_bytes(), of)
+        self.add_type(name.name.as_bytes(), of)
     }
 
-    fn define_as(&mut self, d: &'t TypeDefinition) -> Result<(), AllocError>
+    fn define_as(&mut self, definition: &'t TypeDefinition) -> Result<(), AllocError>
         ensures { OnOk result (Defines self.old self.new
-            (defining (erase.type_definition (view.type_definition d.now)))) }
+            (defining (erase.type_definition (view.type_definition definition.now)))) }
     {
-        match &d.defined {
-            Defined::Written(t) => self.define_type(&d.name, t),
-            Defined::Enumeration(values) => self.define_enumeration(&d.name, values),
-            Defined::System(system) => self.define_system(&d.name, system),
+        match &definition.defined {
+            Defined::Written(t) => self.define_type(&definition.name, t),
+            Defined::Enumeration(values) => self.define_enumeration(&definition.name, values),
+            Defined::System(system) => self.define_system(&definition.name, system),
         }
     }
 

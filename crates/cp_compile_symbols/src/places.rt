@@ -111,12 +111,12 @@ impl<'s, 't> Scope<'s, 't> {
     }
 
     /// The type of the place of a designator, or `None` if it has no type.
-    pub fn place_type(&self, d: &Designator) -> Option<usize>
+    pub fn place_type(&self, designator: &Designator) -> Option<usize>
         ensures { (s : code.Scope) → IsScope self.now s → PlaceIs self.now s result
-            (erase.designator (view.designator d.now)) }
+            (erase.designator (view.designator designator.now)) }
     {
-        let mut of = self.named_place_type(d.root.name.as_bytes());
-        for selector in &d.selectors {
+        let mut of = self.named_place_type(designator.root.name.as_bytes());
+        for selector in &designator.selectors {
             of = self.selected_type(of, selector);
         }
         of

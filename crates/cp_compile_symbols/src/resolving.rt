@@ -55,11 +55,11 @@ pub fn add_fields<'t>(
 
 impl<'t> Names<'t> {
     /// The value of a written constant, or `None` if its name isn't that of a constant.
-    pub fn value(&self, c: &Constant) -> Option<Value<'t>>
+    pub fn value(&self, constant: &Constant) -> Option<Value<'t>>
         ensures { (g : GlobalScope) → ConstantsRepresent self.now g
-            → option_map value_of result ≡ constant_value g (erase.constant c.now) }
+            → option_map value_of result ≡ constant_value g (erase.constant constant.now) }
     {
-        match c {
+        match constant {
             Constant::Number { value, .. } => Some(integer(i32::from(*value))),
             Constant::Negative { value, .. } => Some(integer(-i32::from(*value))),
             Constant::Character { ordinal, .. } => Some(Value {
@@ -86,10 +86,10 @@ impl<'t> Types<'t> {
 
     /// The number of the type that a name means. A name that means no type gets a new row,
     /// `Unknown`.
-    pub fn named_type(&mut self, names: &Names<'t>, x: &Identifier) -> Result<usize, AllocError>
-        ensures { IfOk result (λ n. Makes names.now self.old self.new (name_type x.now.name) n) }
+    pub fn named_type(&mut self, names: &Names<'t>, name: &Identifier) -> Result<usize, AllocError>
+        ensures { IfOk result (λ n. Makes names.now self.old self.new (name_type name.now.name) n) }
     {
-        match names.types.find(x.name.as_bytes()) {
+        match names.types.find(name.name.as_bytes()) {
             Some(n) => Ok(n),
             None => self.add(TypeRow::Unknown),
         }
@@ -118,10 +118,14 @@ impl<'t> Types<'t> {
 
     /// The number of a written type, whose rows are added as needed.
     #[cycle(types)]
-    pub fn resolve(&mut self, names: &Names<'t>, t: &'t TypeExpression) -> Result<usize, AllocError>
-        ensures { IfOk result (λ n. Makes names.now self.old self.new (type_from t.now) n) }
+    pub fn resolve(
+        &mut self,
+        names: &Names<'t>,
+        written: &'t TypeExpression,
+    ) -> Result<usize, AllocError>
+        ensures { IfOk result (λ n. Makes names.now self.old self.new (type_from written.now) n) }
     {
-        match t {
+        match written {
             TypeExpression::Named(x) => self.named_type(names, x),
             TypeExpression::Subrange(bounds) => self.subrange(names, &bounds.0, &bounds.1),
             TypeExpression::Array {

@@ -242,12 +242,12 @@ impl<'s, 't> Scope<'s, 't> {
     }
 
     /// The routine that a designator calls, or `None` if it calls none.
-    pub fn callee<'n>(&self, d: &'n Designator) -> Option<Callee<'s, 't, 'n>>
+    pub fn callee<'n>(&self, designator: &'n Designator) -> Option<Callee<'s, 't, 'n>>
         ensures { (s : code.Scope) → IsScope self.now s → CalleeIs self.now s result
-            (calls.callee (code.environment s) (erase.designator (view.designator d.now))) }
+            (calls.callee (code.environment s) (erase.designator (view.designator designator.now))) }
     {
-        let name = d.root.name.as_bytes();
-        match first_part(&d.selectors) {
+        let name = designator.root.name.as_bytes();
+        match first_part(&designator.selectors) {
             None => self.own_callee(name),
             Some((first, rest)) => match first_part(rest) {
                 None => self.selected_callee(name, first),

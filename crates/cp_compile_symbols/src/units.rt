@@ -35,50 +35,50 @@ impl<'s, 't> Scope<'s, 't> {
     }
 
     /// The first unit of a component's system type.
-    pub fn first_of(&self, c: &Component) -> u32
+    pub fn first_of(&self, component: &Component) -> u32
         ensures { (s : code.Scope) (n : components.Component) → IsScope self.now s
-            → Names self.now s c.now n → result ≡ code.first_of s n }
+            → Names self.now s component.now n → result ≡ code.first_of s n }
     {
-        let types = if c.is_parameter {
+        let types = if component.is_parameter {
             &self.system.parameter_types
         } else {
             &self.system.variable_types
         };
-        let of = types.find(c.name).unwrap_or(&[]);
+        let of = types.find(component.name).unwrap_or(&[]);
         self.firsts.find(of).unwrap_or(0)
     }
 
     // The number of routines of a component's system type.
-    fn routine_count(&self, c: &Component) -> usize
+    fn routine_count(&self, component: &Component) -> usize
         ensures { (s : code.Scope) (n : components.Component) → IsScope self.now s
-            → Names self.now s c.now n → result ≡ length n.system.routines }
+            → Names self.now s component.now n → result ≡ length n.system.routines }
     {
-        match self.tables.types.system(c.system) {
+        match self.tables.types.system(component.system) {
             Some(of) => of.routines.len(),
             None => 0,
         }
     }
 
     /// The number of processes before the name of a component, among the variables.
-    pub fn processes_before(&self, c: &Component) -> usize
+    pub fn processes_before(&self, component: &Component) -> usize
         ensures { (s : code.Scope) (n : components.Component) → IsScope self.now s
-            → Names self.now s c.now n → result
+            → Names self.now s component.now n → result
             ≡ count_before Process n.name (declarations s.globals s.system.variables) }
     {
-        if !c.is_parameter {
-            return c.processes;
+        if !component.is_parameter {
+            return component.processes;
         }
         self.tables
             .types
-            .processes_before(&self.system.variables, c.name)
+            .processes_before(&self.system.variables, component.name)
     }
 
     /// The unit of a component's body.
-    pub fn body_of(&self, c: &Component) -> Result<u32, AllocError>
+    pub fn body_of(&self, component: &Component) -> Result<u32, AllocError>
         ensures { IfOk result (λ unit. (s : code.Scope) (n : components.Component)
-            → IsScope self.now s → Names self.now s c.now n → unit ≡ code.body_of s n) }
+            → IsScope self.now s → Names self.now s component.now n → unit ≡ code.body_of s n) }
     {
-        unit_after(self.first_of(c), self.routine_count(c))
+        unit_after(self.first_of(component), self.routine_count(component))
     }
 
     /// The unit of a called routine.

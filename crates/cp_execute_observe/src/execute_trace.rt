@@ -31,7 +31,7 @@ fn first_unknown<'a>(
     names: &[&'a str],
 ) -> Result<Option<&'a str>, AllocError> {
     for name in names {
-        if component_table.member(name.as_bytes())?.is_none() {
+        if component_table.owner(name.as_bytes())?.is_none() {
             return Ok(Some(*name));
         }
     }

@@ -155,7 +155,7 @@ fn refused(
     Ok(RefusedObject {
         accepted: false,
         violations,
-        untold: if unreported == 0 { None } else { Some(untold) },
+        untold: if untold == 0 { None } else { Some(untold) },
     })
 }
 

@@ -45,8 +45,12 @@ impl<'t> Names<'t> {
     }
 
     /// Makes a name visible. Fails only if memory runs out.
-    pub fn declare(&mut self, x: &'t Identifier, meaning: Meaning<'t>) -> Result<(), AllocError> {
-        self.add(x.name.as_bytes(), meaning)
+    pub fn declare(
+        &mut self,
+        name: &'t Identifier,
+        meaning: Meaning<'t>,
+    ) -> Result<(), AllocError> {
+        self.add(name.name.as_bytes(), meaning)
     }
 
     /// The number of names that are visible.
@@ -60,20 +64,20 @@ impl<'t> Names<'t> {
     }
 
     /// What a name stands for.
-    pub fn find(&self, x: &Identifier) -> Option<Meaning<'t>> {
-        self.visible.find(x.name.as_bytes())
+    pub fn find(&self, name: &Identifier) -> Option<Meaning<'t>> {
+        self.visible.find(name.name.as_bytes())
     }
 
     /// Adds a name that can stand after a `.`. Fails only if memory runs out.
     pub fn add_member(
         &mut self,
         of: usize,
-        x: &'t Identifier,
+        identifier: &'t Identifier,
         meaning: Meaning<'t>,
     ) -> Result<(), AllocError> {
         let member = Member {
             of,
-            name: x.name.as_bytes(),
+            name: identifier.name.as_bytes(),
         };
         match self.members.insert(member, meaning) {
             Ok(_) => Ok(()),
@@ -82,14 +86,18 @@ impl<'t> Names<'t> {
     }
 
     /// What a name after a `.` stands for.
-    pub fn member(&self, before: Option<Meaning<'t>>, x: &'t Identifier) -> Option<Meaning<'t>> {
+    pub fn member(
+        &self,
+        before: Option<Meaning<'t>>,
+        identifier: &'t Identifier,
+    ) -> Option<Meaning<'t>> {
         let of = match before? {
             Meaning::Variable(Shape::Record(of) | Shape::System(_, of)) => of,
             _ => return None,
         };
         let member = Member {
             of,
-            name: x.name.as_bytes(),
+            name: identifier.name.as_bytes(),
         };
         self.members.get(&member).copied()
     }
@@ -112,8 +120,8 @@ impl<'t> Names<'t> {
     }
 
     /// The shape of the type with this name.
-    pub fn shape_of_name(&self, x: &Identifier) -> Option<Shape<'t>> {
-        match self.find(x)? {
+    pub fn shape_of_name(&self, name: &Identifier) -> Option<Shape<'t>> {
+        match self.find(name)? {
             Meaning::Type(shape) => Some(shape),
             _ => None,
         }
@@ -137,8 +145,8 @@ impl<'t> Names<'t> {
     }
 
     /// The ordinal of a constant as it is written in a declaration.
-    pub fn ordinal(&self, c: &Constant) -> Option<i32> {
-        match c {
+    pub fn ordinal(&self, constant: &Constant) -> Option<i32> {
+        match constant {
             Constant::Number { value, .. } => Some(i32::from(*value)),
             Constant::Negative { value, .. } => i32::from(*value).checked_neg(),
             Constant::Character { ordinal, .. } => Some(i32::from(*ordinal)),
@@ -146,16 +154,16 @@ impl<'t> Names<'t> {
         }
     }
 
-    fn ordinal_of_name(&self, x: &Identifier) -> Option<i32> {
-        match self.find(x)? {
+    fn ordinal_of_name(&self, name: &Identifier) -> Option<i32> {
+        match self.find(name)? {
             Meaning::Constant(ordinal) => Some(ordinal),
             _ => None,
         }
     }
 
     /// The ordinal of an expression that is a constant, perhaps with signs and in parentheses.
-    pub fn value(&self, e: &Expression) -> Option<i32> {
-        match e {
+    pub fn value(&self, expression: &Expression) -> Option<i32> {
+        match expression {
             Expression::Number { value, .. } => Some(i32::from(*value)),
             Expression::Character { ordinal, .. } => Some(i32::from(*ordinal)),
             Expression::Designated(d) if d.selectors.is_empty() => self.ordinal_of_name(&d.root),
@@ -217,12 +225,12 @@ impl<'t> Names<'t> {
     /// Makes a type visible. Fails only if memory runs out.
     pub fn declare_type(
         &mut self,
-        x: &'t Identifier,
+        name: &'t Identifier,
         of: &'t TypeExpression,
     ) -> Result<(), AllocError> {
         self.add_fields(of)?;
         match self.shape(of) {
-            Some(shape) => self.declare(x, Meaning::Type(shape)),
+            Some(shape) => self.declare(name, Meaning::Type(shape)),
             None => Ok(()),
         }
     }
@@ -230,7 +238,7 @@ impl<'t> Names<'t> {
     /// Makes an enumeration and its values visible. Fails only if memory runs out.
     pub fn declare_enumeration(
         &mut self,
-        x: &'t Identifier,
+        name: &'t Identifier,
         values: &'t [Identifier],
     ) -> Result<(), AllocError> {
         let mut next: i32 = 0;
@@ -242,7 +250,7 @@ impl<'t> Names<'t> {
             first: 0,
             last: next.saturating_sub(1),
         };
-        self.declare(x, Meaning::Type(Shape::Simple(ordinals)))
+        self.declare(name, Meaning::Type(Shape::Simple(ordinals)))
     }
 
     /// Makes variables visible. Fails only if memory runs out.

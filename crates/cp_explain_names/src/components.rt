@@ -39,8 +39,8 @@ impl<'t> Systems<'t> {
         Ok(())
     }
 
-    fn add(&mut self, x: &'t Identifier, system: &'t System) -> Result<(), AllocError> {
-        let name = x.name.as_bytes();
+    fn add(&mut self, identifier: &'t Identifier, system: &'t System) -> Result<(), AllocError> {
+        let name = identifier.name.as_bytes();
         match self.names.find(name) {
             Some(_) => Ok(()),
             None => self.names.add(name, system),
@@ -105,8 +105,8 @@ impl<'t> Components<'t> {
     }
 
     /// The component with this name.
-    pub fn find(&self, x: &Identifier) -> Option<Component<'t>> {
-        self.names.find(x.name.as_bytes())
+    pub fn find(&self, name: &Identifier) -> Option<Component<'t>> {
+        self.names.find(name.name.as_bytes())
     }
 
     fn add_all(

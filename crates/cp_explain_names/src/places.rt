@@ -3,8 +3,8 @@
 use cp_model::tree::{Expression, Statement};
 
 /// The place of the first token of an expression.
-pub fn first_token(e: &Expression) -> usize {
-    match e {
+pub fn first_token(expression: &Expression) -> usize {
+    match expression {
         Expression::Number { at, .. }
         | Expression::Character { at, .. }
         | Expression::Parenthesized { at, .. }
@@ -30,8 +30,8 @@ fn list_place(list: &[Statement]) -> Option<usize> {
 /// The first place in a statement that its tree keeps: its first token, or the one after the word
 /// that it begins with. An empty statement has none.
 #[cycle(begins)]
-pub fn statement_place(s: &Statement) -> Option<usize> {
-    match s {
+pub fn statement_place(statement: &Statement) -> Option<usize> {
+    match statement {
         Statement::Empty => None,
         Statement::Assign(a) => Some(a.target.root.at),
         Statement::Call(c) => Some(c.procedure.root.at),

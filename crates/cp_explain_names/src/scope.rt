@@ -50,15 +50,15 @@ pub struct Wanted<'a> {
 
 impl<'a> Wanted<'a> {
     /// Looks for a declaration of the name `x` other than `x` itself.
-    pub fn other_than(x: &'a Identifier) -> Wanted<'a> {
+    pub fn other_than(identifier: &'a Identifier) -> Wanted<'a> {
         Wanted {
-            name: x.name.as_bytes(),
-            but: x.at,
+            name: identifier.name.as_bytes(),
+            but: identifier.at,
         }
     }
 
-    fn is(&self, x: &Identifier) -> bool {
-        x.at != self.but && x.name.as_bytes() == self.name
+    fn is(&self, name: &Identifier) -> bool {
+        name.at != self.but && name.name.as_bytes() == self.name
     }
 
     fn among<'t>(&self, names: &'t [Identifier]) -> Option<&'t Identifier> {
@@ -269,8 +269,8 @@ impl<'t> Scope<'t> {
     }
 
     /// The system type of the component with this name.
-    pub fn system_of(&self, x: &Identifier) -> Option<&'t System> {
-        let of = self.find(Wanted::other_than(x))?.of?;
+    pub fn system_of(&self, name: &Identifier) -> Option<&'t System> {
+        let of = self.find(Wanted::other_than(name))?.of?;
         self.find(Wanted::other_than(of))?.system
     }
 }

@@ -66,10 +66,10 @@ pub fn type_of_operation(operator: Operator) -> Type<'static> {
 }
 
 // The type of the field with this name.
-fn field_type<'t>(groups: &'t [Fields], x: &Identifier) -> Option<&'t TypeExpression> {
+fn field_type<'t>(groups: &'t [Fields], identifier: &Identifier) -> Option<&'t TypeExpression> {
     for group in groups {
         for name in &group.names {
-            if name.name.as_bytes() == x.name.as_bytes() {
+            if name.name.as_bytes() == identifier.name.as_bytes() {
                 return Some(&group.of);
             }
         }
@@ -79,15 +79,15 @@ fn field_type<'t>(groups: &'t [Fields], x: &Identifier) -> Option<&'t TypeExpres
 
 impl<'t> Scope<'t> {
     /// The type with this name.
-    pub fn type_of_name(&self, x: &'t Identifier) -> Option<Type<'t>> {
-        let mut x = x;
+    pub fn type_of_name(&self, name: &'t Identifier) -> Option<Type<'t>> {
+        let mut name = name;
         for _ in 0..MAX_TYPE_STEPS {
-            let Some(declared) = self.find(Wanted::other_than(x)) else {
-                return Some(Type::Standard(StandardType::named(x.name.as_bytes())?));
+            let Some(declared) = self.find(Wanted::other_than(name)) else {
+                return Some(Type::Standard(StandardType::named(name.name.as_bytes())?));
             };
             let definition = declared.definition?;
             match &definition.defined {
-                Defined::Written(TypeExpression::Named(y)) => x = y,
+                Defined::Written(TypeExpression::Named(y)) => name = y,
                 Defined::Written(TypeExpression::Subrange(bounds)) => {
                     return self.type_of_constant(&bounds.0);
                 }
@@ -109,10 +109,10 @@ impl<'t> Scope<'t> {
     }
 
     /// The type of a constant.
-    pub fn type_of_constant(&self, c: &'t Constant) -> Option<Type<'t>> {
-        let mut c = c;
+    pub fn type_of_constant(&self, constant: &'t Constant) -> Option<Type<'t>> {
+        let mut constant = constant;
         for _ in 0..MAX_TYPE_STEPS {
-            let x = match c {
+            let x = match constant {
                 Constant::Number { .. } | Constant::Negative { .. } => return Some(INTEGER),
                 Constant::Character { .. } => return Some(CHARACTER),
                 Constant::Named(x) => x,
@@ -120,7 +120,7 @@ impl<'t> Scope<'t> {
             match self.find(Wanted::other_than(x)) {
                 None => return Some(Type::Standard(standard_value(x.name.as_bytes())?)),
                 Some(declared) => match declared.value {
-                    Some(value) => c = value,
+                    Some(value) => constant = value,
                     None => return enumeration_of(declared),
                 },
             }
@@ -141,10 +141,10 @@ impl<'t> Scope<'t> {
     }
 
     /// The type of what a name stands for, if it has a value.
-    pub fn type_of_root(&self, x: &'t Identifier) -> Option<Type<'t>> {
-        match self.find(Wanted::other_than(x)) {
+    pub fn type_of_root(&self, name: &'t Identifier) -> Option<Type<'t>> {
+        match self.find(Wanted::other_than(name)) {
             Some(declared) => self.type_of_declared(declared),
-            None => Some(Type::Standard(standard_value(x.name.as_bytes())?)),
+            None => Some(Type::Standard(standard_value(name.name.as_bytes())?)),
         }
     }
 
@@ -175,22 +175,22 @@ impl<'t> Scope<'t> {
     }
 
     /// The type of the part of a designator that ends before the selector with this number.
-    pub fn type_of_front(&self, d: &'t Designator, count: usize) -> Option<Type<'t>> {
-        let mut of = self.type_of_root(&d.root)?;
-        for selector in d.selectors.iter().take(count) {
+    pub fn type_of_front(&self, designator: &'t Designator, count: usize) -> Option<Type<'t>> {
+        let mut of = self.type_of_root(&designator.root)?;
+        for selector in designator.selectors.iter().take(count) {
             of = self.type_of_part(of, selector)?;
         }
         Some(of)
     }
 
     /// The type of what a designator stands for.
-    pub fn type_of_designator(&self, d: &'t Designator) -> Option<Type<'t>> {
-        self.type_of_front(d, d.selectors.len())
+    pub fn type_of_designator(&self, designator: &'t Designator) -> Option<Type<'t>> {
+        self.type_of_front(designator, designator.selectors.len())
     }
 
     // The type of an expression other than one in parentheses and a call of `succ` or `pred`.
-    fn type_of_simple(&self, e: &'t Expression) -> Option<Type<'t>> {
-        match e {
+    fn type_of_simple(&self, expression: &'t Expression) -> Option<Type<'t>> {
+        match expression {
             Expression::Number { .. } | Expression::Signed { .. } => Some(INTEGER),
             Expression::Character { .. } => Some(CHARACTER),
             Expression::Not { .. } => Some(BOOLEAN),
@@ -202,23 +202,25 @@ impl<'t> Scope<'t> {
     }
 
     /// The type of an expression.
-    pub fn type_of_expression(&self, e: &'t Expression) -> Option<Type<'t>> {
-        let mut e = e;
+    pub fn type_of_expression(&self, expression: &'t Expression) -> Option<Type<'t>> {
+        let mut expression = expression;
         for _ in 0..MAX_TYPE_STEPS {
-            match e {
-                Expression::Parenthesized { inner, .. } => e = inner,
-                Expression::Call(d, list) if self.keeps_type(d) => e = list.first()?,
-                _ => return self.type_of_simple(e),
+            match expression {
+                Expression::Parenthesized { inner, .. } => expression = inner,
+                Expression::Call(d, list) if self.keeps_type(d) => expression = list.first()?,
+                _ => return self.type_of_simple(expression),
             }
         }
         None
     }
 
     // Whether this is the function `succ` or `pred`, whose value has the type of its argument.
-    fn keeps_type(&self, d: &Designator) -> bool {
-        let name = d.root.name.as_bytes();
+    fn keeps_type(&self, designator: &Designator) -> bool {
+        let name = designator.root.name.as_bytes();
         let is_named = name == b"succ".as_slice() || name == b"pred".as_slice();
-        is_named && d.selectors.is_empty() && self.find(Wanted::other_than(&d.root)).is_none()
+        is_named
+            && designator.selectors.is_empty()
+            && self.find(Wanted::other_than(&designator.root)).is_none()
     }
 }
 

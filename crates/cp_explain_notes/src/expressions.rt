@@ -8,8 +8,8 @@ use std::alloc::AllocError;
 impl<'t> Walk<'t> {
     /// Walks over an expression.
     #[cycle(expressions)]
-    pub(crate) fn expression(&mut self, e: &'t Expression) -> Result<(), AllocError> {
-        match e {
+    pub(crate) fn expression(&mut self, expression: &'t Expression) -> Result<(), AllocError> {
+        match expression {
             Expression::Number { .. } | Expression::Character { .. } => Ok(()),
             Expression::Designated(d) => {
                 self.designator(d)?;
@@ -51,8 +51,8 @@ impl<'t> Walk<'t> {
 
     // Walks over the indices of a designator.
     #[cycle(expressions)]
-    fn designator(&mut self, d: &'t Designator) -> Result<(), AllocError> {
-        for selector in &d.selectors {
+    fn designator(&mut self, designator: &'t Designator) -> Result<(), AllocError> {
+        for selector in &designator.selectors {
             if let Selector::Indexed(list) = selector {
                 self.indices(list)?;
             }
@@ -71,30 +71,37 @@ impl<'t> Walk<'t> {
     /// Walks over a call of a procedure.
     pub(crate) fn procedure_call(
         &mut self,
-        d: &'t Designator,
+        designator: &'t Designator,
         list: &'t [Expression],
     ) -> Result<(), AllocError> {
-        self.designator(d)?;
+        self.designator(designator)?;
         self.expressions(list)?;
-        self.calls(d, list)
+        self.calls(designator, list)
     }
 
     /// Walks over what is assigned to. Returns what it stands for.
-    pub(crate) fn target(&mut self, d: &'t Designator) -> Result<Option<Meaning<'t>>, AllocError> {
-        self.designator(d)?;
-        self.meaning(d)
+    pub(crate) fn target(
+        &mut self,
+        designator: &'t Designator,
+    ) -> Result<Option<Meaning<'t>>, AllocError> {
+        self.designator(designator)?;
+        self.meaning(designator)
     }
 
     // Walks over the call that a designator stands for, unless it is a variable or a constant.
-    fn calls(&mut self, d: &'t Designator, list: &'t [Expression]) -> Result<(), AllocError> {
-        match self.meaning(d)? {
+    fn calls(
+        &mut self,
+        designator: &'t Designator,
+        list: &'t [Expression],
+    ) -> Result<(), AllocError> {
+        match self.meaning(designator)? {
             Some(Meaning::Routine(number)) => self.calls_routine(number, list),
             Some(Meaning::Entry(sort, number)) => {
-                self.enters(d, sort, number)?;
+                self.enters(designator, sort, number)?;
                 self.calls_routine(number, list)
             }
             Some(_) => Ok(()),
-            None => self.calls_standard(d, list),
+            None => self.calls_standard(designator, list),
         }
     }
 
@@ -108,27 +115,32 @@ impl<'t> Walk<'t> {
     }
 
     // Walks over a call of an entry routine of a component of this sort.
-    fn enters(&mut self, d: &'t Designator, sort: Sort, number: usize) -> Result<(), AllocError> {
+    fn enters(
+        &mut self,
+        designator: &'t Designator,
+        sort: Sort,
+        number: usize,
+    ) -> Result<(), AllocError> {
         let Some(behaviour) = self.behaviour(number) else {
             return Ok(());
         };
         if behaviour.delays {
-            self.keeps_gate(d, behaviour.routine)?;
+            self.keeps_gate(designator, behaviour.routine)?;
         }
         match (sort, behaviour.queue) {
-            (Sort::Monitor, Some(queue)) => self.comes_to(&d.root, queue),
+            (Sort::Monitor, Some(queue)) => self.comes_to(&designator.root, queue),
             _ => Ok(()),
         }
     }
 
     fn calls_standard(
         &mut self,
-        d: &'t Designator,
+        designator: &'t Designator,
         list: &'t [Expression],
     ) -> Result<(), AllocError> {
-        match d.root.name.as_bytes() {
-            b"delay" => self.delays(d.root.at, list),
-            b"continue" => self.continues(d.root.at, list),
+        match designator.root.name.as_bytes() {
+            b"delay" => self.delays(designator.root.at, list),
+            b"continue" => self.continues(designator.root.at, list),
             b"chr" => self.makes_character(list),
             b"empty" => {
                 self.inside.minds_queues = true;

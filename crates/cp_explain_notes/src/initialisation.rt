@@ -41,15 +41,15 @@ impl<'t> Inits<'t> {
     }
 
     // Adds a component to those that were initialised. Returns whether it was one of them.
-    fn add(&mut self, x: &'t Identifier) -> Result<bool, AllocError> {
-        let name = x.name.as_bytes();
+    fn add(&mut self, identifier: &'t Identifier) -> Result<bool, AllocError> {
+        let name = identifier.name.as_bytes();
         if self.named.find(name).is_none() {
-            self.named.add(name, x.at)?;
+            self.named.add(name, identifier.at)?;
         }
         if self.done.find(name).is_some() {
             return Ok(true);
         }
-        self.done.add(name, x.at)?;
+        self.done.add(name, identifier.at)?;
         Ok(false)
     }
 }

@@ -82,21 +82,26 @@ impl<'t> Walk<'t> {
     /// Notes a call that leads to a `delay`, if it stands in a monitor.
     pub(crate) fn keeps_gate(
         &mut self,
-        d: &'t Designator,
+        designator: &'t Designator,
         routine: &'t Routine,
     ) -> Result<(), AllocError> {
         match self.inside.sort {
             Sort::Monitor => {
                 let name = routine.name.name.as_bytes();
-                self.notes.add_on(d.root.at, NoteKind::KeepsGate, name)
+                self.notes
+                    .add_on(designator.root.at, NoteKind::KeepsGate, name)
             }
             _ => Ok(()),
         }
     }
 
     /// Walks over a call of the monitor with this name that surely delays in a queue.
-    pub(crate) fn comes_to(&mut self, x: &'t Identifier, queue: usize) -> Result<(), AllocError> {
-        let right = x.name.as_bytes();
+    pub(crate) fn comes_to(
+        &mut self,
+        name: &'t Identifier,
+        queue: usize,
+    ) -> Result<(), AllocError> {
+        let right = name.name.as_bytes();
         if self.inside.conditions > 0 {
             return Ok(());
         }
@@ -137,8 +142,8 @@ impl<'t> Walk<'t> {
     }
 
     /// The system type of a component.
-    pub(crate) fn system_of(&self, x: &Identifier) -> Option<SystemType<'t>> {
-        match self.names.find(x)? {
+    pub(crate) fn system_of(&self, name: &Identifier) -> Option<SystemType<'t>> {
+        match self.names.find(name)? {
             Meaning::Variable(Shape::System(_, at)) => self.systems.get(&at).copied(),
             _ => None,
         }

@@ -44,8 +44,8 @@ impl<'t> Queues<'t> {
     }
 
     // The number of the queue with this name.
-    fn number(&mut self, x: &'t Identifier) -> Result<usize, AllocError> {
-        let name = x.name.as_bytes();
+    fn number(&mut self, identifier: &'t Identifier) -> Result<usize, AllocError> {
+        let name = identifier.name.as_bytes();
         if let Some(number) = self.here.find(name) {
             return Ok(number);
         }

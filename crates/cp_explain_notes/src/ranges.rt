@@ -10,9 +10,9 @@ use cp_model::tree::{
 use std::alloc::AllocError;
 
 // The name of the variable or field of which a designator stands for the whole or for an element.
-fn last_name(d: &Designator) -> &Identifier {
-    let mut x = &d.root;
-    for selector in &d.selectors {
+fn last_name(designator: &Designator) -> &Identifier {
+    let mut x = &designator.root;
+    for selector in &designator.selectors {
         if let Selector::Field { name, .. } = selector {
             x = name;
         }
@@ -24,14 +24,17 @@ impl<'t> Walk<'t> {
     // Notes a constant that a variable or a parameter of this shape can't hold.
     fn fits(
         &mut self,
-        x: &'t Identifier,
+        name: &'t Identifier,
         shape: Shape<'t>,
-        e: &'t Expression,
+        expression: &'t Expression,
     ) -> Result<(), AllocError> {
-        match (shape, self.names.value(e)) {
+        match (shape, self.names.value(expression)) {
             (Shape::Simple(ordinals), Some(value)) if !ordinals.contains(value) => {
-                self.notes
-                    .add_on(first_token(e), NoteKind::OutOfRange, x.name.as_bytes())
+                self.notes.add_on(
+                    first_token(expression),
+                    NoteKind::OutOfRange,
+                    name.name.as_bytes(),
+                )
             }
             _ => Ok(()),
         }
@@ -97,10 +100,13 @@ impl<'t> Walk<'t> {
     }
 
     /// What a designator stands for. Notes constant indices beyond the bounds.
-    pub(crate) fn meaning(&mut self, d: &'t Designator) -> Result<Option<Meaning<'t>>, AllocError> {
-        let mut x = &d.root;
+    pub(crate) fn meaning(
+        &mut self,
+        designator: &'t Designator,
+    ) -> Result<Option<Meaning<'t>>, AllocError> {
+        let mut x = &designator.root;
         let mut meaning = self.names.find(x);
-        for selector in &d.selectors {
+        for selector in &designator.selectors {
             match selector {
                 Selector::Field { name, .. } => {
                     x = name;
@@ -114,13 +120,13 @@ impl<'t> Walk<'t> {
 
     fn elements(
         &mut self,
-        x: &'t Identifier,
+        name: &'t Identifier,
         array: Option<Meaning<'t>>,
         list: &'t [Index],
     ) -> Result<Option<Meaning<'t>>, AllocError> {
         let mut meaning = array;
         for index in list {
-            meaning = self.element(x, meaning, &index.value)?;
+            meaning = self.element(name, meaning, &index.value)?;
         }
         Ok(meaning)
     }
@@ -128,7 +134,7 @@ impl<'t> Walk<'t> {
     // What an array has at an index.
     fn element(
         &mut self,
-        x: &'t Identifier,
+        name: &'t Identifier,
         array: Option<Meaning<'t>>,
         index: &'t Expression,
     ) -> Result<Option<Meaning<'t>>, AllocError> {
@@ -140,7 +146,11 @@ impl<'t> Walk<'t> {
         };
         match self.names.value(index) {
             Some(value) if !ordinals.contains(value) => {
-                self.notes.add_on(first_token(index), NoteKind::OutOfBounds, x.name.as_bytes())?;
+                self.notes.add_on(
+                    first_token(index),
+                    NoteKind::OutOfBounds,
+                    name.name.as_bytes(),
+                )?;
             }
             _ => {}
         }

@@ -45,8 +45,8 @@ impl<'t> Walk<'t> {
     }
 
     // Notes a statement to which no way leads, once.
-    fn never_runs(&mut self, s: &Statement) -> Result<(), AllocError> {
-        match (self.flow.reach, statement_place(s)) {
+    fn never_runs(&mut self, statement: &Statement) -> Result<(), AllocError> {
+        match (self.flow.reach, statement_place(statement)) {
             (Reach::Closed, Some(at)) => {
                 self.flow.reach = Reach::Reported;
                 self.notes.add(at, NoteKind::NeverRuns)
@@ -69,21 +69,21 @@ impl<'t> Walk<'t> {
     }
 
     #[cycle(statements)]
-    fn statement(&mut self, s: &'t Statement) -> Result<(), AllocError> {
-        match s {
+    fn statement(&mut self, statement: &'t Statement) -> Result<(), AllocError> {
+        match statement {
             Statement::Empty => Ok(()),
             Statement::Assign(a) => self.assignment(&a.target, &a.value),
             Statement::Call(c) => self.procedure_call(&c.procedure, &c.arguments),
             Statement::Compound(list) => self.statements(list),
             Statement::Init { items, .. } => self.init_items(items),
-            _ => self.selected(s),
+            _ => self.selected(statement),
         }
     }
 
     // Walks over a statement that selects one of others, or a loop.
     #[cycle(statements)]
-    fn selected(&mut self, s: &'t Statement) -> Result<(), AllocError> {
-        match s {
+    fn selected(&mut self, statement: &'t Statement) -> Result<(), AllocError> {
+        match statement {
             Statement::Case { selector, arms } => {
                 self.expression(selector)?;
                 let branch = self.enter();
@@ -109,14 +109,14 @@ impl<'t> Walk<'t> {
                 self.leave(branch, flow.or(self.flow));
                 Ok(())
             }
-            _ => self.repeated(s),
+            _ => self.repeated(statement),
         }
     }
 
     // Walks over a loop, or an `if` without `else`.
     #[cycle(statements)]
-    fn repeated(&mut self, s: &'t Statement) -> Result<(), AllocError> {
-        match s {
+    fn repeated(&mut self, statement: &'t Statement) -> Result<(), AllocError> {
+        match statement {
             Statement::If { condition, then } => {
                 self.expression(condition)?;
                 let times = match self.holds(condition) {
@@ -168,22 +168,22 @@ impl<'t> Walk<'t> {
 
     // Walks over a statement that runs so many times.
     #[cycle(statements)]
-    fn runs(&mut self, s: &'t Statement, times: Times) -> Result<(), AllocError> {
+    fn runs(&mut self, statement: &'t Statement, times: Times) -> Result<(), AllocError> {
         let inits = self.inits.count();
         match times {
             Times::Never => Ok(()),
-            Times::Once => self.statement(s),
+            Times::Once => self.statement(statement),
             Times::Often => {
-                self.statement(s)?;
+                self.statement(statement)?;
                 self.comes_round(inits)
             }
             Times::Always => {
-                self.statement(s)?;
+                self.statement(statement)?;
                 self.never_ends(inits)
             }
             Times::Unknown => {
                 let branch = self.enter();
-                self.statement(s)?;
+                self.statement(statement)?;
                 self.leave(branch, branch.flow.or(self.flow));
                 Ok(())
             }

@@ -55,14 +55,14 @@ impl<'t> Walk<'t> {
         self.never_initialised(variables)
     }
 
-    fn system(&mut self, x: &'t Identifier, system: &'t System) -> Result<(), AllocError> {
+    fn system(&mut self, name: &'t Identifier, system: &'t System) -> Result<(), AllocError> {
         let visible = self.names.count();
         let first_call = self.queue_uses.calls();
         self.names.declare_parameters(&system.parameters)?;
         self.names.declare_variables(&system.variables)?;
         self.inside = Inside::body(system.sort, false);
         self.queues.leave_monitor();
-        self.routines(x.at, &system.routines)?;
+        self.routines(name.at, &system.routines)?;
         self.body(&system.body, &system.variables)?;
         self.never_continued()?;
         self.names.leave(visible);
@@ -71,17 +71,17 @@ impl<'t> Walk<'t> {
             first_call,
             last_call: self.queue_uses.calls(),
         };
-        self.define_system(x, defined)
+        self.define_system(name, defined)
     }
 
     fn define_system(
         &mut self,
-        x: &'t Identifier,
+        name: &'t Identifier,
         defined: SystemType<'t>,
     ) -> Result<(), AllocError> {
-        let shape = Shape::System(defined.system.sort, x.at);
-        self.names.declare(x, Meaning::Type(shape))?;
-        match self.systems.insert(x.at, defined) {
+        let shape = Shape::System(defined.system.sort, name.at);
+        self.names.declare(name, Meaning::Type(shape))?;
+        match self.systems.insert(name.at, defined) {
             Ok(_) => Ok(()),
             Err(_) => Err(AllocError),
         }

@@ -59,8 +59,8 @@ struct Draft<'t> {
 }
 
 impl<'t> Draft<'t> {
-    fn name(&mut self, x: &'t Identifier, origin: Origin) -> Result<(), AllocError> {
-        let name = x.name.as_bytes();
+    fn name(&mut self, identifier: &'t Identifier, origin: Origin) -> Result<(), AllocError> {
+        let name = identifier.name.as_bytes();
         match self.names.find(name) {
             Some(_) => Ok(()),
             None => self.names.add(name, origin),
@@ -153,8 +153,8 @@ impl<'t> Blueprints<'t> {
     }
 
     // Names the blueprint that was added last.
-    fn add_kind(&mut self, x: &'t Identifier, sort: Sort) -> Result<(), AllocError> {
-        let name = x.name.as_bytes();
+    fn add_kind(&mut self, identifier: &'t Identifier, sort: Sort) -> Result<(), AllocError> {
+        let name = identifier.name.as_bytes();
         let blueprint = self.initial();
         match self.kinds.find(name) {
             Some(_) => Ok(()),

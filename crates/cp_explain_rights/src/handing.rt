@@ -31,8 +31,8 @@ impl<'n, 't> Handing<'n, 't> {
     }
 
     // Where a component comes from that is an argument.
-    fn origin(&self, e: &Expression) -> Option<Origin> {
-        match e {
+    fn origin(&self, expression: &Expression) -> Option<Origin> {
+        match expression {
             Expression::Designated(d) => self.names.find(d.root.name.as_bytes()),
             _ => None,
         }
@@ -72,8 +72,8 @@ impl<'n, 't> Handing<'n, 't> {
     }
 
     #[cycle(statements)]
-    fn statement(&mut self, s: &Statement) -> Result<(), AllocError> {
-        match s {
+    fn statement(&mut self, statement: &Statement) -> Result<(), AllocError> {
+        match statement {
             Statement::Init { items, .. } => self.items(items),
             Statement::Compound(list) | Statement::Cycle(list) => self.statements(list),
             Statement::If { then, .. } => self.statement(then),

@@ -220,7 +220,7 @@ impl<'t> Instances<'t> {
     }
 
     // The path of the part with this name.
-    fn path(&self, index: usize, x: &Identifier) -> Result<Vec<u8>, AllocError> {
+    fn path(&self, index: usize, name: &Identifier) -> Result<Vec<u8>, AllocError> {
         let mut path = Vec::new(self.alloc);
         if let Some(instance) = self.all.get(index) {
             if index != 0 {
@@ -228,7 +228,7 @@ impl<'t> Instances<'t> {
                 path.push(b'.')?;
             }
         }
-        path.extend_from_slice(x.name.as_bytes())?;
+        path.extend_from_slice(name.name.as_bytes())?;
         Ok(path)
     }
 

@@ -26,8 +26,8 @@ pub fn group_of(groups: &[Parameters], number: usize) -> Option<&Parameters> {
 }
 
 /// The first name after the root of a designator.
-pub fn first_field(d: &Designator) -> Option<&Identifier> {
-    for selector in &d.selectors {
+pub fn first_field(designator: &Designator) -> Option<&Identifier> {
+    for selector in &designator.selectors {
         if let Selector::Field { name, .. } = selector {
             return Some(name);
         }
@@ -51,20 +51,20 @@ fn push_side(page: &mut Page, side: Side<'_>) {
 
 impl<'t> Site<'t> {
     /// The routine that a call names.
-    pub fn callee(&self, d: &'t Designator) -> Option<Declaration<'t>> {
-        match d.selectors.as_slice() {
-            [] => self.scope.find(Wanted::other_than(&d.root)),
-            _ => self.entry(d),
+    pub fn callee(&self, designator: &'t Designator) -> Option<Declaration<'t>> {
+        match designator.selectors.as_slice() {
+            [] => self.scope.find(Wanted::other_than(&designator.root)),
+            _ => self.entry(designator),
         }
     }
 
     // The parameter that an argument is for.
-    fn parameter(&self, d: &'t Designator, number: usize) -> Option<&'t Parameters> {
-        group_of(&self.callee(d)?.routine?.parameters, number)
+    fn parameter(&self, designator: &'t Designator, number: usize) -> Option<&'t Parameters> {
+        group_of(&self.callee(designator)?.routine?.parameters, number)
     }
 
-    fn init_parameter(&self, x: &'t Identifier, number: usize) -> Option<&'t Parameters> {
-        group_of(&self.scope.system_of(x)?.parameters, number)
+    fn init_parameter(&self, name: &'t Identifier, number: usize) -> Option<&'t Parameters> {
+        group_of(&self.scope.system_of(name)?.parameters, number)
     }
 
     fn pair_types(&self, pair: Pair<'t>) -> Option<(Side<'t>, Side<'t>)> {
@@ -92,8 +92,13 @@ impl<'t> Site<'t> {
     }
 
     // The type of an index of the array before the selector with this number.
-    fn index_type(&self, d: &'t Designator, selector: usize, number: usize) -> Option<Type<'t>> {
-        match self.scope.type_of_front(d, selector)? {
+    fn index_type(
+        &self,
+        designator: &'t Designator,
+        selector: usize,
+        number: usize,
+    ) -> Option<Type<'t>> {
+        match self.scope.type_of_front(designator, selector)? {
             Type::Structured(_, TypeExpression::Array { indices, .. }) => {
                 self.scope.type_of_written(indices.get(number)?)
             }
@@ -150,8 +155,8 @@ impl<'t> Site<'t> {
     }
 
     // The name of the type of a variable as it is declared, if it stands alone and has one.
-    fn declared_type(&self, e: &'t Expression) -> Option<&'t Identifier> {
-        match e {
+    fn declared_type(&self, expression: &'t Expression) -> Option<&'t Identifier> {
+        match expression {
             Expression::Designated(d) if d.selectors.is_empty() => {
                 self.scope.find(Wanted::other_than(&d.root))?.of
             }
@@ -222,9 +227,9 @@ impl<'t> Site<'t> {
     }
 
     // The entry routine that a designator names after a component's `.`.
-    fn entry(&self, d: &'t Designator) -> Option<Declaration<'t>> {
-        let system = self.scope.system_of(&d.root)?;
-        match d.selectors.as_slice() {
+    fn entry(&self, designator: &'t Designator) -> Option<Declaration<'t>> {
+        let system = self.scope.system_of(&designator.root)?;
+        match designator.selectors.as_slice() {
             [Selector::Field { name, .. }] => {
                 Wanted::other_than(name).in_routines(&system.routines)
             }

@@ -24,9 +24,9 @@ impl<'t> Site<'t> {
     }
 
     // The routine that a name after a component's `.` stands for.
-    fn member(&self, d: &Designator, x: &'t Identifier) -> Option<Declaration<'t>> {
-        let system = self.scope.system_of(&d.root)?;
-        Wanted::other_than(x).in_routines(&system.routines)
+    fn member(&self, designator: &Designator, name: &'t Identifier) -> Option<Declaration<'t>> {
+        let system = self.scope.system_of(&designator.root)?;
+        Wanted::other_than(name).in_routines(&system.routines)
     }
 
     /// The declaration of the name at the place, other than the place itself.
@@ -140,8 +140,8 @@ impl<'t> Site<'t> {
     }
 
     // The message for a name after a component's `.` that stands for no routine.
-    fn no_member(&self, x: &Identifier, system: &'t System) -> Message {
-        let wanted = Wanted::other_than(x);
+    fn no_member(&self, name: &Identifier, system: &'t System) -> Message {
+        let wanted = Wanted::other_than(name);
         let is_own = wanted.in_groups(&system.variables).is_some()
             || wanted.in_parameters(&system.parameters).is_some();
         match (system.sort, is_own) {

@@ -116,12 +116,12 @@ impl<'t> Site<'t> {
         }
     }
 
-    fn push_system_count(&self, page: &mut Page, x: &Identifier, system: &System, given: usize) {
+    fn push_system_count(&self, page: &mut Page, name: &Identifier, system: &System, given: usize) {
         let takes = count(&system.parameters);
         if takes == given {
             return;
         }
-        push_count(page, x, takes, given);
+        push_count(page, name, takes, given);
         page.bytes(b": ");
         push_system(page, system);
         page.bytes(b".\n");
@@ -141,13 +141,13 @@ impl<'t> Site<'t> {
         page.bytes(b".\n");
     }
 
-    fn push_standard_count(&self, page: &mut Page, x: &Identifier, given: usize) {
+    fn push_standard_count(&self, page: &mut Page, name: &Identifier, given: usize) {
         let Some(standard) = self.standard() else {
             return;
         };
         match standard.count() {
             Some(takes) if takes != given => {
-                push_count(page, x, takes, given);
+                push_count(page, name, takes, given);
                 page.bytes(b".\n");
             }
             _ => {}

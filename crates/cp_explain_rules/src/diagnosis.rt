@@ -63,21 +63,21 @@ fn push_hidden(page: &mut Page, text: &[u8], declared: Declaration<'_>) {
 fn number(
     alloc: Global,
     tree: &Tree,
-    x: Option<&Identifier>,
+    found: Option<&Identifier>,
 ) -> Result<Option<(Sort, usize)>, AllocError> {
-    let Some(x) = x else {
+    let Some(found) = found else {
         return Ok(None);
     };
     let systems = Systems::of(alloc, tree)?;
     let components = Components::of(alloc, &systems, &[], &tree.variables)?;
-    Ok(match components.find(x) {
+    Ok(match components.find(found) {
         Some(component) => Some((component.sort, component.number)),
         None => None,
     })
 }
 
-fn letters<'t>(x: Option<&'t Identifier>) -> Option<&'t [u8]> {
-    Some(x?.name.as_bytes())
+fn letters<'t>(found: Option<&'t Identifier>) -> Option<&'t [u8]> {
+    Some(found?.name.as_bytes())
 }
 
 impl<'t> Site<'t> {

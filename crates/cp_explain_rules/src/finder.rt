@@ -35,10 +35,10 @@ impl<'t> Finder<'t> {
         }
     }
 
-    pub(crate) fn name(&mut self, x: &'t Identifier, role: NameRole<'t>) {
-        if x.at == self.at {
+    pub(crate) fn name(&mut self, name: &'t Identifier, role: NameRole<'t>) {
+        if name.at == self.at {
             self.site.scope = self.scope;
-            self.site.name = Some((x, role));
+            self.site.name = Some((name, role));
         }
     }
 
@@ -50,11 +50,11 @@ impl<'t> Finder<'t> {
     }
 
     // Of the expressions that begin at the place, the outermost one says what is wanted there.
-    pub(crate) fn purpose(&mut self, at: usize, e: &'t Expression, purpose: Purpose<'t>) {
+    pub(crate) fn purpose(&mut self, at: usize, expression: &'t Expression, purpose: Purpose<'t>) {
         if at == self.at && self.site.purpose.is_none() {
             self.site.scope = self.scope;
             self.site.purpose = Some(purpose);
-            self.site.expression = Some(e);
+            self.site.expression = Some(expression);
         }
     }
 

@@ -16,9 +16,9 @@ pub enum Owner<'t> {
 }
 
 // Adds a name to a list that begins with `lead`.
-fn push_item(page: &mut Page, lead: &str, x: &Identifier) {
+fn push_item(page: &mut Page, lead: &str, name: &Identifier) {
     page.text(lead);
-    page.name(x);
+    page.name(name);
 }
 
 fn push_entries(page: &mut Page, of: &Identifier, routines: &[Routine]) {
@@ -58,9 +58,9 @@ fn number_of(selectors: &[Selector], at: usize) -> Option<usize> {
 }
 
 impl<'t> Site<'t> {
-    fn owner_before(&self, d: &'t Designator, at: usize) -> Option<Owner<'t>> {
-        let number = number_of(&d.selectors, at)?;
-        match self.scope.type_of_front(d, number)? {
+    fn owner_before(&self, designator: &'t Designator, at: usize) -> Option<Owner<'t>> {
+        let number = number_of(&designator.selectors, at)?;
+        match self.scope.type_of_front(designator, number)? {
             Type::System(of, system) => Some(Owner::Component(of, system.sort, &system.routines)),
             Type::Structured(_, TypeExpression::Record { groups, .. }) => {
                 Some(Owner::Record(groups))

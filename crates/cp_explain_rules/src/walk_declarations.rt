@@ -8,8 +8,8 @@ use cp_model::tree::{
 };
 
 /// The place of a constant.
-pub(crate) fn constant_place(c: &Constant) -> usize {
-    match c {
+pub(crate) fn constant_place(constant: &Constant) -> usize {
+    match constant {
         Constant::Number { at, .. }
         | Constant::Negative { at, .. }
         | Constant::Character { at, .. } => *at,
@@ -29,9 +29,9 @@ impl<'t> Finder<'t> {
         finder.site
     }
 
-    pub(crate) fn constant(&mut self, c: &'t Constant, mark: Mark) {
-        self.mark(constant_place(c), mark);
-        if let Constant::Named(x) = c {
+    pub(crate) fn constant(&mut self, constant: &'t Constant, mark: Mark) {
+        self.mark(constant_place(constant), mark);
+        if let Constant::Named(x) = constant {
             self.name(x, NameRole::Constant);
         }
     }

@@ -7,14 +7,14 @@ use cp_model::tree::{Designator, Expression, Index, Operation, Selector};
 
 impl<'t> Finder<'t> {
     /// Walks over an expression that is wanted for `purpose`.
-    pub(crate) fn expression_for(&mut self, e: &'t Expression, purpose: Purpose<'t>) {
-        self.purpose(first_token(e), e, purpose);
-        self.expression(e);
+    pub(crate) fn expression_for(&mut self, expression: &'t Expression, purpose: Purpose<'t>) {
+        self.purpose(first_token(expression), expression, purpose);
+        self.expression(expression);
     }
 
     #[cycle(expressions)]
-    pub(crate) fn expression(&mut self, e: &'t Expression) {
-        match e {
+    pub(crate) fn expression(&mut self, expression: &'t Expression) {
+        match expression {
             Expression::Number { .. } | Expression::Character { .. } => {}
             Expression::Designated(d) => self.designator(d, NameRole::Value, Call::Function(0)),
             Expression::Call(d, list) => {
@@ -61,10 +61,10 @@ impl<'t> Finder<'t> {
     }
 
     // Records what each argument is wanted for.
-    pub(crate) fn purposes(&mut self, d: &'t Designator, list: &'t [Expression]) {
+    pub(crate) fn purposes(&mut self, designator: &'t Designator, list: &'t [Expression]) {
         for number in 0..list.len() {
             let e = &list[number];
-            self.purpose(first_token(e), e, Purpose::Argument(d, number));
+            self.purpose(first_token(e), e, Purpose::Argument(designator, number));
         }
     }
 
@@ -78,47 +78,56 @@ impl<'t> Finder<'t> {
     /// Walks over a designator. If its first name stands alone, it has the role `alone`. A name
     /// after its last `.` is called as `call` says.
     #[cycle(expressions)]
-    pub(crate) fn designator(&mut self, d: &'t Designator, alone: NameRole<'t>, call: Call) {
-        self.names(d, alone, call);
-        self.index_purposes(d);
-        self.selectors(&d.selectors);
+    pub(crate) fn designator(
+        &mut self,
+        designator: &'t Designator,
+        alone: NameRole<'t>,
+        call: Call,
+    ) {
+        self.names(designator, alone, call);
+        self.index_purposes(designator);
+        self.selectors(&designator.selectors);
     }
 
-    fn names(&mut self, d: &'t Designator, alone: NameRole<'t>, call: Call) {
-        match d.selectors.as_slice() {
-            [] => self.name(&d.root, alone),
-            _ => self.name(&d.root, NameRole::Root(d)),
+    fn names(&mut self, designator: &'t Designator, alone: NameRole<'t>, call: Call) {
+        match designator.selectors.as_slice() {
+            [] => self.name(&designator.root, alone),
+            _ => self.name(&designator.root, NameRole::Root(designator)),
         }
-        for number in 0..d.selectors.len() {
-            let call = if number + 1 == d.selectors.len() {
+        for number in 0..designator.selectors.len() {
+            let call = if number + 1 == designator.selectors.len() {
                 call
             } else {
                 Call::No
             };
-            self.member(d, &d.selectors[number], call);
+            self.member(designator, &designator.selectors[number], call);
         }
     }
 
-    fn member(&mut self, d: &'t Designator, selector: &'t Selector, call: Call) {
+    fn member(&mut self, designator: &'t Designator, selector: &'t Selector, call: Call) {
         if let Selector::Field { at, name } = selector {
             self.mark(*at, Mark::Point);
-            self.name(name, NameRole::Member(d, call));
+            self.name(name, NameRole::Member(designator, call));
         }
     }
 
     // Records what each index is wanted for.
-    fn index_purposes(&mut self, d: &'t Designator) {
-        for number in 0..d.selectors.len() {
-            if let Selector::Indexed(indices) = &d.selectors[number] {
-                self.purposes_of(d, number, indices);
+    fn index_purposes(&mut self, designator: &'t Designator) {
+        for number in 0..designator.selectors.len() {
+            if let Selector::Indexed(indices) = &designator.selectors[number] {
+                self.purposes_of(designator, number, indices);
             }
         }
     }
 
-    fn purposes_of(&mut self, d: &'t Designator, selector: usize, indices: &'t [Index]) {
+    fn purposes_of(&mut self, designator: &'t Designator, selector: usize, indices: &'t [Index]) {
         for number in 0..indices.len() {
             let e = &indices[number].value;
-            self.purpose(first_token(e), e, Purpose::Index(d, selector, number));
+            self.purpose(
+                first_token(e),
+                e,
+                Purpose::Index(designator, selector, number),
+            );
         }
     }
 

@@ -14,8 +14,8 @@ impl<'t> Finder<'t> {
     }
 
     #[cycle(statements)]
-    fn statement(&mut self, s: &'t Statement) {
-        match s {
+    fn statement(&mut self, statement: &'t Statement) {
+        match statement {
             Statement::Empty => {}
             Statement::Assign(a) => {
                 self.designator(&a.target, NameRole::Target, Call::No);
@@ -36,24 +36,24 @@ impl<'t> Finder<'t> {
                 self.expression_for(&header.last, Purpose::Bound(variable));
                 self.statement(body);
             }
-            _ => self.control_statement(s),
+            _ => self.control_statement(statement),
         }
     }
 
-    fn procedure_call(&mut self, d: &'t Designator, list: &'t [Expression]) {
+    fn procedure_call(&mut self, designator: &'t Designator, list: &'t [Expression]) {
         self.designator(
-            d,
+            designator,
             NameRole::Procedure(list.len()),
             Call::Procedure(list.len()),
         );
-        self.purposes(d, list);
+        self.purposes(designator, list);
         self.expressions(list);
     }
 
     // Walks over a statement that tests a value.
     #[cycle(statements)]
-    fn control_statement(&mut self, s: &'t Statement) {
-        match s {
+    fn control_statement(&mut self, statement: &'t Statement) {
+        match statement {
             Statement::If { condition, then } => {
                 self.expression_for(condition, Purpose::Condition);
                 self.statement(then);

@@ -37,7 +37,7 @@ use Rattle.cp_model_machine.specs.KernelSteps as plain
 use Rattle.cp_model_machine.specs.KernelSteps.{Begun, Kernel, SchedulingState, Turning, apply_effect, is_begun, is_due, join_words, needs_kernel, outside, part_words, stage_of}
 use Rattle.cp_model_machine.specs.Laws.{TurningOf, ground_of}
 use Rattle.cp_model_machine.specs.Remaining.{Remaining, Running, innermost_gate, site}
-use Rattle.cp_model_machine.specs.PartOf.{DataMeans, Advances, PartOf, RunsOn, status_of}
+use Rattle.cp_model_machine.specs.PartOf.{DataMeans, IsActive, PartOf, RunsOn, status_of}
 use Rattle.cp_model_machine.proofs.Deciding.{Reaches, ready_steps}
 use Rattle.cp_model_machine.proofs.Effects.{HasFailed, HasFaulted, failed, private_after, private_by, unfailed}
 use Rattle.cp_model_machine.proofs.EffectsKept.{Represent, effects_kept, represent_beside}
@@ -87,7 +87,7 @@ no_end G temps limit K R fs place low (i ∷ k) left due end = by i left due (of
 begun_still : (o : PrivateState) (y : Operation) (after : PrivateState) → Stops o y after → HasBegun (status_of after.activity)
 begun_still o y after (On goes) = by after.activity goes
   where
-    by : (x : Activity) → Advances x → HasBegun (status_of x)
+    by : (x : Activity) → IsActive x → HasBegun (status_of x)
     by machine.Running h = tt
     by machine.Waiting h = tt
     by _ h = absurd h
@@ -144,7 +144,7 @@ module _ (program : Program) (setup : Setup) (F : IsProgramFor program setup) (p
 
   module _ (ready : s.status p ≡ stage.Ready) (running : o.activity ≡ machine.Running) where
     R : RunsOn G s.store o (s.continuation p)
-    R = P.runs_on (subst Advances (sym running) tt)
+    R = P.runs_on (subst IsActive (sym running) tt)
 
     pub joins : RunsOn H s.store (join_words x) (s.continuation p)
     joins = runs_joined G refl (monitors_lie program setup F) s.store o (s.continuation p) R k.shared K.word_count K.data_means
@@ -214,7 +214,7 @@ module _ (program : Program) (setup : Setup) (F : IsProgramFor program setup) (p
     module _ (J : StoreInvariant u.store) where
       -- After the words are separated, the kernel and the private state are right, whether the
       -- process runs on or not.
-      halves : (top : ℕ) → Stacked H top xs → HasBegun (status_of r.0.activity) → (Advances r.0.activity → RunsOn G u.store (record r.0 { words = take own r.0.words }) (u.continuation p))
+      halves : (top : ℕ) → Stacked H top xs → HasBegun (status_of r.0.activity) → (IsActive r.0.activity → RunsOn G u.store (record r.0 { words = take own r.0.words }) (u.continuation p))
           → TurningOf program setup F p own u before (part_words n x r)
       halves top stack begun runs = record {
         part = record {
@@ -247,7 +247,7 @@ module _ (program : Program) (setup : Setup) (F : IsProgramFor program setup) (p
       left_same (Fault m) Q fails = refl
       left_same (Gives (c, e)) Q fails = absurd (unfailed s p ready c e (subst HasFailed (sym Q.status) (failed r.0.activity fails)))
 
-      goes_no_fault : (a : Activity) → HasFaulted a → Advances a → ⊥
+      goes_no_fault : (a : Activity) → HasFaulted a → IsActive a → ⊥
       goes_no_fault (machine.Faulted f) h g = g
       goes_no_fault _ h g = h
 

@@ -13,7 +13,7 @@ use Rattle.cp_model_machine.specs.PrivateStates as machine
 use Rattle.cp_model_machine.specs.PrivateStates.{Activity, PrivateState}
 use Rattle.cp_model_machine.specs.Addresses.{Activation, Ground, OwnWords, RightMeans, activations, in_sight, sees}
 use Rattle.cp_model_machine.specs.Means.{CellMeans}
-use Rattle.cp_model_machine.specs.PartOf.{DataMeans, Advances, PartOf, RunsOn, components, status_of}
+use Rattle.cp_model_machine.specs.PartOf.{DataMeans, IsActive, PartOf, RunsOn, components, status_of}
 use Rattle.cp_model_machine.proofs.Given.{KeepsGiven, all_kept, rights_kept}
 use Rattle.cp_model_machine.proofs.Keeping.{KeepsActivation, each_kept}
 use Rattle.cp_model_machine.proofs.RunningOn.{runs_kept}
@@ -49,7 +49,7 @@ module _ (G : Ground) (sight : G.sight ≡ OwnWords) (store after : Store) (same
 -- ---- the private state
 
 -- A process that runs or will run again has begun.
-goes_begun : (x : Activity) → Advances x → HasBegun (status_of x)
+goes_begun : (x : Activity) → IsActive x → HasBegun (status_of x)
 goes_begun machine.Running h = tt
 goes_begun machine.Waiting h = tt
 goes_begun _ h = absurd h

@@ -21,7 +21,7 @@ use Rattle.cp_model_machine.specs.Steps.{act_on, alone}
 use Rattle.cp_model_machine.specs.Addresses.{Ground, OwnWords, sees, words_seen}
 use Rattle.cp_model_machine.specs.Laws.{PrivateStepIsStep, ground_of}
 use Rattle.cp_model_machine.specs.Remaining.{innermost_gate}
-use Rattle.cp_model_machine.specs.PartOf.{Advances, PartOf, RunsOn, status_of}
+use Rattle.cp_model_machine.specs.PartOf.{IsActive, PartOf, RunsOn, status_of}
 use Rattle.cp_model_machine.proofs.Deciding.{Reaches, ready_steps}
 use Rattle.cp_model_machine.proofs.GatesHeld.{gate_is_held}
 use Rattle.cp_model_machine.proofs.Alone.{StepsAlone, steps_alone}
@@ -66,7 +66,7 @@ module _ (G : Ground) (s : State) (before : List ℕ) (o : PrivateState) (part :
   -- ---- all cases
 
   runs : o.activity ≡ machine.Running → RunsOn G s.store o (s.continuation G.p)
-  runs is = part.runs_on (subst Advances (sym is) tt)
+  runs is = part.runs_on (subst IsActive (sym is) tt)
 
   -- The process asks for a gate or is delayed, so it has entered a monitor.
   blocked_rests : (x : Status) → s.status G.p ≡ x → kind_of x (s.continuation G.p) ≡ NoStep → is_in_monitor (s.continuation G.p) ≡ true → o.activity ≡ machine.Running → StepsAlone G s before o
@@ -97,7 +97,7 @@ ready_alone G s before o F texts sight part I ready marks running =
     w = alone (realtime (clock_of G s)) o
 
     on : RunsOn G s.store o (s.continuation G.p)
-    on = part.runs_on (subst Advances (sym running) tt)
+    on = part.runs_on (subst IsActive (sym running) tt)
 
     gate : o.gate ≡ 0
     gate = on.gate ∙ ap innermost_gate marks

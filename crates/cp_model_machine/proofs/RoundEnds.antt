@@ -17,7 +17,7 @@ use Rattle.cp_model_machine.specs.Beginning.{Begins}
 use Rattle.cp_model_machine.specs.KernelOf.{StageMeans, kernel_ground}
 use Rattle.cp_model_machine.specs.KernelSteps.{Asking, Begun, Delayed, Fresh, Kernel, SchedulingState, Unstarted, stage_of}
 use Rattle.cp_model_machine.specs.Machines.{awake, begin_from, begin_if, begin_one, wake_one}
-use Rattle.cp_model_machine.specs.PartOf.{Advances, PartOf, RunsOn, status_of}
+use Rattle.cp_model_machine.specs.PartOf.{IsActive, PartOf, RunsOn, status_of}
 use Rattle.cp_model_program.specs.Starts.{block, paste}
 
 -- ---- waking
@@ -50,7 +50,7 @@ roused_begun Finished h = h
 roused_begun Sleeping h = tt
 roused_begun (Failed n) h = h
 
-awake_goes : (x : Activity) → Advances (awake x) → Advances x
+awake_goes : (x : Activity) → IsActive (awake x) → IsActive x
 awake_goes machine.NotBegun h = h
 awake_goes machine.Running h = h
 awake_goes machine.Waiting h = tt

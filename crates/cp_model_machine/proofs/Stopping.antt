@@ -20,12 +20,12 @@ use Rattle.cp_model_machine.specs.PrivateStates.{Acting, Effect, Frame, StepCont
 use Rattle.cp_model_machine.specs.Steps as steps
 use Rattle.cp_model_machine.specs.Steps.{act, count_to, go_to_arm}
 use Rattle.cp_model_machine.specs.Values.{View, place_of, value_of}
-use Rattle.cp_model_machine.specs.PartOf.{Advances}
+use Rattle.cp_model_machine.specs.PartOf.{IsActive}
 use Rattle.cp_model_machine.proofs.Effects.{HasFaulted, passed_words}
 
 -- A step continues, faults where it is, or ends the process there.
 pub data Stops (o : PrivateState) (y : Operation) (after : PrivateState) : Type 0 where
-  On : Advances after.activity → Stops o y after
+  On : IsActive after.activity → Stops o y after
   Fails : HasFaulted after.activity → after.base ≡ o.base → after.frames ≡ o.frames → Stops o y after
   Finishes : after.activity ≡ machine.Ended → y ≡ op.End → Stops o y after
 
@@ -37,7 +37,7 @@ module _ (program : Program) (w : StepContext) (o : PrivateState) (y : Operation
   v = view_of w o
 
   goes : (x : PrivateState) → x.activity ≡ machine.Running → Stops o y x
-  goes x e = On (subst Advances (sym e) tt)
+  goes x e = On (subst IsActive (sym e) tt)
 
   with_result_stops : {A : Type 0} (r : Result A fault.Fault) (go : A → Acting) → ((x : A) → Ok' (go x)) → Ok' (with_result o r go)
   with_result_stops (Ok x) go h = h x
@@ -79,7 +79,7 @@ module _ (program : Program) (w : StepContext) (o : PrivateState) (y : Operation
       (goes (leave (set_temp changed (f.temp + f.into) (word o.words o.base)) f fs) h)
 
   count_stops : (c : Counting) (n last : ℤ) → Ok' (count_to w o c n last)
-  count_stops c n last = provided_stops (within c.low c.high n) _ _ (On (subst Advances (sym running) tt))
+  count_stops c n last = provided_stops (within c.low c.high n) _ _ (On (subst IsActive (sym running) tt))
 
   arm_stops : (at : Option ℕ) → Ok' (go_to_arm o at)
   arm_stops None = Fails tt refl refl
@@ -90,7 +90,7 @@ module _ (program : Program) (w : StepContext) (o : PrivateState) (y : Operation
       let c = component_called program w o call.target in
       let to = o.base + call.words in
       unit_stops call c.component (λ u. guard c.is_set o faults.NotInitialised (when_passed (pass_all w to to call.arguments o) (entered u)))
-      (λ u. provided_stops c.is_set faults.NotInitialised (when_passed (pass_all w to to call.arguments o) (entered u)) (passed_stops to to call.arguments (entered u) (λ us. On (subst Advances (sym running) tt))))
+      (λ u. provided_stops c.is_set faults.NotInitialised (when_passed (pass_all w to to call.arguments o) (entered u)) (passed_stops to to call.arguments (entered u) (λ us. On (subst IsActive (sym running) tt))))
     where
       entered : CodeUnit → PrivateState → Acting
       entered u p =
@@ -100,7 +100,7 @@ module _ (program : Program) (w : StepContext) (o : PrivateState) (y : Operation
   class_stops call at next =
       unit_stops call at (λ u. guard (same_integer (word o.words at) (pos 0)) o faults.InitialisedTwice (when_passed (pass_all w from at call.arguments o) (begun u)))
       (λ u. provided_stops (same_integer (word o.words at) (pos 0)) faults.InitialisedTwice (when_passed (pass_all w from at call.arguments o) (begun u))
-      (passed_stops from at call.arguments (begun u) (λ us. On (subst Advances (sym running) tt))))
+      (passed_stops from at call.arguments (begun u) (λ us. On (subst IsActive (sym running) tt))))
     where
       from : ℕ
       from = o.base + call.words
@@ -112,7 +112,7 @@ module _ (program : Program) (w : StepContext) (o : PrivateState) (y : Operation
   monitor_stops call m next =
       unit_stops call c.component (λ u. guard (not c.is_set) o faults.InitialisedTwice (when_passed (pass_all w from c.component call.arguments o) (begun u)))
       (λ u. provided_stops (not c.is_set) faults.InitialisedTwice (when_passed (pass_all w from c.component call.arguments o) (begun u))
-      (passed_stops from c.component call.arguments (begun u) (λ us. On (subst Advances (sym running) tt))))
+      (passed_stops from c.component call.arguments (begun u) (λ us. On (subst IsActive (sym running) tt))))
     where
       c : Called
       c = monitor_called program w m
@@ -128,7 +128,7 @@ module _ (program : Program) (w : StepContext) (o : PrivateState) (y : Operation
       let from = o.base + words in
       let to = w.own + parameters_start program r in
       provided_stops (not (w.is_started r)) faults.InitialisedTwice (when_passed (pass_all w from to xs o) started)
-      (passed_stops from to xs started (λ us. On (subst Advances (sym running) tt)))
+      (passed_stops from to xs started (λ us. On (subst IsActive (sym running) tt)))
     where
       started : PrivateState → Acting
       started p = (go_to next (settle p (o.base + words) (w.own + parameters_start program r) (length xs)), machine.Starts r)
@@ -140,7 +140,7 @@ module _ (program : Program) (w : StepContext) (o : PrivateState) (y : Operation
   delay_stops at next =
       in_monitor_stops (if nat_lt at (length o.words) then guard (int_le (word o.words at) (pos 0)) o faults.QueueTaken represents else private_outcome o)
       (either_stops (nat_lt at (length o.words)) (guard (int_le (word o.words at) (pos 0)) o faults.QueueTaken represents) (private_outcome o)
-      (provided_stops (int_le (word o.words at) (pos 0)) faults.QueueTaken represents (On (subst Advances (sym running) tt))) (goes o running))
+      (provided_stops (int_le (word o.words at) (pos 0)) faults.QueueTaken represents (On (subst IsActive (sym running) tt))) (goes o running))
     where
       represents : Acting
       represents = (go_to next (set_word o at (pos o.number)), machine.Delays o.gate at)
@@ -159,27 +159,27 @@ pub act_stops : (program : Program) (w : StepContext) (o : PrivateState) (y : Op
 act_stops program w o (op.Set to low high value n) r =
     let y = op.Set to low high value n in
     with_result_stops program w o y r (place_of (view_of w o) to) _ (λ at. with_result_stops program w o y r (value_of (view_of w o) value) _
-    (λ z. provided_stops program w o y r (within low high z) _ _ (On (subst Advances (sym r) tt))))
+    (λ z. provided_stops program w o y r (within low high z) _ _ (On (subst IsActive (sym r) tt))))
 act_stops program w o (op.SetResult low high value n) r =
     let y = op.SetResult low high value n in
-    with_result_stops program w o y r (value_of (view_of w o) value) _ (λ z. provided_stops program w o y r (within low high z) _ _ (On (subst Advances (sym r) tt)))
+    with_result_stops program w o y r (value_of (view_of w o) value) _ (λ z. provided_stops program w o y r (within low high z) _ _ (On (subst IsActive (sym r) tt)))
 act_stops program w o (op.CopyWords to from size n) r =
     let y = op.CopyWords to from size n in
-    with_result_stops program w o y r (place_of (view_of w o) to) _ (λ at. with_result_stops program w o y r (place_of (view_of w o) from) _ (λ b. On (subst Advances (sym r) tt)))
-act_stops program w o (op.Test value yes' no') r = with_result_stops program w o (op.Test value yes' no') r (value_of (view_of w o) value) _ (λ z. On (subst Advances (sym r) tt))
+    with_result_stops program w o y r (place_of (view_of w o) to) _ (λ at. with_result_stops program w o y r (place_of (view_of w o) from) _ (λ b. On (subst IsActive (sym r) tt)))
+act_stops program w o (op.Test value yes' no') r = with_result_stops program w o (op.Test value yes' no') r (value_of (view_of w o) value) _ (λ z. On (subst IsActive (sym r) tt))
 act_stops program w o (op.Case value table) r =
     with_result_stops program w o (op.Case value table) r (value_of (view_of w o) value) _ (λ z. arm_stops program w o (op.Case value table) r (place_in table z))
 act_stops program w o (op.For c first last) r =
     let y = op.For c first last in
     with_result_stops program w o y r (value_of (view_of w o) first) _ (λ n. with_result_stops program w o y r (value_of (view_of w o) last) _
-    (λ m. either_stops program w o y r (is_past c.down n m) (private_outcome (go_to c.next o)) (count_to w o c n m) (On (subst Advances (sym r) tt)) (count_stops program w o y r c n m)))
+    (λ m. either_stops program w o y r (is_past c.down n m) (private_outcome (go_to c.next o)) (count_to w o c n m) (On (subst IsActive (sym r) tt)) (count_stops program w o y r c n m)))
 act_stops program w o (op.ForNext c) r =
     let y = op.ForNext c in
     let n = word o.temps (o.temp + c.temp) in
     let last = word o.temps (o.temp + c.temp + 1) in
-    either_stops program w o y r (same_integer n last) (private_outcome (go_to c.next o)) (count_to w o c (next_counter c.down n) last) (On (subst Advances (sym r) tt))
+    either_stops program w o y r (same_integer n last) (private_outcome (go_to c.next o)) (count_to w o c (next_counter c.down n) last) (On (subst IsActive (sym r) tt))
     (count_stops program w o y r c (next_counter c.down n) last)
-act_stops program w o (op.Cycle body) r = On (subst Advances (sym r) tt)
+act_stops program w o (op.Cycle body) r = On (subst IsActive (sym r) tt)
 act_stops program w o (op.Procedure call n) r = call_stops program w o (op.Procedure call n) r call (record { counter = n; into = 0 })
 act_stops program w o (op.Function call into n) r = call_stops program w o (op.Function call into n) r call (record { counter = n; into = into })
 act_stops program w o (op.Return function) r =
@@ -187,12 +187,12 @@ act_stops program w o (op.Return function) r =
 act_stops program w o (op.InitClass call n) r = class_stops program w o (op.InitClass call n) r call (component_called program w o call.target).component n
 act_stops program w o (op.InitMonitor call n) r = monitor_stops program w o (op.InitMonitor call n) r call (component_called program w o call.target).gate n
 act_stops program w o (op.InitProcess p xs words n) r = process_stops program w o (op.InitProcess p xs words n) r p xs words n
-act_stops program w o op.EndBody r = frame_stops program w o op.EndBody r o.frames _ (λ f fs. On (subst Advances (sym r) tt))
+act_stops program w o op.EndBody r = frame_stops program w o op.EndBody r o.frames _ (λ f fs. On (subst IsActive (sym r) tt))
 act_stops program w o op.End r = Finishes refl refl
-act_stops program w o (op.Display value as_byte n) r = with_result_stops program w o (op.Display value as_byte n) r (value_of (view_of w o) value) _ (λ z. On (subst Advances (sym r) tt))
+act_stops program w o (op.Display value as_byte n) r = with_result_stops program w o (op.Display value as_byte n) r (value_of (view_of w o) value) _ (λ z. On (subst IsActive (sym r) tt))
 act_stops program w o (op.Accept to low high n) r =
     with_result_stops program w o (op.Accept to low high n) r (place_of (view_of w o) to) _
-    (λ at. provided_stops program w o (op.Accept to low high n) r (within low high (next_input o.input o.consumed)) _ _ (On (subst Advances (sym r) tt)))
+    (λ at. provided_stops program w o (op.Accept to low high n) r (within low high (next_input o.input o.consumed)) _ _ (On (subst IsActive (sym r) tt)))
 act_stops program w o (op.Delay queue n) r = with_result_stops program w o (op.Delay queue n) r (place_of (view_of w o) queue) _ (λ at. delay_stops program w o (op.Delay queue n) r at n)
 act_stops program w o (op.Continue queue function) r =
     with_result_stops program w o (op.Continue queue function) r (place_of (view_of w o) queue) _ (λ at. continue_stops program w o (op.Continue queue function) r at function)

@@ -11,19 +11,19 @@ use cp_model::tree::{
     Constant, ConstantDefinition, Defined, Section, Tree, TypeDefinition, TypeExpression,
 };
 
-fn read_constant(c: &Constant)
-    ensures { IsNegativeWithin 65535 (erase.constant c.now) }
+fn read_constant(constant: &Constant)
+    ensures { IsNegativeWithin 65535 (erase.constant constant.now) }
 {
-    if let Constant::Negative { value, .. } = c {
+    if let Constant::Negative { value, .. } = constant {
         let _value = *value;
     }
 }
 
 #[cycle(types)]
-fn read_type(t: &TypeExpression)
-    ensures { BeginsWithin 65535 (erase.type_expression (view.type_expression t.now)) }
+fn read_type(written: &TypeExpression)
+    ensures { BeginsWithin 65535 (erase.type_expression (view.type_expression written.now)) }
 {
-    match t {
+    match written {
         TypeExpression::Subrange(bounds) => read_constant(&bounds.0),
         TypeExpression::Array { element, .. } => read_type(element),
         _ => {}
@@ -38,10 +38,10 @@ fn read_constants(definitions: &[ConstantDefinition])
     }
 }
 
-fn read_definition(d: &TypeDefinition)
-    ensures { AreNegativesWithin 65535 (erase.type_definition (type_definition d.now) ∷ []) }
+fn read_definition(definition: &TypeDefinition)
+    ensures { AreNegativesWithin 65535 (erase.type_definition (type_definition definition.now) ∷ []) }
 {
-    if let Defined::Written(t) = &d.defined {
+    if let Defined::Written(t) = &definition.defined {
         read_type(t);
     }
 }

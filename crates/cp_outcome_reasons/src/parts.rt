@@ -31,8 +31,8 @@ impl<'t> Parts<'t> {
     }
 
     #[cycle(statements)]
-    fn add_statement(&mut self, s: &'t Statement) -> Result<(), AllocError> {
-        match s {
+    fn add_statement(&mut self, statement: &'t Statement) -> Result<(), AllocError> {
+        match statement {
             Statement::Compound(list) | Statement::Cycle(list) => self.add(list),
             Statement::If { condition, then } => {
                 self.add_expression(condition)?;
@@ -63,7 +63,7 @@ impl<'t> Parts<'t> {
                 self.add_expression(&header.last)?;
                 self.add_statement(body)
             }
-            _ => self.add_simple(s),
+            _ => self.add_simple(statement),
         }
     }
 
@@ -76,9 +76,9 @@ impl<'t> Parts<'t> {
     }
 
     // Adds a statement that contains no others.
-    fn add_simple(&mut self, s: &'t Statement) -> Result<(), AllocError> {
-        self.statements.push(s)?;
-        match s {
+    fn add_simple(&mut self, statement: &'t Statement) -> Result<(), AllocError> {
+        self.statements.push(statement)?;
+        match statement {
             Statement::Assign(a) => {
                 self.add_designator(&a.target)?;
                 self.add_expression(&a.value)
@@ -106,8 +106,8 @@ impl<'t> Parts<'t> {
     }
 
     #[cycle(expressions)]
-    fn add_expression(&mut self, e: &'t Expression) -> Result<(), AllocError> {
-        match e {
+    fn add_expression(&mut self, expression: &'t Expression) -> Result<(), AllocError> {
+        match expression {
             Expression::Number { .. } | Expression::Character { .. } => Ok(()),
             Expression::Designated(d) => self.add_designator(d),
             Expression::Call(d, arguments) => {
@@ -134,9 +134,9 @@ impl<'t> Parts<'t> {
     }
 
     #[cycle(expressions)]
-    fn add_designator(&mut self, d: &'t Designator) -> Result<(), AllocError> {
-        self.designators.push(d)?;
-        for selector in &d.selectors {
+    fn add_designator(&mut self, designator: &'t Designator) -> Result<(), AllocError> {
+        self.designators.push(designator)?;
+        for selector in &designator.selectors {
             self.add_selector(selector)?;
         }
         Ok(())

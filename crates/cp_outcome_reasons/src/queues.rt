@@ -12,8 +12,8 @@ fn is_queue(arguments: &[Expression], queue: &[u8]) -> bool {
     }
 }
 
-fn continues(s: &Statement, queue: &[u8]) -> bool {
-    match s {
+fn continues(statement: &Statement, queue: &[u8]) -> bool {
+    match statement {
         Statement::Call(c) => {
             c.procedure.root.name.as_bytes() == b"continue".as_slice()
                 && is_queue(&c.arguments, queue)

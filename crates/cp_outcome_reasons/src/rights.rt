@@ -51,8 +51,8 @@ fn component_named<'t>(tables: &Tables<'t>, name: &[u8]) -> Option<(Component, u
 }
 
 // The number of the monitor that an argument names.
-fn monitor(tables: &Tables, e: &Expression) -> Option<usize> {
-    let Expression::Designated(d) = e else {
+fn monitor(tables: &Tables, expression: &Expression) -> Option<usize> {
+    let Expression::Designated(d) = expression else {
         return None;
     };
     match component_named(tables, d.root.name.as_bytes())? {
@@ -217,19 +217,19 @@ fn mark(marks: &mut Vec<bool>, number: usize) -> bool {
 
 // Whether a designator names the parameter alone, as an argument does, or calls a routine of it:
 // one of the entries, or any if there are none.
-fn calls(d: &Designator, parameter: &[u8], entries: &[&Identifier]) -> bool {
-    if d.root.name.as_bytes() != parameter {
+fn calls(designator: &Designator, parameter: &[u8], entries: &[&Identifier]) -> bool {
+    if designator.root.name.as_bytes() != parameter {
         return false;
     }
-    match d.selectors.last() {
+    match designator.selectors.last() {
         Some(Selector::Field { name, .. }) => entries.is_empty() || is_among(name, entries),
         _ => true,
     }
 }
 
-fn is_among(x: &Identifier, entries: &[&Identifier]) -> bool {
+fn is_among(name: &Identifier, entries: &[&Identifier]) -> bool {
     for entry in entries {
-        if entry.name.as_bytes() == x.name.as_bytes() {
+        if entry.name.as_bytes() == name.name.as_bytes() {
             return true;
         }
     }

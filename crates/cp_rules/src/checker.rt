@@ -64,21 +64,21 @@ impl<'t> Checker<'t> {
 
     /// Declares a name, unless it is already visible: the first declaration counts. Fails only if
     /// memory runs out.
-    pub fn add(&mut self, x: &'t Identifier, entity: Entity) -> Result<(), AllocError>
+    pub fn add(&mut self, name: &'t Identifier, entity: Entity) -> Result<(), AllocError>
         ensures { OnOk result
-            (self.new ≡ record self.old { env = r.declare x.now entity self.old.env }) }
+            (self.new ≡ record self.old { env = r.declare name.now entity self.old.env }) }
     {
-        self.environment.declare(x, entity)?;
+        self.environment.declare(name, entity)?;
         Ok(())
     }
 
     /// Declares a name. C1: it is already visible. Fails only if memory runs out.
-    pub fn declare(&mut self, x: &'t Identifier, entity: Entity) -> Result<(), AllocError>
+    pub fn declare(&mut self, name: &'t Identifier, entity: Entity) -> Result<(), AllocError>
         ensures { OnOk result
-            (self.new ≡ after self.old (declared_name self.old.env x.now entity)) }
+            (self.new ≡ after self.old (declared_name self.old.env name.now entity)) }
     {
-        let is_new = self.environment.declare(x, entity)?;
-        self.unless(is_new, Rule::C1, x.at);
+        let is_new = self.environment.declare(name, entity)?;
+        self.unless(is_new, Rule::C1, name.at);
         Ok(())
     }
 

@@ -59,13 +59,13 @@ fn enumeration(t: usize, count: usize) -> Result<TypeRow, AllocError>
 }
 
 impl<'t> Checker<'t> {
-    fn define_constant(&mut self, d: &'t ConstantDefinition) -> Result<(), AllocError>
+    fn define_constant(&mut self, definition: &'t ConstantDefinition) -> Result<(), AllocError>
         ensures { OnOk result
-            (self.new ≡ after self.old (rules.define_constant self.old.env d.now)) }
+            (self.new ≡ after self.old (rules.define_constant self.old.env definition.now)) }
     {
         let outside = self.mark();
-        self.declare(&d.name, Entity::UnfinishedConstant)?;
-        let value = self.constant(&d.value);
+        self.declare(&definition.name, Entity::UnfinishedConstant)?;
+        let value = self.constant(&definition.value);
         self.set_from(outside, constant_entity(value));
         Ok(())
     }
@@ -85,41 +85,45 @@ impl<'t> Checker<'t> {
     // Defines an enumeration. C1: one of its values is already visible, or occurs twice.
     fn define_enumeration(
         &mut self,
-        x: &'t Identifier,
+        name: &'t Identifier,
         names: &'t [Identifier],
     ) -> Result<(), AllocError>
         ensures { OnOk result
-            (self.new ≡ after self.old (rules.define_enumeration self.old.env x.now names.now)) }
+            (self.new ≡ after self.old (rules.define_enumeration self.old.env name.now names.now)) }
     {
         let t = self.environment.type_count();
         let row = enumeration(t, names.len())?;
         self.add_type(row)?;
         // What its name stands for makes no difference to its values.
-        self.declare(x, Entity::Type(t))?;
+        self.declare(name, Entity::Type(t))?;
         self.declare_values(t, names)
     }
 
-    fn define_type(&mut self, x: &'t Identifier, t: &'t TypeExpression) -> Result<(), AllocError>
+    fn define_type(
+        &mut self,
+        name: &'t Identifier,
+        written: &'t TypeExpression,
+    ) -> Result<(), AllocError>
         ensures { OnOk result
             (self.new ≡ after self.old
-            (rules.define_type self.old.env x.now (view.type_expression t.now))) }
+            (rules.define_type self.old.env name.now (view.type_expression written.now))) }
     {
         let outside = self.mark();
-        self.declare(x, Entity::UnfinishedType)?;
-        let of = self.judge_type(Position::Definition, t)?;
+        self.declare(name, Entity::UnfinishedType)?;
+        let of = self.judge_type(Position::Definition, written)?;
         self.set_from(outside, type_entity(of));
         Ok(())
     }
 
-    fn define(&mut self, d: &'t TypeDefinition) -> Result<(), AllocError>
+    fn define(&mut self, definition: &'t TypeDefinition) -> Result<(), AllocError>
         ensures { OnOk result
             (self.new ≡ after self.old
-            (rules.define_as self.old.env d.now.name (view.defined_type d.now.defined))) }
+            (rules.define_as self.old.env definition.now.name (view.defined_type definition.now.defined))) }
     {
-        match &d.defined {
-            Defined::Written(t) => self.define_type(&d.name, t),
-            Defined::Enumeration(names) => self.define_enumeration(&d.name, names),
-            Defined::System(y) => self.define_system(&d.name, y),
+        match &definition.defined {
+            Defined::Written(t) => self.define_type(&definition.name, t),
+            Defined::Enumeration(names) => self.define_enumeration(&definition.name, names),
+            Defined::System(y) => self.define_system(&definition.name, y),
         }
     }
 

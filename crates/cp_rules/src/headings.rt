@@ -153,13 +153,13 @@ impl<'t> Checker<'t> {
         Ok(t)
     }
 
-    fn parameter_type(&mut self, of: Option<Sort>, x: &Identifier) -> Judged<usize>
+    fn parameter_type(&mut self, of: Option<Sort>, name: &Identifier) -> Judged<usize>
         ensures { Judges self.old self.new result
-            (then_judge (named_type self.old.env x.now)
-            (d.c7_c8_parameter self.old.env of x.now.at)) }
+            (then_judge (named_type self.old.env name.now)
+            (d.c7_c8_parameter self.old.env of name.now.at)) }
     {
-        let t = self.named_type(x)?;
-        self.parameter(of, x.at, t)
+        let t = self.named_type(name)?;
+        self.parameter(of, name.at, t)
     }
 
     // C7 and C11: the word `var` isn't allowed.

@@ -34,18 +34,18 @@ fn one_more(count: usize) -> usize
 
 impl<'t> Checker<'t> {
     // Counts an owner. C13: it is process 256 or monitor 256, or has too many words.
-    fn owner(&mut self, x: &Identifier, y: SystemRow)
-        ensures { self.new ≡ after self.old (counted_owner self.old.env y x.now) }
+    fn owner(&mut self, name: &Identifier, y: SystemRow)
+        ensures { self.new ≡ after self.old (counted_owner self.old.env y name.now) }
     {
         match y.sort {
             Sort::Process => {
                 let count = self.environment.process_count();
-                self.unless(!is_full(count) && is_within(y.words), Rule::C13, x.at);
+                self.unless(!is_full(count) && is_within(y.words), Rule::C13, name.at);
                 self.environment.count_processes(one_more(count));
             }
             Sort::Monitor => {
                 let count = self.environment.monitor_count();
-                self.unless(!is_full(count) && is_within(y.words), Rule::C13, x.at);
+                self.unless(!is_full(count) && is_within(y.words), Rule::C13, name.at);
                 self.environment.count_monitors(one_more(count));
             }
             Sort::Class => {}

@@ -57,10 +57,10 @@ fn allows_queues(position: Position) -> bool
 }
 
 /// The place of the first token of a written type.
-pub fn type_at(t: &TypeExpression) -> usize
-    ensures { result ≡ types.type_at (view.type_expression t.now) }
+pub fn type_at(written: &TypeExpression) -> usize
+    ensures { result ≡ types.type_at (view.type_expression written.now) }
 {
-    match t {
+    match written {
         TypeExpression::Named(x) => x.at,
         TypeExpression::Subrange(bounds) => constant_at(&bounds.0),
         TypeExpression::Array { at, .. } => *at,
@@ -69,39 +69,39 @@ pub fn type_at(t: &TypeExpression) -> usize
 }
 
 // Whether a type is written as an array or a record.
-fn is_written_structure(t: &TypeExpression) -> bool
-    ensures { result ≡ is_written_structure (view.type_expression t.now) }
+fn is_written_structure(written: &TypeExpression) -> bool
+    ensures { result ≡ is_written_structure (view.type_expression written.now) }
 {
     matches!(
-        t,
+        written,
         TypeExpression::Array { .. } | TypeExpression::Record { .. }
     )
 }
 
 // The type that a name stands for, if that is known.
-fn known_type(env: &Environment, x: &Identifier) -> Option<usize>
-    ensures { result ≡ meaning_of (types.named_type env.now x.now) }
+fn known_type(env: &Environment, name: &Identifier) -> Option<usize>
+    ensures { result ≡ meaning_of (types.named_type env.now name.now) }
 {
-    match find_entity(env, x)? {
+    match find_entity(env, name)? {
         Entity::Type(t) => Some(t),
         _ => None,
     }
 }
 
-fn names_queues(env: &Environment, x: &Identifier) -> bool
-    ensures { result ≡ types.has_queues env.now (types.named_type env.now x.now) }
+fn names_queues(env: &Environment, name: &Identifier) -> bool
+    ensures { result ≡ types.has_queues env.now (types.named_type env.now name.now) }
 {
-    match known_type(env, x) {
+    match known_type(env, name) {
         Some(t) => env.has_queues(t),
         None => false,
     }
 }
 
 // Whether a written type has queues, as far as that is known if something is broken inside it.
-fn holds_queues(env: &Environment, t: &TypeExpression) -> bool
-    ensures { result ≡ types.holds_queues env.now (view.type_expression t.now) }
+fn holds_queues(env: &Environment, written: &TypeExpression) -> bool
+    ensures { result ≡ types.holds_queues env.now (view.type_expression written.now) }
 {
-    match t {
+    match written {
         TypeExpression::Named(x) => names_queues(env, x),
         TypeExpression::Array { element, .. } => holds_queues(env, element),
         _ => false,
@@ -109,10 +109,10 @@ fn holds_queues(env: &Environment, t: &TypeExpression) -> bool
 }
 
 // Whether an array with queues is written where none is allowed.
-fn misplaces_queues(env: &Environment, position: Position, t: &TypeExpression) -> bool
-    ensures { result ≡ misplaces_queues env.now position (view.type_expression t.now) }
+fn misplaces_queues(env: &Environment, position: Position, written: &TypeExpression) -> bool
+    ensures { result ≡ misplaces_queues env.now position (view.type_expression written.now) }
 {
-    match t {
+    match written {
         TypeExpression::Array { element, .. } => {
             !(allows_queues(position) || !holds_queues(env, element))
         }
@@ -146,17 +146,17 @@ impl<'t> Checker<'t> {
     pub fn judge_position(
         &mut self,
         position: Position,
-        t: &TypeExpression,
+        written: &TypeExpression,
         of: Judged<usize>,
     ) -> Judged<usize>
         ensures { ReportsOuter self.old self.new result
-            (judge_in_position self.old.env position (view.type_expression t.now) of) }
+            (judge_in_position self.old.env position (view.type_expression written.now) of) }
     {
         match of {
-            Ok(number) => self.judge_position_at(position, type_at(t), number),
+            Ok(number) => self.judge_position_at(position, type_at(written), number),
             Err(violation) => {
-                if misplaces_queues(&self.environment, position, t) {
-                    self.breaks(Rule::C8, type_at(t))
+                if misplaces_queues(&self.environment, position, written) {
+                    self.breaks(Rule::C8, type_at(written))
                 } else {
                     Err(violation)
                 }
@@ -177,15 +177,15 @@ impl<'t> Checker<'t> {
 
     /// Judges a written index type, after the type itself. C2: it isn't simple, even if something
     /// is broken inside it.
-    pub fn index_type(&mut self, t: &TypeExpression, of: Judged<usize>) -> Judged<usize>
+    pub fn index_type(&mut self, written: &TypeExpression, of: Judged<usize>) -> Judged<usize>
         ensures { ReportsOuter self.old self.new result
-            (index_type self.old.env (view.type_expression t.now) of) }
+            (index_type self.old.env (view.type_expression written.now) of) }
     {
         match of {
-            Ok(number) => self.simple(type_at(t), number),
+            Ok(number) => self.simple(type_at(written), number),
             Err(violation) => {
-                if is_written_structure(t) {
-                    self.breaks(Rule::C2, type_at(t))
+                if is_written_structure(written) {
+                    self.breaks(Rule::C2, type_at(written))
                 } else {
                     Err(violation)
                 }

@@ -81,19 +81,19 @@ impl<'t> Checker<'t> {
     fn add_field(
         &mut self,
         fields: &mut FieldList<'t>,
-        x: &'t Identifier,
+        identifier: &'t Identifier,
         t: usize,
     ) -> Result<(), AllocError>
         ensures diagnostics { OnOk result
-            (self.new ≡ diagnostics self.old (unless (is_new fields.old.members x.now) C1 x.now.at)) }
-        ensures members { OnOk result (fields.new.members ≡ with_field fields.old.members x.now t) }
+            (self.new ≡ diagnostics self.old (unless (is_new fields.old.members identifier.now) C1 identifier.now.at)) }
+        ensures members { OnOk result (fields.new.members ≡ with_field fields.old.members identifier.now t) }
         ensures first { OnOk result
             (fields.new.first ≡ or_first fields.old.first
-            (unless (is_new fields.old.members x.now) C1 x.now.at)) }
+            (unless (is_new fields.old.members identifier.now) C1 identifier.now.at)) }
     {
-        let name = x.name.as_bytes();
+        let name = identifier.name.as_bytes();
         if !fields.members.add_if_new(name, Member::Field(t))? {
-            let broken = self.breaks(Rule::C1, x.at);
+            let broken = self.breaks(Rule::C1, identifier.at);
             fields.note(broken);
         }
         Ok(())

@@ -78,11 +78,11 @@ impl<'t> Checker<'t> {
         }
     }
 
-    fn result_of_name(&mut self, x: &Identifier) -> Judged<usize>
-        ensures { Judges self.old self.new result (result_judged self.old.env x.now) }
+    fn result_of_name(&mut self, name: &Identifier) -> Judged<usize>
+        ensures { Judges self.old self.new result (result_judged self.old.env name.now) }
     {
-        let t = self.named_type(x)?;
-        self.result(x.at, t)
+        let t = self.named_type(name)?;
+        self.result(name.at, t)
     }
 
     /// Judges the result type of a function.

@@ -39,31 +39,35 @@ fn words_of(sort: Sort, count: usize, words: usize, need: usize) -> usize
 
 impl<'t> Checker<'t> {
     // Judges the heading of a system type, whose name is already declared.
-    fn system_heading(&mut self, y: &'t System) -> Result<Heading<'t>, AllocError>
-        ensures { IfOk result (λ h. HeadsSystem self.old self.new h (view.system y.now)) }
+    fn system_heading(&mut self, system: &'t System) -> Result<Heading<'t>, AllocError>
+        ensures { IfOk result (λ h. HeadsSystem self.old self.new h (view.system system.now)) }
     {
         let outside = self.mark();
-        let heading = self.heading(Some(y.sort), false, &y.parameters)?;
+        let heading = self.heading(Some(system.sort), false, &system.parameters)?;
         self.leave(outside);
         Ok(heading)
     }
 
     // Judges the variables, the routines and the body of a system type, and returns the words of
     // its variables.
-    fn system_parts(&mut self, y: &'t System, heading: &Heading<'t>) -> Result<usize, AllocError>
+    fn system_parts(
+        &mut self,
+        system: &'t System,
+        heading: &Heading<'t>,
+    ) -> Result<usize, AllocError>
         ensures { IfOk result
             (λ n. JudgesParts self.old self.new n
-            (parts self.old.env (view.system y.now) (collection heading.now))) }
+            (parts self.old.env (view.system system.now) (collection heading.now))) }
     {
         let region = Region {
-            sort: y.sort,
+            sort: system.sort,
             part: Part::Body,
         };
         self.enter(&heading.rows, region)?;
         self.add_each(&heading.bound)?;
-        let words = self.variables(variable_position(y.sort), &y.variables)?;
-        self.routines(y.sort, &y.routines)?;
-        self.statements(&y.body.statements)?;
+        let words = self.variables(variable_position(system.sort), &system.variables)?;
+        self.routines(system.sort, &system.routines)?;
+        self.statements(&system.body.statements)?;
         Ok(words)
     }
 
@@ -103,34 +107,38 @@ impl<'t> Checker<'t> {
     }
 
     // The row of a system type whose parts were judged.
-    fn system_row(&self, y: &System, first: usize, count: usize, words: usize) -> SystemRow
-        ensures { result ≡ row_as self.now.env (view.system y.now) first count words }
+    fn system_row(&self, system: &System, first: usize, count: usize, words: usize) -> SystemRow
+        ensures { result ≡ row_as self.now.env (view.system system.now) first count words }
     {
-        let need = self.need(&y.body.statements);
+        let need = self.need(&system.body.statements);
         SystemRow {
-            sort: y.sort,
+            sort: system.sort,
             first,
             count,
-            words: words_of(y.sort, count, words, need),
+            words: words_of(system.sort, count, words, need),
             body_need: need,
             members: self.environment.table_count(),
         }
     }
 
     /// Defines a system type, and judges its parts. Fails only if memory runs out.
-    pub fn define_system(&mut self, x: &'t Identifier, y: &'t System) -> Result<(), AllocError>
+    pub fn define_system(
+        &mut self,
+        name: &'t Identifier,
+        system: &'t System,
+    ) -> Result<(), AllocError>
         ensures { OnOk result
             (self.new ≡ after self.old
-            (rules.define_system self.old.env x.now (view.system y.now))) }
+            (rules.define_system self.old.env name.now (view.system system.now))) }
     {
         let outside = self.mark();
         let region = self.environment.region();
-        self.declare(x, Entity::UnfinishedType)?;
+        self.declare(name, Entity::UnfinishedType)?;
         let inside = self.mark();
-        let heading = self.system_heading(y)?;
+        let heading = self.system_heading(system)?;
         let first = self.environment.parameter_count();
-        let words = self.system_parts(y, &heading)?;
-        let row = self.system_row(y, first, heading.rows.len(), words);
+        let words = self.system_parts(system, &heading)?;
+        let row = self.system_row(system, first, heading.rows.len(), words);
         let members = self.routine_members(inside)?;
         self.leave(inside);
         self.finish_system(outside, region, row, members)

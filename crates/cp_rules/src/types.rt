@@ -28,12 +28,12 @@ fn number_or_any(of: Judged<usize>) -> usize
 impl<'t> Checker<'t> {
     // Judges a type by itself, without its position.
     #[cycle(types)]
-    fn type_of(&mut self, t: &'t TypeExpression) -> Result<Judged<usize>, AllocError>
+    fn type_of(&mut self, written: &'t TypeExpression) -> Result<Judged<usize>, AllocError>
         ensures { IfOk result
             (λ of. Makes self.old self.new of
-            (ty.type_of self.old.env (view.type_expression t.now))) }
+            (ty.type_of self.old.env (view.type_expression written.now))) }
     {
-        match t {
+        match written {
             TypeExpression::Named(x) => Ok(self.named_type(x)),
             TypeExpression::Subrange(bounds) => {
                 let row = self.subrange(&bounds.0, &bounds.1);
@@ -109,13 +109,13 @@ impl<'t> Checker<'t> {
     pub fn judge_type(
         &mut self,
         position: Position,
-        t: &'t TypeExpression,
+        written: &'t TypeExpression,
     ) -> Result<Judged<usize>, AllocError>
         ensures { IfOk result
             (λ of. Makes self.old self.new of
-            (ty.type_placed self.old.env position (view.type_expression t.now))) }
+            (ty.type_placed self.old.env position (view.type_expression written.now))) }
     {
-        let of = self.type_of(t)?;
-        Ok(self.judge_position(position, t, of))
+        let of = self.type_of(written)?;
+        Ok(self.judge_position(position, written, of))
     }
 }

@@ -22,8 +22,8 @@ use cp_model::tree::{Designator, Expression, Identifier, Selector};
 
 // The result type of the function that is being defined, if its name is the whole left side. C4 and
 // C10: the name is a procedure's own.
-fn whole_result(diagnostics: &mut Diagnostics, x: &Identifier, returns: Returns) -> Option<usize>
-    ensures { Reports diagnostics.old diagnostics.new result (st.own_result x.now (selectors_of []) returns) }
+fn whole_result(diagnostics: &mut Diagnostics, name: &Identifier, returns: Returns) -> Option<usize>
+    ensures { Reports diagnostics.old diagnostics.new result (st.own_result name.now (selectors_of []) returns) }
 {
     match returns {
         Returns::Value(t) => Some(t),
@@ -36,61 +36,73 @@ fn whole_result(diagnostics: &mut Diagnostics, x: &Identifier, returns: Returns)
                 diagnostics,
                 Violation {
                     rule: Rule::C4,
-                    at: x.at,
+                    at: name.at,
                 },
             );
-            report_violation(diagnostics, Rule::C10, x.at)
+            report_violation(diagnostics, Rule::C10, name.at)
         }
     }
 }
 
 // C10: the left side is a part of that result. C4: the name is a procedure's own.
-fn part_of_result(diagnostics: &mut Diagnostics, x: &Identifier, returns: Returns) -> Option<usize>
-    ensures { Reports diagnostics.old diagnostics.new result (parts.part_of_result x.now returns) }
+fn part_of_result(
+    diagnostics: &mut Diagnostics,
+    name: &Identifier,
+    returns: Returns,
+) -> Option<usize>
+    ensures { Reports diagnostics.old diagnostics.new result (parts.part_of_result name.now returns) }
 {
     if let Returns::Nothing = returns {
         report(
             diagnostics,
             Violation {
                 rule: Rule::C4,
-                at: x.at,
+                at: name.at,
             },
         );
     }
-    report_violation(diagnostics, Rule::C10, x.at)
+    report_violation(diagnostics, Rule::C10, name.at)
 }
 
 fn own_result(
     diagnostics: &mut Diagnostics,
-    x: &Identifier,
+    name: &Identifier,
     selectors: &[Selector],
     returns: Returns,
 ) -> Option<usize>
     ensures { Reports diagnostics.old diagnostics.new result
-        (st.own_result x.now (selectors_of (map selector selectors.now)) returns) }
+        (st.own_result name.now (selectors_of (map selector selectors.now)) returns) }
 {
     match selectors {
-        [] => whole_result(diagnostics, x, returns),
-        _ => part_of_result(diagnostics, x, returns),
+        [] => whole_result(diagnostics, name, returns),
+        _ => part_of_result(diagnostics, name, returns),
     }
 }
 
 // Judges the names of a left side that isn't a function's own name. C10: it isn't a variable.
-fn names_changeable(env: &Environment, diagnostics: &mut Diagnostics, d: &Designator) -> bool
+fn names_changeable(
+    env: &Environment,
+    diagnostics: &mut Diagnostics,
+    designated: &Designator,
+) -> bool
     ensures { ReportsOf diagnostics.old diagnostics.new result
-        (n.c2_c5_c8_named env.now mode.Variable (designator d.now) ++ n.c10_designator env.now
-        (designator d.now)) }
+        (n.c2_c5_c8_named env.now mode.Variable (designator designated.now) ++ n.c10_designator env.now
+        (designator designated.now)) }
 {
-    let fits = names_fit(env, diagnostics, Mode::Variable, d);
-    let is_variable = designates_variable(env, diagnostics, d);
+    let fits = names_fit(env, diagnostics, Mode::Variable, designated);
+    let is_variable = designates_variable(env, diagnostics, designated);
     fits && is_variable
 }
 
-fn other_left(env: &Environment, diagnostics: &mut Diagnostics, d: &Designator) -> Option<usize>
-    ensures { Reports diagnostics.old diagnostics.new result (st.other_left_side env.now (designator d.now)) }
+fn other_left(
+    env: &Environment,
+    diagnostics: &mut Diagnostics,
+    designated: &Designator,
+) -> Option<usize>
+    ensures { Reports diagnostics.old diagnostics.new result (st.other_left_side env.now (designator designated.now)) }
 {
-    let fits = names_changeable(env, diagnostics, d);
-    let t = type_of_designator(env, diagnostics, Mode::Variable, d);
+    let fits = names_changeable(env, diagnostics, designated);
+    let t = type_of_designator(env, diagnostics, Mode::Variable, designated);
     answer_if(fits, t)
 }
 
@@ -98,56 +110,64 @@ fn other_left(env: &Environment, diagnostics: &mut Diagnostics, d: &Designator) 
 fn variable_left(
     env: &Environment,
     diagnostics: &mut Diagnostics,
-    d: &Designator,
+    designated: &Designator,
     t: usize,
     access: Access,
 ) -> Option<usize>
-    ensures { r.c1_named env.now d.now.root ≡ Sound (entity.Variable t access)
-        → Reports diagnostics.old diagnostics.new result (st.left_side env.now (designator d.now)) }
+    ensures { r.c1_named env.now designated.now.root ≡ Sound (entity.Variable t access)
+        → Reports diagnostics.old diagnostics.new result (st.left_side env.now (designator designated.now)) }
 {
-    if d.selectors.is_empty() && is_changeable(access) && is_plain(env, Mode::Variable, t) {
+    if designated.selectors.is_empty()
+        && is_changeable(access)
+        && is_plain(env, Mode::Variable, t)
+    {
         return Some(t);
     }
-    other_left(env, diagnostics, d)
+    other_left(env, diagnostics, designated)
 }
 
 // The type of a left side.
-fn left(env: &Environment, diagnostics: &mut Diagnostics, d: &Designator) -> Option<usize>
-    ensures { Reports diagnostics.old diagnostics.new result (st.left_side env.now (designator d.now)) }
+fn left(env: &Environment, diagnostics: &mut Diagnostics, designated: &Designator) -> Option<usize>
+    ensures { Reports diagnostics.old diagnostics.new result (st.left_side env.now (designator designated.now)) }
 {
-    match find_entity(env, &d.root) {
+    match find_entity(env, &designated.root) {
         Some(Entity::UnfinishedRoutine(row)) => {
-            own_result(diagnostics, &d.root, &d.selectors, row.returns)
+            own_result(
+                diagnostics,
+                &designated.root,
+                &designated.selectors,
+                row.returns,
+            )
         }
-        Some(Entity::Variable(t, access)) => variable_left(env, diagnostics, d, t, access),
-        _ => other_left(env, diagnostics, d),
+        Some(Entity::Variable(t, access)) => variable_left(env, diagnostics, designated, t, access),
+        _ => other_left(env, diagnostics, designated),
     }
 }
 
-fn component(env: &Environment, x: &Identifier) -> Option<usize>
-    ensures { result ≡ st.component_by env.now (r.c1_named env.now x.now) }
+fn component(env: &Environment, name: &Identifier) -> Option<usize>
+    ensures { result ≡ st.component_by env.now (r.c1_named env.now name.now) }
 {
-    match find_entity(env, x) {
+    match find_entity(env, name) {
         Some(Entity::Variable(t, _)) => { if env.is_component(t) { Some(t) } else { None } }
         _ => None,
     }
 }
 
 // The type of a component, if its name is the whole designator.
-fn component_alone(env: &Environment, x: &Identifier, selectors: &[Selector]) -> Option<usize>
-    ensures { result ≡ parts.component_alone env.now x.now
+fn component_alone(env: &Environment, name: &Identifier, selectors: &[Selector]) -> Option<usize>
+    ensures { result ≡ parts.component_alone env.now name.now
         (selectors_of (map selector selectors.now)) }
 {
     match selectors {
-        [] => component(env, x),
+        [] => component(env, name),
         _ => None,
     }
 }
 
-fn lone_component(env: &Environment, e: &Expression) -> Option<usize>
-    ensures { result ≡ st.lone_component env.now (expression e.now) }
+fn lone_component(env: &Environment, value: &Expression) -> Option<usize>
+    ensures { result ≡ st.lone_component env.now (expression value.now) }
 {
-    let d = designator_of(e)?;
+    let d = designator_of(value)?;
     component_alone(env, &d.root, &d.selectors)
 }
 
@@ -157,16 +177,16 @@ fn right(
     env: &Environment,
     diagnostics: &mut Diagnostics,
     to_component: bool,
-    e: &Expression,
+    value: &Expression,
 ) -> Option<usize>
-    ensures { Reports diagnostics.old diagnostics.new result (parts.right env.now to_component (expression e.now)) }
+    ensures { Reports diagnostics.old diagnostics.new result (parts.right env.now to_component (expression value.now)) }
 {
     if to_component {
-        if let Some(t) = lone_component(env, e) {
+        if let Some(t) = lone_component(env, value) {
             return Some(t);
         }
     }
-    judge(env, diagnostics, Mode::Value, e)
+    judge(env, diagnostics, Mode::Value, value)
 }
 
 fn is_component_type(env: &Environment, target: Option<usize>) -> bool
@@ -198,12 +218,12 @@ fn sides(
     env: &Environment,
     diagnostics: &mut Diagnostics,
     at: usize,
-    a: Option<usize>,
-    b: Option<usize>,
+    found: Option<usize>,
+    other: Option<usize>,
 ) -> Option<usize>
-    ensures { ReportsBoth diagnostics.old diagnostics.new a b result (st.c2_sides env.now at) }
+    ensures { ReportsBoth diagnostics.old diagnostics.new found other result (st.c2_sides env.now at) }
 {
-    judge_sides(env, diagnostics, at, a?, b?)
+    judge_sides(env, diagnostics, at, found?, other?)
 }
 
 /// Judges an assignment, whose `:=` is at `at`. C2: its sides don't agree. C10: the left side isn't
@@ -211,14 +231,14 @@ fn sides(
 pub fn judge_assignment(
     env: &Environment,
     diagnostics: &mut Diagnostics,
-    d: &Designator,
+    designated: &Designator,
     at: usize,
-    e: &Expression,
+    value: &Expression,
 )
     ensures { diagnostics.new ≡ least diagnostics.old
-        (st.assignment env.now (designator d.now) at (expression e.now)) }
+        (st.assignment env.now (designator designated.now) at (expression value.now)) }
 {
-    let a = left(env, diagnostics, d);
-    let b = right(env, diagnostics, is_component_type(env, a), e);
+    let a = left(env, diagnostics, designated);
+    let b = right(env, diagnostics, is_component_type(env, a), value);
     sides(env, diagnostics, at, a, b);
 }

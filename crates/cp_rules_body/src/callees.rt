@@ -49,22 +49,26 @@ pub struct Called {
 fn gives(
     diagnostics: &mut Diagnostics,
     rule: Rule,
-    x: &Identifier,
+    name: &Identifier,
     fits: bool,
     returns: Returns,
 ) -> Option<Gives>
-    ensures { Reports diagnostics.old diagnostics.new result (n.function_gives rule x.now fits returns) }
+    ensures { Reports diagnostics.old diagnostics.new result (n.function_gives rule name.now fits returns) }
 {
     match returns {
-        Returns::Nothing => report_violation(diagnostics, if fits { rule } else { Rule::C2 }, x.at),
+        Returns::Nothing => report_violation(
+            diagnostics,
+            if fits { rule } else { Rule::C2 },
+            name.at,
+        ),
         Returns::Value(t) => {
             if fits {
                 return Some(Gives::Value(t));
             }
-            report_violation(diagnostics, Rule::C2, x.at)
+            report_violation(diagnostics, Rule::C2, name.at)
         }
         Returns::Broken(violation) => {
-            unless_holds(diagnostics, fits, Rule::C2, x.at);
+            unless_holds(diagnostics, fits, Rule::C2, name.at);
             report(diagnostics, violation);
             None
         }
@@ -75,14 +79,14 @@ fn gives(
 fn judge_function_call(
     diagnostics: &mut Diagnostics,
     rule: Rule,
-    x: &Identifier,
+    name: &Identifier,
     count: usize,
     row: RoutineRow,
 ) -> Option<Callee>
     ensures { ReportsWherever diagnostics.old diagnostics.new result
-        (λ env. n.function_called env rule x.now count row) }
+        (λ env. n.function_called env rule name.now count row) }
 {
-    let gives = gives(diagnostics, rule, x, row.count == count, row.returns)?;
+    let gives = gives(diagnostics, rule, name, row.count == count, row.returns)?;
     Some(Callee {
         wants: Wants::Parameters(row.first, row.count),
         gives,
@@ -101,12 +105,12 @@ fn is_procedure(returns: Returns) -> bool
 // Judges a call of a routine as a procedure with `count` arguments.
 fn judge_procedure_call(
     diagnostics: &mut Diagnostics,
-    x: &Identifier,
+    name: &Identifier,
     count: usize,
     row: RoutineRow,
 ) -> Option<Callee>
     ensures { ReportsWherever diagnostics.old diagnostics.new result
-        (λ env. n.procedure_called env x.now count row) }
+        (λ env. n.procedure_called env name.now count row) }
 {
     if is_procedure(row.returns) && row.count == count {
         return Some(Callee {
@@ -114,21 +118,21 @@ fn judge_procedure_call(
             gives: Gives::Nothing,
         });
     }
-    report_violation(diagnostics, Rule::C2, x.at)
+    report_violation(diagnostics, Rule::C2, name.at)
 }
 
 // C5: a routine without `entry` stands after a component's `.`.
-pub fn has_entry(diagnostics: &mut Diagnostics, x: &Identifier, row: RoutineRow) -> bool
-    ensures { ReportsOf diagnostics.old diagnostics.new result (n.c5_without_entry x.now row) }
+pub fn has_entry(diagnostics: &mut Diagnostics, name: &Identifier, row: RoutineRow) -> bool
+    ensures { ReportsOf diagnostics.old diagnostics.new result (n.c5_without_entry name.now row) }
 {
-    unless_holds(diagnostics, row.entry, Rule::C5, x.at)
+    unless_holds(diagnostics, row.entry, Rule::C5, name.at)
 }
 
 // C5: an entry routine is called by its name alone.
-fn by_name(diagnostics: &mut Diagnostics, x: &Identifier, row: RoutineRow) -> bool
-    ensures { ReportsOf diagnostics.old diagnostics.new result (n.c5_by_name x.now row) }
+fn by_name(diagnostics: &mut Diagnostics, name: &Identifier, row: RoutineRow) -> bool
+    ensures { ReportsOf diagnostics.old diagnostics.new result (n.c5_by_name name.now row) }
 {
-    unless_holds(diagnostics, !row.entry, Rule::C5, x.at)
+    unless_holds(diagnostics, !row.entry, Rule::C5, name.at)
 }
 
 /// Judges a call of a function with `count` arguments.
@@ -137,15 +141,15 @@ pub fn function(
     env: &Environment,
     diagnostics: &mut Diagnostics,
     mode: Mode,
-    d: &Designator,
+    designated: &Designator,
     count: usize,
     entity: Entity,
 ) -> Option<Callee>
     ensures { ReportsCallee env.now diagnostics.old diagnostics.new result
-        (n.function_of env.now mode (designator d.now) count entity) }
+        (n.function_of env.now mode (designator designated.now) count entity) }
 {
-    let x = last_name(d);
-    let rule = sort_rule(mode, d);
+    let x = last_name(designated);
+    let rule = sort_rule(mode, designated);
     match entity {
         Entity::Routine(number) => {
             let row = env.routine(number);
@@ -189,14 +193,14 @@ pub fn function(
 pub fn procedure(
     env: &Environment,
     diagnostics: &mut Diagnostics,
-    d: &Designator,
+    designated: &Designator,
     count: usize,
     entity: Entity,
 ) -> Option<Callee>
     ensures { ReportsCallee env.now diagnostics.old diagnostics.new result
-        (n.procedure_of env.now (designator d.now) count entity) }
+        (n.procedure_of env.now (designator designated.now) count entity) }
 {
-    let x = last_name(d);
+    let x = last_name(designated);
     match entity {
         Entity::Routine(number) => {
             let row = env.routine(number);

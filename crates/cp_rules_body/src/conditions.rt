@@ -32,24 +32,32 @@ fn require_type(diagnostics: &mut Diagnostics, fits: bool, at: usize, t: usize) 
 }
 
 /// C2: a condition isn't Boolean.
-pub fn condition(env: &Environment, diagnostics: &mut Diagnostics, e: &Expression) -> Option<usize>
-    ensures { Reports diagnostics.old diagnostics.new result (st.c2_condition env.now (expression e.now)) }
+pub fn condition(
+    env: &Environment,
+    diagnostics: &mut Diagnostics,
+    value: &Expression,
+) -> Option<usize>
+    ensures { Reports diagnostics.old diagnostics.new result (st.c2_condition env.now (expression value.now)) }
 {
-    let t = judge(env, diagnostics, Mode::Value, e)?;
+    let t = judge(env, diagnostics, Mode::Value, value)?;
     require_type(
         diagnostics,
         is_base(BOOLEAN, env.base(t)),
-        first_token(e),
+        first_token(value),
         t,
     )
 }
 
 /// C2: the selector of a `case` isn't simple.
-pub fn selector(env: &Environment, diagnostics: &mut Diagnostics, e: &Expression) -> Option<usize>
-    ensures { Reports diagnostics.old diagnostics.new result (st.c2_selector env.now (expression e.now)) }
+pub fn selector(
+    env: &Environment,
+    diagnostics: &mut Diagnostics,
+    value: &Expression,
+) -> Option<usize>
+    ensures { Reports diagnostics.old diagnostics.new result (st.c2_selector env.now (expression value.now)) }
 {
-    let t = judge(env, diagnostics, Mode::Value, e)?;
-    require_type(diagnostics, env.is_simple(t), first_token(e), t)
+    let t = judge(env, diagnostics, Mode::Value, value)?;
+    require_type(diagnostics, env.is_simple(t), first_token(value), t)
 }
 
 /// C2: a bound of a `for` doesn't agree with its variable, if the type of the variable is known.
@@ -57,14 +65,14 @@ pub fn bound(
     env: &Environment,
     diagnostics: &mut Diagnostics,
     variable: Option<usize>,
-    e: &Expression,
+    value: &Expression,
 ) -> Option<usize>
     ensures { (j : Judged ℕ) → variable ≡ meaning_of j
-        → Reports diagnostics.old diagnostics.new result (st.bound env.now j (expression e.now)) }
+        → Reports diagnostics.old diagnostics.new result (st.bound env.now j (expression value.now)) }
 {
-    let u = judge(env, diagnostics, Mode::Value, e)?;
+    let u = judge(env, diagnostics, Mode::Value, value)?;
     match variable {
-        Some(t) => require_type(diagnostics, env.agree(t, u), first_token(e), u),
+        Some(t) => require_type(diagnostics, env.agree(t, u), first_token(value), u),
         None => Some(u),
     }
 }
@@ -73,63 +81,71 @@ pub fn bound(
 fn plain_value(
     env: &Environment,
     diagnostics: &mut Diagnostics,
-    v: &Identifier,
+    name: &Identifier,
     entity: Entity,
 ) -> Option<usize>
     ensures { Reports diagnostics.old diagnostics.new result
-        (n.value_of env.now mode.Variable (st.plain v.now) entity) }
+        (n.value_of env.now mode.Variable (st.plain name.now) entity) }
 {
     match entity {
         Entity::Constant(base, _) => Some(base),
         Entity::Variable(t, _) => Some(t),
-        Entity::Type(_) => report_violation(diagnostics, Rule::C10, v.at),
+        Entity::Type(_) => report_violation(diagnostics, Rule::C10, name.at),
         Entity::UnfinishedConstant => {
-            outside_definition(diagnostics, v, entity);
-            report_violation(diagnostics, Rule::C10, v.at)
+            outside_definition(diagnostics, name, entity);
+            report_violation(diagnostics, Rule::C10, name.at)
         }
         Entity::UnfinishedType => {
-            outside_definition(diagnostics, v, entity);
-            report_violation(diagnostics, Rule::C10, v.at)
+            outside_definition(diagnostics, name, entity);
+            report_violation(diagnostics, Rule::C10, name.at)
         }
         _ => {
-            anywhere(env, diagnostics, v, entity);
-            report_violation(diagnostics, Rule::C10, v.at)
+            anywhere(env, diagnostics, name, entity);
+            report_violation(diagnostics, Rule::C10, name.at)
         }
     }
 }
 
-fn plain_name(env: &Environment, diagnostics: &mut Diagnostics, v: &Identifier) -> Option<usize>
-    ensures { Reports diagnostics.old diagnostics.new result (parts.plain_name env.now v.now) }
+fn plain_name(env: &Environment, diagnostics: &mut Diagnostics, name: &Identifier) -> Option<usize>
+    ensures { Reports diagnostics.old diagnostics.new result (parts.plain_name env.now name.now) }
 {
-    let entity = judge_name(env, diagnostics, v)?;
-    plain_value(env, diagnostics, v, entity)
+    let entity = judge_name(env, diagnostics, name)?;
+    plain_value(env, diagnostics, name, entity)
 }
 
-fn plain_variable(env: &Environment, diagnostics: &mut Diagnostics, v: &Identifier) -> Option<usize>
-    ensures { Reports diagnostics.old diagnostics.new result (parts.plain_variable env.now v.now) }
+fn plain_variable(
+    env: &Environment,
+    diagnostics: &mut Diagnostics,
+    name: &Identifier,
+) -> Option<usize>
+    ensures { Reports diagnostics.old diagnostics.new result (parts.plain_variable env.now name.now) }
 {
-    let no_queue = queue_in_place(env, diagnostics, Mode::Variable, v);
-    let t = plain_name(env, diagnostics, v);
+    let no_queue = queue_in_place(env, diagnostics, Mode::Variable, name);
+    let t = plain_name(env, diagnostics, name);
     answer_if(no_queue, t)
 }
 
 fn simple_variable(
     env: &Environment,
     diagnostics: &mut Diagnostics,
-    v: &Identifier,
+    name: &Identifier,
 ) -> Option<usize>
-    ensures { Reports diagnostics.old diagnostics.new result (parts.simple_variable env.now v.now) }
+    ensures { Reports diagnostics.old diagnostics.new result (parts.simple_variable env.now name.now) }
 {
-    let t = plain_variable(env, diagnostics, v)?;
-    require_type(diagnostics, env.is_simple(t), v.at, t)
+    let t = plain_variable(env, diagnostics, name)?;
+    require_type(diagnostics, env.is_simple(t), name.at, t)
 }
 
 // C10: the variable of a `for` isn't a variable. C2: it isn't simple.
-fn for_variable(env: &Environment, diagnostics: &mut Diagnostics, v: &Identifier) -> Option<usize>
-    ensures { Reports diagnostics.old diagnostics.new result (st.for_variable env.now v.now) }
+fn for_variable(
+    env: &Environment,
+    diagnostics: &mut Diagnostics,
+    name: &Identifier,
+) -> Option<usize>
+    ensures { Reports diagnostics.old diagnostics.new result (st.for_variable env.now name.now) }
 {
-    let changeable = unless_holds(diagnostics, is_variable(env, v, &[]), Rule::C10, v.at);
-    let t = simple_variable(env, diagnostics, v);
+    let changeable = unless_holds(diagnostics, is_variable(env, name, &[]), Rule::C10, name.at);
+    let t = simple_variable(env, diagnostics, name);
     answer_if(changeable, t)
 }
 
@@ -137,14 +153,14 @@ fn for_variable(env: &Environment, diagnostics: &mut Diagnostics, v: &Identifier
 pub fn for_header(
     env: &Environment,
     diagnostics: &mut Diagnostics,
-    v: &Identifier,
+    name: &Identifier,
     from: &Expression,
     last: &Expression,
 )
     ensures { diagnostics.new ≡ least diagnostics.old
-        (parts.for_header env.now v.now (expression from.now) (expression last.now)) }
+        (parts.for_header env.now name.now (expression from.now) (expression last.now)) }
 {
-    let t = for_variable(env, diagnostics, v);
+    let t = for_variable(env, diagnostics, name);
     bound(env, diagnostics, t, from);
     bound(env, diagnostics, t, last);
 }

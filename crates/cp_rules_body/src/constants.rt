@@ -14,10 +14,10 @@ use cp_model::rules::{Entity, Rule, Violation};
 use cp_model::tree::{Constant, Identifier};
 
 /// The place where a constant begins.
-pub fn constant_at(c: &Constant) -> usize
-    ensures { result ≡ types.constant_at c.now }
+pub fn constant_at(constant: &Constant) -> usize
+    ensures { result ≡ types.constant_at constant.now }
 {
-    match c {
+    match constant {
         Constant::Number { at, .. } => *at,
         Constant::Negative { at, .. } => *at,
         Constant::Character { at, .. } => *at,
@@ -39,17 +39,17 @@ pub fn unfinished_of_other_sort<A>(diagnostics: &mut Diagnostics, at: usize) -> 
 // definition.
 fn constant_of_entity(
     diagnostics: &mut Diagnostics,
-    x: &Identifier,
+    name: &Identifier,
     entity: Entity,
 ) -> Result<(usize, i32), Violation>
-    ensures { ReportsFirst diagnostics.old diagnostics.new result (types.c2_constant x.now entity) }
+    ensures { ReportsFirst diagnostics.old diagnostics.new result (types.c2_constant name.now entity) }
 {
     match entity {
         Entity::Constant(base, ordinal) => Ok((base, ordinal)),
-        Entity::UnfinishedConstant => fail_with_violation(diagnostics, Rule::C4, x.at),
-        Entity::UnfinishedType => unfinished_of_other_sort(diagnostics, x.at),
-        Entity::UnfinishedRoutine(_) => unfinished_of_other_sort(diagnostics, x.at),
-        _ => fail_with_violation(diagnostics, Rule::C2, x.at),
+        Entity::UnfinishedConstant => fail_with_violation(diagnostics, Rule::C4, name.at),
+        Entity::UnfinishedType => unfinished_of_other_sort(diagnostics, name.at),
+        Entity::UnfinishedRoutine(_) => unfinished_of_other_sort(diagnostics, name.at),
+        _ => fail_with_violation(diagnostics, Rule::C2, name.at),
     }
 }
 
@@ -57,11 +57,11 @@ fn constant_of_entity(
 pub fn constant(
     env: &Environment,
     diagnostics: &mut Diagnostics,
-    c: &Constant,
+    constant: &Constant,
 ) -> Result<(usize, i32), Violation>
-    ensures { ReportsFirst diagnostics.old diagnostics.new result (types.constant env.now c.now) }
+    ensures { ReportsFirst diagnostics.old diagnostics.new result (types.constant env.now constant.now) }
 {
-    match c {
+    match constant {
         Constant::Number { value, .. } => Ok((INTEGER, i32::from(*value))),
         Constant::Negative { value, .. } => Ok((INTEGER, -i32::from(*value))),
         Constant::Character { ordinal, .. } => Ok((CHAR, i32::from(*ordinal))),

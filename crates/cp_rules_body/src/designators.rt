@@ -26,10 +26,10 @@ fn first_rule(mode: Mode) -> Rule
     }
 }
 
-fn is_type(env: &Environment, x: &Identifier) -> bool
-    ensures { result ≡ n.is_type (r.c1_named env.now x.now) }
+fn is_type(env: &Environment, name: &Identifier) -> bool
+    ensures { result ≡ n.is_type (r.c1_named env.now name.now) }
 {
-    match find_entity(env, x) {
+    match find_entity(env, name) {
         Some(Entity::Type(_)) => true,
         Some(Entity::UnfinishedType) => true,
         _ => false,
@@ -50,20 +50,20 @@ fn no_indexed_type(
     env: &Environment,
     diagnostics: &mut Diagnostics,
     mode: Mode,
-    d: &Designator,
+    designated: &Designator,
 ) -> bool
-    ensures { ReportsOf diagnostics.old diagnostics.new result (n.c2_before_index env.now mode (designator d.now)) }
+    ensures { ReportsOf diagnostics.old diagnostics.new result (n.c2_before_index env.now mode (designator designated.now)) }
 {
-    let wrong = is_indexed_first(&d.selectors) && is_type(env, &d.root);
-    unless_holds(diagnostics, !wrong, first_rule(mode), d.root.at)
+    let wrong = is_indexed_first(&designated.selectors) && is_type(env, &designated.root);
+    unless_holds(diagnostics, !wrong, first_rule(mode), designated.root.at)
 }
 
 // The member named `y` of what `x` stands for, if there is one.
-fn find_member(env: &Environment, x: &Identifier, y: &Identifier) -> Option<Member>
-    ensures { result ≡ n.member_selected env.now y.now.name (r.c1_named env.now x.now) }
+fn find_member(env: &Environment, name: &Identifier, identifier: &Identifier) -> Option<Member>
+    ensures { result ≡ n.member_selected env.now identifier.now.name (r.c1_named env.now name.now) }
 {
-    match find_entity(env, x) {
-        Some(Entity::Variable(t, _)) => member_of_type(env, t, y),
+    match find_entity(env, name) {
+        Some(Entity::Variable(t, _)) => member_of_type(env, t, identifier),
         _ => None,
     }
 }
@@ -72,15 +72,15 @@ fn find_member(env: &Environment, x: &Identifier, y: &Identifier) -> Option<Memb
 fn member_has_entry(
     env: &Environment,
     diagnostics: &mut Diagnostics,
-    x: &Identifier,
-    y: &Identifier,
+    name: &Identifier,
+    identifier: &Identifier,
 ) -> bool
     ensures { ReportsOf diagnostics.old diagnostics.new result
-        (n.c5_member env.now y.now
-        (n.member_selected env.now y.now.name (r.c1_named env.now x.now))) }
+        (n.c5_member env.now identifier.now
+        (n.member_selected env.now identifier.now.name (r.c1_named env.now name.now))) }
 {
-    match find_member(env, x, y) {
-        Some(Member::Routine(number)) => has_entry(diagnostics, y, env.routine(number)),
+    match find_member(env, name, identifier) {
+        Some(Member::Routine(number)) => has_entry(diagnostics, identifier, env.routine(number)),
         _ => true,
     }
 }
@@ -89,34 +89,38 @@ fn member_has_entry(
 fn selected_has_entry(
     env: &Environment,
     diagnostics: &mut Diagnostics,
-    x: &Identifier,
+    identifier: &Identifier,
     selectors: &[Selector],
 ) -> bool
     ensures { ReportsOf diagnostics.old diagnostics.new result
-        (n.c5_selected env.now x.now (selectors_of (map selector selectors.now))) }
+        (n.c5_selected env.now identifier.now (selectors_of (map selector selectors.now))) }
 {
     match selectors {
-        [Selector::Field { name, .. }, ..] => member_has_entry(env, diagnostics, x, name),
+        [Selector::Field { name, .. }, ..] => member_has_entry(env, diagnostics, identifier, name),
         _ => true,
     }
 }
 
 // C5: in a designator, a routine after a component's `.` lacks `entry`.
-fn entry_after_point(env: &Environment, diagnostics: &mut Diagnostics, d: &Designator) -> bool
-    ensures { ReportsOf diagnostics.old diagnostics.new result (n.c5_after_point env.now (designator d.now)) }
+fn entry_after_point(
+    env: &Environment,
+    diagnostics: &mut Diagnostics,
+    designated: &Designator,
+) -> bool
+    ensures { ReportsOf diagnostics.old diagnostics.new result (n.c5_after_point env.now (designator designated.now)) }
 {
-    selected_has_entry(env, diagnostics, &d.root, &d.selectors)
+    selected_has_entry(env, diagnostics, &designated.root, &designated.selectors)
 }
 
 // Whether the first name of a designator is that of a variable which may be named here, and indices
 // come right after it: then nothing is broken in its names, as one look-up tells.
-fn indexes_variable(env: &Environment, mode: Mode, d: &Designator) -> bool
-    ensures { result ≡ true → n.c2_c5_c8_named env.now mode (designator d.now) ≡ [] }
+fn indexes_variable(env: &Environment, mode: Mode, designated: &Designator) -> bool
+    ensures { result ≡ true → n.c2_c5_c8_named env.now mode (designator designated.now) ≡ [] }
 {
-    if !is_indexed_first(&d.selectors) {
+    if !is_indexed_first(&designated.selectors) {
         return false;
     }
-    match find_entity(env, &d.root) {
+    match find_entity(env, &designated.root) {
         Some(Entity::Variable(t, _)) => !env.has_queues(t),
         _ => false,
     }
@@ -128,25 +132,25 @@ pub fn names_fit(
     env: &Environment,
     diagnostics: &mut Diagnostics,
     mode: Mode,
-    d: &Designator,
+    designated: &Designator,
 ) -> bool
-    ensures { ReportsOf diagnostics.old diagnostics.new result (n.c2_c5_c8_named env.now mode (designator d.now)) }
+    ensures { ReportsOf diagnostics.old diagnostics.new result (n.c2_c5_c8_named env.now mode (designator designated.now)) }
 {
-    if indexes_variable(env, mode, d) {
+    if indexes_variable(env, mode, designated) {
         return true;
     }
-    let no_type = no_indexed_type(env, diagnostics, mode, d);
-    let entry = entry_after_point(env, diagnostics, d);
-    let no_queue = queue_in_place(env, diagnostics, mode, first_name(d));
+    let no_type = no_indexed_type(env, diagnostics, mode, designated);
+    let entry = entry_after_point(env, diagnostics, designated);
+    let no_queue = queue_in_place(env, diagnostics, mode, first_name(designated));
     no_type && (entry && no_queue)
 }
 
 // ---- what isn't a routine although one is wanted
 
-fn first_part(env: &Environment, x: &Identifier) -> NamedPart
-    ensures { result ≡ n.first_part (r.c1_named env.now x.now) }
+fn first_part(env: &Environment, name: &Identifier) -> NamedPart
+    ensures { result ≡ n.first_part (r.c1_named env.now name.now) }
 {
-    let (is_value, of) = match find_entity(env, x) {
+    let (is_value, of) = match find_entity(env, name) {
         Some(Entity::Constant(_, _)) => (true, None),
         Some(Entity::Variable(t, _)) => (true, Some(t)),
         _ => (false, None),
@@ -158,10 +162,10 @@ fn first_part(env: &Environment, x: &Identifier) -> NamedPart
     }
 }
 
-fn field_type(env: &Environment, x: &Identifier, of: Option<usize>) -> Option<usize>
-    ensures { result ≡ n.field_type env.now x.now.name of }
+fn field_type(env: &Environment, name: &Identifier, of: Option<usize>) -> Option<usize>
+    ensures { result ≡ n.field_type env.now name.now.name of }
 {
-    match member_of_type(env, of?, x) {
+    match member_of_type(env, of?, name) {
         Some(Member::Field(t)) => Some(t),
         _ => None,
     }
@@ -207,11 +211,11 @@ fn next_part(env: &Environment, part: NamedPart, s: &Selector) -> NamedPart
 }
 
 // The last name of a designator and the indices after it.
-fn last_part(env: &Environment, d: &Designator) -> NamedPart
-    ensures { result ≡ n.last_part_of env.now (designator d.now) }
+fn last_part(env: &Environment, designated: &Designator) -> NamedPart
+    ensures { result ≡ n.last_part_of env.now (designator designated.now) }
 {
-    let mut part = first_part(env, &d.root);
-    for s in &d.selectors {
+    let mut part = first_part(env, &designated.root);
+    for s in &designated.selectors {
         part = next_part(env, part, s);
     }
     part
@@ -222,15 +226,15 @@ pub fn no_indexed_value(
     env: &Environment,
     diagnostics: &mut Diagnostics,
     mode: Mode,
-    d: &Designator,
+    designated: &Designator,
 ) -> bool
-    ensures { ReportsOf diagnostics.old diagnostics.new result (n.c2_indexed env.now mode (designator d.now)) }
+    ensures { ReportsOf diagnostics.old diagnostics.new result (n.c2_indexed env.now mode (designator designated.now)) }
 {
-    let part = last_part(env, d);
+    let part = last_part(env, designated);
     unless_holds(
         diagnostics,
         !(part.is_indexed && part.is_value),
-        sort_rule(mode, d),
-        last_name(d).at,
+        sort_rule(mode, designated),
+        last_name(designated).at,
     )
 }

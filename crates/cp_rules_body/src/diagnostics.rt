@@ -169,10 +169,11 @@ impl Kept {
 
 /// Whether a violation comes before another one: by its place, and at one place by the number of
 /// the rule.
-pub fn is_before(violation: Violation, w: Violation) -> bool
-    ensures { result ≡ is_before violation w }
+pub fn is_before(violation: Violation, other: Violation) -> bool
+    ensures { result ≡ is_before violation other }
 {
-    violation.at < w.at || (violation.at == w.at && violation.rule.number() < w.rule.number())
+    violation.at < other.at
+        || (violation.at == other.at && violation.rule.number() < other.rule.number())
 }
 
 // Adds a violation to a list that begins with an earlier one, if it comes after the last.

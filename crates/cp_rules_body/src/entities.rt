@@ -58,11 +58,11 @@ fn part(env: &Environment, entity: Option<Entity>, s: &Selector) -> Option<Entit
 }
 
 /// What the names of a designator stand for, if that is known.
-pub fn find_designated_entity(env: &Environment, d: &Designator) -> Option<Entity>
-    ensures { result ≡ spec.designated_entity env.now (designator d.now) }
+pub fn find_designated_entity(env: &Environment, designated: &Designator) -> Option<Entity>
+    ensures { result ≡ spec.designated_entity env.now (designator designated.now) }
 {
-    let mut entity = find_entity(env, &d.root);
-    for s in &d.selectors {
+    let mut entity = find_entity(env, &designated.root);
+    for s in &designated.selectors {
         entity = part(env, entity, s);
     }
     entity

@@ -99,10 +99,10 @@ impl<'t> Environment<'t> {
     }
 
     /// The member with this name in a table of members.
-    pub fn member(&self, table: usize, x: &Identifier) -> Option<Member>
-        ensures { result ≡ lookup x.now.name (get_or self.now.members table []) }
+    pub fn member(&self, table: usize, name: &Identifier) -> Option<Member>
+        ensures { result ≡ lookup name.now.name (get_or self.now.members table []) }
     {
-        self.members.get(table)?.find(x.name.as_bytes())
+        self.members.get(table)?.find(name.name.as_bytes())
     }
 }
 
@@ -283,12 +283,12 @@ impl<'t> Environment<'t> {
     }
 
     /// Declares a name, unless it is visible already, and returns whether it wasn't.
-    pub fn declare(&mut self, x: &'t Identifier, entity: Entity) -> Result<bool, AllocError>
+    pub fn declare(&mut self, name: &'t Identifier, entity: Entity) -> Result<bool, AllocError>
         ensures new { IfOk result
-            (λ new. new ≡ not (is_some (lookup x.now.name self.old.names))) }
-        ensures declared { OnOk result (self.new ≡ r.declare x.now entity self.old) }
+            (λ new. new ≡ not (is_some (lookup name.now.name self.old.names))) }
+        ensures declared { OnOk result (self.new ≡ r.declare name.now entity self.old) }
     {
-        self.names.add_if_new(x.name.as_bytes(), entity)
+        self.names.add_if_new(name.name.as_bytes(), entity)
     }
 
     /// Lets the names that were declared after the first `mark` ones stand for `entity` from now

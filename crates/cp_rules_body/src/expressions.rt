@@ -35,11 +35,11 @@ pub fn judge(
     env: &Environment,
     diagnostics: &mut Diagnostics,
     mode: Mode,
-    e: &Expression,
+    value: &Expression,
 ) -> Option<usize>
-    ensures { Reports diagnostics.old diagnostics.new result (x.judge env.now mode (expression e.now)) }
+    ensures { Reports diagnostics.old diagnostics.new result (x.judge env.now mode (expression value.now)) }
 {
-    match e {
+    match value {
         Expression::Number { .. } => Some(INTEGER),
         Expression::Character { .. } => Some(CHAR),
         Expression::Designated(d) => judge_use(env, diagnostics, mode, d),
@@ -50,12 +50,16 @@ pub fn judge(
             answer_if(fits, result(env, called.callee, t))
         }
         Expression::Parenthesized { inner, .. } => judge(env, diagnostics, Mode::Value, inner),
-        Expression::Not { at, operand: e } => {
-            let t = judge(env, diagnostics, Mode::Value, e)?;
+        Expression::Not { at, operand: value } => {
+            let t = judge(env, diagnostics, Mode::Value, value)?;
             operand(env, diagnostics, BOOLEAN, *at, t)
         }
-        Expression::Signed { at, operand: e, .. } => {
-            let t = judge(env, diagnostics, Mode::Value, e)?;
+        Expression::Signed {
+            at,
+            operand: value,
+            ..
+        } => {
+            let t = judge(env, diagnostics, Mode::Value, value)?;
             operand(env, diagnostics, INTEGER, *at, t)
         }
         Expression::Chain { first, rest } => {
@@ -106,15 +110,15 @@ fn judge_use(
     env: &Environment,
     diagnostics: &mut Diagnostics,
     mode: Mode,
-    d: &Designator,
+    designated: &Designator,
 ) -> Option<usize>
-    ensures { Reports diagnostics.old diagnostics.new result (parts.judge_use env.now mode (designator d.now)) }
+    ensures { Reports diagnostics.old diagnostics.new result (parts.judge_use env.now mode (designator designated.now)) }
 {
-    if let Some(t) = plain_variable(env, mode, d) {
+    if let Some(t) = plain_variable(env, mode, designated) {
         return Some(t);
     }
-    let fits = names_fit(env, diagnostics, mode, d);
-    let t = type_of_designator(env, diagnostics, mode, d);
+    let fits = names_fit(env, diagnostics, mode, designated);
+    let t = type_of_designator(env, diagnostics, mode, designated);
     answer_if(fits, t)
 }
 
@@ -124,13 +128,13 @@ pub fn type_of_designator(
     env: &Environment,
     diagnostics: &mut Diagnostics,
     mode: Mode,
-    d: &Designator,
+    designated: &Designator,
 ) -> Option<usize>
     ensures { Reports diagnostics.old diagnostics.new result
-        (parts.type_of_designator env.now mode (designator d.now)) }
+        (parts.type_of_designator env.now mode (designator designated.now)) }
 {
-    let entity = judge_designator(env, diagnostics, d)?;
-    value(env, diagnostics, mode, d, entity)
+    let entity = judge_designator(env, diagnostics, designated)?;
+    value(env, diagnostics, mode, designated, entity)
 }
 
 /// Judges a designator and returns what it stands for.
@@ -138,12 +142,12 @@ pub fn type_of_designator(
 pub fn judge_designator(
     env: &Environment,
     diagnostics: &mut Diagnostics,
-    d: &Designator,
+    designated: &Designator,
 ) -> Option<Entity>
-    ensures { Reports diagnostics.old diagnostics.new result (x.designate env.now (designator d.now)) }
+    ensures { Reports diagnostics.old diagnostics.new result (x.designate env.now (designator designated.now)) }
 {
-    let mut part = root(env, diagnostics, d);
-    for s in &d.selectors {
+    let mut part = root(env, diagnostics, designated);
+    for s in &designated.selectors {
         part = select(env, diagnostics, part, s);
     }
     part
@@ -208,19 +212,19 @@ fn element_if(
     diagnostics: &mut Diagnostics,
     at: usize,
     of: Option<ArrayPart>,
-    t: Option<usize>,
+    found: Option<usize>,
 ) -> Option<Entity>
-    ensures { ReportsBoth diagnostics.old diagnostics.new of t result (n.c2_index env.now at) }
+    ensures { ReportsBoth diagnostics.old diagnostics.new of found result (n.c2_index env.now at) }
 {
-    element(env, diagnostics, at, of?, t?)
+    element(env, diagnostics, at, of?, found?)
 }
 
 // The type of what a call gives, if what is called and the type of the first argument are known.
-fn result(env: &Environment, callee: Option<Callee>, t: Option<usize>) -> Option<usize>
-    ensures { result ≡ result_if env.now callee t }
+fn result(env: &Environment, callee: Option<Callee>, found: Option<usize>) -> Option<usize>
+    ensures { result ≡ result_if env.now callee found }
 {
-    match (callee, t) {
-        (Some(callee), Some(t)) => Some(result_type(env, t, callee.gives)),
+    match (callee, found) {
+        (Some(callee), Some(found)) => Some(result_type(env, found, callee.gives)),
         _ => None,
     }
 }
@@ -230,16 +234,16 @@ fn function_if(
     env: &Environment,
     diagnostics: &mut Diagnostics,
     mode: Mode,
-    d: &Designator,
+    designated: &Designator,
     count: usize,
     entity: Option<Entity>,
 ) -> Option<Callee>
     ensures { (t : Option Violation) (j : Judged EntityValue) → Reports t diagnostics.old entity j
         → ReportsCallee env.now t diagnostics.new result
-        (parts.function_if env.now mode (designator d.now) count j) }
+        (parts.function_if env.now mode (designator designated.now) count j) }
 {
     let entity = entity?;
-    function(env, diagnostics, mode, d, count, entity)
+    function(env, diagnostics, mode, designated, count, entity)
 }
 
 #[cycle(judge)]
@@ -247,18 +251,18 @@ fn judge_callee(
     env: &Environment,
     diagnostics: &mut Diagnostics,
     mode: Mode,
-    d: &Designator,
+    designated: &Designator,
     count: usize,
 ) -> Called
     ensures callee { ReportsCallee env.now diagnostics.old diagnostics.new result.callee
-        (parts.callee_of env.now mode (designator d.now) count) }
+        (parts.callee_of env.now mode (designator designated.now) count) }
     ensures wants { wants_of env.now result.wants ≡ x.wants_in env.now
-        (x.designate env.now (designator d.now))
-        (parts.callee_of env.now mode (designator d.now) count) }
+        (x.designate env.now (designator designated.now))
+        (parts.callee_of env.now mode (designator designated.now) count) }
 {
-    let no_value = no_indexed_value(env, diagnostics, mode, d);
-    let entity = judge_designator(env, diagnostics, d);
-    let function = function_if(env, diagnostics, mode, d, count, entity);
+    let no_value = no_indexed_value(env, diagnostics, mode, designated);
+    let entity = judge_designator(env, diagnostics, designated);
+    let function = function_if(env, diagnostics, mode, designated, count, entity);
     let callee = answer_if(no_value, function);
     Called {
         wants: wants_of_call(env, entity, callee),
@@ -294,15 +298,15 @@ fn argument(
     env: &Environment,
     diagnostics: &mut Diagnostics,
     want: Option<Want>,
-    e: &Expression,
+    value: &Expression,
 ) -> Option<usize>
-    ensures { Reports diagnostics.old diagnostics.new result (parts.argument_for env.now want (expression e.now)) }
+    ensures { Reports diagnostics.old diagnostics.new result (parts.argument_for env.now want (expression value.now)) }
 {
     let Some(want) = want else {
-        return judge(env, diagnostics, Mode::Value, e);
+        return judge(env, diagnostics, Mode::Value, value);
     };
-    let has_form = has_form(env, diagnostics, want, e);
-    let t = type_of_argument(env, diagnostics, want, e);
+    let has_form = has_form(env, diagnostics, want, value);
+    let t = type_of_argument(env, diagnostics, want, value);
     answer_if(has_form, t)
 }
 
@@ -311,11 +315,11 @@ fn type_of_argument(
     env: &Environment,
     diagnostics: &mut Diagnostics,
     want: Want,
-    e: &Expression,
+    value: &Expression,
 ) -> Option<usize>
     ensures { Reports diagnostics.old diagnostics.new result
-        (parts.type_of_argument env.now want (expression e.now)) }
+        (parts.type_of_argument env.now want (expression value.now)) }
 {
-    let t = judge(env, diagnostics, mode_of(want), e)?;
-    has_type(env, diagnostics, want, e, t)
+    let t = judge(env, diagnostics, mode_of(want), value)?;
+    has_type(env, diagnostics, want, value, t)
 }

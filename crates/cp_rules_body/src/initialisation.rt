@@ -25,18 +25,18 @@ use cp_model::tree::{Designator, Expression, Identifier, InitItem, Selector};
 
 fn own_system(
     diagnostics: &mut Diagnostics,
-    x: &Identifier,
+    name: &Identifier,
     access: Access,
     system: Option<usize>,
 ) -> Option<usize>
-    ensures { Reports diagnostics.old diagnostics.new result (st.system_initialised x.now access system) }
+    ensures { Reports diagnostics.old diagnostics.new result (st.system_initialised name.now access system) }
 {
     match access {
         Access::Own => match system {
             Some(y) => Some(y),
-            None => report_violation(diagnostics, Rule::C12, x.at),
+            None => report_violation(diagnostics, Rule::C12, name.at),
         },
-        _ => report_violation(diagnostics, Rule::C12, x.at),
+        _ => report_violation(diagnostics, Rule::C12, name.at),
     }
 }
 
@@ -44,16 +44,16 @@ fn own_system(
 fn own_component(
     env: &Environment,
     diagnostics: &mut Diagnostics,
-    x: &Identifier,
+    name: &Identifier,
     entity: Entity,
 ) -> Option<usize>
-    ensures { Reports diagnostics.old diagnostics.new result (st.c12_component env.now x.now entity) }
+    ensures { Reports diagnostics.old diagnostics.new result (st.c12_component env.now name.now entity) }
 {
     match entity {
-        Entity::Variable(t, access) => own_system(diagnostics, x, access, env.system(t)),
+        Entity::Variable(t, access) => own_system(diagnostics, name, access, env.system(t)),
         _ => {
-            anywhere(env, diagnostics, x, entity);
-            report_violation(diagnostics, Rule::C12, x.at)
+            anywhere(env, diagnostics, name, entity);
+            report_violation(diagnostics, Rule::C12, name.at)
         }
     }
 }
@@ -61,44 +61,44 @@ fn own_component(
 fn system_of_component(
     env: &Environment,
     diagnostics: &mut Diagnostics,
-    x: &Identifier,
+    name: &Identifier,
 ) -> Option<usize>
     ensures { Reports diagnostics.old diagnostics.new result
-        (then_judge (r.c1_named env.now x.now) (st.c12_component env.now x.now)) }
+        (then_judge (r.c1_named env.now name.now) (st.c12_component env.now name.now)) }
 {
-    let entity = judge_name(env, diagnostics, x)?;
-    own_component(env, diagnostics, x, entity)
+    let entity = judge_name(env, diagnostics, name)?;
+    own_component(env, diagnostics, name, entity)
 }
 
 // C12: a wrong number of arguments.
 fn judge_argument_count(
     env: &Environment,
     diagnostics: &mut Diagnostics,
-    x: &Identifier,
+    name: &Identifier,
     count: usize,
     y: usize,
 ) -> Option<SystemRow>
-    ensures { Reports diagnostics.old diagnostics.new result (st.c12_count env.now x.now count y) }
+    ensures { Reports diagnostics.old diagnostics.new result (st.c12_count env.now name.now count y) }
 {
     let row = env.system_row(y);
     if row.count == count {
         return Some(row);
     }
-    report_violation(diagnostics, Rule::C12, x.at)
+    report_violation(diagnostics, Rule::C12, name.at)
 }
 
 // The system type that is initialised, whatever the number of arguments is.
 fn component(
     env: &Environment,
     diagnostics: &mut Diagnostics,
-    x: &Identifier,
+    name: &Identifier,
     count: usize,
 ) -> Option<usize>
-    ensures diagnostics { diagnostics.new ≡ least diagnostics.old (violations_of (parts.component env.now x.now count)) }
-    ensures system { result ≡ meaning_of (parts.system env.now x.now) }
+    ensures diagnostics { diagnostics.new ≡ least diagnostics.old (violations_of (parts.component env.now name.now count)) }
+    ensures system { result ≡ meaning_of (parts.system env.now name.now) }
 {
-    let y = system_of_component(env, diagnostics, x)?;
-    judge_argument_count(env, diagnostics, x, count, y);
+    let y = system_of_component(env, diagnostics, name)?;
+    judge_argument_count(env, diagnostics, name, count, y);
     Some(y)
 }
 
@@ -107,38 +107,38 @@ fn component(
 fn unused_entity(
     env: &Environment,
     diagnostics: &mut Diagnostics,
-    d: &Designator,
+    designated: &Designator,
     entity: Entity,
 ) -> Option<usize>
-    ensures { Reports diagnostics.old diagnostics.new result (st.surplus_name env.now (designator d.now) entity) }
+    ensures { Reports diagnostics.old diagnostics.new result (st.surplus_name env.now (designator designated.now) entity) }
 {
-    let in_place = anywhere(env, diagnostics, last_name(d), entity);
+    let in_place = anywhere(env, diagnostics, last_name(designated), entity);
     answer_if(in_place, Some(INTEGER))
 }
 
 fn unused_designator(
     env: &Environment,
     diagnostics: &mut Diagnostics,
-    d: &Designator,
+    designated: &Designator,
 ) -> Option<usize>
     ensures { Reports diagnostics.old diagnostics.new result
-        (then_judge (x.designate env.now (designator d.now))
-        (st.surplus_name env.now (designator d.now))) }
+        (then_judge (x.designate env.now (designator designated.now))
+        (st.surplus_name env.now (designator designated.now))) }
 {
-    let entity = expressions::judge_designator(env, diagnostics, d)?;
-    unused_entity(env, diagnostics, d, entity)
+    let entity = expressions::judge_designator(env, diagnostics, designated)?;
+    unused_entity(env, diagnostics, designated, entity)
 }
 
 fn unwanted_designator(
     env: &Environment,
     diagnostics: &mut Diagnostics,
-    d: &Designator,
+    designated: &Designator,
 ) -> Option<usize>
     ensures { Reports diagnostics.old diagnostics.new result
-        (parts.unwanted_designator env.now (designator d.now)) }
+        (parts.unwanted_designator env.now (designator designated.now)) }
 {
-    let fits = names_fit(env, diagnostics, Mode::Value, d);
-    let t = unused_designator(env, diagnostics, d);
+    let fits = names_fit(env, diagnostics, Mode::Value, designated);
+    let t = unused_designator(env, diagnostics, designated);
     answer_if(fits, t)
 }
 
@@ -146,13 +146,13 @@ fn unwanted_designator(
 fn unwanted_argument(
     env: &Environment,
     diagnostics: &mut Diagnostics,
-    e: &Expression,
+    value: &Expression,
 ) -> Option<usize>
-    ensures { Reports diagnostics.old diagnostics.new result (st.surplus_argument env.now (expression e.now)) }
+    ensures { Reports diagnostics.old diagnostics.new result (st.surplus_argument env.now (expression value.now)) }
 {
-    match designator_of(e) {
+    match designator_of(value) {
         Some(d) => unwanted_designator(env, diagnostics, d),
-        None => judge(env, diagnostics, Mode::Value, e),
+        None => judge(env, diagnostics, Mode::Value, value),
     }
 }
 
@@ -161,21 +161,21 @@ fn passed_entity(
     env: &Environment,
     diagnostics: &mut Diagnostics,
     wanted: usize,
-    x: &Identifier,
+    name: &Identifier,
     entity: Entity,
 ) -> Option<usize>
-    ensures { Reports diagnostics.old diagnostics.new result (st.c12_passed env.now wanted x.now entity) }
+    ensures { Reports diagnostics.old diagnostics.new result (st.c12_passed env.now wanted name.now entity) }
 {
     match entity {
         Entity::Variable(t, _) => {
             if t == wanted {
                 return Some(t);
             }
-            report_violation(diagnostics, Rule::C12, x.at)
+            report_violation(diagnostics, Rule::C12, name.at)
         }
         _ => {
-            anywhere(env, diagnostics, x, entity);
-            report_violation(diagnostics, Rule::C12, x.at)
+            anywhere(env, diagnostics, name, entity);
+            report_violation(diagnostics, Rule::C12, name.at)
         }
     }
 }
@@ -184,43 +184,43 @@ fn passed_name(
     env: &Environment,
     diagnostics: &mut Diagnostics,
     wanted: usize,
-    x: &Identifier,
+    name: &Identifier,
 ) -> Option<usize>
     ensures { Reports diagnostics.old diagnostics.new result
-        (then_judge (r.c1_named env.now x.now) (st.c12_passed env.now wanted x.now)) }
+        (then_judge (r.c1_named env.now name.now) (st.c12_passed env.now wanted name.now)) }
 {
-    let entity = judge_name(env, diagnostics, x)?;
-    passed_entity(env, diagnostics, wanted, x, entity)
+    let entity = judge_name(env, diagnostics, name)?;
+    passed_entity(env, diagnostics, wanted, name, entity)
 }
 
 fn name_argument(
     env: &Environment,
     diagnostics: &mut Diagnostics,
     wanted: usize,
-    x: &Identifier,
+    name: &Identifier,
 ) -> Option<usize>
-    ensures { Reports diagnostics.old diagnostics.new result (parts.name_argument env.now wanted x.now) }
+    ensures { Reports diagnostics.old diagnostics.new result (parts.name_argument env.now wanted name.now) }
 {
-    let no_queue = queue_in_place(env, diagnostics, Mode::Value, x);
-    let t = passed_name(env, diagnostics, wanted, x);
+    let no_queue = queue_in_place(env, diagnostics, Mode::Value, name);
+    let t = passed_name(env, diagnostics, wanted, name);
     answer_if(no_queue, t)
 }
 
 // The name, if it has no selectors.
-fn whole_name<'t>(x: &'t Identifier, selectors: &[Selector]) -> Option<&'t Identifier>
-    ensures { parts.name_if result ≡ parts.whole_name x.now (parts.selectors selectors.now) }
+fn whole_name<'t>(name: &'t Identifier, selectors: &[Selector]) -> Option<&'t Identifier>
+    ensures { parts.name_if result ≡ parts.whole_name name.now (parts.selectors selectors.now) }
 {
     match selectors {
-        [] => Some(x),
+        [] => Some(name),
         _ => None,
     }
 }
 
 // The name, if the expression is a bare name.
-fn name_alone(e: &Expression) -> Option<&Identifier>
-    ensures { parts.name_if result ≡ parts.name_alone (expression e.now) }
+fn name_alone(value: &Expression) -> Option<&Identifier>
+    ensures { parts.name_if result ≡ parts.name_alone (expression value.now) }
 {
-    let d = designator_of(e)?;
+    let d = designator_of(value)?;
     whole_name(&d.root, &d.selectors)
 }
 
@@ -229,22 +229,22 @@ fn component_argument(
     env: &Environment,
     diagnostics: &mut Diagnostics,
     wanted: usize,
-    e: &Expression,
+    value: &Expression,
 ) -> Option<usize>
     ensures { Reports diagnostics.old diagnostics.new result
-        (st.component_argument env.now wanted (expression e.now)) }
+        (st.component_argument env.now wanted (expression value.now)) }
 {
-    match name_alone(e) {
+    match name_alone(value) {
         Some(x) => name_argument(env, diagnostics, wanted, x),
         None => {
             report(
                 diagnostics,
                 Violation {
                     rule: Rule::C12,
-                    at: first_token(e),
+                    at: first_token(value),
                 },
             );
-            unwanted_argument(env, diagnostics, e);
+            unwanted_argument(env, diagnostics, value);
             None
         }
     }
@@ -254,16 +254,16 @@ fn simple_agrees(
     env: &Environment,
     diagnostics: &mut Diagnostics,
     wanted: usize,
-    e: &Expression,
+    value: &Expression,
     t: usize,
 ) -> Option<usize>
     ensures { Reports diagnostics.old diagnostics.new result
-        (parts.simple_agrees env.now wanted (expression e.now) t) }
+        (parts.simple_agrees env.now wanted (expression value.now) t) }
 {
     if env.agree(wanted, t) {
         return Some(t);
     }
-    report_violation(diagnostics, Rule::C12, first_token(e))
+    report_violation(diagnostics, Rule::C12, first_token(value))
 }
 
 // C12: an argument doesn't agree with its simple parameter.
@@ -271,30 +271,30 @@ fn simple_argument(
     env: &Environment,
     diagnostics: &mut Diagnostics,
     wanted: usize,
-    e: &Expression,
+    value: &Expression,
 ) -> Option<usize>
     ensures { Reports diagnostics.old diagnostics.new result
-        (parts.simple_argument env.now wanted (expression e.now)) }
+        (parts.simple_argument env.now wanted (expression value.now)) }
 {
-    let t = judge(env, diagnostics, Mode::Value, e)?;
-    simple_agrees(env, diagnostics, wanted, e, t)
+    let t = judge(env, diagnostics, Mode::Value, value)?;
+    simple_agrees(env, diagnostics, wanted, value, t)
 }
 
 fn argument(
     env: &Environment,
     diagnostics: &mut Diagnostics,
     wanted: Option<usize>,
-    e: &Expression,
+    value: &Expression,
 ) -> Option<usize>
-    ensures { Reports diagnostics.old diagnostics.new result (st.init_argument env.now wanted (expression e.now)) }
+    ensures { Reports diagnostics.old diagnostics.new result (st.init_argument env.now wanted (expression value.now)) }
 {
     match wanted {
-        None => unwanted_argument(env, diagnostics, e),
+        None => unwanted_argument(env, diagnostics, value),
         Some(wanted) => {
             if env.is_component(wanted) {
-                component_argument(env, diagnostics, wanted, e)
+                component_argument(env, diagnostics, wanted, value)
             } else {
-                simple_argument(env, diagnostics, wanted, e)
+                simple_argument(env, diagnostics, wanted, value)
             }
         }
     }
@@ -325,13 +325,13 @@ fn arguments(
 }
 
 // The system type of a component that may be initialised with so many arguments, by one look-up.
-fn plain_component(env: &Environment, x: &Identifier, count: usize) -> Option<usize>
-    ensures named { IfSome result (λ y. n.c8_named env.now mode.Value x.now ≡ []) }
+fn plain_component(env: &Environment, name: &Identifier, count: usize) -> Option<usize>
+    ensures named { IfSome result (λ y. n.c8_named env.now mode.Value name.now ≡ []) }
     ensures component { IfSome result
-        (λ y. violations_of (parts.component env.now x.now count) ≡ []) }
-    ensures system { IfSome result (λ y. parts.system env.now x.now ≡ Sound y) }
+        (λ y. violations_of (parts.component env.now name.now count) ≡ []) }
+    ensures system { IfSome result (λ y. parts.system env.now name.now ≡ Sound y) }
 {
-    let Some(Entity::Variable(t, Access::Own)) = find_entity(env, x) else {
+    let Some(Entity::Variable(t, Access::Own)) = find_entity(env, name) else {
         return None;
     };
     let y = env.system(t)?;
@@ -346,19 +346,19 @@ fn plain_component(env: &Environment, x: &Identifier, count: usize) -> Option<us
 fn item_component(
     env: &Environment,
     diagnostics: &mut Diagnostics,
-    x: &Identifier,
+    name: &Identifier,
     count: usize,
 ) -> Option<usize>
-    ensures diagnostics { diagnostics.new ≡ least diagnostics.old (n.c8_named env.now mode.Value x.now ++ violations_of
-        (parts.component env.now x.now count)) }
-    ensures system { result ≡ meaning_of (parts.system env.now x.now) }
+    ensures diagnostics { diagnostics.new ≡ least diagnostics.old (n.c8_named env.now mode.Value name.now ++ violations_of
+        (parts.component env.now name.now count)) }
+    ensures system { result ≡ meaning_of (parts.system env.now name.now) }
 {
-    let plain = plain_component(env, x, count);
+    let plain = plain_component(env, name, count);
     if plain.is_some() {
         return plain;
     }
-    queue_in_place(env, diagnostics, Mode::Value, x);
-    component(env, diagnostics, x, count)
+    queue_in_place(env, diagnostics, Mode::Value, name);
+    component(env, diagnostics, name, count)
 }
 
 fn item(env: &Environment, diagnostics: &mut Diagnostics, item: &InitItem)

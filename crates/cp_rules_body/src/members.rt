@@ -18,32 +18,32 @@ pub fn member(
     env: &Environment,
     diagnostics: &mut Diagnostics,
     at: usize,
-    x: &Identifier,
+    name: &Identifier,
     entity: Entity,
 ) -> Option<Entity>
-    ensures { Reports diagnostics.old diagnostics.new result (n.member_of env.now at x.now entity) }
+    ensures { Reports diagnostics.old diagnostics.new result (n.member_of env.now at name.now entity) }
 {
     let Entity::Variable(t, access) = entity else {
         return report_violation(diagnostics, Rule::C2, at);
     };
     match env.structure(t) {
-        Structure::Record(k) => entity_of_member(diagnostics, x, access, env.member(k, x)),
+        Structure::Record(k) => entity_of_member(diagnostics, name, access, env.member(k, name)),
         Structure::System(y) => {
             let k = env.system_row(y).members;
-            entity_of_member(diagnostics, x, access, env.member(k, x))
+            entity_of_member(diagnostics, name, access, env.member(k, name))
         }
         _ => report_violation(diagnostics, Rule::C2, at),
     }
 }
 
 /// The member of a type with this name, if it has one.
-pub fn member_of_type(env: &Environment, t: usize, x: &Identifier) -> Option<Member>
-    ensures { result ≡ n.member_in x.now.name
+pub fn member_of_type(env: &Environment, t: usize, name: &Identifier) -> Option<Member>
+    ensures { result ≡ n.member_in name.now.name
         (r.members_in env.now (r.row_of env.now t).structure) }
 {
     match env.structure(t) {
-        Structure::Record(k) => env.member(k, x),
-        Structure::System(y) => env.member(env.system_row(y).members, x),
+        Structure::Record(k) => env.member(k, name),
+        Structure::System(y) => env.member(env.system_row(y).members, name),
         _ => None,
     }
 }

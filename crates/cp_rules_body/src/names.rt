@@ -22,13 +22,13 @@ use cp_model::tree::{Designator, Identifier, Selector, Sort};
 pub fn resolve(
     env: &Environment,
     diagnostics: &mut Diagnostics,
-    x: &Identifier,
+    name: &Identifier,
 ) -> Result<Entity, Violation>
-    ensures { ReportsFirst diagnostics.old diagnostics.new result (r.c1_named env.now x.now) }
+    ensures { ReportsFirst diagnostics.old diagnostics.new result (r.c1_named env.now name.now) }
 {
-    match env.find(x.name.as_bytes()) {
-        None => fail_with_violation(diagnostics, Rule::C1, x.at),
-        Some(Entity::Hidden) => fail_with_violation(diagnostics, Rule::C1, x.at),
+    match env.find(name.name.as_bytes()) {
+        None => fail_with_violation(diagnostics, Rule::C1, name.at),
+        Some(Entity::Hidden) => fail_with_violation(diagnostics, Rule::C1, name.at),
         Some(Entity::Broken(violation)) => {
             report(diagnostics, violation);
             Err(violation)
@@ -41,18 +41,18 @@ pub fn resolve(
 pub fn judge_name(
     env: &Environment,
     diagnostics: &mut Diagnostics,
-    x: &Identifier,
+    name: &Identifier,
 ) -> Option<Entity>
-    ensures { Reports diagnostics.old diagnostics.new result (r.c1_named env.now x.now) }
+    ensures { Reports diagnostics.old diagnostics.new result (r.c1_named env.now name.now) }
 {
-    resolve(env, diagnostics, x).ok()
+    resolve(env, diagnostics, name).ok()
 }
 
 /// What a name stands for, if that is known. This reports nothing.
-pub fn find_entity(env: &Environment, x: &Identifier) -> Option<Entity>
-    ensures { result ≡ meaning_of (r.c1_named env.now x.now) }
+pub fn find_entity(env: &Environment, name: &Identifier) -> Option<Entity>
+    ensures { result ≡ meaning_of (r.c1_named env.now name.now) }
 {
-    match env.find(x.name.as_bytes()) {
+    match env.find(name.name.as_bytes()) {
         None => None,
         Some(Entity::Hidden) => None,
         Some(Entity::Broken(_)) => None,
@@ -61,8 +61,8 @@ pub fn find_entity(env: &Environment, x: &Identifier) -> Option<Entity>
 }
 
 /// C4: a constant, type or routine is named inside its own definition.
-pub fn outside_definition(diagnostics: &mut Diagnostics, x: &Identifier, entity: Entity) -> bool
-    ensures { ReportsOf diagnostics.old diagnostics.new result (r.c4_unfinished x.now entity) }
+pub fn outside_definition(diagnostics: &mut Diagnostics, name: &Identifier, entity: Entity) -> bool
+    ensures { ReportsOf diagnostics.old diagnostics.new result (r.c4_unfinished name.now entity) }
 {
     let finished = match entity {
         Entity::UnfinishedConstant => false,
@@ -70,7 +70,7 @@ pub fn outside_definition(diagnostics: &mut Diagnostics, x: &Identifier, entity:
         Entity::UnfinishedRoutine(_) => false,
         _ => true,
     };
-    unless_holds(diagnostics, finished, Rule::C4, x.at)
+    unless_holds(diagnostics, finished, Rule::C4, name.at)
 }
 
 fn is_monitor(sort: Sort) -> bool
@@ -126,10 +126,10 @@ fn is_allowed(region: Region, standard: Standard) -> bool
 pub fn in_place(
     env: &Environment,
     diagnostics: &mut Diagnostics,
-    x: &Identifier,
+    name: &Identifier,
     entity: Entity,
 ) -> bool
-    ensures { ReportsOf diagnostics.old diagnostics.new result (r.c9_standard env.now x.now entity) }
+    ensures { ReportsOf diagnostics.old diagnostics.new result (r.c9_standard env.now name.now entity) }
 {
     match entity {
         Entity::Standard(standard) => {
@@ -137,7 +137,7 @@ pub fn in_place(
                 diagnostics,
                 is_allowed(env.region(), standard),
                 Rule::C9,
-                x.at,
+                name.at,
             )
         }
         _ => true,
@@ -148,28 +148,28 @@ pub fn in_place(
 pub fn anywhere(
     env: &Environment,
     diagnostics: &mut Diagnostics,
-    x: &Identifier,
+    name: &Identifier,
     entity: Entity,
 ) -> bool
-    ensures { ReportsOf diagnostics.old diagnostics.new result (r.c4_c9_named env.now x.now entity) }
+    ensures { ReportsOf diagnostics.old diagnostics.new result (r.c4_c9_named env.now name.now entity) }
 {
-    let finished = outside_definition(diagnostics, x, entity);
-    let in_place = in_place(env, diagnostics, x, entity);
+    let finished = outside_definition(diagnostics, name, entity);
+    let in_place = in_place(env, diagnostics, name, entity);
     finished && in_place
 }
 
 /// What a member of a record or a component stands for. C1: there is no member with this name.
 pub fn entity_of_member(
     diagnostics: &mut Diagnostics,
-    x: &Identifier,
+    name: &Identifier,
     access: Access,
     member: Option<Member>,
 ) -> Option<Entity>
     ensures { (env : r.Environment)
-        → Reports diagnostics.old diagnostics.new result (n.member_named env x.now access member) }
+        → Reports diagnostics.old diagnostics.new result (n.member_named env name.now access member) }
 {
     match member {
-        None => report_violation(diagnostics, Rule::C1, x.at),
+        None => report_violation(diagnostics, Rule::C1, name.at),
         Some(Member::Field(t)) => Some(Entity::Variable(t, access)),
         Some(Member::Routine(routine)) => Some(Entity::Entry(routine)),
     }
@@ -213,10 +213,10 @@ pub fn element(
     report_violation(diagnostics, Rule::C2, at)
 }
 
-fn is_queue_variable(env: &Environment, x: &Identifier) -> bool
-    ensures { result ≡ n.has_queues env.now (r.c1_named env.now x.now) }
+fn is_queue_variable(env: &Environment, name: &Identifier) -> bool
+    ensures { result ≡ n.has_queues env.now (r.c1_named env.now name.now) }
 {
-    match find_entity(env, x) {
+    match find_entity(env, name) {
         Some(Entity::Variable(t, _)) => env.has_queues(t),
         _ => false,
     }
@@ -228,13 +228,18 @@ pub fn queue_in_place(
     env: &Environment,
     diagnostics: &mut Diagnostics,
     mode: Mode,
-    x: &Identifier,
+    name: &Identifier,
 ) -> bool
-    ensures { ReportsOf diagnostics.old diagnostics.new result (n.c8_named env.now mode x.now) }
+    ensures { ReportsOf diagnostics.old diagnostics.new result (n.c8_named env.now mode name.now) }
 {
     match mode {
         Mode::Queue => true,
-        _ => unless_holds(diagnostics, !is_queue_variable(env, x), Rule::C8, x.at),
+        _ => unless_holds(
+            diagnostics,
+            !is_queue_variable(env, name),
+            Rule::C8,
+            name.at,
+        ),
     }
 }
 
@@ -251,12 +256,12 @@ fn sort_rule_of_variable(selectors: &[Selector]) -> Rule
 
 /// The rule that is broken if a name is of another sort than is wanted: C2, or C10 where that rule
 /// applies.
-pub fn sort_rule(mode: Mode, d: &Designator) -> Rule
-    ensures { result ≡ n.sort_rule mode (designator d.now) }
+pub fn sort_rule(mode: Mode, designated: &Designator) -> Rule
+    ensures { result ≡ n.sort_rule mode (designator designated.now) }
 {
     match mode {
-        Mode::Variable => sort_rule_of_variable(&d.selectors),
-        Mode::FirstOperand => sort_rule_of_variable(&d.selectors),
+        Mode::Variable => sort_rule_of_variable(&designated.selectors),
+        Mode::FirstOperand => sort_rule_of_variable(&designated.selectors),
         _ => Rule::C2,
     }
 }

@@ -26,10 +26,10 @@ use cp_model::tree::{
 /// The need of an expression, in words: the greatest need among the routines that are called in it,
 /// or 0.
 #[cycle(need_in_expressions)]
-pub fn need_of_expression(env: &Environment, e: &Expression) -> usize
-    ensures { result ≡ n.need_expression env.now (expression e.now) }
+pub fn need_of_expression(env: &Environment, value: &Expression) -> usize
+    ensures { result ≡ n.need_expression env.now (expression value.now) }
 {
-    match e {
+    match value {
         Expression::Number { .. } => 0,
         Expression::Character { .. } => 0,
         Expression::Designated(d) => need_of_designator(env, d),
@@ -66,10 +66,10 @@ fn need_of_expressions(env: &Environment, list: &[Expression]) -> usize
 }
 
 #[cycle(need_in_expressions)]
-fn need_of_designator(env: &Environment, d: &Designator) -> usize
-    ensures { result ≡ n.need_designator env.now (designator d.now) }
+fn need_of_designator(env: &Environment, designated: &Designator) -> usize
+    ensures { result ≡ n.need_designator env.now (designator designated.now) }
 {
-    need_of_callee(env, d).max(need_of_selectors(env, &d.selectors))
+    need_of_callee(env, designated).max(need_of_selectors(env, &designated.selectors))
 }
 
 #[cycle(need_in_expressions)]
@@ -107,22 +107,22 @@ fn need_of_indices(env: &Environment, indices: &[Index]) -> usize
 // The need of the routine that a designator stands for, if it stands for one. The indices are
 // judged only if the names stand for a routine. With indices they never do, since no array contains
 // components.
-fn need_of_callee(env: &Environment, d: &Designator) -> usize
-    ensures { result ≡ n.need_called env.now (x.designate env.now (designator d.now)) }
+fn need_of_callee(env: &Environment, designated: &Designator) -> usize
+    ensures { result ≡ n.need_called env.now (x.designate env.now (designator designated.now)) }
 {
-    if is_routine(find_designated_entity(env, d)) {
-        need_if_called(env, designation(env, d))
+    if is_routine(find_designated_entity(env, designated)) {
+        need_if_called(env, designation(env, designated))
     } else {
         0
     }
 }
 
 // What a designator stands for, if nothing is broken in it.
-fn designation(env: &Environment, d: &Designator) -> Option<Entity>
-    ensures { result ≡ meaning_of (x.designate env.now (designator d.now)) }
+fn designation(env: &Environment, designated: &Designator) -> Option<Entity>
+    ensures { result ≡ meaning_of (x.designate env.now (designator designated.now)) }
 {
     let mut diagnostics = Diagnostics::earliest();
-    judge_designator(env, &mut diagnostics, d)
+    judge_designator(env, &mut diagnostics, designated)
 }
 
 // The need of the routine that is called, if it is one.
@@ -139,10 +139,10 @@ fn need_if_called(env: &Environment, entity: Option<Entity>) -> usize
 /// The need of a statement, in words: the greatest need among the routines that are called in it
 /// and the bodies of the classes and monitors that it initialises, or 0.
 #[cycle(need_in_statements)]
-pub fn need_of_statement(env: &Environment, s: &Statement) -> usize
-    ensures { result ≡ n.need_statement env.now (statement s.now) }
+pub fn need_of_statement(env: &Environment, judged: &Statement) -> usize
+    ensures { result ≡ n.need_statement env.now (statement judged.now) }
 {
-    match s {
+    match judged {
         Statement::Empty => 0,
         Statement::Assign(a) => {
             need_of_designator(env, &a.target).max(need_of_expression(env, &a.value))

@@ -16,27 +16,27 @@ use crate::values::variable;
 use cp_model::rules::{Mode, Rule, Want};
 use cp_model::tree::{Expression, Operator};
 
-fn are_of_one_base(a: Option<usize>, b: Option<usize>) -> bool
-    ensures { result ≡ x.operands_fit None a b }
+fn are_of_one_base(found: Option<usize>, other: Option<usize>) -> bool
+    ensures { result ≡ x.operands_fit None found other }
 {
-    match a {
-        Some(a) => is_base(a, b),
+    match found {
+        Some(found) => is_base(found, other),
         None => false,
     }
 }
 
-fn operands_fit(operator: Operator, a: Option<usize>, b: Option<usize>) -> bool
-    ensures { result ≡ x.operands_fit (x.signature operator).wants a b }
+fn operands_fit(operator: Operator, found: Option<usize>, other: Option<usize>) -> bool
+    ensures { result ≡ x.operands_fit (x.signature operator).wants found other }
 {
     match operator {
-        Operator::Add => is_base(INTEGER, a) && is_base(INTEGER, b),
-        Operator::Subtract => is_base(INTEGER, a) && is_base(INTEGER, b),
-        Operator::Multiply => is_base(INTEGER, a) && is_base(INTEGER, b),
-        Operator::Divide => is_base(INTEGER, a) && is_base(INTEGER, b),
-        Operator::Modulo => is_base(INTEGER, a) && is_base(INTEGER, b),
-        Operator::And => is_base(BOOLEAN, a) && is_base(BOOLEAN, b),
-        Operator::Or => is_base(BOOLEAN, a) && is_base(BOOLEAN, b),
-        _ => are_of_one_base(a, b),
+        Operator::Add => is_base(INTEGER, found) && is_base(INTEGER, other),
+        Operator::Subtract => is_base(INTEGER, found) && is_base(INTEGER, other),
+        Operator::Multiply => is_base(INTEGER, found) && is_base(INTEGER, other),
+        Operator::Divide => is_base(INTEGER, found) && is_base(INTEGER, other),
+        Operator::Modulo => is_base(INTEGER, found) && is_base(INTEGER, other),
+        Operator::And => is_base(BOOLEAN, found) && is_base(BOOLEAN, other),
+        Operator::Or => is_base(BOOLEAN, found) && is_base(BOOLEAN, other),
+        _ => are_of_one_base(found, other),
     }
 }
 
@@ -123,11 +123,11 @@ fn fits_type(
     diagnostics: &mut Diagnostics,
     by_reference: bool,
     of: Option<usize>,
-    e: &Expression,
+    value: &Expression,
     t: usize,
 ) -> Option<usize>
     ensures { Reports diagnostics.old diagnostics.new result
-        (x.fits_type env.now by_reference of (expression e.now) t) }
+        (x.fits_type env.now by_reference of (expression value.now) t) }
 {
     let Some(u) = of else {
         return Some(t);
@@ -140,7 +140,7 @@ fn fits_type(
     if fits {
         return Some(t);
     }
-    report_violation(diagnostics, rule, first_token(e))
+    report_violation(diagnostics, rule, first_token(value))
 }
 
 /// C10: an argument that must be a variable isn't one, whatever else is broken in it.
@@ -148,19 +148,19 @@ pub fn has_form(
     env: &Environment,
     diagnostics: &mut Diagnostics,
     want: Want,
-    e: &Expression,
+    value: &Expression,
 ) -> bool
-    ensures { ReportsOf diagnostics.old diagnostics.new result (form_rules env.now want (expression e.now)) }
+    ensures { ReportsOf diagnostics.old diagnostics.new result (form_rules env.now want (expression value.now)) }
 {
     match want {
         Want::Parameter(p) => {
             if p.by_reference {
-                variable(env, diagnostics, e)
+                variable(env, diagnostics, value)
             } else {
                 true
             }
         }
-        Want::CharVariable => variable(env, diagnostics, e),
+        Want::CharVariable => variable(env, diagnostics, value),
         _ => true,
     }
 }
@@ -183,16 +183,16 @@ pub fn has_type(
     env: &Environment,
     diagnostics: &mut Diagnostics,
     want: Want,
-    e: &Expression,
+    value: &Expression,
     t: usize,
 ) -> Option<usize>
-    ensures { Reports diagnostics.old diagnostics.new result (type_rule env.now want (expression e.now) t) }
+    ensures { Reports diagnostics.old diagnostics.new result (type_rule env.now want (expression value.now) t) }
 {
     if let Want::Parameter(p) = want {
-        return fits_type(env, diagnostics, p.by_reference, p.of, e, t);
+        return fits_type(env, diagnostics, p.by_reference, p.of, value, t);
     }
     if is_wanted(env, want, t) {
         return Some(t);
     }
-    report_violation(diagnostics, Rule::C2, first_token(e))
+    report_violation(diagnostics, Rule::C2, first_token(value))
 }

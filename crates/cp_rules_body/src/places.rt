@@ -7,18 +7,18 @@ ghost use Rattle.cp_model.specs.View.{designator, expression, selector, selector
 use cp_model::tree::{Designator, Expression, Identifier, Selector};
 
 /// The first name of a designator.
-pub fn first_name(d: &Designator) -> &Identifier
-    ensures { result.now ≡ r.first_name (designator d.now) }
+pub fn first_name(designated: &Designator) -> &Identifier
+    ensures { result.now ≡ r.first_name (designator designated.now) }
 {
-    &d.root
+    &designated.root
 }
 
 /// The last name of a designator: that of its last field, or the first.
-pub fn last_name(d: &Designator) -> &Identifier
-    ensures { result.now ≡ r.last_name (designator d.now) }
+pub fn last_name(designated: &Designator) -> &Identifier
+    ensures { result.now ≡ r.last_name (designator designated.now) }
 {
-    let mut last = &d.root;
-    for s in &d.selectors {
+    let mut last = &designated.root;
+    for s in &designated.selectors {
         if let Selector::Field { name, .. } = s {
             last = name;
         }
@@ -40,10 +40,10 @@ pub fn has_field(selectors: &[Selector]) -> bool
 
 /// The place of the first token of an expression.
 #[tactic(auto, using(crate::proofs::Views::first_token_chain))]
-pub fn first_token(e: &Expression) -> usize
-    ensures { result ≡ r.first_token (expression e.now) }
+pub fn first_token(value: &Expression) -> usize
+    ensures { result ≡ r.first_token (expression value.now) }
 {
-    match e {
+    match value {
         Expression::Number { at, .. } => *at,
         Expression::Character { at, .. } => *at,
         Expression::Designated(d) => first_name(d).at,

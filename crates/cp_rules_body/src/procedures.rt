@@ -22,33 +22,33 @@ use cp_model::tree::{Designator, Expression};
 fn procedure_if(
     env: &Environment,
     diagnostics: &mut Diagnostics,
-    d: &Designator,
+    designated: &Designator,
     count: usize,
     entity: Option<Entity>,
 ) -> Option<Callee>
     ensures { (t : Option Violation) (j : Judged EntityValue) → Reports t diagnostics.old entity j
         → ReportsCallee env.now t diagnostics.new result
-        (parts.procedure_if env.now (designator d.now) count j) }
+        (parts.procedure_if env.now (designator designated.now) count j) }
 {
     let entity = entity?;
-    procedure(env, diagnostics, d, count, entity)
+    procedure(env, diagnostics, designated, count, entity)
 }
 
 fn judge_callee(
     env: &Environment,
     diagnostics: &mut Diagnostics,
-    d: &Designator,
+    designated: &Designator,
     count: usize,
 ) -> Called
     ensures callee { ReportsCallee env.now diagnostics.old diagnostics.new result.callee
-        (parts.procedure_called env.now (designator d.now) count) }
+        (parts.procedure_called env.now (designator designated.now) count) }
     ensures wants { wants_of env.now result.wants ≡ x.wants_in env.now
-        (x.designate env.now (designator d.now))
-        (parts.procedure_called env.now (designator d.now) count) }
+        (x.designate env.now (designator designated.now))
+        (parts.procedure_called env.now (designator designated.now) count) }
 {
-    let no_value = no_indexed_value(env, diagnostics, Mode::Value, d);
-    let entity = judge_designator(env, diagnostics, d);
-    let procedure = procedure_if(env, diagnostics, d, count, entity);
+    let no_value = no_indexed_value(env, diagnostics, Mode::Value, designated);
+    let entity = judge_designator(env, diagnostics, designated);
+    let procedure = procedure_if(env, diagnostics, designated, count, entity);
     let callee = answer_if(no_value, procedure);
     Called {
         wants: wants_of_call(env, entity, callee),
@@ -60,13 +60,13 @@ fn judge_callee(
 pub fn judge_call(
     env: &Environment,
     diagnostics: &mut Diagnostics,
-    d: &Designator,
+    designated: &Designator,
     list: &[Expression],
 )
     ensures { diagnostics.new ≡ least diagnostics.old
-        (st.call_statement env.now (designator d.now) (expressions_of (map expression list.now))) }
+        (st.call_statement env.now (designator designated.now) (expressions_of (map expression list.now))) }
 {
-    names_fit(env, diagnostics, Mode::Value, d);
-    let called = judge_callee(env, diagnostics, d, list.len());
+    names_fit(env, diagnostics, Mode::Value, designated);
+    let called = judge_callee(env, diagnostics, designated, list.len());
     arguments(env, diagnostics, called.wants, list);
 }

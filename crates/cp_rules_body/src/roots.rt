@@ -17,29 +17,39 @@ use cp_model::tree::{Designator, Identifier, Selector};
 fn before_selectors(
     env: &Environment,
     diagnostics: &mut Diagnostics,
-    x: &Identifier,
+    name: &Identifier,
     selectors: &[Selector],
     entity: Entity,
 ) -> Option<Entity>
     ensures { Reports diagnostics.old diagnostics.new result
-        (n.before_selectors env.now x.now (selectors_of (map selector selectors.now)) entity) }
+        (n.before_selectors env.now name.now (selectors_of (map selector selectors.now)) entity) }
 {
     match selectors {
         [] => Some(entity),
         _ => {
-            let in_place = anywhere(env, diagnostics, x, entity);
+            let in_place = anywhere(env, diagnostics, name, entity);
             answer_if(in_place, Some(entity))
         }
     }
 }
 
 /// What the first name of a designator stands for, before its selectors apply.
-pub fn root(env: &Environment, diagnostics: &mut Diagnostics, d: &Designator) -> Option<Entity>
+pub fn root(
+    env: &Environment,
+    diagnostics: &mut Diagnostics,
+    designator: &Designator,
+) -> Option<Entity>
     ensures { Reports diagnostics.old diagnostics.new result
-        (then_judge (r.c1_named env.now d.now.root)
-        (n.before_selectors env.now d.now.root
-        (selectors_of (map selector d.now.selectors.items)))) }
+        (then_judge (r.c1_named env.now designator.now.root)
+        (n.before_selectors env.now designator.now.root
+        (selectors_of (map selector designator.now.selectors.items)))) }
 {
-    let entity = judge_name(env, diagnostics, &d.root)?;
-    before_selectors(env, diagnostics, &d.root, &d.selectors, entity)
+    let entity = judge_name(env, diagnostics, &designator.root)?;
+    before_selectors(
+        env,
+        diagnostics,
+        &designator.root,
+        &designator.selectors,
+        entity,
+    )
 }

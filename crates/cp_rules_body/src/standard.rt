@@ -86,19 +86,19 @@ fn standard_procedure(standard: Standard) -> Option<Callee>
 fn judge_standard_call(
     diagnostics: &mut Diagnostics,
     rule: Rule,
-    x: &Identifier,
+    name: &Identifier,
     fits: bool,
     callee: Option<Callee>,
 ) -> Option<Callee>
     ensures { ReportsWherever diagnostics.old diagnostics.new result
-        (λ env. n.standard_called rule x.now fits (callee_if env callee)) }
+        (λ env. n.standard_called rule name.now fits (callee_if env callee)) }
 {
     if !fits {
-        return report_violation(diagnostics, Rule::C2, x.at);
+        return report_violation(diagnostics, Rule::C2, name.at);
     }
     match callee {
         Some(callee) => Some(callee),
-        None => report_violation(diagnostics, rule, x.at),
+        None => report_violation(diagnostics, rule, name.at),
     }
 }
 
@@ -106,31 +106,31 @@ fn judge_standard_call(
 pub fn judge_standard_function_call(
     diagnostics: &mut Diagnostics,
     rule: Rule,
-    x: &Identifier,
+    name: &Identifier,
     count: usize,
     standard: Standard,
 ) -> Option<Callee>
     ensures { ReportsWherever diagnostics.old diagnostics.new result
-        (λ env. n.standard_called rule x.now (n.standard_fits standard count)
+        (λ env. n.standard_called rule name.now (n.standard_fits standard count)
         (n.standard_function standard)) }
 {
     let fits = standard_fits(standard, count);
     let callee = standard_function(standard);
-    judge_standard_call(diagnostics, rule, x, fits, callee)
+    judge_standard_call(diagnostics, rule, name, fits, callee)
 }
 
 /// Judges a call of a standard procedure with `count` arguments.
 pub fn judge_standard_procedure_call(
     diagnostics: &mut Diagnostics,
-    x: &Identifier,
+    name: &Identifier,
     count: usize,
     standard: Standard,
 ) -> Option<Callee>
     ensures { ReportsWherever diagnostics.old diagnostics.new result
-        (λ env. n.standard_called Rule.C2 x.now (n.standard_fits standard count)
+        (λ env. n.standard_called Rule.C2 name.now (n.standard_fits standard count)
         (n.standard_procedure standard)) }
 {
     let fits = standard_fits(standard, count);
     let callee = standard_procedure(standard);
-    judge_standard_call(diagnostics, Rule::C2, x, fits, callee)
+    judge_standard_call(diagnostics, Rule::C2, name, fits, callee)
 }

@@ -23,12 +23,12 @@ pub fn statement(
     env: &Environment,
     alloc: Global,
     diagnostics: &mut Diagnostics,
-    s: &Statement,
+    judged: &Statement,
 ) -> Result<(), AllocError>
     ensures { OnOk result
-        (diagnostics.new ≡ least diagnostics.old (st.statement env.now (view.statement s.now))) }
+        (diagnostics.new ≡ least diagnostics.old (st.statement env.now (view.statement judged.now))) }
 {
-    match s {
+    match judged {
         Statement::Empty => {}
         Statement::Assign(a) => judge_assignment(env, diagnostics, &a.target, a.at, &a.value),
         Statement::Call(call) => judge_call(env, diagnostics, &call.procedure, &call.arguments),
@@ -58,14 +58,14 @@ fn judge_branch(
     alloc: Global,
     diagnostics: &mut Diagnostics,
     body: &Statement,
-    e: &Expression,
+    expression: &Expression,
 ) -> Result<(), AllocError>
     ensures { OnOk result
         (diagnostics.new ≡ least diagnostics.old
-        (violations_of (st.c2_condition env.now (view.expression e.now)) ++ st.statement env.now
+        (violations_of (st.c2_condition env.now (view.expression expression.now)) ++ st.statement env.now
         (view.statement body.now))) }
 {
-    condition(env, diagnostics, e);
+    condition(env, diagnostics, expression);
     statement(env, alloc, diagnostics, body)
 }
 
@@ -100,14 +100,14 @@ fn judge_case(
     alloc: Global,
     diagnostics: &mut Diagnostics,
     arms: &[Arm],
-    e: &Expression,
+    expression: &Expression,
 ) -> Result<(), AllocError>
     ensures { OnOk result
         (diagnostics.new ≡ least diagnostics.old
-        (st.statement env.now (syntax.Case (view.expression e.now)
+        (st.statement env.now (syntax.Case (view.expression expression.now)
         (view.arms_of (map view.arm arms.now))))) }
 {
-    let t = selector(env, diagnostics, e);
+    let t = selector(env, diagnostics, expression);
     judge_arms(env, alloc, diagnostics, selector_base(env, t), arms)
 }
 
@@ -118,15 +118,15 @@ fn judge_repeat(
     alloc: Global,
     diagnostics: &mut Diagnostics,
     body: &[Statement],
-    e: &Expression,
+    expression: &Expression,
 ) -> Result<(), AllocError>
     ensures { OnOk result
         (diagnostics.new ≡ least diagnostics.old
         (st.statements env.now (view.statements_of (map view.statement body.now)) ++ violations_of
-        (st.c2_condition env.now (view.expression e.now)))) }
+        (st.c2_condition env.now (view.expression expression.now)))) }
 {
     statements(env, alloc, diagnostics, body)?;
-    condition(env, diagnostics, e);
+    condition(env, diagnostics, expression);
     Ok(())
 }
 

@@ -34,19 +34,19 @@ fn function_alone(
     env: &Environment,
     diagnostics: &mut Diagnostics,
     mode: Mode,
-    d: &Designator,
+    designated: &Designator,
     entity: Entity,
 ) -> Option<Gives>
     ensures { Reports diagnostics.old diagnostics.new result
-        (n.function_alone env.now mode (designator d.now) entity) }
+        (n.function_alone env.now mode (designator designated.now) entity) }
 {
     match mode {
         Mode::Variable => {
-            anywhere(env, diagnostics, first_name(d), entity);
-            report_violation(diagnostics, Rule::C10, first_name(d).at)
+            anywhere(env, diagnostics, first_name(designated), entity);
+            report_violation(diagnostics, Rule::C10, first_name(designated).at)
         }
         _ => {
-            let callee = function(env, diagnostics, mode, d, 0, entity)?;
+            let callee = function(env, diagnostics, mode, designated, 0, entity)?;
             Some(callee.gives)
         }
     }
@@ -67,10 +67,10 @@ pub fn value(
     env: &Environment,
     diagnostics: &mut Diagnostics,
     mode: Mode,
-    d: &Designator,
+    designated: &Designator,
     entity: Entity,
 ) -> Option<usize>
-    ensures { Reports diagnostics.old diagnostics.new result (n.value_of env.now mode (designator d.now) entity) }
+    ensures { Reports diagnostics.old diagnostics.new result (n.value_of env.now mode (designator designated.now) entity) }
 {
     match entity {
         Entity::Constant(base, _) => Some(base),
@@ -78,19 +78,35 @@ pub fn value(
             if is_no_component(env, mode, t) {
                 return Some(t);
             }
-            report_violation(diagnostics, sort_rule(mode, d), last_name(d).at)
+            report_violation(
+                diagnostics,
+                sort_rule(mode, designated),
+                last_name(designated).at,
+            )
         }
-        Entity::Type(_) => report_violation(diagnostics, sort_rule(mode, d), last_name(d).at),
+        Entity::Type(_) => report_violation(
+            diagnostics,
+            sort_rule(mode, designated),
+            last_name(designated).at,
+        ),
         Entity::UnfinishedConstant => {
-            outside_definition(diagnostics, last_name(d), entity);
-            report_violation(diagnostics, sort_rule(mode, d), last_name(d).at)
+            outside_definition(diagnostics, last_name(designated), entity);
+            report_violation(
+                diagnostics,
+                sort_rule(mode, designated),
+                last_name(designated).at,
+            )
         }
         Entity::UnfinishedType => {
-            outside_definition(diagnostics, last_name(d), entity);
-            report_violation(diagnostics, sort_rule(mode, d), last_name(d).at)
+            outside_definition(diagnostics, last_name(designated), entity);
+            report_violation(
+                diagnostics,
+                sort_rule(mode, designated),
+                last_name(designated).at,
+            )
         }
         _ => {
-            let gives = function_alone(env, diagnostics, mode, d, entity)?;
+            let gives = function_alone(env, diagnostics, mode, designated, entity)?;
             Some(result_type(env, INTEGER, gives))
         }
     }
@@ -117,11 +133,11 @@ fn selects_field_first(selectors: &[Selector]) -> bool
 
 /// Whether a name with these selectors is a variable or a part of one. An unknown name passes,
 /// since it is reported elsewhere.
-pub fn is_variable(env: &Environment, x: &Identifier, selectors: &[Selector]) -> bool
+pub fn is_variable(env: &Environment, name: &Identifier, selectors: &[Selector]) -> bool
     ensures { result ≡ n.is_variable env.now (selectors_of (map selector selectors.now))
-        (r.c1_named env.now x.now) }
+        (r.c1_named env.now name.now) }
 {
-    match find_entity(env, x) {
+    match find_entity(env, name) {
         Some(Entity::Variable(t, access)) => {
             is_changeable(access) && !(env.is_component(t) && selects_field_first(selectors))
         }
@@ -131,14 +147,18 @@ pub fn is_variable(env: &Environment, x: &Identifier, selectors: &[Selector]) ->
 }
 
 /// C10: a designator isn't a variable, a `var` parameter or a part of one.
-pub fn designates_variable(env: &Environment, diagnostics: &mut Diagnostics, d: &Designator) -> bool
-    ensures { ReportsOf diagnostics.old diagnostics.new result (n.c10_designator env.now (designator d.now)) }
+pub fn designates_variable(
+    env: &Environment,
+    diagnostics: &mut Diagnostics,
+    designated: &Designator,
+) -> bool
+    ensures { ReportsOf diagnostics.old diagnostics.new result (n.c10_designator env.now (designator designated.now)) }
 {
     unless_holds(
         diagnostics,
-        is_variable(env, &d.root, &d.selectors),
+        is_variable(env, &designated.root, &designated.selectors),
         Rule::C10,
-        d.root.at,
+        designated.root.at,
     )
 }
 
@@ -152,13 +172,13 @@ pub fn is_plain(env: &Environment, mode: Mode, t: usize) -> bool
 
 /// The type of a designator that is the name of a variable, if nothing is broken in its use. So the
 /// commonest designators are looked up once, and the rules about others are judged one by one.
-pub fn plain_variable(env: &Environment, mode: Mode, d: &Designator) -> Option<usize>
-    ensures { IfSome result (λ t. judge_use env.now mode (designator d.now) ≡ Sound t) }
+pub fn plain_variable(env: &Environment, mode: Mode, designated: &Designator) -> Option<usize>
+    ensures { IfSome result (λ t. judge_use env.now mode (designator designated.now) ≡ Sound t) }
 {
-    if !d.selectors.is_empty() {
+    if !designated.selectors.is_empty() {
         return None;
     }
-    match find_entity(env, &d.root) {
+    match find_entity(env, &designated.root) {
         Some(Entity::Variable(t, _)) => {
             if is_plain(env, mode, t) {
                 Some(t)
@@ -171,10 +191,10 @@ pub fn plain_variable(env: &Environment, mode: Mode, d: &Designator) -> Option<u
 }
 
 /// The designator, if the expression is one. A chain of one operand counts as that operand.
-pub fn designator_of(e: &Expression) -> Option<&Designator>
-    ensures { designator_if result ≡ designator_in (expression e.now) }
+pub fn designator_of(value: &Expression) -> Option<&Designator>
+    ensures { designator_if result ≡ designator_in (expression value.now) }
 {
-    match e {
+    match value {
         Expression::Designated(d) => Some(d),
         Expression::Chain { first, rest } => match rest.as_slice() {
             [] => designator_of(first),
@@ -185,11 +205,11 @@ pub fn designator_of(e: &Expression) -> Option<&Designator>
 }
 
 /// C10: an expression that must be a variable isn't one.
-pub fn variable(env: &Environment, diagnostics: &mut Diagnostics, e: &Expression) -> bool
-    ensures { ReportsOf diagnostics.old diagnostics.new result (n.c10_variable env.now (expression e.now)) }
+pub fn variable(env: &Environment, diagnostics: &mut Diagnostics, value: &Expression) -> bool
+    ensures { ReportsOf diagnostics.old diagnostics.new result (n.c10_variable env.now (expression value.now)) }
 {
-    match designator_of(e) {
+    match designator_of(value) {
         Some(d) => designates_variable(env, diagnostics, d),
-        None => unless_holds(diagnostics, false, Rule::C10, first_token(e)),
+        None => unless_holds(diagnostics, false, Rule::C10, first_token(value)),
     }
 }

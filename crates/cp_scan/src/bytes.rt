@@ -10,40 +10,40 @@ pub const QUOTE: u8 = b'"';
 pub const APOSTROPHE: u8 = b'\'';
 
 /// A tab, a line feed, a carriage return or a space.
-pub fn is_blank(b: u8) -> bool
-    ensures { result ≡ character.is_blank b }
+pub fn is_blank(byte: u8) -> bool
+    ensures { result ≡ character.is_blank byte }
 {
-    matches!(b, b'\t' | b'\n' | b'\r' | b' ')
+    matches!(byte, b'\t' | b'\n' | b'\r' | b' ')
 }
 
-pub fn is_digit(b: u8) -> bool
-    ensures { result ≡ character.is_digit b }
+pub fn is_digit(byte: u8) -> bool
+    ensures { result ≡ character.is_digit byte }
 {
-    b.is_ascii_digit()
+    byte.is_ascii_digit()
 }
 
-pub fn is_letter(b: u8) -> bool
-    ensures { result ≡ character.is_letter b }
+pub fn is_letter(byte: u8) -> bool
+    ensures { result ≡ character.is_letter byte }
 {
-    b.is_ascii_alphabetic()
+    byte.is_ascii_alphabetic()
 }
 
 /// A letter, a digit or an underscore: a byte that continues a word.
-pub fn is_in_word(b: u8) -> bool
-    ensures { result ≡ character.is_in_word b }
+pub fn is_in_word(byte: u8) -> bool
+    ensures { result ≡ character.is_in_word byte }
 {
     // Most are letters. LLVM would try them last if these were three operands of `||`.
-    if is_letter(b) {
+    if is_letter(byte) {
         return true;
     }
-    is_digit(b) || b == b'_'
+    is_digit(byte) || byte == b'_'
 }
 
 /// A byte that can stand for itself in a character constant, or the apostrophe.
-pub fn is_printable(b: u8) -> bool
-    ensures { result ≡ character.is_printable b }
+pub fn is_printable(byte: u8) -> bool
+    ensures { result ≡ character.is_printable byte }
 {
-    matches!(b, b' '..=b'~')
+    matches!(byte, b' '..=b'~')
 }
 
 /// The byte at an index, or 0 after the end.

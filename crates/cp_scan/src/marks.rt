@@ -28,10 +28,10 @@ fn two(symbol: Symbol) -> Found<Symbol>
 // Reads a mark that starts like a longer one. The byte after `b` is `c`, or `c` is 0 at the end of
 // the text.
 #[tactic(auto, unfolding(crate::specs::Pieces::longer_mark))]
-fn longer_mark(b: u8, c: u8) -> Found<Symbol>
-    ensures { token_piece plain.Symbol result ≡ spec.longer_mark b c }
+fn longer_mark(byte: u8, second: u8) -> Found<Symbol>
+    ensures { token_piece plain.Symbol result ≡ spec.longer_mark byte second }
 {
-    match (b, c) {
+    match (byte, second) {
         (b'<', b'=') => two(Symbol::AtMost),
         (b'<', b'>') => two(Symbol::Unequal),
         (b'<', _) => one(Symbol::Less),
@@ -50,10 +50,10 @@ fn longer_mark(b: u8, c: u8) -> Found<Symbol>
 
 /// Reads the mark that begins with `b`. The text after `b` is `rest`.
 #[tactic(auto, unfolding(crate::specs::Pieces::mark))]
-pub fn mark(b: u8, rest: &[u8]) -> Found<Symbol>
-    ensures { token_piece plain.Symbol result ≡ spec.mark b (head_or_zero rest.now) }
+pub fn mark(byte: u8, rest: &[u8]) -> Found<Symbol>
+    ensures { token_piece plain.Symbol result ≡ spec.mark byte (head_or_zero rest.now) }
 {
-    match b {
+    match byte {
         b'+' => one(Symbol::Plus),
         b'-' => one(Symbol::Minus),
         b'*' => one(Symbol::Star),
@@ -64,6 +64,6 @@ pub fn mark(b: u8, rest: &[u8]) -> Found<Symbol>
         b']' => one(Symbol::CloseBracket),
         b',' => one(Symbol::Comma),
         b';' => one(Symbol::Semicolon),
-        _ => longer_mark(b, byte_at(rest, 0)),
+        _ => longer_mark(byte, byte_at(rest, 0)),
     }
 }

@@ -29,7 +29,7 @@ returns c =
     let second = c.args.second.now in
     let ended = c.loop-j-test.false in
     let len : length c.loop-j.both ≡ MAX_STRIPES = was.len in
-    let first_len : length first ≡ MAX_STRIPES = c.reported-first in
-    let second_len : length second ≡ MAX_STRIPES = c.reported-second in
+    let first_len : length first ≡ MAX_STRIPES = c.told-first in
+    let second_len : length second ≡ MAX_STRIPES = c.told-second in
     let or_len = length-or_each first second (omega arith) in
     ext_get_or false c.loop-j.both _ (len ∙ sym (or_len ∙ first_len)) (λ i below. was.before i (omega arith) ∙ sym (get_or-or_each first second i))

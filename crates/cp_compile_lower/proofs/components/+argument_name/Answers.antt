@@ -13,7 +13,7 @@ returns-in-empty t c =
 
 pub returns-in-len1-up : goal.returns-in-len1-up
 returns-in-len1-up t c =
-    other_name c.args.e.now (written.Call c.in-Call.d c.in-Call.es) c.in-Call.is
+    other_name c.args.expression.now (written.Call c.in-Call.d c.in-Call.es) c.in-Call.is
     (no_bare_call c.in-Call.d c.in-Call.es (rw c.as_slice.ensures.value at c.in-len1-up.len_at_least))
 
 pub returns-in-empty-as_slice : goal.returns-in-empty-as_slice
@@ -24,22 +24,22 @@ returns-in-empty-as_slice t c =
 
 pub returns-in-len1-up-as_slice : goal.returns-in-len1-up-as_slice
 returns-in-len1-up-as_slice t c =
-    other_name c.args.e.now (written.Chain c.in-Chain.first c.in-Chain.rest) c.in-Chain.is
+    other_name c.args.expression.now (written.Chain c.in-Chain.first c.in-Chain.rest) c.in-Chain.is
     (no_bare_chain c.in-Chain.first c.in-Chain.rest (rw c.as_slice-in-Chain.ensures.value at c.in-len1-up-as_slice.len_at_least))
 
 pub returns-in-Number : goal.returns-in-Number
 returns-in-Number t c =
-    other_name c.args.e.now (written.Number c.in-Number.at c.in-Number.value) c.in-Number.is (no_number c.in-Number.at c.in-Number.value)
+    other_name c.args.expression.now (written.Number c.in-Number.at c.in-Number.value) c.in-Number.is (no_number c.in-Number.at c.in-Number.value)
 
 pub returns-in-Character : goal.returns-in-Character
 returns-in-Character t c =
-    other_name c.args.e.now (written.Character c.in-Character.at c.in-Character.ordinal) c.in-Character.is
+    other_name c.args.expression.now (written.Character c.in-Character.at c.in-Character.ordinal) c.in-Character.is
     (no_character c.in-Character.at c.in-Character.ordinal)
 
 pub returns-in-Not : goal.returns-in-Not
-returns-in-Not t c = other_name c.args.e.now (written.Not c.in-Not.at c.in-Not.operand) c.in-Not.is (no_not c.in-Not.at c.in-Not.operand)
+returns-in-Not t c = other_name c.args.expression.now (written.Not c.in-Not.at c.in-Not.operand) c.in-Not.is (no_not c.in-Not.at c.in-Not.operand)
 
 pub returns-in-Signed : goal.returns-in-Signed
 returns-in-Signed t c =
-    other_name c.args.e.now (written.Signed c.in-Signed.sign c.in-Signed.at c.in-Signed.operand) c.in-Signed.is
+    other_name c.args.expression.now (written.Signed c.in-Signed.sign c.in-Signed.at c.in-Signed.operand) c.in-Signed.is
     (no_signed c.in-Signed.sign c.in-Signed.at c.in-Signed.operand)

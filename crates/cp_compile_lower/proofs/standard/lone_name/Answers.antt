@@ -6,7 +6,7 @@ use Rattle.cp_compile_symbols.proofs.ValueTypes.{is_name, part_has_no_name}
 use Rattle.cp_compile_lower.proofs.standard.lone_name.Goals as goal
 
 pub returns-then-is_part : goal.returns-then-is_part
-returns-then-is_part c = sym (part_has_no_name (erase.designator (tree.designator c.args.d.now)) (sym c.is_part.ensures ∙ c.if-is_part.true))
+returns-then-is_part c = sym (part_has_no_name (erase.designator (tree.designator c.args.designator.now)) (sym c.is_part.ensures ∙ c.if-is_part.true))
 
 pub returns : goal.returns
-returns c = c.as_bytes.ensures ∙ sym (ap name_of (is_name c.args.d.now (sym c.is_part.ensures ∙ c.if-is_part.false)))
+returns c = c.as_bytes.ensures ∙ sym (ap name_of (is_name c.args.designator.now (sym c.is_part.ensures ∙ c.if-is_part.false)))

@@ -8,7 +8,7 @@ use Rattle.cp_rules_body.proofs.assignments.names_changeable.Goals as goal
 pub returns-then-fits : goal.returns-then-fits
 returns-then-fits c =
     let env = c.args.env.now in
-    let d = designator c.args.d.now in
+    let d = designator c.args.designated.now in
     let diagnostics = append_reported c.args.diagnostics.now c.names_fit-fits.new.diagnostics c.designates_variable-is_variable.new.diagnostics c.names_fit-fits.result c.designates_variable-is_variable.result
     (n.c2_c5_c8_named env mode.Variable d) (n.c10_designator env d) c.names_fit-fits.ensures c.designates_variable-is_variable.ensures in
     (diagnostics.0, rw c.if-fits.true at diagnostics.1)
@@ -16,7 +16,7 @@ returns-then-fits c =
 pub returns-else-fits : goal.returns-else-fits
 returns-else-fits c =
     let env = c.args.env.now in
-    let d = designator c.args.d.now in
+    let d = designator c.args.designated.now in
     let diagnostics = append_reported c.args.diagnostics.now c.names_fit-fits.new.diagnostics c.designates_variable-is_variable.new.diagnostics c.names_fit-fits.result c.designates_variable-is_variable.result
     (n.c2_c5_c8_named env mode.Variable d) (n.c10_designator env d) c.names_fit-fits.ensures c.designates_variable-is_variable.ensures in
     (diagnostics.0, c.if-fits.false ∙ (rw c.if-fits.false at diagnostics.1))

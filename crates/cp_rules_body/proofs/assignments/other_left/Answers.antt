@@ -9,6 +9,6 @@ use Rattle.cp_rules_body.proofs.assignments.other_left.Goals as goal
 pub returns : goal.returns
 returns c =
     let env = c.args.env.now in
-    let d = designator c.args.d.now in
+    let d = designator c.args.designated.now in
     rw c.answer_if.ensures (also_reported c.args.diagnostics.now c.names_changeable-fits.new.diagnostics c.type_of_designator-t.new.diagnostics c.names_changeable-fits.result
     (n.c2_c5_c8_named env mode.Variable d ++ n.c10_designator env d) c.type_of_designator-t.result (type_of_designator env mode.Variable d) c.names_changeable-fits.ensures c.type_of_designator-t.ensures)

@@ -9,7 +9,7 @@ use Rattle.cp_rules_body.proofs.callees.procedure.Goals as goal
 pub returns-in-Standard : goal.returns-in-Standard
 returns-in-Standard c =
     let env = c.args.env.now in
-    let d = designator c.args.d.now in
+    let d = designator c.args.designated.now in
     let s = c.in-Standard.standard in
     rw (c.in-Standard.is, c.answer_if-in-Standard.ensures) (also_callee env c.args.diagnostics.now c.in_place-in_place.new.diagnostics c.judge_standard_procedure_call.new.diagnostics
     c.in_place-in_place.result (r.c9_standard env (n.last_name d) (entity.Standard s)) c.judge_standard_procedure_call.result (n.standard_called C2 (n.last_name d) (n.standard_fits s c.args.count) (n.standard_procedure s))

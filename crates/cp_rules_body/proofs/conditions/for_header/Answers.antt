@@ -8,7 +8,7 @@ use Rattle.cp_rules_body.proofs.conditions.for_header.Goals as goal
 pub returns : goal.returns
 returns c =
     let env = c.args.env.now in
-    let j = st.for_variable env c.args.v.now in
+    let j = st.for_variable env c.args.name.now in
     let first = violations_of (st.bound env j (expression c.args.from.now)) in
     let last = violations_of (st.bound env j (expression c.args.last.now)) in
     let known = c.for_variable-t.ensures in

@@ -7,4 +7,4 @@ use Rattle.cp_rules_body.proofs.designators.last_part.Given as goal
 abbrev pub invariant-loop-s : goal.invariant-loop-s
 invariant-loop-s l =
     n.last_part l.env l.part (selectors_of (map selector (drop l.s-index l.s-items)))
-    ≡ n.last_part_of l.fn.env (designator l.fn.d)
+    ≡ n.last_part_of l.fn.env (designator l.fn.designated)

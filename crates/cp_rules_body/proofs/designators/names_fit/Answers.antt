@@ -7,7 +7,7 @@ use Rattle.cp_rules_body.proofs.designators.names_fit.Goals as goal
 pub returns-else-entry : goal.returns-else-entry
 returns-else-entry c =
     let env = c.args.env.now in
-    let d = designator c.args.d.now in
+    let d = designator c.args.designated.now in
     let mode = c.args.mode in
     let no_type = c.no_indexed_type-no_type.result in
     let entry = c.entry_after_point-entry.result in

@@ -6,4 +6,4 @@ use Rattle.cp_rules_body.proofs.entities.find_designated_entity.Given as goal
 abbrev pub invariant-loop-s : goal.invariant-loop-s
 invariant-loop-s l =
     let env = l.env in
-    spec.parts env l.entity (selectors_of (map selector (drop l.s-index l.d.selectors.items))) ≡ spec.designated_entity env (designator l.d)
+    spec.parts env l.entity (selectors_of (map selector (drop l.s-index l.designated.selectors.items))) ≡ spec.designated_entity env (designator l.designated)

@@ -23,7 +23,7 @@ use Rattle.cp_rules_body.proofs.expressions.+judge.Goals as goal
 pub argument-returns : goal.argument-returns
 argument-returns t c =
     let env = c.args.env.now in
-    let e = expression c.args.e.now in
+    let e = expression c.args.value.now in
     let w = c.in-Some.want in
     rw (c.in-Some.is, argument_parts env w e (x.judge env (x.mode_of w) e), c.answer_if.ensures)
     (also_reported c.args.diagnostics.now c.has_form-has_form.new.diagnostics c.type_of_argument-t.new.diagnostics c.has_form-has_form.result (form_rules env w e)
@@ -80,7 +80,7 @@ arguments-loop-number-preserved t c =
     let next = more_step env j ws (i + 1) (i + 1 + 1) e (expressions_of (map expression (drop (i + 1) rest))) refl in
     let k = parts.argument_for env (slice_get ws (i + 1)) e in (
       both j k x.first_type,
-      rw c.and-t.ensures (first_reported c.args.diagnostics.now c.loop-number.diagnostics c.argument-u.new.diagnostics c.loop-number.t c.argument-u.result j k so_far.1
+      rw c.and-t.ensures (first_reported c.args.diagnostics.now c.loop-number.diagnostics c.argument-u.new.diagnostics c.loop-number.found c.argument-u.result j k so_far.1
           (rw c.want-in-loop-number.ensures at c.argument-u.ensures)),
       sym (step ∙ next) ∙ so_far.2,
     )
@@ -90,7 +90,7 @@ judge-returns-else-is_empty t c =
     let env = c.args.env.now in
     let e = expression c.in-Chain.first.value in
     let rest = c.in-Chain.rest.items in
-    let v : expression c.args.e.now ≡ chain_of e (map operation rest) = rw c.in-Chain.is (view_chain c.in-Chain.first c.in-Chain.rest) in
+    let v : expression c.args.value.now ≡ chain_of e (map operation rest) = rw c.in-Chain.is (view_chain c.in-Chain.first c.in-Chain.rest) in
     let some : 1 ≤ length rest = grind (arith, nat_tests) in
     let left = rw (c.first_operand-in-Chain.ensures, c.deref-in-Chain.ensures) at c.judge-left.ensures in
     rw (v, judge_chain env c.args.mode e rest some) (rw c.deref-in-Chain-2.ensures.value at (c.chain.ensures c.args.diagnostics.now c.args.mode e left))
@@ -101,7 +101,7 @@ judge-returns-in-Call t c =
     let d = designator c.in-Call.d.value in
     let list = c.in-Call.list.items in
     let es = expressions_of (map expression list) in
-    let v : expression c.args.e.now ≡ s.Call d es = rw c.in-Call.is (view_call c.in-Call.d c.in-Call.list) in
+    let v : expression c.args.value.now ≡ s.Call d es = rw c.in-Call.is (view_call c.in-Call.d c.in-Call.list) in
     let count : c.len.result ≡ n.count_of es = c.len.ensures ∙ sym c.deref-in-Call-2.ensures.len ∙ ap length c.deref-in-Call-2.ensures.value ∙ sym (count_expressions list) in
     let jc = parts.callee_of env c.args.mode d (n.count_of es) in
     let ja = x.arguments env (x.wants_in env (x.designate env d) jc) es in
@@ -116,14 +116,14 @@ judge-returns-in-Call t c =
 pub judge_use-returns : goal.judge_use-returns
 judge_use-returns t c =
     let env = c.args.env.now in
-    let d = designator c.args.d.now in
+    let d = designator c.args.designated.now in
     rw c.answer_if.ensures (also_reported c.args.diagnostics.now c.names_fit-fits.new.diagnostics c.type_of_designator-t.new.diagnostics c.names_fit-fits.result (n.c2_c5_c8_named env c.args.mode d)
     c.type_of_designator-t.result (parts.type_of_designator env c.args.mode d) c.names_fit-fits.ensures c.type_of_designator-t.ensures)
 
 pub judge_callee-returns-clause-callee : goal.judge_callee-returns-clause-callee
 judge_callee-returns-clause-callee t c =
     let env = c.args.env.now in
-    let d = designator c.args.d.now in
+    let d = designator c.args.designated.now in
     let je = x.designate env d in
     let t1 = c.no_indexed_value-no_value.new.diagnostics in
     rw c.answer_if-callee.ensures (also_callee env c.args.diagnostics.now t1 c.function_if-function.new.diagnostics c.no_indexed_value-no_value.result (n.c2_indexed env c.args.mode d)
@@ -133,7 +133,7 @@ judge_callee-returns-clause-callee t c =
 pub judge_callee-returns-clause-wants : goal.judge_callee-returns-clause-wants
 judge_callee-returns-clause-wants t c =
     let env = c.args.env.now in
-    let d = designator c.args.d.now in
+    let d = designator c.args.designated.now in
     let je = x.designate env d in
     c.wants_of_call.ensures ∙ wants_reported env c.judge_designator-entity.result je c.answer_if-callee.result (parts.callee_of env c.args.mode d c.args.count) c.judge_designator-entity.ensures.1
     (judge_callee-returns-clause-callee t c).1

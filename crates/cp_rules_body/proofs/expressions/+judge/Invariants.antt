@@ -15,7 +15,7 @@ use Rattle.cp_rules_body.proofs.expressions.+judge.Given as goal
 abbrev pub invariant-arguments-loop-number : goal.invariant-arguments-loop-number
 invariant-arguments-loop-number l =
     let env = l.env in
-    (j : Judged ℕ) × Reports l.fn.diagnostics l.diagnostics l.t j
+    (j : Judged ℕ) × Reports l.fn.diagnostics l.diagnostics l.found j
     × (x.more_arguments env j (drop (l.number + 1) (wants_of env l.wants)) (expressions_of (map expression (drop l.number l.rest)))
     ≡ x.arguments env (wants_of env l.fn.wants) (expressions_of (map expression l.fn.list)))
 
@@ -30,7 +30,7 @@ invariant-chain-loop-o l =
 abbrev pub invariant-judge_designator-loop-s : goal.invariant-judge_designator-loop-s
 invariant-judge_designator-loop-s l =
     (j : Judged Entity) × Reports l.fn.diagnostics l.diagnostics l.part j
-    × (x.apply_selectors l.env j (selectors_of (map selector (drop l.s-index l.s-items))) ≡ x.designate l.fn.env (designator l.fn.d))
+    × (x.apply_selectors l.env j (selectors_of (map selector (drop l.s-index l.s-items))) ≡ x.designate l.fn.env (designator l.fn.designated))
 
 -- the violations reported so far are those of the indices so far
 abbrev pub invariant-select_elements-loop-i : goal.invariant-select_elements-loop-i

@@ -9,7 +9,7 @@ use Rattle.cp_rules_body.proofs.initialisation.passed_entity.Goals as goal
 pub returns-in_default : goal.returns-in_default
 returns-in_default c =
     let env = c.args.env.now in
-    let x = c.args.x.now in
+    let x = c.args.name.now in
     rw (passed_other env c.args.wanted x c.args.entity c.in_default.not-Variable)
     (beside_reported c.args.diagnostics.now c.anywhere.new.diagnostics c.report_violation-in_default.new.diagnostics c.anywhere.result (r.c4_c9_named env x c.args.entity)
     c.report_violation-in_default.result (violation C12 x.at) [] c.anywhere.ensures c.report_violation-in_default.ensures)

@@ -10,6 +10,6 @@ use Rattle.cp_rules_body.proofs.initialisation.unwanted_designator.Goals as goal
 pub returns : goal.returns
 returns c =
     let env = c.args.env.now in
-    let d = designator c.args.d.now in
+    let d = designator c.args.designated.now in
     rw c.answer_if.ensures (also_reported c.args.diagnostics.now c.names_fit-fits.new.diagnostics c.unused_designator-t.new.diagnostics c.names_fit-fits.result (c2_c5_c8_named env mode.Value d)
     c.unused_designator-t.result (then_judge (designate env d) (st.surplus_name env d)) c.names_fit-fits.ensures c.unused_designator-t.ensures)

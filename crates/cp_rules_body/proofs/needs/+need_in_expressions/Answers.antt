@@ -10,7 +10,7 @@ need_of_expression-returns-in-Chain t c =
     let env = c.args.env.now in
     let e = expression c.in-Chain.first.value in
     let os = map operation c.in-Chain.rest.items in
-    let v : expression c.args.e.now ≡ chain_of e os = rw c.in-Chain.is (view_chain c.in-Chain.first c.in-Chain.rest) in
+    let v : expression c.args.value.now ≡ chain_of e os = rw c.in-Chain.is (view_chain c.in-Chain.first c.in-Chain.rest) in
     let first = rw c.deref-in-Chain.ensures at c.need_of_expression-in-Chain.ensures in
     let rest = rw c.deref-in-Chain-2.ensures.value at c.need_of_operations.ensures in
     rw (v, need_chain env e os, c.max-in-Chain.ensures, first, rest) refl

@@ -7,4 +7,4 @@ use Rattle.cp_rules_body.proofs.needs.need_of_callee.Goals as goal
 pub returns-else-is_routine : goal.returns-else-is_routine
 returns-else-is_routine c =
     let no_routine = sym (ap is_routine c.find_designated_entity.ensures) ∙ sym c.is_routine.ensures ∙ c.if-is_routine.false in
-    sym (needs_nothing c.args.env.now (designator c.args.d.now) no_routine)
+    sym (needs_nothing c.args.env.now (designator c.args.designated.now) no_routine)

@@ -12,7 +12,7 @@ use Rattle.cp_rules_body.proofs.procedures.judge_call.Goals as goal
 pub returns : goal.returns
 returns c =
     let env = c.args.env.now in
-    let d = designator c.args.d.now in
+    let d = designator c.args.designated.now in
     let list = c.args.list.now in
     let es = expressions_of (map expression list) in
     let count : length list ≡ n.count_of es = sym (count_expressions list) in

@@ -17,7 +17,7 @@ of_some env x e (y ∷ ys) some = refl
 pub returns-in_default : goal.returns-in_default
 returns-in_default c =
     let env = c.args.env.now in
-    let x = c.args.x.now in
+    let x = c.args.name.now in
     let e = c.args.entity in
     let t1 = c.anywhere-in_place.new.diagnostics in
     rw (of_some env x e c.args.selectors.now c.in_default.len_at_least, c.answer_if.ensures)

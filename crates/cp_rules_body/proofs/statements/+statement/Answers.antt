@@ -18,7 +18,7 @@ pub judge_branch-returns : goal.judge_branch-returns
 judge_branch-returns t c =
     let env = c.args.env.now in
     on_ok_weaker c.statement.result
-    (more_reported c.args.diagnostics.now c.condition.new.diagnostics c.statement.new.diagnostics (violations_of (st.c2_condition env (expression c.args.e.now))) (st.statement env (statement c.args.body.now))
+    (more_reported c.args.diagnostics.now c.condition.new.diagnostics c.statement.new.diagnostics (violations_of (st.c2_condition env (expression c.args.expression.now))) (st.statement env (statement c.args.body.now))
     c.condition.ensures.0)
     c.statement.ensures
 
@@ -34,7 +34,7 @@ judge_for-returns t c =
 pub judge_case-returns : goal.judge_case-returns
 judge_case-returns t c =
     let env = c.args.env.now in
-    let j = st.c2_selector env (expression c.args.e.now) in
+    let j = st.c2_selector env (expression c.args.expression.now) in
     let base = base_reported env c.selector-t.result j c.selector-t.ensures.1 in
     on_ok_weaker c.judge_arms.result
     (more_reported c.args.diagnostics.now c.selector-t.new.diagnostics c.judge_arms.new.diagnostics (violations_of j) (st.arms env (st.selector_base env j) [] (arms_of (map arm c.args.arms.now)))
@@ -45,16 +45,16 @@ pub judge_repeat-returns : goal.judge_repeat-returns
 judge_repeat-returns t c =
     let env = c.args.env.now in
     more_reported c.args.diagnostics.now c.statements.new.diagnostics c.condition.new.diagnostics (st.statements env (statements_of (map statement c.args.body.now)))
-    (violations_of (st.c2_condition env (expression c.args.e.now))) c.in_ok-statements.ensures c.condition.ensures.0
+    (violations_of (st.c2_condition env (expression c.args.expression.now))) c.in_ok-statements.ensures c.condition.ensures.0
 
 pub statement-returns-in_ok-judge_branch-in-If : goal.statement-returns-in_ok-judge_branch-in-If
 statement-returns-in_ok-judge_branch-in-If t c =
-    let v : statement c.args.s.now ≡ s.If (expression c.in-If.e.value) (statement c.in-If.then.value) = rw c.in-If.is (view_if c.in-If.e c.in-If.then) in
+    let v : statement c.args.judged.now ≡ s.If (expression c.in-If.e.value) (statement c.in-If.then.value) = rw c.in-If.is (view_if c.in-If.e c.in-If.then) in
     (rw (c.deref-in-If.ensures, c.deref-in-If-2.ensures) at c.in_ok-judge_branch-in-If.ensures) ∙ ap (λ x. least c.args.diagnostics.now (st.statement c.args.env.now x)) (sym v)
 
 pub statement-returns-in_ok-judge_branch-in-While : goal.statement-returns-in_ok-judge_branch-in-While
 statement-returns-in_ok-judge_branch-in-While t c =
-    let v : statement c.args.s.now ≡ s.While (expression c.in-While.e.value) (statement c.in-While.body.value) = rw c.in-While.is (view_while c.in-While.e c.in-While.body) in
+    let v : statement c.args.judged.now ≡ s.While (expression c.in-While.e.value) (statement c.in-While.body.value) = rw c.in-While.is (view_while c.in-While.e c.in-While.body) in
     (rw (c.deref-in-While.ensures, c.deref-in-While-2.ensures) at c.in_ok-judge_branch-in-While.ensures) ∙ ap (λ x. least c.args.diagnostics.now (st.statement c.args.env.now x)) (sym v)
 
 pub statement-returns-in_ok-statement-in-IfElse : goal.statement-returns-in_ok-statement-in-IfElse
@@ -63,25 +63,25 @@ statement-returns-in_ok-statement-in-IfElse t c =
     let e = expression c.in-IfElse.e.value in
     let x = statement c.in-IfElse.branches.value.0 in
     let y = statement c.in-IfElse.branches.value.1 in
-    let v : statement c.args.s.now ≡ s.IfElse e x y = rw c.in-IfElse.is (view_if_else c.in-IfElse.e c.in-IfElse.branches) in
+    let v : statement c.args.judged.now ≡ s.IfElse e x y = rw c.in-IfElse.is (view_if_else c.in-IfElse.e c.in-IfElse.branches) in
     then_reported c.args.diagnostics.now c.judge_branch-in-IfElse.new.diagnostics c.statement.new.diagnostics (violations_of (st.c2_condition env e) ++ st.statement env x) (st.statement env y)
-    (st.statement env (statement c.args.s.now)) (rw (c.deref-in-IfElse.ensures, c.deref-in-IfElse-2.ensures) at c.in_ok-judge_branch-in-IfElse.ensures)
+    (st.statement env (statement c.args.judged.now)) (rw (c.deref-in-IfElse.ensures, c.deref-in-IfElse-2.ensures) at c.in_ok-judge_branch-in-IfElse.ensures)
     (rw c.deref-in-IfElse-3.ensures at c.in_ok-statement-in-IfElse.ensures) (ap (st.statement env) v)
 
 pub statement-returns-in_ok-judge_case-in-Case : goal.statement-returns-in_ok-judge_case-in-Case
 statement-returns-in_ok-judge_case-in-Case t c =
-    let v : statement c.args.s.now ≡ s.Case (expression c.in-Case.e.value) (arms_of (map arm c.in-Case.arms.value.items)) = rw c.in-Case.is (view_case c.in-Case.e c.in-Case.arms) in
+    let v : statement c.args.judged.now ≡ s.Case (expression c.in-Case.e.value) (arms_of (map arm c.in-Case.arms.value.items)) = rw c.in-Case.is (view_case c.in-Case.e c.in-Case.arms) in
     (rw (c.deref-in-Case-2.ensures.value, c.deref-in-Case.ensures, c.deref-in-Case-3.ensures) at c.in_ok-judge_case-in-Case.ensures) ∙ ap (λ x. least c.args.diagnostics.now (st.statement c.args.env.now x)) (sym v)
 
 pub statement-returns-in_ok-judge_repeat-in-Repeat : goal.statement-returns-in_ok-judge_repeat-in-Repeat
 statement-returns-in_ok-judge_repeat-in-Repeat t c =
-    let v : statement c.args.s.now ≡ s.Repeat (statements_of (map statement c.in-Repeat.body.value.items)) (expression c.in-Repeat.e.value) = rw c.in-Repeat.is (view_repeat c.in-Repeat.body c.in-Repeat.e) in
+    let v : statement c.args.judged.now ≡ s.Repeat (statements_of (map statement c.in-Repeat.body.value.items)) (expression c.in-Repeat.e.value) = rw c.in-Repeat.is (view_repeat c.in-Repeat.body c.in-Repeat.e) in
     (rw (c.deref-in-Repeat-2.ensures.value, c.deref-in-Repeat.ensures, c.deref-in-Repeat-3.ensures) at c.in_ok-judge_repeat-in-Repeat.ensures) ∙ ap (λ x. least c.args.diagnostics.now (st.statement c.args.env.now x)) (sym v)
 
 pub statement-returns-in_ok-judge_for-in-For : goal.statement-returns-in_ok-judge_for-in-For
 statement-returns-in_ok-judge_for-in-For t c =
     let h = c.in-For.header.value in
-    let v : statement c.args.s.now ≡ s.For h.variable (expression h.from) h.direction (expression h.last) (statement c.in-For.body.value) =
+    let v : statement c.args.judged.now ≡ s.For h.variable (expression h.from) h.direction (expression h.last) (statement c.in-For.body.value) =
     rw c.in-For.is (view_for c.in-For.header c.in-For.body) in
     (rw (c.deref-in-For.ensures, c.deref-in-For-2.ensures) at c.in_ok-judge_for-in-For.ensures) ∙ ap (λ x. least c.args.diagnostics.now (st.statement c.args.env.now x)) (sym v)
 

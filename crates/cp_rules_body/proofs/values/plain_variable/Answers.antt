@@ -14,7 +14,7 @@ none_of (x ∷ xs) h = absurd (omega (arith, h))
 pub returns-then-is_plain : goal.returns-then-is_plain
 returns-then-is_plain c =
     let env = c.args.env.now in
-    let d = c.args.d.now in
+    let d = c.args.designated.now in
     let count : length d.selectors.items ≡ 0 = grind (arith, nat_tests) in
     ap (judge_use env c.args.mode) (view_designator d)
     ∙ ap (λ selectors. judge_use env c.args.mode (s.Designate d.root (selectors_of (map selector selectors)))) (none_of d.selectors.items count)

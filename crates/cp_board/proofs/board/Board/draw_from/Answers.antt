@@ -17,7 +17,7 @@ fetch_add-ticket-requires c =
     let most : p.stripes ≤ MAX_STRIPES = subst (λ (q : Shape). q.stripes ≤ MAX_STRIPES) (sym key) c.self.invariant.most in
     let numbers : p.numbers ≤ MAX_TICKETS = subst (λ (q : Shape). q.numbers ≤ MAX_TICKETS) (sym key) c.self.invariant.numbers in
     let same_stripes : c.self.inside.shape.stripes ≡ p.stripes = ap (λ (q : Shape). q.stripes) (sym key) in
-    let room : length me.me.0.used_up ≡ MAX_STRIPES = sym (ap length seat.used_up) ∙ c.seat.reported in (
+    let room : length me.me.0.used_up ≡ MAX_STRIPES = sym (ap length seat.used_up) ∙ c.seat.told in (
       ap (λ s. s.table) c.seat.view_is ∙ c.requires.of.table ∙ sym (ap (λ b. b.table) c.self.view_is),
       omega arith,
       draws p _ _ me.me c.args.stripe numbers (omega arith) in_stripes of_board (omega arith)

@@ -13,18 +13,18 @@ pub returns-then-not-is_component_of : goal.returns-then-not-is_component_of
 returns-then-not-is_component_of c = λ plans g firsts groups vs v before i represents are.
     let s = erase.sort_of c.args.sort in
     let other : is_component_of s v.type ≡ false = sym (c.is_component_of.ensures v.type represents) ∙ c.if-not-is_component_of.true in
-    no_owner plans g firsts groups s (c.args.d.now.name.now, v) c.args.owners.now.items before other are
+    no_owner plans g firsts groups s (c.args.declared.now.name.now, v) c.args.owners.now.items before other are
 
 pub returns : goal.returns
 returns c = λ plans g firsts groups vs v before i represents are.
     let types = c.args.self.now.tables.now.types in
     let s = erase.sort_of c.args.sort in
     let own : is_component_of s v.type ≡ true = sym (c.is_component_of.ensures v.type represents) ∙ c.if-not-is_component_of.false in
-    let number : system_of (row_at types c.args.d.now.of) ≡ Some c.in-Some.number = search rules in
+    let number : system_of (row_at types c.args.declared.now.of) ≡ Some c.in-Some.number = search rules in
     let text : system_at types c.in-Some.number ≡ Some c.in-Some-system.text = search rules in
     let table : slice_get c.args.self.now.tables.now.systems.items c.in-Some.number ≡ Some c.in-Some-system-2.table.now = search rules in
-    subst (λ (os : List Owner). AreOwners plans g os (before ++ owners_of firsts groups (of_sort s ((c.args.d.now.name.now, v) ∷ [])))) (sym c.in_ok-push.ensures.items)
-    (one_put plans g firsts groups s (c.args.d.now.name.now, v) c.args.owners.now.items before c.in_ok-component.field-0 own are
+    subst (λ (os : List Owner). AreOwners plans g os (before ++ owners_of firsts groups (of_sort s ((c.args.declared.now.name.now, v) ∷ [])))) (sym c.in_ok-push.ensures.items)
+    (one_put plans g firsts groups s (c.args.declared.now.name.now, v) c.args.owners.now.items before c.in_ok-component.field-0 own are
     (c.in_ok-component.ensures plans g firsts groups vs v i represents number text table))
 
 pub returns-in_default : goal.returns-in_default
@@ -32,19 +32,19 @@ returns-in_default c = λ plans g firsts groups vs v before i represents are.
     let s = erase.sort_of c.args.sort in
     let types = c.args.self.now.tables.now.types in
     let own : is_component_of s v.type ≡ true = sym (c.is_component_of.ensures v.type represents) ∙ c.if-not-is_component_of.false in
-    let none : system_of (row_at types c.args.d.now.of) ≡ None = search rules in
-    absurd (owner_has_number types c.args.d.now.of s v.type represents own none)
+    let none : system_of (row_at types c.args.declared.now.of) ≡ None = search rules in
+    absurd (owner_has_number types c.args.declared.now.of s v.type represents own none)
 
 pub returns-in_default-system : goal.returns-in_default-system
 returns-in_default-system c = λ plans g firsts groups vs v before i represents are.
     let types = c.args.self.now.tables.now.types in
-    let number : system_of (row_at types c.args.d.now.of) ≡ Some c.in-Some.number = search rules in
+    let number : system_of (row_at types c.args.declared.now.of) ≡ Some c.in-Some.number = search rules in
     let none : system_at types c.in-Some.number ≡ None = search rules in
-    absurd (owner_has_type types c.args.d.now.of c.in-Some.number v.type represents number none)
+    absurd (owner_has_type types c.args.declared.now.of c.in-Some.number v.type represents number none)
 
 pub returns-in_default-system-2 : goal.returns-in_default-system-2
 returns-in_default-system-2 c = λ plans g firsts groups vs v before i represents are.
     let of = c.args.self.now in
-    let number : system_of (row_at of.tables.now.types c.args.d.now.of) ≡ Some c.in-Some.number = search rules in
+    let number : system_of (row_at of.tables.now.types c.args.declared.now.of) ≡ Some c.in-Some.number = search rules in
     let none : slice_get of.tables.now.systems.items c.in-Some.number ≡ None = search rules in
-    absurd (owner_has_table of plans g firsts groups vs i c.args.d.now.of c.in-Some.number v.type represents number none)
+    absurd (owner_has_table of plans g firsts groups vs i c.args.declared.now.of c.in-Some.number v.type represents number none)

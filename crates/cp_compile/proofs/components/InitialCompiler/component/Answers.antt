@@ -20,10 +20,10 @@ returns c =
     let plan : c.in_ok-plan.plan ≡ of.plans + c.in_ok-behind.behind = search rules in
     if_ok c.of.result
     (λ o is plans g firsts groups vs v i represents number text_is table_is.
-    let x = c.args.d.now.name.now in
+    let x = c.args.declared.now.name.now in
     let own : c.unwrap_or-first.result ≡ or_zero (lookup (declared_type x groups) firsts) =
     first ∙ ap (λ n. or_zero (lookup n of.firsts.now)) (c.variable_type-of.ensures ∙ i.type_names x) ∙ ap or_zero (i.firsts_are (declared_type x groups)) in
-    component_put of plans g firsts groups vs (c.args.d.now.name.now, v) i k text table c.args.d.now.of o c.in_ok-body.body text_is table_is
+    component_put of plans g firsts groups vs (c.args.declared.now.name.now, v) i k text table c.args.declared.now.of o c.in_ok-body.body text_is table_is
     (body ∙ ap (λ n. n + c.in_ok-routines.routines) own ∙ ap (λ n. or_zero (lookup (declared_type x groups) firsts) + n) routines) represents number
     (subst (λ n. IsOwner table c.in_ok-body.body n o) (plan ∙ ap (λ n. of.plans + n) behind) is))
     c.of.ensures

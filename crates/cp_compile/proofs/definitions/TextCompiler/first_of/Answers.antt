@@ -12,9 +12,9 @@ use Rattle.cp_compile.proofs.definitions.TextCompiler.first_of.Goals as goal
 
 pub returns-in-System : goal.returns-in-System
 returns-in-System c =
-    let x = c.args.d.now.name in
+    let x = c.args.definition.now.name in
     let s = erase.system (tree.system c.in-System.text) in
-    let is : erase.type_definition (tree.type_definition c.args.d.now) ≡ a.SystemDef x.name s =
+    let is : erase.type_definition (tree.type_definition c.args.definition.now) ≡ a.SystemDef x.name s =
     ap (λ t. erase.definition x (tree.defined_type t)) c.in-System.is in
     if_ok c.system.result
     (λ first made g m i named are.

@@ -6,7 +6,7 @@ use Rattle.cp_compile_symbols.proofs.outer.Outer.define_constant.Goals as goal
 
 pub returns-in-Some : goal.returns-in-Some
 returns-in-Some c =
-    let d = c.args.d.now in
+    let d = c.args.definition.now in
     on_ok_weaker c.add_constant.result
     (λ defines g scope.
     subst (λ v. OuterRepresents c.add_constant.new.self (with_constant d.name.name v g)) (c.in-Some.ensures g scope.constants) (defines g scope))

@@ -20,7 +20,7 @@ enumeration_is g x y xs last t named counted is = rw (is, named, counted, same_l
 
 pub returns : goal.returns
 returns c =
-    let x = c.args.x.now.name in
+    let x = c.args.identifier.now.name in
     let y = c.as_bytes-name.result.now in
     let last = c.saturating_sub-last.result in
     on_ok_weaker c.add_values.result

@@ -12,7 +12,7 @@ use Rattle.cp_compile_symbols.proofs.scope.Scope.callee.Goals as goal
 
 pub returns-in-Some-first_part : goal.returns-in-Some-first_part
 returns-in-Some-first_part c = λ s i.
-    let d = c.args.d.now in
+    let d = c.args.designator.now in
     let first = c.in-Some.first.now in
     let rest = c.in-Some.rest.now in
     let second = c.in-Some-first_part.field-0.0.now in

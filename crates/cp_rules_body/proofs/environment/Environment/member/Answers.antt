@@ -9,4 +9,4 @@ returns c =
     let m = c.in_ok-get.field-0.now in
     let found = rw c.deref.ensures.value at c.in_ok-get.ensures.lookup.3 in
     let same = found.1 [] ∙ ap (λ (e : r.Environment). get_or e.members k []) c.self.view_is in
-    c.find.ensures ∙ ap (λ y. lookup y m) c.as_bytes.ensures ∙ ap (lookup c.args.x.now.name) same
+    c.find.ensures ∙ ap (λ y. lookup y m) c.as_bytes.ensures ∙ ap (lookup c.args.name.now.name) same
