@@ -1,8 +1,9 @@
 #!/usr/bin/env python3
-"""Proves cpm and every crate below it, and builds it. It does what the gate does but for tests, must-fail edits and the trials of the built program.
+"""Proves cpm and every crate below it, and builds it: CI without tests, must-fail edits and trials.
 
-The crates are copied to a temporary folder, without their edits, where `rt ci` proves them; the program is then put into crates/cpm/out. A kit that keeps
-what passed keeps these proofs for the gate, and takes those of the gate. The exit status is that of `rt ci`.
+It copies the crates to a temporary folder, without their edits, where `rt ci` proves them, and puts
+the program into crates/cpm/out. A kit that keeps what passed shares these proofs with CI. The exit
+status is that of `rt ci`.
 """
 import pathlib
 import shutil
