@@ -1,8 +1,9 @@
 #!/usr/bin/env python3
-"""Writes the pages of `cpm explain RULE` from docs/rules.md, docs/faults.md and the texts of docs/examples.
+"""Writes the pages of `cpm explain RULE` from docs/rules.md, docs/faults.md and the programs of docs/examples.
 
-A section `## C4: TITLE` has a paragraph that names a text, then *Why:* and *Mend:*. The text rules/NAME.cp breaks the rule, and
-rules/NAME.mended.cp doesn't; faults/NAME.cp has the report faults/NAME.report. `make_pages.py` writes crates/cp_explain/src/pages.rt; `make_pages.py --unchanged` fails where that isn't what it would write.
+A section `## C4: TITLE` has a paragraph that names a program, then *Why:* and *Fix:*. The program rules/NAME.cp breaks the rule, and rules/NAME.mended.cp
+doesn't. The program faults/NAME.cp has the report faults/NAME.report. `make_pages.py` writes crates/cp_explain/src/pages.rt. `make_pages.py --unchanged` fails
+if the file isn't what it would write.
 """
 import pathlib, re, sys, textwrap
 
@@ -12,7 +13,7 @@ TARGET = DOCS.parent / 'crates' / 'cp_explain' / 'src' / 'pages.rt'
 HEAD = '''//! The pages of `explain RULE`, written by `docs/make_pages.py` from docs/rules.md, docs/faults.md
 //! and their examples.
 
-/// A page: the rule or the fault, and what is told of it.
+/// A page: the rule or the fault, and what it means.
 #[derive(Clone, Copy)]
 pub struct RulePage {
     pub(crate) rule: &'static str,
@@ -35,14 +36,14 @@ def indented(text):
 
 
 def refused(name, line, words):
-    """What a page tells of a text that breaks a rule."""
-    text = wrapped(f'This text is {line}: {plain(words)}') + '\n' + indented((EXAMPLES / 'rules' / f'{name}.cp').read_text())
-    return text + '\nMended:\n\n' + indented((EXAMPLES / 'rules' / f'{name}.mended.cp').read_text())
+    """What a page shows of a program that breaks a rule."""
+    text = wrapped(f'This program is {line}: {plain(words)}') + '\n' + indented((EXAMPLES / 'rules' / f'{name}.cp').read_text())
+    return text + '\nFixed:\n\n' + indented((EXAMPLES / 'rules' / f'{name}.mended.cp').read_text())
 
 
 def stopped(name, command, words):
-    """What a page tells of a text that a fault stops."""
-    text = wrapped(f'In this text: {plain(words)}') + '\n' + indented((EXAMPLES / 'faults' / f'{name}.cp').read_text())
+    """What a page shows of a program that a fault stops."""
+    text = wrapped(f'In this program: {plain(words)}') + '\n' + indented((EXAMPLES / 'faults' / f'{name}.cp').read_text())
     verb, options = command.split(maxsplit=1)
     report = (EXAMPLES / 'faults' / f'{name}.report').read_text()
     return text + f'\n`cpm {verb} {name}.cp {options}` reports:\n\n' + indented(report)
@@ -50,9 +51,9 @@ def stopped(name, command, words):
 
 def page(rule, title, body):
     """The page of a section."""
-    why = plain(re.search(r'\*Why:\*(.*?)\n\*Mend:\*', body, re.S).group(1))
-    mend = plain(re.search(r'\*Mend:\*(.*?)(?:\n\n|\n#|\Z)', body + '\n\n', re.S).group(1))
-    text = f'{rule}: {title}\n\n' + wrapped(f'Why: {why}') + wrapped(f'Mend: {mend}')
+    why = plain(re.search(r'\*Why:\*(.*?)\n\*Fix:\*', body, re.S).group(1))
+    fix = plain(re.search(r'\*Fix:\*(.*?)(?:\n\n|\n#|\Z)', body + '\n\n', re.S).group(1))
+    text = f'{rule}: {title}\n\n' + wrapped(f'Why: {why}') + wrapped(f'Fix: {fix}')
     named = re.match(r'\s*`(\w+)\.cp`, `([^`]*)`: ([^\n]*(?:\n(?!\n)[^\n*]*)*)', body)
     if named:
         text += '\n' + (stopped if rule.startswith('F') else refused)(*named.groups())
@@ -64,13 +65,13 @@ def literal(text):
     return f'"{escaped}"'
 
 
-def table(name, told, letters, document):
+def table(name, topic, letters, document):
     """The constant with the pages of those sections of a document that begin with one of the letters."""
     sections = re.split(r'^#+ ', (DOCS / document).read_text(), flags=re.M)
     found = [re.match(rf'([{letters}]\d*): ([^\n]*)\n(.*)', section, re.S) for section in sections]
     pages = [(match.group(1), page(*match.groups())) for match in found if match]
     rows = ''.join(f'    RulePage {{\n        rule: "{rule}",\n        text: {literal(text)},\n    }},\n' for rule, text in pages)
-    return f'\n/// One page for each {told}, in the order of docs/{document}.\npub const {name}: [RulePage; {len(pages)}] = [\n{rows}];\n'
+    return f'\n/// One page for each {topic}, in the order of docs/{document}.\npub const {name}: [RulePage; {len(pages)}] = [\n{rows}];\n'
 
 
 def code():
