@@ -15,7 +15,7 @@ def names(count):
 
 
 def chain(count):
-    """Routines of which each calls the one before it; the last one is called for ever."""
+    """Routines of which each calls the one before it; the last one is called forever."""
     called = names(count)
     later = ''.join(f'procedure {name};begin {before} end;' for before, name in zip(called, called[1:]))
     return f'procedure {called[0]};begin end;{later}begin cycle {called[-1]} end end.'

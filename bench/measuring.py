@@ -29,7 +29,7 @@ os.write(int(sys.argv[1]), ' '.join(map(str, told)).encode())
 
 
 class Usage(NamedTuple):
-    """What a call took: seconds by the clock, of the program on a processor and of the system on its behalf, and the most memory."""
+    """What a call took: wall-clock seconds, of the program on a processor and of the system on its behalf, and the most memory."""
     seconds: float
     processor: float
     system: float

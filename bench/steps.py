@@ -127,7 +127,7 @@ def text_at_a_monitor(entry):
             f'p = process(a: m); begin a.stay end; var a: m; {", ".join(names)}: p; begin init a, {", ".join(f"{name}(a)" for name in names)} end.')
 
 
-# The first process that enters runs inside for ever, so the others ask; or each is delayed in a queue of its own.
+# The first process that enters runs inside forever, so the others ask; or each is delayed in a queue of its own.
 AT_REST = {
     '254 processes that have ended': ended_text(),
     '252 processes that ask for a gate, which one more holds': text_at_a_monitor('begin cycle x := x end end'),

@@ -9,7 +9,7 @@ EXAMPLES = ROOT / 'docs' / 'examples'
 FORMS = {'lines': [], '`--json`': ['--json'], '`--timeline`': ['--timeline'], '`--svg`': ['--svg']}
 ROUNDS = 1_000, 100_000
 PLAN = ['--turn', 5, '--workers', 1]
-# The initial process ends soon, and ten others call one monitor for ever.
+# The initial process ends soon, and ten others call one monitor forever.
 CALLING = '''type counter = monitor; var n: integer;
   procedure entry add(k: integer); begin n := (n + k) mod 1000 end; begin n := 0 end;
 caller = process(c: counter; k: integer); var x: integer; begin cycle c.add(k); x := (x + 1) mod 100 end end;

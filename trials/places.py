@@ -1,5 +1,5 @@
 #!/usr/bin/env python3
-"""Compares the places that `cpm outcome` tells with places that are known in another way.
+"""Compares the places that `cpm outcome` prints with places that are known in another way.
 
     trials/places.py [PROGRAM] [--count N] [--seed N] [--quiet]
 
@@ -27,7 +27,7 @@ WORDS = {
     8: 'a case without a label that matches ',
     9: 'a function without a result, ',
 }
-# The number of a fault, a statement that has it, with a mark before the place that is told, and the piece that is quoted.
+# The number of a fault, a statement that has it, with a mark before the place that is printed, and the piece that is quoted.
 FAULTS = [
     (1, '@b := 4 + 6', 'b := 4 + 6'),
     (1, '@h(4 + 6)', 'h(4 + 6)'),

@@ -14,7 +14,7 @@ import threading
 from running import PROGRAM, ROOT, ROUNDS, expect, expect_at_least, expect_one_of, run, wrong
 
 MEMORY = (3, b'', b'fault M\n')
-# What is refused, and the fewest refusals of each: a little below what docs/PROOFS.md tells, since builds differ by a few allocations.
+# What is refused, and the fewest refusals of each: a little below what docs/PROOFS.md says, since builds differ by a few allocations.
 KINDS = ('ALLOCATION', 'THREAD', 'READ', 'WRITE')
 LEAST_OF_RUN = {'ALLOCATION': 430, 'THREAD': 1, 'READ': 430, 'WRITE': 165}
 LEAST_OF_REPLAY = {'ALLOCATION': 495, 'THREAD': 0, 'READ': 610, 'WRITE': 165}

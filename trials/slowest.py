@@ -1,5 +1,5 @@
 #!/usr/bin/env python3
-"""slowest.py CRATE [COUNT]: prints which functions of a crate took the prover longest, in seconds by the clock, and the megabytes that it keeps of their steps.
+"""slowest.py CRATE [COUNT]: prints which functions of a crate took the prover longest, in wall-clock seconds, and the megabytes that it keeps of their steps.
 
 It reads the kept work of a first check by one job (`rt check --jobs 1`): each module is written once it is checked, so the time between
 two files is that of the second. A check that was stopped for a while, or begun again, shows as a gap that is no function's. What is kept of the steps of

@@ -219,7 +219,7 @@ def main():
     write_compiled()
     changed = [path for path, text in WRITTEN.items() if not path.exists() or path.read_text() != text]
     if '--unchanged' in sys.argv:
-        sys.exit(f'written anew by worked/make_rows.py: {changed}' if changed else 0)
+        sys.exit(f'written again by worked/make_rows.py: {changed}' if changed else 0)
     for path in changed:
         path.parent.mkdir(parents=True, exist_ok=True)
         path.write_text(WRITTEN[path])
