@@ -39,7 +39,7 @@ AVOIDED = {
     r'asked of|had of': 'for, from',
 }
 # Where these words are right.
-IDIOMS = (r'stands? alone', r'let alone', r'side by side', r'go on holiday', r'stands? on', r'lays? out', r'stand-ins?')
+IDIOMS = (r'let alone', r'lays? out', r'stand-ins?')
 DEFINITION = r'`((?:cp_\w+/)?[A-Z]\w+\.\w+)`'
 # Pages that name definitions, and the crate of a definition without one. In meaning.md each section names its own.
 DEFAULT_CRATES = {'glossary.md': 'cp_model', 'meaning.md': '*'}
