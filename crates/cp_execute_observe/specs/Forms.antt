@@ -4,7 +4,7 @@ use Rattle.cp_model_machine.specs.InState.{IsIn}
 use Rattle.cp_model.specs.States.{Setup, State}
 use Rattle.cp_outcome.specs.Transcripts.{IsTranscript}
 use Rattle.cp_outcome.specs.declared.verdict.Verdict.{Verdict}
-use Rattle.cp_output_formats.specs.Json.{IsJsonLine}
+use Rattle.cp_output.specs.Json.{IsJsonLine}
 use Rattle.cp_outcome.specs.Outcomes.{BeginsWithVerdict}
 use Rattle.cp_rounds.specs.Views.{machine_of}
 use Rattle.cp_rounds.specs.declared.machine.Machine.{Machine}

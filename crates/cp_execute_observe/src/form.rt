@@ -1,7 +1,7 @@
 //! What is written of a run that ends when nothing can move: its outcome in one of the forms.
 
 ghost use Rattle.std.specs.Prelude.{IfOk};
-ghost use Rattle.cp_output_formats.specs.Json.{IsJsonLine};
+ghost use Rattle.cp_output.specs.Json.{IsJsonLine};
 ghost use Rattle.cp_execute_observe.specs.Forms.{IsOutcomeOf};
 ghost use Rattle.cp_base_config.specs.declared.outcome.OutcomeForm.TheVariants as forms;
 

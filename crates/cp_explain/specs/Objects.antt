@@ -5,7 +5,7 @@ use Rattle.cp_model.specs.Syntax as s
 use Rattle.cp_frontend.specs.Takings.{front}
 use Rattle.cp_frontend.specs.Texts.{IsAccepted, Refuses}
 use Rattle.cp_frontend.specs.declared.refusal.Refusal.{Refusal}
-use Rattle.cp_output_formats.specs.Json.{IsJsonLine}
+use Rattle.cp_output.specs.Json.{IsJsonLine}
 
 -- The text is accepted, or refused with `e`.
 abbrev pub Judges : List ℕ → Option Refusal → Type 0

@@ -7,7 +7,7 @@ ghost use Rattle.cp_frontend.specs.KnownRefusals.{IsFault};
 ghost use Rattle.cp_frontend.specs.Texts.{IsTextOf, Refuses};
 ghost use Rattle.cp_frontend.specs.declared.refusal.Refusal.TheVariants as refusal;
 ghost use Rattle.cp_explain.specs.Objects.{IsObjectOf, WroteObject};
-ghost use Rattle.cp_output_formats.specs.Json.{IsJsonLine};
+ghost use Rattle.cp_output.specs.Json.{IsJsonLine};
 
 use crate::all::most;
 use crate::explain::{Explanation, Extent, place, push_code, read};
@@ -19,8 +19,8 @@ use cp_frontend::refusal::Refusal;
 use cp_frontend::writing::write_result;
 use cp_model::rules::Violation;
 use cp_model::tree::Tree;
+use cp_output::object::line;
 use cp_output::position::Position;
-use cp_output_formats::object::line;
 use cp_rules::text::{RuleError, judge, violations};
 use serde::Serialize;
 use std::alloc::{AllocError, Global};

@@ -3,8 +3,8 @@
 
 use crate::instances::{Instance, Instances};
 use cp_model::tree::Sort;
+use cp_output::graphviz::{push_arrow, push_node};
 use cp_output::page::Page;
-use cp_output_formats::graphviz::{push_arrow, push_node};
 use std::alloc::AllocError;
 
 // How a component of this sort is drawn.

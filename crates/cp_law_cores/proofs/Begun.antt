@@ -12,7 +12,7 @@ use Rattle.cp_model_machine.specs.KernelSteps.{Asking, Begun, Delayed, Fresh, Ke
 use Rattle.cp_model_machine.specs.Machines.{begin_if, begin_one, next_stage}
 use Rattle.cp_model_machine.specs.PrivateStates.{Continues, Delays, Effect, Enters, Leaves, NoEffect, Opens, PrivateState, Running, Starts, is_running}
 use Rattle.cp_model_machine.specs.Steps.{act_on, alone, is_private, operation_of, private_step, step_with}
-use Rattle.cp_model_ahead.proofs.Numbers.{step_keeps_number}
+use Rattle.cp_model_machine.proofs.AheadNumbers.{step_keeps_number}
 use Rattle.cp_law_cores.specs.Moves.{AreIndependent, ClosesBeside}
 use Rattle.cp_law_cores.specs.Cores.{Core, close, core_moves, is_private_on, kernel_at, kernel_on, part, private_at, put, silent, turned, with_turning}
 use Rattle.cp_law_cores.proofs.Parts.{map_no_part, map_part, map_put, none_is, part_here, part_there}

@@ -5,7 +5,7 @@ use Rattle.cp_model_program.specs.Programs.{Program}
 use Rattle.cp_model_machine.specs.KernelSteps.{Kernel, is_begun, is_due, kernel_step, needs_kernel, stage_of}
 use Rattle.cp_model_machine.specs.PrivateStates.{PrivateState, is_running}
 use Rattle.cp_model_machine.specs.Steps.{is_private, operation_of, private_step}
-use Rattle.cp_model_ahead.proofs.Quiet.{needs_none}
+use Rattle.cp_model_machine.proofs.AheadQuiet.{needs_none}
 use Rattle.cp_law_cores.specs.Cores.{Core, is_kernel_on, is_private_on, kernel_at, kernel_on, part, private_at, put, silent, turned, with_turning}
 use Rattle.cp_law_cores.proofs.Parts.{part_there, put_swap}
 

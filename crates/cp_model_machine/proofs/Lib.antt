@@ -153,3 +153,11 @@ pub mod MachineReplays
 -- Chains of askers.
 pub mod Waits
 pub mod ChainLines
+-- Private turns that are made ahead of their rounds.
+pub mod AheadQuiet
+pub mod AheadNumbers
+pub mod AheadStages
+pub mod AheadTurns
+pub mod AheadRounds
+pub mod AheadPassing
+mod AheadExample

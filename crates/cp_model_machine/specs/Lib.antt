@@ -18,3 +18,4 @@ pub mod Reports
 pub mod InState
 pub mod RoundLaws
 pub mod Chains
+pub mod Ahead

@@ -6,6 +6,7 @@
 //! - **The steps.** `Values`, `PrivateStates`, `Passing` and `Calling` say what terms, arguments
 //!   and calls do to the words of a process. `Steps` is one step of any operation, `KernelSteps`
 //!   adds gates and stages, `Machines` whole rounds, and `Replays` rounds in any order of events.
+//!   `Ahead` says which private turns of later rounds may be made ahead of them.
 //! - **The relation.** `PartOf` says when a private state is that of its process in a state of the
 //!   system. `Addresses` says where variables lie and which words are in reach, `Means` what words
 //!   mean, and `Remaining` when a counter and frames are what is left to do. `Beginning` is about

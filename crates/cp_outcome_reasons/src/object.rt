@@ -1,14 +1,14 @@
 //! The outcome as a JSON object, for programs.
 
 ghost use Rattle.std.specs.Prelude.{IfOk};
-ghost use Rattle.cp_output_formats.specs.Json.{IsJsonLine};
+ghost use Rattle.cp_output.specs.Json.{IsJsonLine};
 
 use crate::names::{Source, Subject};
 use crate::snapshot::ProcessSnapshot;
 use crate::states::word_of;
+use cp_output::object::line;
 use cp_output::page::Page;
 use cp_output::position::Position;
-use cp_output_formats::object::line;
 use serde::Serialize;
 use std::alloc::{AllocError, Global};
 

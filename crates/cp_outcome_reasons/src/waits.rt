@@ -8,8 +8,8 @@ use crate::names::{Source, Subject};
 use crate::snapshot::ProcessSnapshot;
 use crate::states::word_of;
 use cp_inspect::state::ProcState;
+use cp_output::graphviz::{push_arrow, push_node};
 use cp_output::page::Page;
-use cp_output_formats::graphviz::{push_arrow, push_node};
 use cp_private::outside::Holder;
 use std::alloc::{AllocError, Global};
 

@@ -1,12 +1,18 @@
-//! Pages of explanations: text that grows (`page`), the messages that it tells (`message`), and
-//! the line of a place with a caret under it (`excerpt`).
+//! What cpm shows: pages of text, and forms that programs read.
+//!
+//! - `page`: text that grows. `message`: the messages that it tells. `excerpt`: the line of a place
+//!   with a caret under it. `position`: the line and the column of a place.
+//! - `object`: the line of an object of JSON. `specs/Json.antt` says of which form it is.
+//! - `graphviz`: graphs for Graphviz: the names of nodes, and arrows.
 //!
 //! The position of a place is proved (`specs/Positions.antt`); how a line is shown is tested.
 #![tactic(auto)]
 
 mod excerpt;
 mod glyph;
+pub mod graphviz;
 pub mod law;
 pub mod message;
+pub mod object;
 pub mod page;
 pub mod position;

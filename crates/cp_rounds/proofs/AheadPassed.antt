@@ -3,8 +3,8 @@ use Rattle.std.specs.Prelude.{◌≡◌, ◌≤◌, ◌<◌, ◌+◌, ◌-◌, �
 use Rattle.std.proofs.Common.{sym, ◌∙◌, ap, subst, arith}
 use Rattle.std.proofs.lemmas.List.{length-map}
 use native.Mathlib.Nat.{mul-le-mul_right}
-use Rattle.cp_model_ahead.specs.Ahead.{AreRunAhead, with_turns}
-use Rattle.cp_model_ahead.proofs.Passing.{round_passed}
+use Rattle.cp_model_machine.specs.Ahead.{AreRunAhead, with_turns}
+use Rattle.cp_model_machine.proofs.AheadPassing.{round_passed}
 use Rattle.cp_kernel.specs.KernelOf.{kernel_of, transcripts_of}
 use Rattle.cp_kernel.specs.Turns.{parts_of}
 use Rattle.cp_kernel.specs.declared.kernel.Kernel.{Kernel}

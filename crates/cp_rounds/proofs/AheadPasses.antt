@@ -3,8 +3,8 @@ use Rattle.std.specs.Prelude.{◌≡◌, ◌≢◌, ◌≤◌, ◌<◌, ◌+◌,
 use Rattle.std.proofs.Common.{sym, ◌∙◌, ap, subst, arith, ⊎_elim}
 use Rattle.std.proofs.lemmas.List.{length-map}
 use native.Mathlib.Nat.{suc-mul}
-use Rattle.cp_model_ahead.specs.Ahead.{HaveTurned, AreRunAhead}
-use Rattle.cp_model_ahead.proofs.Rounds as ahead
+use Rattle.cp_model_machine.specs.Ahead.{HaveTurned, AreRunAhead}
+use Rattle.cp_model_machine.proofs.AheadRounds as ahead
 use Rattle.cp_kernel.specs.KernelOf.{HasRoomForAskers, kernel_of, transcripts_of}
 use Rattle.cp_kernel.specs.Turns.{parts_of}
 use Rattle.cp_kernel.specs.declared.kernel.Kernel.{Kernel}
@@ -26,7 +26,7 @@ use Rattle.cp_rounds.specs.MachineOf.{machine_with}
 use Rattle.cp_rounds.specs.Runs.{AreSame, RoundsMade}
 use Rattle.cp_rounds.proofs.AheadTurns.{fewer_bytes, part_of}
 use Rattle.cp_rounds.proofs.Made.{part_at, parts_count, same_machine, same_machine_with}
-use Rattle.cp_model_ahead.proofs.Turns.{set_apart, set_length}
+use Rattle.cp_model_machine.proofs.AheadTurns.{set_apart, set_length}
 use Rattle.cp_rounds.proofs.Rounds.{Remains, private_turns_made, rounds_after, turned_count, turns_remain}
 
 -- ---- Private turns

@@ -4,8 +4,8 @@ use Rattle.std.specs.Prelude.{◌≡◌, ◌≢◌, ◌≤◌, ◌<◌, ◌+◌,
 use Rattle.std.specs.Global.{Global}
 use Rattle.std.proofs.Common.{sym, ◌∙◌, ap, subst, arith, ⊎_elim}
 use Rattle.std.proofs.lemmas.List.{length-map}
-use Rattle.cp_model_ahead.specs.Ahead.{AreRunAhead}
-use Rattle.cp_model_ahead.proofs.Rounds as ahead
+use Rattle.cp_model_machine.specs.Ahead.{AreRunAhead}
+use Rattle.cp_model_machine.proofs.AheadRounds as ahead
 use Rattle.cp_kernel.specs.KernelOf.{Bytes, HasRoomForAskers, HasRoomForBytes, kernel_of, transcripts_of, turning}
 use Rattle.cp_kernel.proofs.Asking.{room_kept}
 use Rattle.cp_kernel.specs.Turns.{IsTurned, Moves, parts_of}
@@ -29,7 +29,7 @@ use Rattle.cp_rounds.specs.Ends.{RoundEnds}
 use Rattle.cp_rounds.proofs.AheadTurns.{fewer_bytes}
 use Rattle.cp_rounds.proofs.Made.{input_there, part_at, parts_count}
 use Rattle.cp_rounds.proofs.Rooms.{fewer_askers, moved_stages, numbered_set}
-use Rattle.cp_model_ahead.proofs.Turns.{set_length}
+use Rattle.cp_model_machine.proofs.AheadTurns.{set_length}
 use Rattle.cp_rounds.proofs.Rounds.{Remains, turns_next, turns_remain}
 
 -- The private states of a list with another item are those with another item.

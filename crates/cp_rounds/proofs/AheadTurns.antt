@@ -5,8 +5,8 @@ use Rattle.std.proofs.lemmas.Bool.{true≢false}
 use Rattle.std.proofs.lemmas.List.{length-map}
 use Rattle.cp_model.proofs.Options.{same_some}
 use native.Mathlib.Nat.{mul-le-mul_right, suc-mul}
-use Rattle.cp_model_ahead.specs.Ahead.{HasBegun, IsAhead, turn_at}
-use Rattle.cp_model_ahead.proofs.Turns.{map_got, turn_number}
+use Rattle.cp_model_machine.specs.Ahead.{HasBegun, IsAhead, turn_at}
+use Rattle.cp_model_machine.proofs.AheadTurns.{map_got, turn_number}
 use Rattle.cp_kernel.specs.KernelOf.{Bytes, HasRoomForAskers, HasRoomForBytes, kernel_of}
 use Rattle.cp_kernel.specs.Turns.{parts_of}
 use Rattle.cp_kernel.specs.declared.kernel.Kernel.{Kernel}

@@ -22,7 +22,7 @@ use Rattle.cp_rounds.specs.Ends.{RoundEnds}
 use Rattle.cp_rounds.specs.Made.{Represents, TurnsMade}
 use Rattle.cp_rounds.specs.MachineOf.{machine_with}
 use Rattle.cp_rounds.specs.Runs.{AreSame, RoundsMade, TurnsTaken}
-use Rattle.cp_model_ahead.proofs.Turns.{set_apart}
+use Rattle.cp_model_machine.proofs.AheadTurns.{set_apart}
 use Rattle.cp_rounds.proofs.Rounds.{Remains, kernel_turn_is, longer, rounds_after, private_turns_made, set_here, turned_count, turns_apart, turns_next, turns_remain}
 
 -- ---- Private states with their inputs

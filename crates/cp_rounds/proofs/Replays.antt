@@ -30,7 +30,7 @@ use Rattle.cp_rounds.specs.Replayed.{AreWoken, EachWoken, Leads, StepsInto, Turn
 use Rattle.cp_rounds.specs.Runs.{AreSame}
 use Rattle.cp_rounds.proofs.Made.{part_at, same_machine}
 use Rattle.cp_rounds.proofs.Rooms.{moved_stages, numbered_set, same_stages}
-use Rattle.cp_model_ahead.proofs.Turns.{set_length}
+use Rattle.cp_model_machine.proofs.AheadTurns.{set_length}
 use Rattle.cp_rounds.proofs.Rounds.{kernel_turn_is, private_turn_is}
 
 -- ---- Waking

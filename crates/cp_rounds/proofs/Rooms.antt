@@ -15,7 +15,7 @@ use Rattle.cp_model_machine.specs.PrivateStates.{PrivateState}
 use Rattle.cp_rounds_handoff.specs.Numbers.{AreNumbered}
 use Rattle.cp_rounds_handoff.proofs.Lists.{got_at, got_below, got_set, got_snoc, mapped_get}
 use Rattle.cp_rounds.specs.Runs.{AreSame, IsSame}
-use Rattle.cp_model_ahead.proofs.Turns.{set_length}
+use Rattle.cp_model_machine.proofs.AheadTurns.{set_length}
 
 pub fewer_askers : (k : Kernel) (n m : ℕ) → m ≤ n → HasRoomForAskers k n → HasRoomForAskers k m
 fewer_askers k n m le h = λ i d below. let room = h i d below in Prim.omega (arith, room, le)

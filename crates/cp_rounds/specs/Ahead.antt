@@ -1,6 +1,6 @@
 -- A machine some of whose processes are ahead: private turns of later rounds are made already.
 use Rattle.std.specs.Prelude.{◌≡◌, ◌≢◌, ◌≤◌, ◌<◌, ◌+◌, ◌-◌, ◌*◌, ℕ, suc, Bool, true, List, Some, get_or, length, slice_get, vec_len}
-use Rattle.cp_model_ahead.specs.Ahead.{HasBegun, AreRunAhead}
+use Rattle.cp_model_machine.specs.Ahead.{HasBegun, AreRunAhead}
 use Rattle.cp_kernel.specs.KernelOf.{HasRoomForAskers, HasRoomForBytes, kernel_of, transcripts_of}
 use Rattle.cp_kernel.specs.Turns.{parts_of}
 use Rattle.cp_kernel.specs.declared.kernel.Kernel.{Kernel}

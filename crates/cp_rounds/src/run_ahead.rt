@@ -1,10 +1,11 @@
 //! Several rounds at once.
 //!
 //! A process that has written nothing and whose next step isn't the kernel's, if it has one, has no
-//! kernel turn to make, whatever the others do (the laws are those of cp_model_ahead). So the threads
-//! make its private turns of several rounds one after another, and draw once for all of them. The
-//! calling thread takes all private states back, passes over the rounds in which all processes are
-//! ahead, and makes the others one by one, with the private turns that weren't made ahead.
+//! kernel turn to make, whatever the others do (`specs/RunAheadTurns.antt` of cp_model_machine). So the
+//! threads make its private turns of several rounds one after another, and draw once for all of
+//! them. The calling thread takes all private states back, passes over the rounds in which all
+//! processes are ahead, and makes the others one by one, with the private turns that weren't made
+//! ahead.
 
 ghost use Rattle.std.specs.Prelude.{◌≡◌, ◌≤◌, ◌<◌, ◌+◌, ◌-◌, ℕ, false, true, length, slice_get, Some};
 ghost use Rattle.cp_kernel.specs.KernelOf.{kernel_of};

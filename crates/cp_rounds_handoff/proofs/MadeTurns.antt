@@ -2,8 +2,8 @@
 use Rattle.std.specs.Prelude.{◌≡◌, ◌≢◌, ◌+◌, refl, ℕ, zero, suc, Bool, true, false, if◌then◌else◌, List, [], ◌∷◌}
 use Rattle.std.proofs.Common.{sym, ◌∙◌, ap, subst, arith}
 use Rattle.std.proofs.lemmas.Bool.{true≢false}
-use Rattle.cp_model_ahead.specs.Ahead.{IsQuiet}
-use Rattle.cp_model_ahead.proofs.Quiet.{needs_none}
+use Rattle.cp_model_machine.specs.Ahead.{IsQuiet}
+use Rattle.cp_model_machine.proofs.AheadQuiet.{needs_none}
 use Rattle.cp_model_program.specs.Programs.{Program}
 use Rattle.cp_model_machine.specs.PrivateStates.{PrivateState, is_running}
 use Rattle.cp_model_machine.specs.KernelSteps.{needs_kernel}

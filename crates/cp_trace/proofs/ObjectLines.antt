@@ -3,7 +3,7 @@ use Rattle.std.proofs.Common.{◌≡◌, ◌++◌, ◌∷◌, ◌∙◌, [], Lis
 use Rattle.std.specs.List.{concat}
 use Rattle.std.proofs.lemmas.List.Elements.{All-append, All-cons, All-nil}
 use Rattle.std.proofs.lemmas.List.Folds.{concat-append}
-use Rattle.cp_output_formats.specs.Json.{IsJsonLine}
+use Rattle.cp_output.specs.Json.{IsJsonLine}
 use Rattle.cp_trace.specs.Reporting.{Adds, AreObjects}
 
 pub no_objects : AreObjects []

@@ -2,7 +2,7 @@
 use Rattle.std.specs.Prelude.{◌≡◌, ◌++◌, ◌⊎◌, ◌<◌, ℕ, List, [], ◌∷◌, codes, length}
 use Rattle.std.specs.List.{All, concat}
 use Rattle.cp_model.specs.Decimal.{natural}
-use Rattle.cp_output_formats.specs.Json.{IsJsonLine}
+use Rattle.cp_output.specs.Json.{IsJsonLine}
 
 -- The bytes that were there are kept, and some with this property are added behind them.
 abbrev pub Adds : (List ℕ → Type 0) → List ℕ → List ℕ → Type 0

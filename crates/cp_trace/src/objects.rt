@@ -5,7 +5,7 @@ ghost use Rattle.cp_trace.specs.WalkOutput.{Adds, AreObjects};
 
 use crate::changes::{Change, Changes};
 use cp_inspect::component_table::Owner;
-use cp_output_formats::object::line;
+use cp_output::object::line;
 use serde::Serialize;
 use std::alloc::{AllocError, Global};
 

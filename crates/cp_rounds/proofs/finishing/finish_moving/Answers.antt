@@ -4,7 +4,7 @@ use Rattle.cp_private.specs.declared.private.Private.{Private}
 use Rattle.cp_rounds_handoff.specs.Numbers.{AreNumbered}
 use Rattle.cp_rounds.specs.Runs.{TurnsTaken}
 use Rattle.cp_rounds.proofs.MoreTurns.{numbers_more, ready_more, taken_more}
-use Rattle.cp_model_ahead.proofs.Turns.{set_apart}
+use Rattle.cp_model_machine.proofs.AheadTurns.{set_apart}
 use Rattle.cp_rounds.proofs.finishing.finish_moving.Goals as goal
 
 pub returns-clause-taken : goal.returns-clause-taken

@@ -1,5 +1,5 @@
 use Rattle.std.proofs.Common.{◌≡◌, ◌≢◌, ◌≤◌, ◌<◌, ◌+◌, ◌-◌, ℕ, suc, true, Some, length, slice_get, slice_set, refl, sym, ap, subst, ◌∙◌, arith, ⊎_elim}
-use Rattle.cp_model_ahead.specs.Ahead.{HasBegun}
+use Rattle.cp_model_machine.specs.Ahead.{HasBegun}
 use Rattle.cp_kernel.specs.KernelOf.{kernel_of}
 use Rattle.cp_model_machine.specs.KernelSteps.{is_begun, stage_of}
 use Rattle.cp_private.specs.declared.private.Private.{Private}
@@ -8,7 +8,7 @@ use Rattle.cp_rounds_handoff.proofs.Lists.{below_or, below_or_from, got_below, g
 use Rattle.cp_rounds.specs.Ahead.{turns_ahead}
 use Rattle.cp_rounds.proofs.AheadPasses.{past_all, set_turns, set_turns_here}
 use Rattle.cp_rounds.proofs.AheadTurns.{begun_is}
-use Rattle.cp_model_ahead.proofs.Turns.{set_apart, set_length}
+use Rattle.cp_model_machine.proofs.AheadTurns.{set_apart, set_length}
 use Rattle.cp_rounds.proofs.ahead.take_all_back.Goals as goal
 
 pub loop-i-init : goal.loop-i-init

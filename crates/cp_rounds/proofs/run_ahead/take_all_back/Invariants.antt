@@ -1,5 +1,5 @@
 use Rattle.std.proofs.Common.{◌≡◌, ◌≢◌, ◌<◌, ℕ, suc, Some, length, slice_get}
-use Rattle.cp_model_ahead.specs.Ahead.{HasBegun}
+use Rattle.cp_model_machine.specs.Ahead.{HasBegun}
 use Rattle.cp_kernel.specs.KernelOf.{kernel_of}
 use Rattle.cp_private.specs.declared.private.Private.{Private}
 use Rattle.cp_rounds_handoff.specs.Tasks.{AreInPlace, AreMade, AreTaken}

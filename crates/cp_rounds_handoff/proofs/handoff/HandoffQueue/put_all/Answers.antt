@@ -2,7 +2,7 @@ use Rattle.std.proofs.Common.{◌≡◌, ◌≢◌, ◌≤◌, ◌+◌, ◌-◌,
 use Rattle.cp_private.specs.Resting.{rests}
 use Rattle.cp_private.specs.declared.private.Private.{Private}
 use Rattle.cp_rounds_handoff.proofs.Lists.{got_or, got_set}
-use Rattle.cp_model_ahead.proofs.Turns.{set_apart, set_length}
+use Rattle.cp_model_machine.proofs.AheadTurns.{set_apart, set_length}
 use Rattle.cp_rounds_handoff.proofs.handoff.HandoffQueue.put_all.Goals as goal
 
 pub put-place-requires-clause-at : goal.put-place-requires-clause-at

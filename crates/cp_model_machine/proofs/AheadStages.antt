@@ -9,8 +9,8 @@ use Rattle.cp_model_machine.specs.KernelSteps.{Asking, Begun, Delayed, Fresh, Ke
 use Rattle.cp_model_machine.specs.PrivateStates.{Continues, Delays, Effect, Enters, Leaves, NoEffect, Opens, Starts}
 use Rattle.cp_model_machine.specs.Steps.{step_with}
 use Rattle.cp_model_machine.proofs.StagesKept.{stage_is}
-use Rattle.cp_model_ahead.specs.Ahead.{HasBegun}
-use Rattle.cp_model_ahead.proofs.Numbers.{step_keeps_number}
+use Rattle.cp_model_machine.specs.Ahead.{HasBegun}
+use Rattle.cp_model_machine.proofs.AheadNumbers.{step_keeps_number}
 
 -- ---- Lists of stages
 

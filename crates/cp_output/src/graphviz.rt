@@ -1,6 +1,6 @@
 //! Graphs for Graphviz: the names of nodes, and arrows from one to another.
 
-use cp_output::page::Page;
+use crate::page::Page;
 
 /// Adds the name of a node, which has neither a `"` nor a `\`.
 pub fn push_node(page: &mut Page, name: &[u8]) {

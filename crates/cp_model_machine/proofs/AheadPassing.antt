@@ -7,9 +7,9 @@ use Rattle.cp_model_program.specs.Programs.{Program}
 use Rattle.cp_model_machine.specs.KernelSteps.{Begun, Kernel, SchedulingState}
 use Rattle.cp_model_machine.specs.Machines.{Machine, begin_one, end_round, kernel_turns, next_stage}
 use Rattle.cp_model_machine.specs.PrivateStates.{PrivateState}
-use Rattle.cp_model_ahead.specs.Ahead.{HasBegun, AreRunAhead, with_turns}
-use Rattle.cp_model_ahead.proofs.Rounds.{ahead_turn, private_turns_made, round_end}
-use Rattle.cp_model_ahead.proofs.Turns.{ahead_number, begins_not}
+use Rattle.cp_model_machine.specs.Ahead.{HasBegun, AreRunAhead, with_turns}
+use Rattle.cp_model_machine.proofs.AheadRounds.{ahead_turn, private_turns_made, round_end}
+use Rattle.cp_model_machine.proofs.AheadTurns.{ahead_number, begins_not}
 
 got : {X : Type 0} (xs : List X) (i : ℕ) → i < length xs → (x : X) × (slice_get xs i ≡ Some x)
 got [] i h = absurd (omega (arith, h))

@@ -1,7 +1,7 @@
 //! Objects of JSON: one on a line.
 
 ghost use Rattle.std.specs.Prelude.{IfOk};
-ghost use Rattle.cp_output_formats.specs.Json.{IsJsonLine};
+ghost use Rattle.cp_output.specs.Json.{IsJsonLine};
 
 use serde::Serialize;
 use std::alloc::{AllocError, Global};

@@ -7,7 +7,7 @@ use Rattle.cp_model_machine.specs.KernelSteps.{Turning, is_begun, is_due, join_w
 use Rattle.cp_model_machine.specs.Machines.{Machine, after_kernel_turn, clock, kernel_turn, transcript_of}
 use Rattle.cp_model_machine.specs.PrivateStates.{PrivateState, is_running}
 use Rattle.cp_model_machine.specs.Steps.{is_held, is_kernel_operation, is_private, operation_of, step_with}
-use Rattle.cp_model_ahead.specs.Ahead.{IsQuiet}
+use Rattle.cp_model_machine.specs.Ahead.{IsQuiet}
 
 pub needs_none : (o : PrivateState) (x : Option Operation) → is_private o x ≡ true → needs_kernel o x ≡ false
 needs_none o None h = absurd (true≢false (sym h))

@@ -6,7 +6,7 @@ use Rattle.cp_model_program.specs.Programs as op
 use Rattle.cp_model_program.specs.Programs.{Program}
 use Rattle.cp_model_program.specs.Terms as term
 use Rattle.cp_model_machine.specs.PrivateStates.{PrivateState, Running}
-use Rattle.cp_model_ahead.specs.Ahead.{IsAhead, IsQuiet}
+use Rattle.cp_model_machine.specs.Ahead.{IsAhead, IsQuiet}
 
 abbrev counting : Program
 counting = record {

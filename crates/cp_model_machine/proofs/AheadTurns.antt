@@ -10,8 +10,8 @@ use Rattle.cp_model_machine.specs.Machines.{begin_if, begin_one, wake_one}
 use Rattle.cp_model_machine.specs.PrivateStates.{PrivateState, is_running}
 use Rattle.cp_model_machine.specs.Steps.{act_on, alone, is_private, operation_of, private_step, private_steps}
 use Rattle.cp_model_machine.proofs.StagesKept.{stage_is}
-use Rattle.cp_model_ahead.specs.Ahead.{AreAhead, AreNumbered, HasBegun, HaveTurned, IsAhead, IsQuiet, turn_at}
-use Rattle.cp_model_ahead.proofs.Numbers.{step_keeps_number}
+use Rattle.cp_model_machine.specs.Ahead.{AreAhead, AreNumbered, HasBegun, HaveTurned, IsAhead, IsQuiet, turn_at}
+use Rattle.cp_model_machine.proofs.AheadNumbers.{step_keeps_number}
 
 -- ---- One process
 

@@ -8,10 +8,10 @@ use Rattle.cp_model_program.specs.Starts.{block, paste}
 use Rattle.cp_model_machine.specs.KernelSteps.{Asking, Begun, Delayed, Fresh, Kernel, SchedulingState, Turning, Unstarted, kernel_steps, stage_of}
 use Rattle.cp_model_machine.specs.Machines.{Machine, after_kernel_turn, begin_if, begin_one, clock, end_round, kernel_turn, next_stage, transcript_of}
 use Rattle.cp_model_machine.specs.PrivateStates.{PrivateState, Running}
-use Rattle.cp_model_ahead.specs.Ahead.{AreAhead, HasBegun, HaveTurned, IsAhead, AreRunAhead, turn_at, with_turns}
-use Rattle.cp_model_ahead.proofs.Quiet.{quiet_turn}
-use Rattle.cp_model_ahead.proofs.Stages.{others_begun, kernel_steps_number}
-use Rattle.cp_model_ahead.proofs.Turns.{end_ahead, map_got, next_ahead, none_ahead, set_apart, set_is, turn_number, turn_ahead}
+use Rattle.cp_model_machine.specs.Ahead.{AreAhead, HasBegun, HaveTurned, IsAhead, AreRunAhead, turn_at, with_turns}
+use Rattle.cp_model_machine.proofs.AheadQuiet.{quiet_turn}
+use Rattle.cp_model_machine.proofs.AheadStages.{others_begun, kernel_steps_number}
+use Rattle.cp_model_machine.proofs.AheadTurns.{end_ahead, map_got, next_ahead, none_ahead, set_apart, set_is, turn_number, turn_ahead}
 
 one_less : (i : ℕ) → suc i - 1 ≡ i
 one_less i = omega arith

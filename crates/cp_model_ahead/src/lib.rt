@@ -1,2 +1,0 @@
-//! Private turns made ahead of their rounds.
-#![tactic(auto)]
