@@ -29,7 +29,6 @@ mod made;
 mod names;
 mod operations;
 mod operators;
-mod origins;
 mod parts;
 mod procedures;
 mod standard;

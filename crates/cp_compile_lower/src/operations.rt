@@ -22,7 +22,6 @@ use cp_compile_emit::table::table_of;
 use cp_model::tree::{Constant, Direction, Expression};
 use cp_program::arm::Arm;
 use cp_program::operation::{Counting, Operation};
-use cp_rules_body::places::first_token;
 use std::alloc::AllocError;
 
 // Whether a `for` counts down.
@@ -54,7 +53,7 @@ impl<'s, 't> Translator<'s, 't> {
             yes,
             no,
         };
-        emitter.emit(calls, test, first_token(expression))
+        emitter.emit(calls, test, expression.first_token())
     }
 
     /// Emits the operation of a `case` with these arms.
@@ -77,7 +76,7 @@ impl<'s, 't> Translator<'s, 't> {
             value: made.term,
             table,
         };
-        emitter.emit(calls, case, first_token(expression))
+        emitter.emit(calls, case, expression.first_token())
     }
 
     // Adds an arm for a label that leads to `place`, if the label has a value.

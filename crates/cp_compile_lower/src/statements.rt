@@ -10,10 +10,10 @@ ghost use Rattle.cp_model.specs.Erase as erase;
 ghost use Rattle.cp_model.specs.View as tree;
 ghost use Rattle.cp_compile_lower.specs.Statements.{ArmsOf, StatementOf};
 
-use crate::origins::first_place;
 use crate::translator::Translator;
 use cp_compile_emit::Emitter;
 use cp_compile_symbols::small_sum;
+use cp_model::places::first_place;
 use cp_model::tree::{Arm, Expression, ForHeader, Statement};
 use cp_program::arm::Arm as CodedArm;
 use cp_program::operation::Operation;

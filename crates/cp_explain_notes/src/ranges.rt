@@ -3,7 +3,6 @@
 use crate::note::NoteKind;
 use crate::walk::Walk;
 use cp_explain_meanings::meaning::{CHARACTERS, Meaning, Shape};
-use cp_explain_names::places::first_token;
 use cp_model::tree::{
     Designator, Expression, Identifier, Index, InitItem, Operation, Operator, Parameters, Selector,
 };
@@ -31,7 +30,7 @@ impl<'t> Walk<'t> {
         match (shape, self.names.value(expression)) {
             (Shape::Simple(ordinals), Some(value)) if !ordinals.contains(value) => {
                 self.notes.add_on(
-                    first_token(expression),
+                    expression.first_token(),
                     NoteKind::OutOfRange,
                     name.name.as_bytes(),
                 )
@@ -147,7 +146,7 @@ impl<'t> Walk<'t> {
         match self.names.value(index) {
             Some(value) if !ordinals.contains(value) => {
                 self.notes.add_on(
-                    first_token(index),
+                    index.first_token(),
                     NoteKind::OutOfBounds,
                     name.name.as_bytes(),
                 )?;
@@ -173,7 +172,7 @@ impl<'t> Walk<'t> {
         };
         match self.names.value(e) {
             Some(value) if !CHARACTERS.contains(value) => {
-                self.notes.add(first_token(e), NoteKind::NoCharacter)
+                self.notes.add(e.first_token(), NoteKind::NoCharacter)
             }
             _ => Ok(()),
         }

@@ -3,7 +3,6 @@
 use crate::flow::{Flow, Reach, Times};
 use crate::note::NoteKind;
 use crate::walk::Walk;
-use cp_explain_names::places::statement_place;
 use cp_model::tree::{Arm, Direction, Expression, ForHeader, Statement};
 use std::alloc::AllocError;
 
@@ -46,7 +45,7 @@ impl<'t> Walk<'t> {
 
     // Notes a statement to which no way leads, once.
     fn never_runs(&mut self, statement: &Statement) -> Result<(), AllocError> {
-        match (self.flow.reach, statement_place(statement)) {
+        match (self.flow.reach, statement.first_place()) {
             (Reach::Closed, Some(at)) => {
                 self.flow.reach = Reach::Reported;
                 self.notes.add(at, NoteKind::NeverRuns)

@@ -2,13 +2,12 @@
 
 use crate::finder::Finder;
 use crate::site::{Call, Mark, NameRole, Pair, Purpose};
-use cp_explain_names::places::first_token;
 use cp_model::tree::{Designator, Expression, Index, Operation, Selector};
 
 impl<'t> Finder<'t> {
     /// Walks over an expression that is wanted for `purpose`.
     pub(crate) fn expression_for(&mut self, expression: &'t Expression, purpose: Purpose<'t>) {
-        self.purpose(first_token(expression), expression, purpose);
+        self.purpose(expression.first_token(), expression, purpose);
         self.expression(expression);
     }
 
@@ -64,7 +63,7 @@ impl<'t> Finder<'t> {
     pub(crate) fn purposes(&mut self, designator: &'t Designator, list: &'t [Expression]) {
         for number in 0..list.len() {
             let e = &list[number];
-            self.purpose(first_token(e), e, Purpose::Argument(designator, number));
+            self.purpose(e.first_token(), e, Purpose::Argument(designator, number));
         }
     }
 
@@ -124,7 +123,7 @@ impl<'t> Finder<'t> {
         for number in 0..indices.len() {
             let e = &indices[number].value;
             self.purpose(
-                first_token(e),
+                e.first_token(),
                 e,
                 Purpose::Index(designator, selector, number),
             );

@@ -1,5 +1,6 @@
 -- The variants of the syntax tree, as the definitions see them.
-use Rattle.std.proofs.Common.{◌≡◌, ◌∙◌, ℕ, Box, Vec, Global, ap, map, sym}
+use Rattle.std.proofs.Common.{◌≡◌, ◌∙◌, ℕ, Box, List, Vec, Global, [], ◌∷◌, ap, map, refl, sym}
+use Rattle.cp_model.specs.RulesNames.{first_token}
 use Rattle.cp_model.specs.Syntax as s
 use Rattle.cp_model.specs.Syntax.{chain_of}
 use Rattle.cp_model.specs.View.{PlacedIndex, designator, designator_layer, expression, expression_layer, expressions_of, index, index_layer, indices_of, operation, operation_layer, selector, selector_layer, selectors_of}
@@ -24,6 +25,11 @@ pub view_chain : (first : Box Expression Global) (rest : Vec Operation Global) �
 view_chain first rest =
     ap expression (sym (rolls-Chain first rest))
     ∙ fold-roll-Expression s.Expression s.Selector s.Designator PlacedIndex s.Operation expression_layer selector_layer designator_layer index_layer operation_layer _
+
+-- A chain begins like its first operand.
+pub first_token_chain : (e : s.Expression) (os : List s.Operation) → first_token (chain_of e os) ≡ first_token e
+first_token_chain e [] = refl
+first_token_chain e (o ∷ os) = first_token_chain (s.Binary e o.operator o.at o.operand) os
 
 pub view_operation : (o : Operation) → operation o ≡ record { operator = o.operator; at = o.at; operand = expression o.operand }
 view_operation = fold_out-Operation s.Expression s.Selector s.Designator PlacedIndex s.Operation expression_layer selector_layer designator_layer index_layer operation_layer

@@ -1,16 +1,10 @@
--- Chains of operands: how they begin, and that they aren't designators.
+-- Chains of operands aren't designators.
 use Rattle.std.proofs.Common.{◌≡◌, ◌≤◌, map, length, List, [], ◌∷◌, None, refl, sym, arith}
 use Rattle.cp_model.specs.Syntax as s
 use Rattle.cp_model.specs.Syntax.{chain_of}
-use Rattle.cp_model.specs.RulesNames.{first_token}
 use Rattle.cp_model.specs.View.{operation}
 use Rattle.cp_model.specs.declared.tree.Operation.{Operation}
 use Rattle.cp_rules_body.specs.Designated.{designator_in}
-
--- a chain begins like its first operand
-pub first_token_chain : (e : s.Expression) (os : List s.Operation) → first_token (chain_of e os) ≡ first_token e
-first_token_chain e [] = refl
-first_token_chain e (o ∷ os) = first_token_chain (s.Binary e o.operator o.at o.operand) os
 
 designator_in_binary : (e : s.Expression) (o : s.Operation) (os : List s.Operation) → designator_in (chain_of e (o ∷ os)) ≡ None
 designator_in_binary e o [] = refl

@@ -16,7 +16,6 @@ use crate::diagnostics::{Diagnostics, answer_if, report_violation, unless_holds}
 use crate::environment::Environment;
 use crate::expressions::judge;
 use crate::names::{anywhere, judge_name, outside_definition, queue_in_place};
-use crate::places::first_token;
 use crate::values::is_variable;
 use cp_model::rules::{Entity, Mode, Rule};
 use cp_model::tree::{Expression, Identifier};
@@ -43,7 +42,7 @@ pub fn condition(
     require_type(
         diagnostics,
         is_base(BOOLEAN, env.base(t)),
-        first_token(value),
+        value.first_token(),
         t,
     )
 }
@@ -57,7 +56,7 @@ pub fn selector(
     ensures { Reports diagnostics.old diagnostics.new result (st.c2_selector env.now (expression value.now)) }
 {
     let t = judge(env, diagnostics, Mode::Value, value)?;
-    require_type(diagnostics, env.is_simple(t), first_token(value), t)
+    require_type(diagnostics, env.is_simple(t), value.first_token(), t)
 }
 
 /// C2: a bound of a `for` doesn't agree with its variable, if the type of the variable is known.
@@ -72,7 +71,7 @@ pub fn bound(
 {
     let u = judge(env, diagnostics, Mode::Value, value)?;
     match variable {
-        Some(t) => require_type(diagnostics, env.agree(t, u), first_token(value), u),
+        Some(t) => require_type(diagnostics, env.agree(t, u), value.first_token(), u),
         None => Some(u),
     }
 }

@@ -23,7 +23,6 @@ use crate::environment::Environment;
 use crate::members::member;
 use crate::names::{array, element};
 use crate::operands::{first_operand, has_form, has_type, mode as mode_of, operand, operands};
-use crate::places::first_token;
 use crate::roots::root;
 use crate::values::{plain_variable, result_type, value};
 use cp_model::rules::{ArrayPart, Entity, Mode, Violation, Want};
@@ -187,7 +186,7 @@ fn select_elements(
     for i in indices {
         let of = array_if(env, diagnostics, i.at, part);
         let t = judge(env, diagnostics, Mode::Value, &i.value);
-        part = element_if(env, diagnostics, first_token(&i.value), of, t);
+        part = element_if(env, diagnostics, i.value.first_token(), of, t);
     }
     part
 }

@@ -18,7 +18,7 @@ use crate::diagnostics::{Diagnostics, answer_if, report, report_violation, unles
 use crate::environment::Environment;
 use crate::expressions::{self, judge};
 use crate::names::{anywhere, find_entity, is_in_routine, judge_name, queue_in_place};
-use crate::places::{first_token, last_name};
+use crate::places::last_name;
 use crate::values::designator_of;
 use cp_model::rules::{Access, Entity, Mode, Rule, SystemRow, Violation};
 use cp_model::tree::{Designator, Expression, Identifier, InitItem, Selector};
@@ -241,7 +241,7 @@ fn component_argument(
                 diagnostics,
                 Violation {
                     rule: Rule::C12,
-                    at: first_token(value),
+                    at: value.first_token(),
                 },
             );
             unwanted_argument(env, diagnostics, value);
@@ -263,7 +263,7 @@ fn simple_agrees(
     if env.agree(wanted, t) {
         return Some(t);
     }
-    report_violation(diagnostics, Rule::C12, first_token(value))
+    report_violation(diagnostics, Rule::C12, value.first_token())
 }
 
 // C12: an argument doesn't agree with its simple parameter.

@@ -11,7 +11,6 @@ ghost use Rattle.cp_rules_body.specs.Reports.{Reports, ReportsOf};
 use crate::bases::{BOOLEAN, CHAR, INTEGER, QUEUE, is_base};
 use crate::diagnostics::{Diagnostics, report_violation};
 use crate::environment::Environment;
-use crate::places::first_token;
 use crate::values::variable;
 use cp_model::rules::{Mode, Rule, Want};
 use cp_model::tree::{Expression, Operator};
@@ -140,7 +139,7 @@ fn fits_type(
     if fits {
         return Some(t);
     }
-    report_violation(diagnostics, rule, first_token(value))
+    report_violation(diagnostics, rule, value.first_token())
 }
 
 /// C10: an argument that must be a variable isn't one, whatever else is broken in it.
@@ -194,5 +193,5 @@ pub fn has_type(
     if is_wanted(env, want, t) {
         return Some(t);
     }
-    report_violation(diagnostics, Rule::C2, first_token(value))
+    report_violation(diagnostics, Rule::C2, value.first_token())
 }

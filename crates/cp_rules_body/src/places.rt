@@ -1,10 +1,10 @@
-//! The first and last names of designators, and the first tokens of expressions.
+//! The first and last names of designators.
 
 ghost use Rattle.std.specs.Prelude.{◌≡◌, map, drop};
 ghost use Rattle.cp_model.specs.RulesNames as r;
-ghost use Rattle.cp_model.specs.View.{designator, expression, selector, selectors_of};
+ghost use Rattle.cp_model.specs.View.{designator, selector, selectors_of};
 
-use cp_model::tree::{Designator, Expression, Identifier, Selector};
+use cp_model::tree::{Designator, Identifier, Selector};
 
 /// The first name of a designator.
 pub fn first_name(designated: &Designator) -> &Identifier
@@ -36,21 +36,4 @@ pub fn has_field(selectors: &[Selector]) -> bool
         }
     }
     false
-}
-
-/// The place of the first token of an expression.
-#[tactic(auto, using(crate::proofs::Views::first_token_chain))]
-pub fn first_token(value: &Expression) -> usize
-    ensures { result ≡ r.first_token (expression value.now) }
-{
-    match value {
-        Expression::Number { at, .. } => *at,
-        Expression::Character { at, .. } => *at,
-        Expression::Designated(d) => first_name(d).at,
-        Expression::Call(d, _) => first_name(d).at,
-        Expression::Parenthesized { at, .. } => *at,
-        Expression::Not { at, .. } => *at,
-        Expression::Signed { at, .. } => *at,
-        Expression::Chain { first, .. } => first_token(first),
-    }
 }

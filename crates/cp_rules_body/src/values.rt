@@ -14,7 +14,7 @@ use crate::callees::function;
 use crate::diagnostics::{Diagnostics, report_violation, unless_holds};
 use crate::environment::Environment;
 use crate::names::{anywhere, find_entity, outside_definition, sort_rule};
-use crate::places::{first_name, first_token, last_name};
+use crate::places::{first_name, last_name};
 use cp_model::rules::{Access, Entity, Gives, Mode, Rule};
 use cp_model::tree::{Designator, Expression, Identifier, Selector};
 
@@ -210,6 +210,6 @@ pub fn variable(env: &Environment, diagnostics: &mut Diagnostics, value: &Expres
 {
     match designator_of(value) {
         Some(d) => designates_variable(env, diagnostics, d),
-        None => unless_holds(diagnostics, false, Rule::C10, first_token(value)),
+        None => unless_holds(diagnostics, false, Rule::C10, value.first_token()),
     }
 }
