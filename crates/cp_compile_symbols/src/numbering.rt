@@ -2,7 +2,7 @@
 
 ghost use Rattle.std.specs.Prelude.{◌≡◌, ◌≤◌, IfOk, List, if◌then◌else◌, map};
 ghost use Rattle.cp_model.specs.Abstract.{Name, Process};
-ghost use Rattle.cp_model.specs.Components.{count_before, is_component_of, same_sort};
+ghost use Rattle.cp_model.specs.Components.{count_before, is_component_of};
 ghost use Rattle.cp_model.specs.Declarations.{Variable};
 ghost use Rattle.cp_model.specs.Erase as erase;
 ghost use Rattle.cp_model.specs.Types.{ResolvedType};
@@ -26,17 +26,6 @@ pub struct Numbered {
     pub(crate) processes: usize,
 }
 
-fn is_sort(a: Sort, b: Sort) -> bool
-    ensures { result ≡ same_sort (erase.sort_of a) (erase.sort_of b) }
-{
-    match (a, b) {
-        (Sort::Process, Sort::Process) => true,
-        (Sort::Monitor, Sort::Monitor) => true,
-        (Sort::Class, Sort::Class) => true,
-        _ => false,
-    }
-}
-
 impl<'t> Types<'t> {
     /// The number of the system type of the components of a type, or `None` if it isn't a type of
     /// components.
@@ -58,7 +47,7 @@ impl<'t> Types<'t> {
             None => false,
             Some(k) => match self.system(k) {
                 None => false,
-                Some(y) => is_sort(sort, y.sort),
+                Some(y) => sort.is_same(y.sort),
             },
         }
     }

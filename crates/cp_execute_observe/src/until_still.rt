@@ -17,6 +17,7 @@ use cp_frontend::sources::Text;
 use cp_outcome::verdict::{Verdict, verdict_on};
 use cp_rounds::gate::TurnGate;
 use cp_rounds::machine::Machine;
+use cp_rounds_still::until_still::run_until_still;
 use std::alloc::Global;
 use std::sync::Wait;
 use std::thread::Threads;
@@ -44,7 +45,7 @@ fn outcome_of<'t, H: Threads + Wait + Sync, G: TurnGate>(
         → IsOutcome how.now form t input outcome.verdict outcome.bytes.items) }
     ensures memory { IfErr result (λ e. e ≡ refusal.Memory) }
 {
-    let Ok(_rounds) = machine.run_until_still(rt, how.limit, &how.plan, gate) else {
+    let Ok(_rounds) = run_until_still(rt, &mut machine, how.limit, &how.plan, gate) else {
         return Err(Refusal::Memory);
     };
     let verdict = verdict_on(&machine);

@@ -4,7 +4,7 @@ use crate::leaves::Leaf;
 use crate::place;
 use crate::state::ProcState;
 use cp_compile_symbols::{Base, Field};
-use cp_private::outside::Holder;
+use cp_private::kernel_view::Holder;
 use std::alloc::{AllocError, Global};
 
 /// What a trace reads of the machine of a text. A trait, so that traces stand beside the rounds of

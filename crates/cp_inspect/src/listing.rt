@@ -2,7 +2,7 @@
 //! order.
 
 ghost use Rattle.std.specs.Prelude.{◌≡◌, IfOk, filter, map};
-ghost use Rattle.cp_model.specs.Components.{is_component_of, same_sort};
+ghost use Rattle.cp_model.specs.Components.{is_component_of};
 ghost use Rattle.cp_model.specs.Erase as erase;
 ghost use Rattle.cp_model.specs.Types.{ResolvedType};
 ghost use Rattle.cp_compile_symbols.specs.Standing.{Represents, entry};
@@ -13,16 +13,6 @@ use cp_compile_symbols::{Declared, Field, Tables, TypeRow};
 use cp_model::tree::Sort;
 use std::alloc::{AllocError, Global};
 
-fn is_same_sort(a: Sort, b: Sort) -> bool
-    ensures { result ≡ same_sort (erase.sort_of a) (erase.sort_of b) }
-{
-    match a {
-        Sort::Process => matches!(b, Sort::Process),
-        Sort::Monitor => matches!(b, Sort::Monitor),
-        Sort::Class => matches!(b, Sort::Class),
-    }
-}
-
 // Whether the type with this number is a component type of the sort.
 fn is_of_sort(tables: &Tables, row: usize, sort: Sort) -> bool
     ensures { (t : ResolvedType) → Represents tables.now.types row t
@@ -32,7 +22,7 @@ fn is_of_sort(tables: &Tables, row: usize, sort: Sort) -> bool
         return false;
     };
     match tables.types.system(*system) {
-        Some(system) => is_same_sort(sort, system.sort),
+        Some(system) => sort.is_same(system.sort),
         None => false,
     }
 }

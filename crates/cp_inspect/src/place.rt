@@ -1,21 +1,7 @@
 //! The places of variables, and their values.
 
 ghost use Rattle.std.specs.Prelude.{◌≡◌};
-ghost use Rattle.cp_model_machine.specs.Passing as plain;
-ghost use Rattle.cp_program.specs.View as view;
 ghost use Rattle.cp_inspect.specs.Values.{value_in};
-
-use cp_program::program::Program;
-
-/// Returns where the words of a monitor begin among the shared words.
-pub fn monitor_start(program: &Program, number: usize) -> usize
-    ensures { result ≡ plain.monitor_start (view.program program.now) number }
-{
-    match program.monitor(number) {
-        Some(monitor) => monitor.start as usize,
-        None => 0,
-    }
-}
 
 /// Whose variable it is: a process or a monitor, by its number from 1.
 #[derive(Clone, Copy, PartialEq, Eq)]

@@ -6,7 +6,6 @@ ghost use Rattle.cp_compile_symbols.specs.Standing.{entry};
 ghost use Rattle.cp_program.specs.View as view;
 ghost use Rattle.cp_inspect.specs.Statuses.{NamesMonitor, ReportsQueue, ReportsState, fault_text};
 
-use crate::place::monitor_start;
 use crate::state::ProcState;
 use crate::walk::Walk;
 use crate::walk_output::WalkOutput;
@@ -34,7 +33,7 @@ pub fn push_queue(
 {
     let walk_output = WalkOutput::PathOf(place);
     for (index, monitor) in monitors.iter().enumerate() {
-        let start = monitor_start(program, index + 1);
+        let start = program.monitor_start(index + 1);
         walk.component(tables, &walk_output, out, monitor.of, start)?;
     }
     Ok(())

@@ -1,7 +1,7 @@
 -- Room for askers.
 use Rattle.std.proofs.Common.{◌≡◌, ◌+◌, ℕ, List, sym, subst, arith}
 use Rattle.std.specs.Prelude.{All}
-use Rattle.cp_private.specs.declared.outside.Gate.{Gate}
+use Rattle.cp_private.specs.declared.kernel_view.Gate.{Gate}
 use Rattle.cp_kernel.specs.declared.kernel.Kernel.{Kernel}
 use Rattle.cp_kernel.specs.KernelOf.{HasRoomForAskers, HasRoomToAsk}
 

@@ -6,8 +6,8 @@ use Rattle.cp_model_program.specs.Starts.{block, paste}
 use Rattle.cp_model_machine.specs.KernelSteps.{Kernel, stage_of}
 use Rattle.cp_model_machine.specs.Machines.{begin_from, begin_if, begin_one, next_stage}
 use Rattle.cp_private.specs.States as states
-use Rattle.cp_private.specs.declared.outside.SchedulingState.{SchedulingState}
-use Rattle.cp_private.specs.declared.outside.SchedulingState.TheVariants as stage
+use Rattle.cp_private.specs.declared.kernel_view.SchedulingState.{SchedulingState}
+use Rattle.cp_private.specs.declared.kernel_view.SchedulingState.TheVariants as stage
 use Rattle.cp_model_machine.specs.PrivateStates.{PrivateState, Running}
 use Rattle.cp_kernel.specs.Fresh.{HasNoFresh}
 use Rattle.cp_kernel.proofs.Places.{stage_found, stage_missing}

@@ -4,8 +4,8 @@ use Rattle.std.specs.Prelude.{map, option_map}
 use Rattle.std.proofs.Math.Seq.{take-append_seam}
 use Rattle.cp_model_machine.specs.KernelSteps as plain
 use Rattle.cp_private.specs.States as states
-use Rattle.cp_private.specs.declared.outside.Gate.{Gate}
-use Rattle.cp_private.specs.declared.outside.SchedulingState.{SchedulingState}
+use Rattle.cp_private.specs.declared.kernel_view.Gate.{Gate}
+use Rattle.cp_private.specs.declared.kernel_view.SchedulingState.{SchedulingState}
 use Rattle.cp_private.specs.declared.private.Private.{Private}
 use Rattle.cp_kernel.specs.declared.kernel.Kernel.{Kernel}
 use Rattle.cp_kernel.specs.KernelOf.{kernel_of, turning}

@@ -6,8 +6,8 @@ use Rattle.std.proofs.lemmas.List.{map-set}
 use Rattle.cp_model.specs.States as model
 use Rattle.cp_model_machine.specs.KernelSteps as plain
 use Rattle.cp_private.specs.States as states
-use Rattle.cp_private.specs.declared.outside.Gate.{Gate}
-use Rattle.cp_private.specs.declared.outside.SchedulingState.{SchedulingState}
+use Rattle.cp_private.specs.declared.kernel_view.Gate.{Gate}
+use Rattle.cp_private.specs.declared.kernel_view.SchedulingState.{SchedulingState}
 use Rattle.cp_kernel.specs.KernelOf.{unset_gate}
 
 abbrev pub gate_or_unset : Option model.Gate → model.Gate

@@ -6,7 +6,7 @@ use Rattle.cp_model_machine.specs.KernelSteps as plain
 use Rattle.cp_model_machine.specs.Machines as machines
 use Rattle.cp_private.specs.States as states
 use Rattle.cp_kernel.specs.KernelOf.{unset_gate}
-use Rattle.cp_private.specs.declared.outside.SchedulingState.TheVariants as stage
+use Rattle.cp_private.specs.declared.kernel_view.SchedulingState.TheVariants as stage
 
 pub one_more : {X Y : Type 0} (f : X → Y) (xs : List X) (n : ℕ) (x : X) (y : Y) → map f xs ≡ replicate n y → f x ≡ y
     → map f (xs ++ x ∷ []) ≡ replicate (suc n) y

@@ -8,7 +8,7 @@ ghost use Rattle.cp_kernel.specs.KernelOf.{kernel_of};
 ghost use Rattle.cp_kernel.specs.ChainOf.{processes_left};
 
 use crate::kernel::Kernel;
-use cp_private::outside::{Holder, SchedulingState};
+use cp_private::kernel_view::{Holder, SchedulingState};
 
 /// The processes of a chain that are still to come, in order. Nothing of it takes memory.
 #[derive(Drop)]

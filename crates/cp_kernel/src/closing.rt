@@ -12,7 +12,7 @@ ghost use Rattle.cp_kernel.specs.Turns.{parts_of};
 
 use crate::kernel::Kernel;
 use cp_model_machine::law;
-use cp_private::outside::SchedulingState;
+use cp_private::kernel_view::SchedulingState;
 use cp_private::private::Private;
 use cp_private::private_box::PrivateBox;
 use cp_program::program::Program;

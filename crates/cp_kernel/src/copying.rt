@@ -5,7 +5,7 @@ ghost use Rattle.cp_private.specs.States as states;
 ghost use Rattle.cp_kernel.specs.KernelOf.{Bytes, kernel_of, transcripts_of};
 
 use crate::kernel::Kernel;
-use cp_private::outside::Gate;
+use cp_private::kernel_view::Gate;
 use std::alloc::{AllocError, Global};
 
 fn copy_gates(alloc: Global, gates: &[Gate]) -> Result<Vec<Gate>, AllocError>

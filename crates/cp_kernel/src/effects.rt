@@ -14,7 +14,7 @@ ghost use Rattle.cp_kernel.specs.KernelOf.{HasRoomForAskers, IsAmong, IsBegun, k
 
 use crate::kernel::Kernel;
 use cp_private::effect::Effect;
-use cp_private::outside::{Holder, SchedulingState};
+use cp_private::kernel_view::{Holder, SchedulingState};
 
 // Returns the index of the monitor or process with this number. The number 0 is read as 1.
 fn index(number: u32) -> usize

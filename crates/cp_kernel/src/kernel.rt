@@ -3,7 +3,7 @@
 ghost use Rattle.std.specs.Prelude.{◌≡◌, ◌<◌, ◌^◌, false, length};
 ghost use Rattle.cp_kernel.specs.Fresh.{HasNoFresh};
 
-use cp_private::outside::{Gate, SchedulingState};
+use cp_private::kernel_view::{Gate, SchedulingState};
 
 /// What is known of all monitors and processes, and the shared words.
 pub struct Kernel {

@@ -8,7 +8,7 @@ ghost use Rattle.cp_kernel.specs.KernelOf.{kernel_of, transcripts_of};
 ghost use Rattle.cp_model_machine.specs.Machines.{transcript_of};
 
 use crate::kernel::Kernel;
-use cp_private::outside::{Holder, SchedulingState};
+use cp_private::kernel_view::{Holder, SchedulingState};
 
 impl Kernel {
     /// Returns the holder of monitor m's gate. A missing monitor is unset.

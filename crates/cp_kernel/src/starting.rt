@@ -10,7 +10,7 @@ ghost use Rattle.cp_kernel.specs.Promises.{IsAtStart};
 
 use crate::kernel::Kernel;
 use cp_model_machine::law;
-use cp_private::outside::{Gate, Holder, SchedulingState};
+use cp_private::kernel_view::{Gate, Holder, SchedulingState};
 use cp_private::starting::start_words;
 use cp_program::program::Program;
 use std::alloc::{AllocError, Global};

@@ -5,6 +5,7 @@ ghost use Rattle.cp_outcome.specs.Verdicts.{IsVerdictOn, ReportsAll, ended, has_
 
 use cp_inspect::state::ProcState;
 use cp_rounds::machine::Machine;
+use cp_rounds_still::stillness::is_still;
 
 /// What became of the processes of a machine.
 #[derive(Clone, Copy)]
@@ -58,7 +59,7 @@ fn all_have_ended(machine: &Machine) -> bool
 pub fn verdict_on(machine: &Machine) -> Verdict
     ensures { IsVerdictOn machine.now result }
 {
-    if !machine.is_still() {
+    if !is_still(machine) {
         Verdict::Running
     } else if !none_has_faulted(machine) {
         Verdict::Fault

@@ -7,7 +7,7 @@ use crate::starts::places_of_init;
 use cp_inspect::state::ProcState;
 use cp_model::tree::Identifier;
 use cp_output::page::Page;
-use cp_private::outside::Holder;
+use cp_private::kernel_view::Holder;
 use std::alloc::{AllocError, Global};
 
 // What stands before an item of a list with so many items, such as `a, b and c`.

@@ -2,7 +2,7 @@
 //! has the machine makes of it, so that reasons stand beside rounds and not above them.
 
 use cp_inspect::state::ProcState;
-use cp_private::outside::Holder;
+use cp_private::kernel_view::Holder;
 
 /// What an operation comes from in the text.
 #[derive(Clone, Copy)]

@@ -10,7 +10,7 @@ use crate::states::word_of;
 use cp_inspect::state::ProcState;
 use cp_output::graphviz::{push_arrow, push_node};
 use cp_output::page::Page;
-use cp_private::outside::Holder;
+use cp_private::kernel_view::Holder;
 use std::alloc::{AllocError, Global};
 
 impl<'t> Subject<'_, 't> {

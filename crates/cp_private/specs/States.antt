@@ -8,11 +8,11 @@ use Rattle.cp_model_machine.specs.PrivateStates.{Acting, PrivateState, fault_in,
 use Rattle.cp_model_machine.specs.KernelSteps as kernel
 use Rattle.cp_private.specs.declared.effect.Effect.{Effect}
 use Rattle.cp_private.specs.declared.effect.Effect.TheVariants as effect_case
-use Rattle.cp_private.specs.declared.outside.Holder.{Holder}
-use Rattle.cp_private.specs.declared.outside.Holder.TheVariants as holder_case
-use Rattle.cp_private.specs.declared.outside.SchedulingState.{SchedulingState}
-use Rattle.cp_private.specs.declared.outside.SchedulingState.TheVariants as stage_case
-use Rattle.cp_private.specs.declared.outside.Gate.{Gate}
+use Rattle.cp_private.specs.declared.kernel_view.Holder.{Holder}
+use Rattle.cp_private.specs.declared.kernel_view.Holder.TheVariants as holder_case
+use Rattle.cp_private.specs.declared.kernel_view.SchedulingState.{SchedulingState}
+use Rattle.cp_private.specs.declared.kernel_view.SchedulingState.TheVariants as stage_case
+use Rattle.cp_private.specs.declared.kernel_view.Gate.{Gate}
 use Rattle.cp_private.specs.declared.outside.StepContext.{StepContext}
 use Rattle.cp_private.specs.declared.private.Activity.{Activity}
 use Rattle.cp_private.specs.declared.private.Activity.TheVariants as activity_case

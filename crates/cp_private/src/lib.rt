@@ -10,7 +10,8 @@
 //!
 //! - `private`, `making`, `private_box`: the private state, how it is made, copied and read, and its
 //!   place in memory.
-//! - `outside`, `alone`, `effect`: what else a step reads, and what it leaves to the kernel.
+//! - `kernel_view`, `outside`, `alone`, `effect`: what the kernel knows, what else a step reads, and
+//!   what it leaves to the kernel.
 //! - `words`, `changing`, `reading`, `frames`: words, temps and frames.
 //! - `plans`, `starting`: how words start.
 //! - `assignments`, `counting`, `standards`, `targets`, `passing`, `called`, `calls`, `returns`,
@@ -30,6 +31,7 @@ pub mod effect;
 mod fast_step;
 mod frames;
 mod initialisation;
+pub mod kernel_view;
 pub mod kind;
 mod making;
 pub mod outside;

@@ -10,7 +10,8 @@ ghost use Rattle.cp_model_machine.specs.Passing as plain;
 ghost use Rattle.cp_program.specs.View as view;
 
 use crate::called::Called;
-use crate::outside::{Holder, SchedulingState, StepContext};
+use crate::kernel_view::{Holder, SchedulingState};
+use crate::outside::StepContext;
 use crate::private::Private;
 use cp_program::operation::Target;
 use cp_program::program::Program;
@@ -63,16 +64,6 @@ fn displace(place: usize, far: i32) -> usize
     }
 }
 
-// Returns where the words of the monitor begin among the shared words.
-fn monitor_start(program: &Program, monitor: u32) -> u32
-    ensures { result ≡ plain.monitor_start (view.program program.now) monitor }
-{
-    match program.monitor(monitor as usize) {
-        Some(monitor) => monitor.start,
-        None => 0,
-    }
-}
-
 impl Private {
     fn member(&self, at: u32) -> usize
         ensures place { result ≡ self.now.memory.component + at }
@@ -114,7 +105,7 @@ impl Private {
             (outside_of outside.now (length self.now.memory.words.items)) monitor }
     {
         Called {
-            component: self.memory.words.len() + monitor_start(program, monitor) as usize,
+            component: self.memory.words.len() + program.monitor_start(monitor as usize),
             is_set: outside.is_set(monitor),
             gate: monitor,
         }

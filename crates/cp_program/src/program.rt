@@ -1,6 +1,7 @@
 //! Programs, which consist of operations, units of code and components.
 
-ghost use Rattle.std.specs.Prelude.{◌≡◌, ◌-◌, ◌<◌, true, false, None, Some, length, map, option_map, slice_get, take};
+ghost use Rattle.std.specs.Prelude.{◌≡◌, ◌-◌, ◌<◌, ◌^◌, true, false, None, Some, length, map, option_map, slice_get, take};
+ghost use Rattle.cp_model_machine.specs.Passing as plain;
 ghost use Rattle.cp_program.specs.View as view;
 ghost use Rattle.cp_program.specs.View.{origins_of, plans_in, plans_of};
 
@@ -170,6 +171,18 @@ impl Program {
             (view.program self.now).monitors (number - 1) }
     {
         self.monitors.get(number.saturating_sub(1))
+    }
+
+    /// Where the words of the monitor with this number begin among the shared words. It is 0 if
+    /// there is no such monitor.
+    pub fn monitor_start(&self, number: usize) -> usize
+        ensures start { result ≡ plain.monitor_start (view.program self.now) number }
+        ensures small { result < 2 ^ 32 }
+    {
+        match self.monitor(number) {
+            Some(monitor) => monitor.start as usize,
+            None => 0,
+        }
     }
 
     /// The process with this number, from 1 on, if there is one. The number 0 counts as 1.

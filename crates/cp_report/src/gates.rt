@@ -6,7 +6,7 @@ ghost use Rattle.cp_private.specs.States as states;
 ghost use Rattle.cp_report.specs.Lines.{gate_line_of, number_text};
 
 use cp_base_digits::decimal::push_natural;
-use cp_private::outside::Holder;
+use cp_private::kernel_view::Holder;
 use std::alloc::AllocError;
 
 fn push_holder(out: &mut Vec<u8>, holder: Holder) -> Result<(), AllocError>

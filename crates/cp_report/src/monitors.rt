@@ -6,7 +6,6 @@ ghost use Rattle.cp_report.specs.Subjects.{ReportsMonitor, ReportsMonitors};
 use crate::gates::push_gate_line;
 use crate::subject::Subject;
 use cp_compile_symbols::small_number;
-use cp_inspect::place::monitor_start;
 use cp_inspect::walk::Walk;
 use cp_inspect::walk_output::WalkOutput;
 use std::alloc::AllocError;
@@ -26,7 +25,7 @@ impl<'r, 'm, 't> Subject<'r, 'm, 't> {
     {
         let askers = self.machine.askers(number);
         push_gate_line(out, name, self.machine.gate(number), askers)?;
-        let start = monitor_start(self.machine.program(), number as usize);
+        let start = self.machine.program().monitor_start(number as usize);
         let lines = WalkOutput::Lines(self.machine.kernel().all_words());
         walk.component(self.tables, &lines, out, row, start)
     }

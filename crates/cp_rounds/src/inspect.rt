@@ -8,7 +8,7 @@ use cp_inspect::place;
 use cp_inspect::state::ProcState;
 use cp_inspect::status::push_state;
 use cp_inspect::walk::Walk;
-use cp_private::outside::Holder;
+use cp_private::kernel_view::Holder;
 use std::alloc::{AllocError, Global};
 
 impl Inspect for Machine<'_, '_> {

@@ -5,8 +5,8 @@
 //! data). By the laws of cp_model_machine, the machine is then in the next state of the meaning
 //! (`specs/InStates.antt`).
 //!
-//! - `machine`, `reading`, `chain`, `stillness`, `until_still`, `finished_machine`: the public calls.
-//!   `starting`: how a machine starts.
+//! - `machine`, `reading`, `chain`, `checkpoint`, `finished_machine`: the public calls. `starting`: how a
+//!   machine starts.
 //! - `state`: the state of a process, by what the kernel and it know of it. `inspect`: what a
 //!   trace reads of a machine.
 //! - `gate`, of cp_rounds_handoff: what is called before each turn.
@@ -21,6 +21,7 @@
 
 mod ahead_turns;
 mod chain;
+pub mod checkpoint;
 mod closing;
 mod coordinator;
 mod copies;
@@ -37,7 +38,5 @@ mod run;
 mod run_ahead;
 mod starting;
 mod state;
-mod stillness;
-mod until_still;
 
 pub use cp_rounds_handoff::gate;

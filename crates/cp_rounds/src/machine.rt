@@ -173,7 +173,7 @@ impl<'r, 't> Machine<'r, 't> {
     }
 
     // Makes `rounds` rounds, of which some share their threads.
-    pub(crate) fn make_all<R: Threads + Wait + Sync, G: TurnGate>(
+    fn make_all<R: Threads + Wait + Sync, G: TurnGate>(
         &mut self,
         rt: &R,
         rounds: u32,

@@ -5,7 +5,7 @@ ghost use Rattle.cp_private.specs.States.{activity as activity_view, stage as st
 ghost use Rattle.cp_rounds.specs.ProcessStates.{state_of as state_view};
 
 use cp_inspect::state::ProcState;
-use cp_private::outside::SchedulingState;
+use cp_private::kernel_view::SchedulingState;
 use cp_private::private::Activity;
 
 /// Returns the state of a process with this stage and this activity.

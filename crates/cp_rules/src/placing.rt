@@ -16,22 +16,13 @@ use cp_rules_body::Environment;
 use cp_rules_body::constants::constant_at;
 use cp_rules_body::names::find_entity;
 
-fn is_class(sort: Sort) -> bool
-    ensures { result ≡ types.is_class sort }
-{
-    match sort {
-        Sort::Class => true,
-        _ => false,
-    }
-}
-
 fn allows_system(position: Position, sort: Sort) -> bool
     ensures { result ≡ types.allows_system position sort }
 {
     match position {
         Position::InitialVariable => true,
-        Position::MonitorVariable => is_class(sort),
-        Position::ComponentVariable => is_class(sort),
+        Position::MonitorVariable => sort.is_class(),
+        Position::ComponentVariable => sort.is_class(),
         _ => false,
     }
 }

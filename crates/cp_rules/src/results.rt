@@ -2,22 +2,12 @@
 
 ghost use Rattle.std.specs.Prelude.{◌≡◌};
 ghost use Rattle.cp_model.specs.RulesDeclarations as d;
-ghost use Rattle.cp_model.specs.RulesEnvironment as r;
 ghost use Rattle.cp_rules.specs.Checking.{Judges, diagnostics};
 ghost use Rattle.cp_rules.specs.Routines.{JudgesResult, result_judged, returns_of_result, result_words};
 
 use crate::checker::{Checker, Judged};
 use cp_model::rules::{Part, Returns, Rule};
 use cp_model::tree::{Identifier, Sort};
-
-fn is_process(sort: Sort) -> bool
-    ensures { result ≡ r.is_process sort }
-{
-    match sort {
-        Sort::Process => true,
-        _ => false,
-    }
-}
 
 /// Which part the body of a routine is, depending on the word `entry`.
 pub fn part(entry: Option<usize>) -> Part
@@ -56,7 +46,7 @@ impl<'t> Checker<'t> {
         ensures { self.new ≡ diagnostics self.old (d.c5_entry sort entry) }
     {
         if let Some(at) = entry {
-            self.unless(!is_process(sort), Rule::C5, at);
+            self.unless(!sort.is_process(), Rule::C5, at);
         }
     }
 

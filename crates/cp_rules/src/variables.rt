@@ -11,7 +11,7 @@ ghost use Rattle.cp_rules.specs.Declaring.{Declares, entity_of_type, words_of_ty
 use crate::checker::{Checker, Judged};
 use crate::words::{product, sum};
 use cp_model::rules::{Access, Entity, Position, Structure};
-use cp_model::tree::{Fields, Sort};
+use cp_model::tree::Fields;
 use cp_rules_body::Environment;
 use cp_rules_body::bases::INTEGER;
 use std::alloc::AllocError;
@@ -29,21 +29,11 @@ fn entity(of: Judged<usize>) -> Entity
     }
 }
 
-// A process or a monitor is an owner itself, so it takes no words from another owner.
-fn is_owner(sort: Sort) -> bool
-    ensures { result ≡ d.is_owner sort }
-{
-    match sort {
-        Sort::Class => false,
-        _ => true,
-    }
-}
-
 fn words_in(env: &Environment, words: usize, structure: Structure) -> usize
     ensures { result ≡ d.words_in env.now words structure }
 {
     match structure {
-        Structure::System(y) => if is_owner(env.system_row(y).sort) {
+        Structure::System(y) => if env.system_row(y).sort.is_owner() {
             0
         } else {
             words

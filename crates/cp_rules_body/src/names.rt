@@ -15,7 +15,7 @@ use crate::places::{first_name, has_field, last_name};
 use cp_model::rules::{
     Access, ArrayPart, Entity, Member, Mode, Part, Region, Rule, Standard, Structure, Violation,
 };
-use cp_model::tree::{Designator, Identifier, Selector, Sort};
+use cp_model::tree::{Designator, Identifier, Selector};
 
 /// What a name stands for, or the violation. C1: it isn't visible. A violation in its declaration
 /// is reported again.
@@ -73,24 +73,6 @@ pub fn outside_definition(diagnostics: &mut Diagnostics, name: &Identifier, enti
     unless_holds(diagnostics, finished, Rule::C4, name.at)
 }
 
-fn is_monitor(sort: Sort) -> bool
-    ensures { result ≡ r.is_monitor sort }
-{
-    match sort {
-        Sort::Monitor => true,
-        _ => false,
-    }
-}
-
-fn is_process(sort: Sort) -> bool
-    ensures { result ≡ r.is_process sort }
-{
-    match sort {
-        Sort::Process => true,
-        _ => false,
-    }
-}
-
 /// Whether the part is a routine.
 pub fn is_in_routine(part: Part) -> bool
     ensures { result ≡ r.is_in_routine part }
@@ -114,10 +96,10 @@ fn is_allowed(region: Region, standard: Standard) -> bool
     ensures { result ≡ r.is_allowed region standard }
 {
     match standard {
-        Standard::Delay => is_monitor(region.sort) && is_in_routine(region.part),
-        Standard::Empty => is_monitor(region.sort) && is_in_routine(region.part),
-        Standard::Continue => is_monitor(region.sort) && is_in_entry(region.part),
-        Standard::Wait => is_process(region.sort),
+        Standard::Delay => region.sort.is_monitor() && is_in_routine(region.part),
+        Standard::Empty => region.sort.is_monitor() && is_in_routine(region.part),
+        Standard::Continue => region.sort.is_monitor() && is_in_entry(region.part),
+        Standard::Wait => region.sort.is_process(),
         _ => true,
     }
 }

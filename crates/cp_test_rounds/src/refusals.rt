@@ -12,7 +12,7 @@ use cp_base_config::tick::Tick;
 use cp_base_config::turn::Turn;
 use cp_base_schedule::reading::read_orders;
 use cp_compile_symbols::Tables;
-use cp_private::outside::{Holder, SchedulingState};
+use cp_private::kernel_view::{Holder, SchedulingState};
 use cp_private::private::Activity;
 use cp_program::operation::Operation;
 use cp_program::program;

@@ -6,7 +6,7 @@ use cp_inspect::component_table::{ComponentTable, Owner};
 use cp_inspect::inspect::Inspect;
 use cp_inspect::state::ProcState;
 use cp_model::state::Fault;
-use cp_private::outside::Holder;
+use cp_private::kernel_view::Holder;
 use std::alloc::{AllocError, Global};
 
 /// What a process or a monitor is after a round. The numbers are those of monitors and, in `Held`,

@@ -6,7 +6,7 @@ use crate::vocabulary::Vocabulary;
 use cp_inspect::component_table::Owner;
 use cp_inspect::inspect::Inspect;
 use cp_inspect::leaves::Leaf;
-use cp_private::outside::Holder;
+use cp_private::kernel_view::Holder;
 use std::alloc::{AllocError, Global};
 
 /// A monitor when it was seen last.

@@ -8,7 +8,7 @@ use cp_inspect::component_table::{ComponentTable, Owner};
 use cp_inspect::inspect::Inspect;
 use cp_inspect::place;
 use cp_model::tree::{Defined, Identifier, Section, Tree, TypeDefinition};
-use cp_private::outside::Holder;
+use cp_private::kernel_view::Holder;
 use std::alloc::{AllocError, Global};
 
 // The values of each enumeration, by its name.

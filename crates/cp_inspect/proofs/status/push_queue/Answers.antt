@@ -25,7 +25,7 @@ loop-index-preserved c =
     let none : Field = record { name = record { ref_ptr = (0, 0); now = [] }; of = 0 } in
     let before = subst (λ es. QueuesToReport g program place tables.types (suc i) es out text) (drop_first entry xs i none below) (c.loop-index.invariant g vs scope h) in
     let next : suc i ≡ i + 1 = omega arith in
-    let start : c.monitor_start-start.result ≡ plain.monitor_start program (suc i) = c.monitor_start-start.ensures ∙ ap (plain.monitor_start program) (sym next) in
+    let start : c.monitor_start-start.result ≡ plain.monitor_start program (suc i) = c.monitor_start-start.ensures.start ∙ ap (plain.monitor_start program) (sym next) in
     let reports = subst (λ at. ReportsComponent tables (queue_visit place) (slice_index_or xs i none).of at out after) start c.in_ok-component.ensures in
     subst (λ n. QueuesToReport g program place tables.types (suc n) (map entry (drop n xs)) after text) next
     (one_searched g program place tables (suc i) (entry (slice_index_or xs i none)) (map entry (drop (suc i) xs)) out after text scope before reports)

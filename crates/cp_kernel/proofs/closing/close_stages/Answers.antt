@@ -3,7 +3,7 @@ use Rattle.std.specs.Prelude.{option_map, slice_index_or}
 use Rattle.std.proofs.lemmas.List.{length-map, map-set}
 use Rattle.std.proofs.lemmas.Option.{slice_get-get_or, slice_get-map}
 use Rattle.cp_private.specs.States.{stage as stage_view}
-use Rattle.cp_private.specs.declared.outside.SchedulingState.TheVariants as stage
+use Rattle.cp_private.specs.declared.kernel_view.SchedulingState.TheVariants as stage
 use Rattle.cp_model_machine.specs.Machines as plain
 use Rattle.cp_kernel.proofs.Changed.{all_changed, changed_below, got_changed, next_changed}
 use Rattle.cp_kernel.proofs.closing.close_stages.Goals as goal

@@ -1,6 +1,6 @@
 use Rattle.std.proofs.Common.{◌≡◌, ◌≢◌, ◌<◌, ℕ, Some, slice_get}
-use Rattle.cp_private.specs.declared.outside.SchedulingState.{SchedulingState}
-use Rattle.cp_private.specs.declared.outside.SchedulingState.TheVariants as stage
+use Rattle.cp_private.specs.declared.kernel_view.SchedulingState.{SchedulingState}
+use Rattle.cp_private.specs.declared.kernel_view.SchedulingState.TheVariants as stage
 use Rattle.cp_kernel.proofs.closing.has_fresh.Given as goal
 
 abbrev pub invariant-loop-stage : goal.invariant-loop-stage

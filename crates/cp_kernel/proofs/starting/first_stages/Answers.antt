@@ -1,7 +1,7 @@
 use Rattle.std.proofs.Common.{rules, ◌≡◌, slice_set, map, ap, ◌∙◌}
 use Rattle.std.specs.Prelude.{replicate}
 use Rattle.cp_private.specs.States as states
-use Rattle.cp_private.specs.declared.outside.SchedulingState.TheVariants as stage
+use Rattle.cp_private.specs.declared.kernel_view.SchedulingState.TheVariants as stage
 use Rattle.cp_kernel.proofs.Starts.{first_begun}
 use Rattle.cp_kernel.proofs.starting.first_stages.Goals as goal
 

@@ -1,7 +1,7 @@
 use Rattle.std.proofs.Common.{◌≡◌, ◌+◌, [], length, subst, sym, ap, ◌∙◌, arith}
 use Rattle.std.specs.Prelude.{Vec}
 use Rattle.std.specs.Global.{Global}
-use Rattle.cp_private.specs.declared.outside.SchedulingState.{SchedulingState}
+use Rattle.cp_private.specs.declared.kernel_view.SchedulingState.{SchedulingState}
 use Rattle.cp_program.specs.View as view
 use Rattle.cp_model_machine.specs.KernelSteps as plain
 use Rattle.cp_private.specs.States as states

@@ -2,7 +2,7 @@ use Rattle.std.proofs.Common.{rules, ◌≡◌, ◌≤◌, ◌<◌, ◌-◌, Lis
 use Rattle.std.specs.Prelude.{remove}
 use Rattle.cp_model.specs.States as model
 use Rattle.cp_private.specs.States as states
-use Rattle.cp_private.specs.declared.outside.Gate.{Gate}
+use Rattle.cp_private.specs.declared.kernel_view.Gate.{Gate}
 use Rattle.cp_kernel.specs.KernelOf.{kernel_of}
 use Rattle.cp_kernel.proofs.Places.{first_and_rest, gate_at, gates_same, gates_set, nothing}
 use Rattle.cp_kernel.proofs.kernel.Kernel.grant.Goals as goal

@@ -1,7 +1,7 @@
 use Rattle.std.proofs.Common.{rules, ◌≡◌, ◌≢◌, ◌<◌, ◌≤◌, ◌+◌, length, map, below_more, get_or-set_other, get_or-set_same, length-set, slice_set, vec_capacity, vec_len, ap, ◌∙◌, arith}
 use Rattle.std.specs.Prelude.{slice_index_or}
 use Rattle.cp_private.specs.States as states
-use Rattle.cp_private.specs.declared.outside.Gate.{Gate}
+use Rattle.cp_private.specs.declared.kernel_view.Gate.{Gate}
 use Rattle.cp_kernel.specs.KernelOf.{HasRoomToAsk, kernel_of}
 use Rattle.cp_kernel.proofs.Changed.{same_at}
 use Rattle.cp_kernel.proofs.Parting.{lent}

@@ -1,7 +1,7 @@
 use Rattle.std.proofs.Common.{◌≡◌, ◌<◌, ℕ, map}
 use Rattle.std.specs.Prelude.{slice_index_or}
 use Rattle.cp_private.specs.States as states
-use Rattle.cp_private.specs.declared.outside.Gate.{Gate}
+use Rattle.cp_private.specs.declared.kernel_view.Gate.{Gate}
 use Rattle.cp_kernel.specs.KernelOf.{HasRoomToAsk}
 use Rattle.cp_kernel.proofs.kernel.Kernel.reserve_askers.Given as goal
 

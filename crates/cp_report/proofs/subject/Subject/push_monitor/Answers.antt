@@ -24,7 +24,7 @@ returns c =
     let line : c.push_gate_line.new.out.items ≡ out ++ gate_line_of x (holder c.gate.result) c.askers-askers.result.now = search rules in
     monitor_reported setup m n x t k (view.program c.program.result.now) (holder c.gate.result) c.askers-askers.result.now c.monitor_start-start.result out c.push_gate_line.new.out.items
     c.component.new.out.items is c.program.ensures (c.gate.ensures.part ∙ sym (ap (λ j. (gate_of j.gates n).holder) is))
-    (c.askers-askers.ensures.part ∙ sym (ap (λ j. (gate_of j.gates n).askers) is)) c.monitor_start-start.ensures line
+    (c.askers-askers.ensures.part ∙ sym (ap (λ j. (gate_of j.gates n).askers) is)) c.monitor_start-start.ensures.start line
     (reported (globals setup.tree) t of.0 represents
     ∙ ap (λ ws. c.push_gate_line.new.out.items ++ visit_component (globals setup.tree) (lines_visit ws) c.monitor_start-start.result t) c.all_words.ensures))
     c.component.ensures

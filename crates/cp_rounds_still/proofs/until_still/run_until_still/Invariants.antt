@@ -1,14 +1,14 @@
 use Rattle.std.proofs.Common.{◌≤◌, ◌+◌, ◌-◌}
 use Rattle.std.specs.Prelude.{if◌then◌else◌}
-use Rattle.cp_rounds.specs.Stillness.{NoneStillBefore}
+use Rattle.cp_rounds_still.specs.Stillness.{NoneStillBefore}
 use Rattle.cp_rounds.specs.Views.{IsAfter}
-use Rattle.cp_rounds.proofs.machine.Machine.run_until_still.Given as goal
+use Rattle.cp_rounds_still.proofs.until_still.run_until_still.Given as goal
 
 abbrev pub invariant-rounds : goal.invariant-rounds
 invariant-rounds g l = record {
   bound : l.done ≤ l.limit;
-  after : IsAfter l.plan.turn.steps l.done l.fn.self l.self;
-  first : NoneStillBefore l.plan.turn.steps l.done l.fn.self;
+  after : IsAfter l.plan.turn.steps l.done l.fn.machine l.machine;
+  first : NoneStillBefore l.plan.turn.steps l.done l.fn.machine;
 }
 
 -- A stretch makes rounds, or leads past the first still state for the first time, or is shorter than

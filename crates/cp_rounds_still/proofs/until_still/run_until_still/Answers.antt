@@ -1,19 +1,19 @@
 use Rattle.std.proofs.Common.{rules, ◌≡◌, ◌<◌, ◌+◌, ◌-◌, ℕ, Bool, false, true, arith, subst}
-use Rattle.cp_rounds.specs.Stillness.{Advances, ReportsStill}
+use Rattle.cp_rounds_still.specs.Stillness.{Advances, ReportsStill}
 use Rattle.cp_rounds.specs.Views.{IsAfter}
 use Rattle.cp_rounds.proofs.After.{after_more}
 use Rattle.cp_rounds.proofs.InStates.{makes_rounds}
-use Rattle.cp_rounds.proofs.StillStates.{none_in_advance}
-use Rattle.cp_rounds.proofs.machine.Machine.run_until_still.Goals as goal
+use Rattle.cp_rounds_still.proofs.StillStates.{none_in_advance}
+use Rattle.cp_rounds_still.proofs.until_still.run_until_still.Goals as goal
 
 pub rounds-preserved-in-Ok-true : goal.rounds-preserved-in-Ok-true
 rounds-preserved-in-Ok-true g c =
     let t = c.args.plan.now.turn.steps in
     let done = c.rounds.done in
     let n = c.min-count.result in
-    let old = c.args.self.now in
-    let mid = c.rounds.self in
-    let new = c.advance.new.self in
+    let old = c.args.machine.now in
+    let mid = c.rounds.machine in
+    let new = c.advance.new.machine in
     let bound = c.rounds.invariant.bound in
     let below = c.rounds-test.true in
     let count = c.min-count.ensures in
@@ -33,8 +33,8 @@ returns-in-Err-clause-partly g c =
     let t = c.args.plan.now.turn.steps in
     let done = c.rounds.done in
     let round = c.in-Err.field-0.0 in
-    let old = c.args.self.now in
-    let new = c.advance.new.self in
+    let old = c.args.machine.now in
+    let new = c.advance.new.machine in
     let reported = c.in-Err.ensures.partly in
     let first = reported.0 in
     let last = reported.1 in
@@ -44,13 +44,13 @@ returns-in-Err-clause-partly g c =
     let back : done + (round - 1) ≡ done + round - 1 = omega (arith, first) in (
       omega (arith, first),
       omega (arith, last, bound, below, count),
-      subst (λ (n : ℕ). IsAfter t n old new) back (after_more t done (round - 1) old c.rounds.self new c.rounds.invariant.after reported.2),
+      subst (λ (n : ℕ). IsAfter t n old new) back (after_more t done (round - 1) old c.rounds.machine new c.rounds.invariant.after reported.2),
     )
 
 pub returns-else-not-is_still-clause-state : goal.returns-else-not-is_still-clause-state
 returns-else-not-is_still-clause-state g c =
-    makes_rounds c.args.plan.now.turn.steps c.rounds.done c.args.self.now c.rounds.self c.rounds-2.ensures.run c.rounds.invariant.after.made
+    makes_rounds c.args.plan.now.turn.steps c.rounds.done c.args.machine.now c.rounds.machine c.rounds-2.ensures.run c.rounds.invariant.after.made
 
 pub returns-after-rounds-clause-state : goal.returns-after-rounds-clause-state
 returns-after-rounds-clause-state g c =
-    makes_rounds c.args.plan.now.turn.steps c.rounds.done c.args.self.now c.rounds.self c.rounds-2.ensures.run c.rounds.invariant.after.made
+    makes_rounds c.args.plan.now.turn.steps c.rounds.done c.args.machine.now c.rounds.machine c.rounds-2.ensures.run c.rounds.invariant.after.made

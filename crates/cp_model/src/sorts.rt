@@ -1,0 +1,65 @@
+//! What holds of a component of each sort.
+
+ghost use Rattle.std.specs.Prelude.{◌≡◌};
+ghost use Rattle.cp_model.specs.Components.{same_sort};
+ghost use Rattle.cp_model.specs.Erase.{sort_of};
+ghost use Rattle.cp_model.specs.RulesDeclarations as declarations;
+ghost use Rattle.cp_model.specs.RulesEnvironment as environment;
+ghost use Rattle.cp_model.specs.RulesTypes as types;
+
+use crate::tree::Sort;
+
+impl Sort {
+    /// Whether it is that of processes.
+    pub fn is_process(self) -> bool
+        ensures { result ≡ environment.is_process self }
+    {
+        match self {
+            Sort::Process => true,
+            _ => false,
+        }
+    }
+
+    /// Whether it is that of monitors.
+    pub fn is_monitor(self) -> bool
+        ensures { result ≡ environment.is_monitor self }
+    {
+        match self {
+            Sort::Monitor => true,
+            _ => false,
+        }
+    }
+
+    /// Whether it is that of classes.
+    pub fn is_class(self) -> bool
+        ensures { result ≡ types.is_class self }
+    {
+        match self {
+            Sort::Class => true,
+            _ => false,
+        }
+    }
+
+    /// Whether such a component has words of its own: a process or a monitor. A class takes its
+    /// words from its owner.
+    pub fn is_owner(self) -> bool
+        ensures { result ≡ declarations.is_owner self }
+    {
+        match self {
+            Sort::Class => false,
+            _ => true,
+        }
+    }
+
+    /// Whether both are the same.
+    pub fn is_same(self, other: Sort) -> bool
+        ensures { result ≡ same_sort (sort_of self) (sort_of other) }
+    {
+        match (self, other) {
+            (Sort::Process, Sort::Process) => true,
+            (Sort::Monitor, Sort::Monitor) => true,
+            (Sort::Class, Sort::Class) => true,
+            _ => false,
+        }
+    }
+}
