@@ -11,7 +11,7 @@ ghost use Rattle.cp_rounds.specs.Views.{IsAfter, KeepsText, finished_machine_of,
 
 use crate::finished_machine::FinishedMachine;
 use crate::parts::Parts;
-use crate::run::{Rounds, make_rounds_of};
+use crate::run::{Rounds, with_cells};
 use crate::starting::first_parts;
 use cp_base_config::plan::Plan;
 use cp_base_config::tick::Tick;
@@ -130,14 +130,15 @@ impl<'r, 't> Machine<'r, 't> {
         ensures text { KeepsText self.old self.new }
     {
         law::rounds();
-        match self.make_rounds(rt, 1, plan, gate) {
+        match self.run_batch(rt, 1, plan, gate) {
             Ok(()) => Ok(()),
             Err(_) => Err(AllocError),
         }
     }
 
-    // Makes `rounds` rounds, by threads that are started once. `Err` has the number of rounds made.
-    fn make_rounds<R: Threads + Wait + Sync, G: TurnGate>(
+    // Makes a batch of `rounds` rounds, by threads that are started once. `Err` has the number of
+    // rounds made.
+    fn run_batch<R: Threads + Wait + Sync, G: TurnGate>(
         &mut self,
         rt: &R,
         rounds: usize,
@@ -158,7 +159,7 @@ impl<'r, 't> Machine<'r, 't> {
             plan,
             gate,
         };
-        let (parts, made) = make_rounds_of(rt, self.alloc, rounds, &asked, parts);
+        let (parts, made) = with_cells(rt, self.alloc, rounds, &asked, parts);
         self.parts = parts;
         match made {
             Ok(()) => {
@@ -172,8 +173,8 @@ impl<'r, 't> Machine<'r, 't> {
         }
     }
 
-    // Makes `rounds` rounds, of which some share their threads.
-    fn make_all<R: Threads + Wait + Sync, G: TurnGate>(
+    // Makes `rounds` rounds in batches. The rounds of a batch share their threads.
+    fn run_in_batches<R: Threads + Wait + Sync, G: TurnGate>(
         &mut self,
         rt: &R,
         rounds: u32,
@@ -189,7 +190,7 @@ impl<'r, 't> Machine<'r, 't> {
         'part: while done < rounds {
             let at_once = rounds_at_once(plan.waves(self.parts.privates.len()));
             let count = (rounds - done).min(at_once);
-            match self.make_rounds(rt, count as usize, plan, gate) {
+            match self.run_batch(rt, count as usize, plan, gate) {
                 Ok(()) => done += count,
                 Err(made) => return Err(MemoryAt(done + made as u32 + 1)),
             }
@@ -222,7 +223,7 @@ impl<'r, 't> Machine<'r, 't> {
         ensures text { KeepsText self.old self.new }
     {
         law::rounds();
-        self.make_all(rt, rounds, plan, gate)
+        self.run_in_batches(rt, rounds, plan, gate)
     }
 
     /// Ends the rounds of the machine, and lets go of the tables of its text.

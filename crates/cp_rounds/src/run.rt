@@ -91,7 +91,7 @@ impl<'a, C: Course, G: TurnGate> Run<'a, C, G> {
     }
 
     // Makes a round for each cell. `Err` has the number of rounds made.
-    fn make_rounds<R: Wait>(
+    fn run_rounds<R: Wait>(
         &self,
         rt: &R,
         coordinator: &mut Coordinator<'a, C>,
@@ -133,7 +133,7 @@ fn slots_of(plan: &Plan) -> usize {
 
 // Starts the threads of a run, and makes its rounds. The stop is called when it returns, so that
 // all threads end.
-fn make_rounds_at<'s, 'a, E, C: Course + Send + Sync, R: Threads + Wait + Sync, G: TurnGate>(
+fn with_workers<'s, 'a, E, C: Course + Send + Sync, R: Threads + Wait + Sync, G: TurnGate>(
     rt: &'s R,
     scope: &'s Scope<'s, E>,
     run: &'s Run<'a, C, G>,
@@ -158,7 +158,7 @@ fn make_rounds_at<'s, 'a, E, C: Course + Send + Sync, R: Threads + Wait + Sync, 
         return (parts, Err(0));
     };
     let made = match start(rt, scope, &run.mailboxes, &run.turns) {
-        Ok(()) => run.make_rounds(rt, &mut coordinator, &mut parts),
+        Ok(()) => run.run_rounds(rt, &mut coordinator, &mut parts),
         Err(_) => Err(0),
     };
     ending.stop(rt, &run.mailboxes);
@@ -191,8 +191,8 @@ impl Holder for Parts {
     }
 }
 
-// Makes the rounds of a run, by threads that are kept through all rounds.
-fn make_rounds_kept<
+// Makes the rounds of a run in a scope of threads, which are kept through all rounds.
+fn in_thread_scope<
     's,
     'a,
     C: Course + Send + Sync,
@@ -225,7 +225,7 @@ fn make_rounds_kept<
                 (H.holds held).privates.items }
         {
             let parts = held.into_parts();
-            let (parts, made) = make_rounds_at(rt, scope, run, parts);
+            let (parts, made) = with_workers(rt, scope, run, parts);
             (H::of(parts), made)
         },
     )
@@ -241,8 +241,8 @@ pub struct Rounds<'a, G> {
     pub gate: &'a G,
 }
 
-// Makes a round for each cell, at a desk and by threads for these rounds.
-fn make_rounds_by_threads<C: Course + Send + Sync, R: Threads + Wait + Sync, G: TurnGate>(
+// Makes a round for each cell, with a desk and a pool of workers for these rounds.
+fn with_worker_pool<C: Course + Send + Sync, R: Threads + Wait + Sync, G: TurnGate>(
     rt: &R,
     alloc: Global,
     cells: &[OnceLock<Start>],
@@ -299,7 +299,7 @@ fn make_rounds_by_threads<C: Course + Send + Sync, R: Threads + Wait + Sync, G: 
         cells,
         sheets,
     };
-    make_rounds_kept(rt, &run, parts)
+    in_thread_scope(rt, &run, parts)
 }
 
 // Returns this many cells, none of them written.
@@ -330,13 +330,13 @@ fn empty_sheets(
     empty_cells(alloc, count)
 }
 
-/// Makes this many rounds, by the threads of their plan, which are started once. All threads have
-/// ended when it returns.
+/// Makes this many rounds, with a cell for each round and each wave, by the threads of their plan,
+/// which are started once. All threads have ended when it returns.
 ///
 /// # Errors
 ///
 /// The number of rounds made, if memory ran out in the next one or a thread could not be started.
-pub fn make_rounds_of<R: Threads + Wait + Sync, G: TurnGate>(
+pub fn with_cells<R: Threads + Wait + Sync, G: TurnGate>(
     rt: &R,
     alloc: Global,
     count: usize,
@@ -359,5 +359,5 @@ pub fn make_rounds_of<R: Threads + Wait + Sync, G: TurnGate>(
     let Ok(sheets) = empty_sheets(alloc, count, waves) else {
         return (parts, Err(0));
     };
-    make_rounds_by_threads::<Brand, R, G>(rt, alloc, &cells, &sheets, waves, rounds, parts)
+    with_worker_pool::<Brand, R, G>(rt, alloc, &cells, &sheets, waves, rounds, parts)
 }

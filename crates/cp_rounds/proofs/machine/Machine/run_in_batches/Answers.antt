@@ -1,7 +1,7 @@
 use Rattle.std.proofs.Common.{◌≡◌, ◌+◌, ◌-◌, ℕ, subst, arith}
 use Rattle.cp_rounds.specs.Views.{IsAfter}
 use Rattle.cp_rounds.proofs.After.{after_more, after_none}
-use Rattle.cp_rounds.proofs.machine.Machine.make_all.Goals as goal
+use Rattle.cp_rounds.proofs.machine.Machine.run_in_batches.Goals as goal
 
 pub part-init : goal.part-init
 part-init g c = record { bound = omega arith; after = after_none c.args.plan.now.turn.steps c.args.self.now }
@@ -12,7 +12,7 @@ part-preserved g c =
     let count = c.min-count.ensures in
     record {
       bound = omega (arith, bound, count);
-      after = after_more c.args.plan.now.turn.steps c.part.done c.min-count.result c.args.self.now c.part.self c.make_rounds.new.self
+      after = after_more c.args.plan.now.turn.steps c.part.done c.min-count.result c.args.self.now c.part.self c.run_batch.new.self
           c.part.invariant.after c.in-Ok.ensures.made;
     }
 
@@ -22,7 +22,7 @@ returns-in-Err-clause-partly g c =
     let done = c.part.done in
     let n = c.in-Err.made in
     let first = c.args.self.now in
-    let after = c.make_rounds.new.self in
+    let after = c.run_batch.new.self in
     let bound = c.part.invariant.bound in
     let count = c.min-count.ensures in
     let fewer = c.in-Err.ensures.partly.0 in

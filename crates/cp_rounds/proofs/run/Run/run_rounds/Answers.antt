@@ -1,7 +1,7 @@
 use Rattle.std.proofs.Common.{refl, ◌∙◌, arith}
 use Rattle.cp_rounds.proofs.Made.{more_rounds_made, no_round_made}
 use Rattle.cp_rounds.proofs.Rooms.{all_same}
-use Rattle.cp_rounds.proofs.run.Run.make_rounds.Goals as goal
+use Rattle.cp_rounds.proofs.run.Run.run_rounds.Goals as goal
 
 pub rounds-init : goal.rounds-init
 rounds-init g c =

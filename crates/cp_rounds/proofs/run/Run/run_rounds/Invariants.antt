@@ -1,6 +1,6 @@
 use Rattle.std.proofs.Common.{◌≡◌, ◌≤◌, ◌-◌, length}
 use Rattle.cp_rounds.specs.Runs.{PartsAfter}
-use Rattle.cp_rounds.proofs.run.Run.make_rounds.Given as goal
+use Rattle.cp_rounds.proofs.run.Run.run_rounds.Given as goal
 
 abbrev pub invariant-rounds : goal.invariant-rounds
 invariant-rounds g l = record {

@@ -9,7 +9,7 @@ use Rattle.cp_base_config.proofs.plan.Plan.TheSendSync as plan
 use Rattle.cp_rounds_handoff.proofs.handoff.HandoffQueue.TheSendSync as handoff
 use Rattle.cp_rounds_handoff.specs.contracts.handoff.HandoffQueue as handoffs
 use Rattle.cp_rounds_handoff.specs.contracts.handoff_turns.HandoffTurns as turns
-use Rattle.cp_rounds.proofs.run.make_rounds_at.Goals as goal
+use Rattle.cp_rounds.proofs.run.with_workers.Goals as goal
 
 pub start-requires-sync-W : goal.start-requires-sync-W
 start-requires-sync-W g c κs within =

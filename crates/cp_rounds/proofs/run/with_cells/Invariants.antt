@@ -4,10 +4,10 @@ use Rattle.cp_rounds_handoff.specs.Inputs.{input_at}
 use Rattle.cp_rounds_handoff.specs.Quiet.{needs_no_kernel}
 use Rattle.cp_rounds_handoff.specs.Turned as plain
 use Rattle.cp_rounds.specs.Runs.{name_of}
-use Rattle.cp_rounds.proofs.run.make_rounds_of.Given as goal
+use Rattle.cp_rounds.proofs.run.with_cells.Given as goal
 
-abbrev pub ghosts-make_rounds_by_threads-C-Course : goal.ghosts-make_rounds_by_threads-C-Course
-ghosts-make_rounds_by_threads-C-Course g a = record {
+abbrev pub ghosts-with_worker_pool-C-Course : goal.ghosts-with_worker_pool-C-Course
+ghosts-with_worker_pool-C-Course g a = record {
   quiet = needs_no_kernel (view.program a.rounds.now.config.now.program);
   turned = plain.take_turn (view.program a.rounds.now.config.now.program) a.rounds.now.plan.now.turn.steps;
   round_time = λ i. plain.round_time_of a.rounds.now.config.now.tick.rounds (a.rounds.now.done + i);
@@ -16,5 +16,5 @@ ghosts-make_rounds_by_threads-C-Course g a = record {
   cell = λ i. name_of (slice_get a.cells.now i);
 }
 
-abbrev pub ghosts-make_rounds_by_threads-C-Sheets : goal.ghosts-make_rounds_by_threads-C-Sheets
-ghosts-make_rounds_by_threads-C-Sheets g a = record { sheet = λ i. name_of (slice_get a.sheets.now i) }
+abbrev pub ghosts-with_worker_pool-C-Sheets : goal.ghosts-with_worker_pool-C-Sheets
+ghosts-with_worker_pool-C-Sheets g a = record { sheet = λ i. name_of (slice_get a.sheets.now i) }
