@@ -5,7 +5,8 @@
 //!   outcome or the trace. `form`: what is written of an outcome. `snapshot`: where all stand.
 //! - `rounds`: makes the rounds of a machine, and writes what is told of them.
 //!
-//! Reading, judging and refusals are cp_frontend's, and the machine at its start is cp_execute's.
+//! Reading, judging and refusals are cp_frontend's, and the machine at its start is
+//! cp_execute_start's.
 //! `specs/Outcomes.antt` with `specs/Forms.antt`, and `specs/Traces.antt` with `specs/Writing.antt`
 //! define what a result means.
 #![tactic(auto)]

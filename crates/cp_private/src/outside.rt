@@ -5,7 +5,7 @@ use crate::kernel_view::{Gate, SchedulingState};
 /// What else a step reads: the clock, the input of the process, and what the kernel knows.
 #[derive(Clone, Copy)]
 pub struct StepContext<'a> {
-    /// The seconds since the start.
+    /// The ticks since the start.
     pub clock: u64,
     pub input: &'a [u8],
     /// The gates of monitors by number, from 1.

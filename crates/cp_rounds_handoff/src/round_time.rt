@@ -3,7 +3,7 @@
 /// What a round sees of the time.
 #[derive(Clone, Copy)]
 pub struct RoundTime {
-    /// The seconds since the start.
+    /// The ticks since the start.
     pub clock: u64,
     /// Whether the processes that wait for the clock go on.
     pub wakes: bool,
