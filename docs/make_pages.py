@@ -2,14 +2,14 @@
 """Writes the pages of `cpm explain RULE` from docs/rules.md, docs/faults.md and the programs of docs/examples.
 
 A section `## C4: TITLE` has a paragraph that names a program, then *Why:* and *Fix:*. The program rules/NAME.cp breaks the rule, and rules/NAME.mended.cp
-doesn't. The program faults/NAME.cp has the report faults/NAME.report. `make_pages.py` writes crates/cp_explain/src/pages.rt. `make_pages.py --unchanged` fails
+doesn't. The program faults/NAME.cp has the report faults/NAME.report. `make_pages.py` writes crates/cp_explain_pages/src/pages.rt. `make_pages.py --unchanged` fails
 if the file isn't what it would write.
 """
 import pathlib, re, sys, textwrap
 
 DOCS = pathlib.Path(__file__).resolve().parent
 EXAMPLES = DOCS / 'examples'
-TARGET = DOCS.parent / 'crates' / 'cp_explain' / 'src' / 'pages.rt'
+TARGET = DOCS.parent / 'crates' / 'cp_explain_pages' / 'src' / 'pages.rt'
 HEAD = '''//! The pages of `explain RULE`, written by `docs/make_pages.py` from docs/rules.md, docs/faults.md
 //! and their examples.
 

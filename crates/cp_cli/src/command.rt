@@ -5,11 +5,10 @@ ghost use Rattle.cp_cli.specs.Commands.{ComesFrom};
 ghost use Rattle.cp_cli.specs.declared.command.CommandError.TheVariants as error;
 
 use clap::error::ErrorKind;
+use cp_base_config::explaining::Explaining;
 use cp_base_config::outcome::{OutcomeForm, UntilStill};
 use cp_base_config::run::{Replay, Run};
 use cp_base_config::trace::Tracing;
-use cp_explain::explain::Extent;
-use cp_explain_rights::graph::Form;
 use std::alloc::AllocError;
 use thiserror::Error;
 
@@ -69,17 +68,6 @@ pub enum Command<'a> {
         replay: Replay,
         input: Inputs<'a>,
     },
-}
-
-/// What `explain` writes of a text.
-#[derive(Clone, Copy)]
-pub enum Explaining {
-    /// The access graph of an accepted text in this form, or the first refusal.
-    First(Form),
-    /// `--all`: the access graph of an accepted text, or all violations in short.
-    All,
-    /// `--json`: the notes on an accepted text, or its violations, as an object.
-    Object(Extent),
 }
 
 /// Where the inputs of the processes come from.

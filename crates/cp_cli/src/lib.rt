@@ -17,8 +17,7 @@ pub mod numbers;
 mod options;
 pub mod reading;
 
+pub use cp_base_config::explaining::{Explaining, Extent, Form};
 pub use cp_base_config::outcome::{OutcomeForm, UntilStill};
 pub use cp_base_config::run::{Replay, Run};
 pub use cp_base_config::trace::{TraceForm, Tracing};
-pub use cp_explain::explain::Extent;
-pub use cp_explain_rights::graph::Form;

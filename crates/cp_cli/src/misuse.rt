@@ -5,7 +5,7 @@ ghost use Rattle.cp_cli.specs.declared.misuse.Misuse.TheVariants as misuse;
 
 use crate::command::CommandError;
 use clap::error::ErrorKind;
-use cp_explain::rules::ALL;
+use cp_explain_pages::rules::ALL;
 use std::alloc::{AllocError, AllocFailed, Global};
 use thiserror::Error;
 

@@ -3,7 +3,7 @@
 ghost use Rattle.std.specs.Prelude.{◌≡◌, ◌≤◌, IfOk, IsOk, length};
 ghost use Rattle.cp_cli.specs.Commands.{HasRounds, IsWithoutWords};
 
-use crate::command::{Command, CommandError, Explaining, Inputs};
+use crate::command::{Command, CommandError, Inputs};
 use crate::defaults::{CHUNK, ROUNDS, TICK, TURN, WAVE, WORKERS};
 use crate::grammar::grammar;
 use crate::inputs::read_inputs;
@@ -14,9 +14,8 @@ use crate::options::{
 };
 use clap::ArgMatches;
 use clap::error::ErrorKind;
-use cp_explain::explain::Extent;
-use cp_explain::rules::{is_like_rule, rule_page};
-use cp_explain_rights::graph::Form;
+use cp_base_config::explaining::{Explaining, Extent, Form};
+use cp_explain_pages::rules::{is_like_rule, rule_page};
 use std::alloc::Global;
 use std::convert::AsStr;
 

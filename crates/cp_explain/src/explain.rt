@@ -13,9 +13,10 @@ ghost use Rattle.cp_explain.specs.Explained.{Begins, Explains, Wrote, code_of, h
 use crate::all::of_all;
 use crate::lacking::push_lacking;
 use crate::reported::of_no_tree;
+use cp_base_config::explaining::{Extent, Form};
 use cp_base_digits::decimal::push_natural;
 use cp_explain_notes::add_notes;
-use cp_explain_rights::graph::{Form, graph};
+use cp_explain_rights::graph::graph;
 use cp_explain_rules::of_violation;
 use cp_frontend::checking::tree_of;
 use cp_frontend::reading::read_text;
@@ -27,16 +28,6 @@ use cp_output::position::Position;
 use cp_rules::text::{RuleError, judge};
 use std::alloc::{AllocError, Global};
 use std::io::{Read, Write};
-
-/// How much is told of a refused text.
-#[derive(Clone, Copy)]
-pub enum Extent {
-    /// The first refusal.
-    First,
-    /// All violations, in short. Of a text without a tree the first refusal, and what the language
-    /// of the book has and this one hasn't.
-    All,
-}
 
 /// The explanation of a text, and why it is refused, unless it is accepted.
 #[derive(Drop)]

@@ -10,8 +10,9 @@ ghost use Rattle.cp_explain.specs.Objects.{IsObjectOf, WroteObject};
 ghost use Rattle.cp_output.specs.Json.{IsJsonLine};
 
 use crate::all::most;
-use crate::explain::{Explanation, Extent, place, push_code, read};
+use crate::explain::{Explanation, place, push_code, read};
 use crate::reported::of_no_tree;
+use cp_base_config::explaining::Extent;
 use cp_explain_notes::{NoteText, notes};
 use cp_explain_rules::of_violation_in_short;
 use cp_frontend::checking::tree_of;

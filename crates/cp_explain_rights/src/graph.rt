@@ -2,18 +2,10 @@
 
 use crate::instances::Instances;
 use crate::{dot, lines};
+use cp_base_config::explaining::Form;
 use cp_model::tree::Tree;
 use cp_output::page::Page;
 use std::alloc::{AllocError, Global};
-
-/// How a graph is written.
-#[derive(Clone, Copy)]
-pub enum Form {
-    /// As lines for people.
-    Lines,
-    /// As a graph for Graphviz.
-    Dot,
-}
 
 /// Writes the components of an accepted text, and which of them has a right to which. Fails only if
 /// memory runs out.

@@ -3,10 +3,9 @@
 use crate::opening::open_named;
 use crate::printing::flush;
 use crate::status::Failure;
-use cp_cli::command::Explaining;
+use cp_base_config::explaining::{Explaining, Form};
 use cp_explain::explain::{draw_text, explain_all_text, explain_text};
 use cp_explain::object::explain_object;
-use cp_explain_rights::graph::Form;
 use cp_frontend::refusal::{Refusal, exit_of};
 use std::alloc::Global;
 use std::fs::Files;
