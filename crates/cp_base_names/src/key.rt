@@ -4,26 +4,32 @@
 //! the text declares, so other names that would collide have another key, and no one can choose the
 //! key before the names. No clause speaks of it: it decides how long a search takes, and no answer.
 
+ghost use Rattle.std.specs.Hash as fed;
+ghost use Rattle.std.specs.Hash.DefaultHasher as sip;
+ghost use Rattle.std.specs.List.{fold};
+
 use cp_model::tree::{
     Defined, Fields, Identifier, Parameters, Routine, Section, Tree, TypeExpression,
 };
 use md5::{Digest, Md5};
 use std::hash::{BuildHasher, DefaultHasher, Hasher};
 
-/// The key: a state of the hasher.
+/// The key, which is hashed before each name. It is one word, since each table holds it.
 #[derive(Clone, Copy)]
 pub struct Key {
-    initial: DefaultHasher,
+    word: u64,
 }
 
 impl BuildHasher for Key {
     type Hasher = DefaultHasher;
 
-    ghost build_hasher = { λ k. k.initial };
+    ghost build_hasher = { λ k. fold sip.write sip.initial (fed.u64 k.word) };
 
     #[inline(always)]
     fn build_hasher(&self) -> DefaultHasher {
-        self.initial
+        let mut hasher = DefaultHasher::new();
+        hasher.write_u64(self.word);
+        hasher
     }
 }
 
@@ -118,8 +124,9 @@ impl Key {
         }
         add_fields(&mut digest, &tree.variables);
         add_routines(&mut digest, &tree.routines);
-        let mut initial = DefaultHasher::new();
-        initial.write(&digest.finalize());
-        Key { initial }
+        let [a, b, c, d, e, f, g, h, ..] = digest.finalize();
+        Key {
+            word: u64::from_le_bytes([a, b, c, d, e, f, g, h]),
+        }
     }
 }
