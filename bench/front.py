@@ -2,7 +2,7 @@
 """Measures `cpm check` beside a plain front end: instructions and seconds for each text of texts.py.
 
 The script builds plain_front/main.rs itself, by rustc. First both programs judge all texts that the repository has, and those of texts.py, and have
-to say the same of each. Instructions are those of the whole process under `valgrind --tool=callgrind`, so they don't depend on the load of the
+to say the same of each. It fails if names that would collide under a hasher without a key take over a tenth more instructions than other names. Instructions are those of the whole process under `valgrind --tool=callgrind`, so they don't depend on the load of the
 machine; seconds are the least of some trials, on one processor, of the program itself and of the system on its behalf. With `--answers N` it measures
 nothing, and compares N more texts, each made of one that the repository has by leaving out, doubling or exchanging a few words. It takes eight minutes.
 """
@@ -23,17 +23,45 @@ import answers
 import make_rows
 
 PLAIN = ROOT / 'bench' / 'plain_front' / 'main.rs'
+COLLIDING = ROOT / 'bench' / 'colliding.rs'
 TRIALS = 40
 LIMIT = 1_048_576
 # What a text is cut into to make others of it.
 PIECES = re.compile(r'''\w+|'[^']*'|"[^"]*"|:=|\.\.|<>|\s+|.''', re.DOTALL)
 
 
-def build(folder):
-    """Builds the plain front end in a folder."""
-    plain = folder / 'plain_front'
-    subprocess.run(['rustc', '-O', '--edition', '2021', '-o', plain, PLAIN], check=True)
-    return plain
+def build(folder, source):
+    """Builds a program in a folder: the plain front end, or the maker of names that collide."""
+    program = folder / source.parent.stem / source.stem
+    program.parent.mkdir(exist_ok=True)
+    subprocess.run(['rustc', '-O', '--edition', '2021', '-o', program, source], check=True)
+    return program
+
+
+def text_of(names):
+    """A text that declares each of these names as a field and as a variable, and uses the variable once."""
+    list_of_names = ','.join(names)
+    return f"type r=record {list_of_names}:char end;var {list_of_names}:integer;begin {';'.join(f'{name}:=1' for name in names)} end."
+
+
+def texts_of_names(folder):
+    """A text with names that would collide under a hasher without a key, and one with as many other names of their length."""
+    colliding = subprocess.run([build(folder, COLLIDING)], capture_output=True, text=True, check=True).stdout.split()
+    others = [f'x{number:07x}' for number in range(len(colliding))]
+    return {f'{len(names):,} names{what}': text_of(names) for what, names in ((' that would collide without a key', colliding), ('', others))}
+
+
+def compare_names(folder, texts):
+    """Fails if names that would collide under a hasher without a key take over a tenth more instructions than others."""
+    counts = []
+    for text in texts:
+        file = folder / 'names.cp'
+        file.write_text(text)
+        counts.append(instructions([CPM, 'check', file])[0])
+    colliding, others = counts
+    print(f'names that would collide without a key take {colliding / others:.3f} of the instructions of others')
+    if others * 1.1 < colliding:
+        raise SystemExit('a text can be written whose names collide')
 
 
 def texts_of_repository():
@@ -99,7 +127,7 @@ def row(plain, folder, what, text, status):
 def main():
     with tempfile.TemporaryDirectory() as name:
         folder = pathlib.Path(name)
-        plain = build(folder)
+        plain = build(folder, PLAIN)
         texts = texts_of_repository()
         if '--answers' in sys.argv[1:]:
             number = int(sys.argv[sys.argv.index('--answers') + 1])
@@ -107,10 +135,12 @@ def main():
             small = [text for text in texts if 0 < len(text) < 20_000]
             compare(plain, [changed(chance.choice(small), chance) for _ in range(number)])
             return
-        compare(plain, [*texts, *TEXTS.values(), *TOO_MANY_WORDS.values()])
+        names = texts_of_names(folder)
+        compare(plain, [*texts, *TEXTS.values(), *TOO_MANY_WORDS.values(), *names.values()])
+        compare_names(folder, names.values())
         # Both on one processor, since two of a shared machine may run at two speeds.
         os.sched_setaffinity(0, {max(os.sched_getaffinity(0))})
-        rows = [row(plain, folder, what, text, 0) for what, text in TEXTS.items()]
+        rows = [row(plain, folder, what, text, 0) for what, text in (TEXTS | names).items()]
         rows += [row(plain, folder, f'{what} (refused)', text, REFUSED) for what, text in TOO_MANY_WORDS.items()]
     header = ['Text', 'cpm, million instructions', 'Plain', 'Ratio', 'cpm, seconds', 'Plain', 'Ratio']
     show('front', header, rows)

@@ -1,5 +1,6 @@
 #!/usr/bin/env python3
 """Tests the built program cpm from outside: the examples and the worked texts, texts and orders made here, each call refused in turn, and files that are made to hurt.
+It also looks at how names are hashed.
 
 `rt ci`, and `rt run < stdin` in crates/cpm, leave the program as crates/cpm/out/cpm; CPM names another. It needs a C compiler (`cc`).
 It prints what is wrong and how much was tried, with --quiet only what is wrong, and ends with status 0 if nothing was wrong.
@@ -14,6 +15,7 @@ import sys
 import tempfile
 
 from generated import text_of_counters, try_beginnings, try_counters, try_lawful_orders, try_long_chain, try_squarers
+from hashing import look_for_hashes
 from hurting import try_to_hurt
 from refusals import refuse_in_turn
 from running import EXAMPLES, ROOT, expect, expect_at_least, run, wrong
@@ -140,6 +142,7 @@ def main():
     resumed = next(case for case in cases if case['name'] == RESUMED)
     # This comes first: it sets limits between the fork and the start of the program, where other threads could hold a lock.
     hurt = try_to_hurt()
+    look_for_hashes()
     with concurrent.futures.ThreadPoolExecutor() as pool:
         refused = pool.submit(refuse_in_turn, resumed['text'], text_of_counters())
         tries = [('examples', 11, try_examples), ('orders', 3, try_orders), ('refused texts', 21, try_rules), ('explanations', 20, try_explanations),
