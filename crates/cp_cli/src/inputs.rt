@@ -17,7 +17,7 @@ fn named<'a>(word: &'a str) -> Result<NamedInput<'a>, Misuse<'a>> {
     }
 }
 
-// The inputs that these words name, no process twice.
+// The inputs that these words name, no process twice, in any letter case.
 fn all_named<'a>(alloc: Global, words: &[&'a str]) -> Result<Vec<NamedInput<'a>>, Misuse<'a>> {
     if MAX_NAMED_INPUTS < words.len() {
         return Err(Misuse::ManyNamed {
@@ -27,7 +27,10 @@ fn all_named<'a>(alloc: Global, words: &[&'a str]) -> Result<Vec<NamedInput<'a>>
     let mut all: Vec<NamedInput<'a>> = Vec::new(alloc);
     for word in words {
         let input = named(word)?;
-        if all.iter().any(|other| other.process == input.process) {
+        if all
+            .iter()
+            .any(|other| other.process.eq_ignore_ascii_case(input.process))
+        {
             return Err(Misuse::NamedTwice {
                 name: input.process,
             });

@@ -24,9 +24,16 @@ pub struct ComponentTable<'t> {
     pub monitors: Vec<Field<'t>>,
 }
 
-// The place of a name in a list, from 0.
-fn place_of(list: &[Field<'_>], name: &[u8]) -> Option<usize> {
-    list.iter().position(|field| field.name == name)
+// The number of the component with this name, in any letter case. The first one has the number
+// `first`.
+fn number_of(list: &[Field<'_>], name: &[u8], first: usize) -> Result<Option<u32>, AllocError> {
+    match list
+        .iter()
+        .position(|field| field.name.eq_ignore_ascii_case(name))
+    {
+        Some(at) => Ok(Some(small_number(at.saturating_add(first))?)),
+        None => Ok(None),
+    }
 }
 
 impl<'t> ComponentTable<'t> {
@@ -78,24 +85,32 @@ impl<'t> ComponentTable<'t> {
         }
     }
 
-    /// Returns the process or the monitor with this name, if there is one.
+    /// Returns the number of the process with this name, in any letter case, if there is one.
+    /// Process 1 is named `initial`, unless another process has that name.
     ///
     /// # Errors
     ///
     /// `AllocError` if its number has more than 32 bits, as none has that fits in memory.
+    pub fn process(&self, name: &[u8]) -> Result<Option<u32>, AllocError> {
+        Ok(match number_of(&self.processes, name, 2)? {
+            Some(number) => Some(number),
+            None if name.eq_ignore_ascii_case(INITIAL) => Some(1),
+            None => None,
+        })
+    }
+
+    /// Returns the process or the monitor with this name, in any letter case, if there is one.
+    ///
+    /// # Errors
+    ///
+    /// As `process`.
     pub fn owner(&self, name: &[u8]) -> Result<Option<Owner>, AllocError> {
-        if let Some(at) = place_of(&self.processes, name) {
-            let number = small_number(at.saturating_add(2))?;
-            return Ok(Some(Owner::Process(number)));
-        }
-        if let Some(at) = place_of(&self.monitors, name) {
-            let number = small_number(at.saturating_add(1))?;
+        if let Some(number) = number_of(&self.monitors, name, 1)? {
             return Ok(Some(Owner::Monitor(number)));
         }
-        Ok(if name == INITIAL {
-            Some(Owner::Process(1))
-        } else {
-            None
+        Ok(match self.process(name)? {
+            Some(number) => Some(Owner::Process(number)),
+            None => None,
         })
     }
 }
