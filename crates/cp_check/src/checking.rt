@@ -8,6 +8,7 @@ ghost use Rattle.cp_model.specs.View as view;
 ghost use Rattle.cp_compile_symbols.specs.Texts.{TablesRepresent};
 ghost use Rattle.cp_check.specs.Checked.{Checks, IsCompiled};
 
+use cp_base_names::Key;
 use cp_compile::compile;
 use cp_compile_symbols::Tables;
 use cp_model::tree::Tree;
@@ -25,30 +26,34 @@ pub struct CompiledText<'t> {
     pub tables: Box<Tables<'t>>,
 }
 
-/// Makes the tables of a text that was accepted.
+/// Makes the tables of a text that was accepted. The key is that of its names.
 ///
 /// # Errors
 ///
 /// `AllocError` if there is no room for them.
-pub fn tables_of<'t>(alloc: Global, tree: &'t Tree) -> Result<Box<Tables<'t>>, AllocError>
+pub fn tables_of<'t>(alloc: Global, key: Key, tree: &'t Tree) -> Result<Box<Tables<'t>>, AllocError>
     ensures { IfOk result (λ tables. TablesRepresent (globals (erase.abstract (view.tree tree.now)))
         tables.value tree.now) }
 {
-    let tables = Box::new(alloc, Tables::of_tree(alloc, tree)?)?;
+    let tables = Box::new(alloc, Tables::of_tree(alloc, key, tree)?)?;
     Ok(tables)
 }
 
-/// Compiles a text that was accepted.
+/// Compiles a text that was accepted. The key is that of its names.
 ///
 /// # Errors
 ///
 /// `AllocError` if there is no room for its tables or its program.
-pub fn compile_accepted<'t>(alloc: Global, tree: &'t Tree) -> Result<CompiledText<'t>, AllocError>
+pub fn compile_accepted<'t>(
+    alloc: Global,
+    key: Key,
+    tree: &'t Tree,
+) -> Result<CompiledText<'t>, AllocError>
     requires accepted { Accepted (view.tree tree.now) }
     ensures { IfOk result (IsCompiled tree.now) }
 {
     accepted_tree_has_program(tree);
-    let tables = tables_of(alloc, tree)?;
+    let tables = tables_of(alloc, key, tree)?;
     let program = compile(alloc, tree, &tables)?;
     Ok(CompiledText { program, tables })
 }
@@ -61,9 +66,10 @@ pub fn compile_accepted<'t>(alloc: Global, tree: &'t Tree) -> Result<CompiledTex
 pub fn check<'t>(alloc: Global, tree: &'t Tree) -> Result<CompiledText<'t>, RuleError>
     ensures { Checks tree.now result }
 {
-    match judge(alloc, tree) {
+    let key = Key::of(tree);
+    match judge(alloc, key, tree) {
         Err(error) => Err(error),
-        Ok(()) => match compile_accepted(alloc, tree) {
+        Ok(()) => match compile_accepted(alloc, key, tree) {
             Ok(compiled) => Ok(compiled),
             Err(_) => Err(RuleError::Memory),
         },

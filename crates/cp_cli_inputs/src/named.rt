@@ -1,20 +1,17 @@
-//! The processes of a text by name: their numbers, and the joined input of those that have one.
+//! The processes and monitors of a text by name: which there are, the numbers of processes, and
+//! their joined input.
 
 ghost use Rattle.std.specs.Prelude.{◌≡◌};
 ghost use Rattle.cp_frontend.specs.declared.refusal.Refusal.TheVariants as refusal;
 ghost use Rattle.cp_cli_inputs.specs.declared.named.InputError.TheVariants as error;
 
 use cp_check::checking::tables_of;
-use cp_compile_symbols::{Field, small_number};
-use cp_frontend::checking::tree_of;
+use cp_frontend::checking::{AcceptedTree, accept};
 use cp_frontend::cutting::MAX_INPUT_BYTES;
 use cp_frontend::joining::{join, misplaced};
 use cp_frontend::reading::{ReadError, read_text};
 use cp_frontend::refusal::Refusal;
-use cp_inspect::component_table::INITIAL;
-use cp_inspect::listing::components;
-use cp_model::tree::{Sort, Tree};
-use cp_rules::text::judge;
+use cp_inspect::component_table::ComponentTable;
 use std::alloc::{AllocError, AllocFailed, Global};
 use std::io::Read;
 use thiserror::Error;
@@ -68,26 +65,13 @@ impl<'a, T: Drop> From<AllocFailed<T>> for InputError<'a> {
     }
 }
 
-// The processes of an accepted text by number, from 2.
-fn processes<'t>(alloc: Global, tree: &'t Tree) -> Result<Vec<Field<'t>>, Refusal> {
-    judge(alloc, tree)?;
-    Ok(declared_processes(alloc, tree)?)
-}
-
-// The processes that a text declares, from number 2 on.
-fn declared_processes<'t>(alloc: Global, tree: &'t Tree) -> Result<Vec<Field<'t>>, AllocError> {
-    let tables = tables_of(alloc, tree)?;
-    components(alloc, &tables, Sort::Process)
-}
-
-// The index of the process with this name, from 0: its number less one.
-fn index_of(processes: &[Field<'_>], name: &str) -> Option<usize> {
-    let name = name.as_bytes();
-    match processes.iter().position(|process| process.name == name) {
-        Some(at) => Some(at.saturating_add(1)),
-        None if name == INITIAL => Some(0),
-        None => None,
-    }
+// The processes and the monitors of an accepted text.
+fn component_table_of<'t>(
+    alloc: Global,
+    text: &'t AcceptedTree,
+) -> Result<ComponentTable<'t>, AllocError> {
+    let tables = tables_of(alloc, text.key, &text.tree)?;
+    ComponentTable::of(alloc, &tables)
 }
 
 impl<'a, R: Read> InputOf<'a, R> {
@@ -113,14 +97,13 @@ impl<'a, R: Read> InputOf<'a, R> {
 // may have.
 fn read_inputs<'a, R: Read>(
     alloc: Global,
-    processes: &[Field<'_>],
+    component_table: &ComponentTable<'_>,
     named: &mut [InputOf<'a, R>],
     inputs: &mut [Vec<u8>],
 ) -> Result<(), InputError<'a>> {
     let mut length: usize = inputs.len();
     for input in named {
-        let place = index_of(processes, input.process).and_then(|at| inputs.get_mut(at));
-        let Some(place) = place else {
+        let Some(number) = component_table.process(input.process.as_bytes())? else {
             return Err(InputError::NoProcess {
                 process: input.process,
             });
@@ -130,13 +113,15 @@ fn read_inputs<'a, R: Read>(
         if MAX_INPUT_BYTES < length {
             return Err(InputError::Refused(Refusal::InputSize));
         }
-        *place = bytes;
+        if let Some(place) = inputs.get_mut((number as usize).saturating_sub(1)) {
+            *place = bytes;
+        }
     }
     Ok(())
 }
 
-/// Returns the number of the process with this name. Process 1 is named `initial`, unless another
-/// process has that name.
+/// Returns the number of the process with this name, in any letter case. Process 1 is named
+/// `initial`, unless another process has that name.
 ///
 /// # Errors
 ///
@@ -147,17 +132,37 @@ pub fn process_number<'a>(
     text: &[u8],
     name: &'a str,
 ) -> Result<u32, InputError<'a>> {
-    let tree = tree_of(alloc, text)?;
-    let processes = processes(alloc, &tree)?;
-    match index_of(&processes, name) {
-        Some(index) => Ok(small_number(index.saturating_add(1))?),
+    let accepted = accept(alloc, text)?;
+    match component_table_of(alloc, &accepted)?.process(name.as_bytes())? {
+        Some(number) => Ok(number),
         None => Err(InputError::NoProcess { process: name }),
     }
 }
 
-/// Reads the inputs of the processes that are named, and returns the joined input of the text.
-/// Process 1 is named `initial`, unless another process has that name. A process that isn't named
-/// has no input.
+/// Returns the first of these names that no process and no monitor of a text has, in any letter
+/// case, if there is one.
+///
+/// # Errors
+///
+/// S, Y or C if the text isn't accepted, and M if memory runs out.
+pub fn unknown_name<'a>(
+    alloc: Global,
+    text: &[u8],
+    names: &[&'a str],
+) -> Result<Option<&'a str>, Refusal> {
+    let accepted = accept(alloc, text)?;
+    let component_table = component_table_of(alloc, &accepted)?;
+    for name in names {
+        if component_table.member(name.as_bytes())?.is_none() {
+            return Ok(Some(*name));
+        }
+    }
+    Ok(None)
+}
+
+/// Reads the inputs of the processes that are named, in any letter case, and returns the joined
+/// input of the text. Process 1 is named `initial`, unless another process has that name. A process
+/// that isn't named has no input.
 ///
 /// # Errors
 ///
@@ -170,13 +175,13 @@ pub fn joined_input<'a, R: Read>(
     text: &[u8],
     named: &mut [InputOf<'a, R>],
 ) -> Result<Vec<u8>, InputError<'a>> {
-    let tree = tree_of(alloc, text)?;
-    let processes = processes(alloc, &tree)?;
+    let accepted = accept(alloc, text)?;
+    let component_table = component_table_of(alloc, &accepted)?;
     let mut inputs: Vec<Vec<u8>> = Vec::new(alloc);
     inputs.push(Vec::new(alloc))?;
-    for _process in &processes {
+    for _process in &component_table.processes {
         inputs.push(Vec::new(alloc))?;
     }
-    read_inputs(alloc, &processes, named, &mut inputs)?;
+    read_inputs(alloc, &component_table, named, &mut inputs)?;
     Ok(join(alloc, &inputs)?)
 }

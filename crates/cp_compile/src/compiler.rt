@@ -19,7 +19,7 @@ use crate::components::{InitialCompiler, Owner};
 use crate::definitions::TextCompiler;
 use crate::layout::{lay_monitors, lay_processes};
 use crate::system::SystemCompiler;
-use cp_base_names::{Key, NameTable};
+use cp_base_names::NameTable;
 use cp_compile_emit::Emitter;
 use cp_compile_emit::plan::Planner;
 use cp_compile_symbols::{Tables, small_number, small_sum};
@@ -69,7 +69,7 @@ fn compile_code<'t>(
         → IsPlanner tables.now planner.now (globals (text_of tree.now))
         → EndsAt tree.now.body.at [] code.emitter.origins.items) }
 {
-    let mut firsts = NameTable::new(alloc, Key::of(tree));
+    let mut firsts = NameTable::new(alloc, tables.key);
     let mut emitter = Emitter::new(alloc);
     TextCompiler { tables, planner }.sections(&tree.sections, &mut firsts, &mut emitter)?;
     let first = emitter.units()?;

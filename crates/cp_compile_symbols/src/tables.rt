@@ -16,8 +16,10 @@ use cp_model::tree::Tree;
 use std::alloc::{AllocError, Global};
 
 /// What the compiler asks of a text: the names and types of its outermost scope, the layouts of its
-/// types, its system types by their numbers in text order, and the initial process.
+/// types, its system types by their numbers in text order, and the initial process. The key is that
+/// of its names.
 pub struct Tables<'t> {
+    pub key: Key,
     pub names: Names<'t>,
     pub types: Types<'t>,
     pub layouts: Layouts<'t>,
@@ -29,6 +31,7 @@ pub struct Tables<'t> {
 impl Drop for Tables<'_> {
     fn drop(self) {
         let Tables {
+            key: _,
             names: _,
             types: _,
             layouts: _,
@@ -67,11 +70,10 @@ impl<'t> Tables<'t> {
     }
 
     /// Makes the tables of any text. Fails only if there is no room for them.
-    pub fn of_tree(alloc: Global, tree: &'t Tree) -> Result<Tables<'t>, AllocError>
+    pub fn of_tree(alloc: Global, key: Key, tree: &'t Tree) -> Result<Tables<'t>, AllocError>
         ensures { IfOk result (λ tables. TablesRepresent
             (globals (erase.abstract (view.tree tree.now))) tables tree.now) }
     {
-        let key = Key::of(tree);
         let outer = Outer::of_tree(alloc, key, tree)?;
         let names = outer.names;
         let mut types = outer.types;
@@ -81,6 +83,7 @@ impl<'t> Tables<'t> {
         // Whatever has no layout yet gets one.
         layouts.extend(&names, &types)?;
         Ok(Tables {
+            key,
             names,
             types,
             layouts,

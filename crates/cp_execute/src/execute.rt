@@ -72,9 +72,9 @@ fn run_text<H: Threads + Wait + Sync, R: Read, S: Read, W: Write, G: TurnGate>(
     ensures text { TakesText result (R.remaining text.old) (R.remaining text.new) }
     ensures input { TakesInput result (S.remaining input.old) (S.remaining input.new) }
 {
-    let tree = read_accepted(alloc, text)?;
+    let accepted = read_accepted(alloc, text)?;
     let bytes = read_input(alloc, input)?;
-    let report = report_after_run(rt, alloc, &tree, &bytes, run, gate)?;
+    let report = report_after_run(rt, alloc, &accepted, &bytes, run, gate)?;
     write_result(out, &report)
 }
 

@@ -50,9 +50,9 @@ pub fn execute_order<R: Read, S: Read, O: Read, W: Write>(
     ensures input { TakesInput result (S.remaining input.old) (S.remaining input.new) }
     ensures order { TakesOrder result (O.remaining order.old) (O.remaining order.new) }
 {
-    let tree = read_accepted(alloc, text)?;
+    let accepted = read_accepted(alloc, text)?;
     let bytes = read_input(alloc, input)?;
     let events = read_text(alloc, order)?;
-    let report = report_after_replay(alloc, &tree, &bytes, &events, replay)?;
+    let report = report_after_replay(alloc, &accepted, &bytes, &events, replay)?;
     write_result(out, &report)
 }

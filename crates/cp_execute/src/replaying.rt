@@ -20,6 +20,7 @@ use cp_base_schedule::reading::read_orders;
 use cp_check::checking::{CompiledText, compile_accepted};
 use cp_compile_symbols::Tables;
 use cp_execute_start::starting::machine_at_start;
+use cp_frontend::checking::AcceptedTree;
 use cp_frontend::refusal::Refusal;
 use cp_model::tree::Tree;
 use cp_model_machine::law::{reports, waits};
@@ -122,16 +123,25 @@ fn replay_text(
 /// O1 if the bytes aren't an order of its processes, M if memory runs out.
 pub(crate) fn report_after_replay(
     alloc: Global,
-    tree: &Tree,
+    accepted: &AcceptedTree,
     input: &[u8],
     order: &[u8],
     replay: &Replay,
 ) -> Result<Vec<u8>, Refusal>
-    requires accepted { Accepted (view.tree tree.now) }
+    requires accepted { Accepted (view.tree accepted.now.tree) }
     ensures report { IfOk result
-        (λ bytes. IsReplayed replay.now (view.tree tree.now) input.now order.now bytes.items) }
-    ensures refused { IfErr result (RefusesOrder (view.tree tree.now) order.now) }
+        (λ bytes. IsReplayed replay.now (view.tree accepted.now.tree) input.now order.now
+        bytes.items) }
+    ensures refused { IfErr result (RefusesOrder (view.tree accepted.now.tree) order.now) }
 {
-    let CompiledText { program, tables } = compile_accepted(alloc, tree)?;
-    replay_text(alloc, tree, program, &tables, input, order, replay)
+    let CompiledText { program, tables } = compile_accepted(alloc, accepted.key, &accepted.tree)?;
+    replay_text(
+        alloc,
+        &accepted.tree,
+        program,
+        &tables,
+        input,
+        order,
+        replay,
+    )
 }

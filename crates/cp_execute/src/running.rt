@@ -12,8 +12,8 @@ use cp_base_config::run::Run;
 use cp_check::checking::{CompiledText, compile_accepted};
 use cp_compile_symbols::Tables;
 use cp_execute_start::starting::machine_at_start;
+use cp_frontend::checking::AcceptedTree;
 use cp_frontend::refusal::Refusal;
-use cp_model::tree::Tree;
 use cp_model_machine::law::{reports, waits};
 use cp_program::program::Program;
 use cp_report::report::{report, report_with_chains};
@@ -91,16 +91,16 @@ fn run_program<H: Threads + Wait + Sync, G: TurnGate>(
 pub(crate) fn report_after_run<H: Threads + Wait + Sync, G: TurnGate>(
     rt: &H,
     alloc: Global,
-    tree: &Tree,
+    accepted: &AcceptedTree,
     input: &[u8],
     run: &Run,
     gate: &G,
 ) -> Result<Vec<u8>, Refusal>
-    requires accepted { Accepted (view.tree tree.now) }
+    requires accepted { Accepted (view.tree accepted.now.tree) }
     ensures report { IfOk result
-        (λ bytes. IsDue run.now (view.tree tree.now) input.now bytes.items) }
+        (λ bytes. IsDue run.now (view.tree accepted.now.tree) input.now bytes.items) }
     ensures memory { IfErr result (λ e. e ≡ refusal.Memory) }
 {
-    let CompiledText { program, tables } = compile_accepted(alloc, tree)?;
+    let CompiledText { program, tables } = compile_accepted(alloc, accepted.key, &accepted.tree)?;
     run_program(rt, alloc, program, &tables, input, run, gate)
 }

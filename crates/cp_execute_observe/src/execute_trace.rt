@@ -11,66 +11,14 @@ ghost use Rattle.cp_frontend.specs.declared.refusal.Refusal.TheVariants as refus
 
 use crate::tracing::machine_after_trace;
 use cp_base_config::trace::Tracing;
-use cp_check::checking::tables_of;
-use cp_compile_symbols::Tables;
-use cp_frontend::checking::accept;
 use cp_frontend::refusal::Refusal;
 use cp_frontend::sources::{read_accepted, read_input};
-use cp_inspect::component_table::ComponentTable;
-use cp_model::tree::Tree;
 use cp_rounds::finished_machine::FinishedMachine;
 use cp_rounds::gate::TurnGate;
-use std::alloc::{AllocError, Global};
+use std::alloc::Global;
 use std::io::{Read, Write};
 use std::sync::Wait;
 use std::thread::Threads;
-
-// Returns the first of these names that no process and no monitor has, if there is one.
-fn first_unknown<'a>(
-    component_table: &ComponentTable,
-    names: &[&'a str],
-) -> Result<Option<&'a str>, AllocError> {
-    for name in names {
-        if component_table.owner(name.as_bytes())?.is_none() {
-            return Ok(Some(*name));
-        }
-    }
-    Ok(None)
-}
-
-// The same of the processes and monitors in the tables of a text.
-fn unknown_in_tables<'a>(
-    alloc: Global,
-    tables: &Tables<'_>,
-    names: &[&'a str],
-) -> Result<Option<&'a str>, AllocError> {
-    let component_table = ComponentTable::of(alloc, tables)?;
-    first_unknown(&component_table, names)
-}
-
-// The same of those of an accepted text.
-fn unknown_in_tree<'a>(
-    alloc: Global,
-    tree: &Tree,
-    names: &[&'a str],
-) -> Result<Option<&'a str>, AllocError> {
-    let tables = tables_of(alloc, tree)?;
-    unknown_in_tables(alloc, &tables, names)
-}
-
-/// Returns the first of these names that no process and no monitor of a text has, if there is one.
-///
-/// # Errors
-///
-/// S, Y or C if the text isn't accepted, and M if memory runs out.
-pub fn unknown_name<'a>(
-    alloc: Global,
-    text: &[u8],
-    names: &[&'a str],
-) -> Result<Option<&'a str>, Refusal> {
-    let tree = accept(alloc, text)?;
-    Ok(unknown_in_tree(alloc, &tree, names)?)
-}
 
 /// Runs the text of one reader on the input of another, and writes in the form of the trace what
 /// became of its processes and monitors, from the first round that is told. Returns the machine
@@ -108,8 +56,8 @@ pub fn execute_trace<H: Threads + Wait + Sync, R: Read, S: Read, W: Write, G: Tu
     ensures text { TakesText result (R.remaining text.old) (R.remaining text.new) }
     ensures input { TakesInput result (S.remaining input.old) (S.remaining input.new) }
 {
-    let tree = read_accepted(alloc, text)?;
+    let accepted = read_accepted(alloc, text)?;
     let bytes = read_input(alloc, input)?;
-    let machine = machine_after_trace(rt, alloc, &tree, &bytes, only, how, gate, out)?;
+    let machine = machine_after_trace(rt, alloc, &accepted, &bytes, only, how, gate, out)?;
     Ok(machine)
 }

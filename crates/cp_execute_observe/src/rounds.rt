@@ -36,6 +36,7 @@ fn topic_of<'a, 't>(
     let component_table = ComponentTable::of(alloc, machine.tables())?;
     Ok(Topic {
         tree,
+        key: machine.tables().key,
         component_table,
         only,
         done: machine.rounds(),

@@ -10,6 +10,7 @@ use crate::rounds::trace;
 use cp_base_config::trace::Tracing;
 use cp_check::checking::{CompiledText, compile_accepted};
 use cp_execute_start::starting::machine_at_start;
+use cp_frontend::checking::AcceptedTree;
 use cp_frontend::refusal::Refusal;
 use cp_model::tree::Tree;
 use cp_rounds::finished_machine::FinishedMachine;
@@ -53,23 +54,23 @@ fn trace_machine<'t, H: Threads + Wait + Sync, W: Write, G: TurnGate>(
 pub(crate) fn machine_after_trace<H: Threads + Wait + Sync, W: Write, G: TurnGate>(
     rt: &H,
     alloc: Global,
-    tree: &Tree,
+    accepted: &AcceptedTree,
     input: &[u8],
     only: &[&str],
     how: &Tracing,
     gate: &G,
     out: &mut W,
 ) -> Result<FinishedMachine, Refusal>
-    requires accepted { Accepted (view.tree tree.now) }
+    requires accepted { Accepted (view.tree accepted.now.tree) }
     ensures state { IfOk result
-        (λ machine. IsTraced how.now (view.tree tree.now) input.now machine) }
+        (λ machine. IsTraced how.now (view.tree accepted.now.tree) input.now machine) }
     ensures reported { OnOk result
         (WritesTrace how.now.form (W.contents out.old) (W.contents out.new)) }
     ensures written { Extends (W.contents out.old) (W.contents out.new) }
     ensures fault { IfErr result IsMemoryOrWrite }
 {
-    let compiled = compile_accepted(alloc, tree)?;
+    let compiled = compile_accepted(alloc, accepted.key, &accepted.tree)?;
     let CompiledText { program, tables } = compiled;
     let machine = machine_at_start(alloc, program, &tables, input, how.tick)?;
-    trace_machine(rt, alloc, tree, machine, only, how, gate, out)
+    trace_machine(rt, alloc, &accepted.tree, machine, only, how, gate, out)
 }

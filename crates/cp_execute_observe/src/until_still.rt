@@ -72,7 +72,7 @@ pub(crate) fn outcome_after_run<H: Threads + Wait + Sync, G: TurnGate>(
         (view.tree text.now.tree) input.now outcome.verdict outcome.bytes.items) }
     ensures memory { IfErr result (λ e. e ≡ refusal.Memory) }
 {
-    let compiled = compile_accepted(alloc, &text.tree)?;
+    let compiled = compile_accepted(alloc, text.key, &text.tree)?;
     let CompiledText { program, tables } = compiled;
     let machine = machine_at_start(alloc, program, &tables, input, how.tick)?;
     outcome_of(rt, alloc, text, machine, how, form, gate)

@@ -2,6 +2,7 @@
 //! that this one hasn't.
 
 use crate::explain::heading_of;
+use cp_base_names::Key;
 use cp_explain_rules::of_violation_in_short;
 use cp_frontend::refusal::Refusal;
 use cp_model::rules::Violation;
@@ -53,17 +54,23 @@ fn push_count(page: &mut Page, count: usize, reported: usize) {
 }
 
 /// All violations of a text in short, in the order of the text, and their number. The first comes
-/// without its heading. Fails only if memory runs out.
-pub fn of_all(alloc: Global, file: &[u8], text: &[u8], tree: &Tree) -> Result<Vec<u8>, AllocError> {
+/// without its heading. The key is that of the names. Fails only if memory runs out.
+pub fn of_all(
+    alloc: Global,
+    key: Key,
+    file: &[u8],
+    text: &[u8],
+    tree: &Tree,
+) -> Result<Vec<u8>, AllocError> {
     let mut page = Page::new(alloc);
-    let list = violations(alloc, tree)?;
+    let list = violations(alloc, key, tree)?;
     let reported = most(text).min(list.len());
     let mut is_first = true;
     for violation in list.iter().take(reported) {
         if !is_first {
             page.bytes(&heading_of(alloc, file, text, &Refusal::from(*violation))?);
         }
-        page.bytes(&of_violation_in_short(alloc, text, tree, *violation)?);
+        page.bytes(&of_violation_in_short(alloc, key, text, tree, *violation)?);
         is_first = false;
     }
     push_hint(&mut page, file, &list);

@@ -15,6 +15,7 @@ use crate::lacking::push_lacking;
 use crate::reported::of_no_tree;
 use cp_base_config::explaining::{Extent, Form};
 use cp_base_digits::decimal::push_natural;
+use cp_base_names::Key;
 use cp_explain_notes::add_notes;
 use cp_explain_rights::graph::graph;
 use cp_explain_rules::of_violation;
@@ -114,6 +115,7 @@ fn explain_refusal(
 // What is told of a text that breaks a rule, after the first heading.
 fn reported_of_tree(
     alloc: Global,
+    key: Key,
     file: &[u8],
     text: &[u8],
     tree: &Tree,
@@ -121,8 +123,8 @@ fn reported_of_tree(
     extent: Extent,
 ) -> Result<Vec<u8>, AllocError> {
     match extent {
-        Extent::First => of_violation(alloc, text, tree, violation),
-        Extent::All => of_all(alloc, file, text, tree),
+        Extent::First => of_violation(alloc, key, text, tree, violation),
+        Extent::All => of_all(alloc, key, file, text, tree),
     }
 }
 
@@ -151,11 +153,12 @@ fn of_tree(
     requires text { IsTextOf text.now (view.tree tree.now) }
     ensures { IfOk result (λ e. Explains file.now text.now e.refusal e.page.items) }
 {
-    match judge(alloc, tree) {
+    let key = Key::of(tree);
+    match judge(alloc, key, tree) {
         Ok(()) => {
-            let mut page = graph(alloc, tree, form)?;
+            let mut page = graph(alloc, key, tree, form)?;
             if form == Form::Lines {
-                add_notes(alloc, &mut page, file, text, tree)?;
+                add_notes(alloc, key, &mut page, file, text, tree)?;
             }
             Ok(Explanation {
                 page: page.finish()?,
@@ -163,7 +166,7 @@ fn of_tree(
             })
         }
         Err(RuleError::Broken(violation)) => {
-            let reported = reported_of_tree(alloc, file, text, tree, violation, extent)?;
+            let reported = reported_of_tree(alloc, key, file, text, tree, violation, extent)?;
             explain_refusal(alloc, file, text, Refusal::from(violation), &reported)
         }
         Err(RuleError::Memory) => Err(AllocError),

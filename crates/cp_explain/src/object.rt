@@ -13,6 +13,7 @@ use crate::all::most;
 use crate::explain::{Explanation, place, push_code, read};
 use crate::reported::of_no_tree;
 use cp_base_config::explaining::Extent;
+use cp_base_names::Key;
 use cp_explain_notes::{NoteText, notes};
 use cp_explain_rules::of_violation_in_short;
 use cp_frontend::checking::tree_of;
@@ -115,9 +116,14 @@ fn page_of<T: Serialize>(
 }
 
 // The notes on an accepted text.
-fn note_objects(alloc: Global, text: &[u8], tree: &Tree) -> Result<Vec<NoteObject>, AllocError> {
+fn note_objects(
+    alloc: Global,
+    key: Key,
+    text: &[u8],
+    tree: &Tree,
+) -> Result<Vec<NoteObject>, AllocError> {
     let mut all = Vec::new(alloc);
-    for note in &notes(alloc, text, tree)? {
+    for note in &notes(alloc, key, text, tree)? {
         all.push(note_object(alloc, note)?)?;
     }
     Ok(all)
@@ -126,13 +132,14 @@ fn note_objects(alloc: Global, text: &[u8], tree: &Tree) -> Result<Vec<NoteObjec
 // The violations that are told of a text.
 fn violation_objects(
     alloc: Global,
+    key: Key,
     text: &[u8],
     tree: &Tree,
     list: &[Violation],
 ) -> Result<Vec<ViolationObject>, AllocError> {
     let mut all = Vec::new(alloc);
     for violation in list.iter().take(most(text)) {
-        let reported = of_violation_in_short(alloc, text, tree, *violation)?;
+        let reported = of_violation_in_short(alloc, key, text, tree, *violation)?;
         let refusal = Refusal::from(*violation);
         all.push(violation_object(alloc, text, &refusal, &reported)?)?;
     }
@@ -142,6 +149,7 @@ fn violation_objects(
 // A text that breaks a rule: the first violation, or all of them.
 fn refused(
     alloc: Global,
+    key: Key,
     text: &[u8],
     tree: &Tree,
     first: Violation,
@@ -149,9 +157,9 @@ fn refused(
 ) -> Result<RefusedObject, AllocError> {
     let list = match extent {
         Extent::First => Vec::from_slice(alloc, &[first])?,
-        Extent::All => violations(alloc, tree)?,
+        Extent::All => violations(alloc, key, tree)?,
     };
-    let violations = violation_objects(alloc, text, tree, &list)?;
+    let violations = violation_objects(alloc, key, text, tree, &list)?;
     let untold = list.len().saturating_sub(violations.len());
     Ok(RefusedObject {
         accepted: false,
@@ -169,16 +177,17 @@ fn of_tree(
     requires text { IsTextOf text.now (view.tree tree.now) }
     ensures { IfOk result (λ e. IsObjectOf text.now e.refusal e.page.items) }
 {
-    match judge(alloc, tree) {
+    let key = Key::of(tree);
+    match judge(alloc, key, tree) {
         Ok(()) => {
             let accepted = AcceptedObject {
                 accepted: true,
-                notes: note_objects(alloc, text, tree)?,
+                notes: note_objects(alloc, key, text, tree)?,
             };
             page_of(alloc, &accepted, None)
         }
         Err(RuleError::Broken(violation)) => {
-            let refused = refused(alloc, text, tree, violation, extent)?;
+            let refused = refused(alloc, key, text, tree, violation, extent)?;
             page_of(alloc, &refused, Some(Refusal::from(violation)))
         }
         Err(RuleError::Memory) => Err(AllocError),

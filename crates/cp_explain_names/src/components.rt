@@ -15,9 +15,8 @@ pub struct Systems<'t> {
 }
 
 impl<'t> Systems<'t> {
-    /// Collects the system types of a tree. Fails only if memory runs out.
-    pub fn of(alloc: Global, tree: &'t Tree) -> Result<Systems<'t>, AllocError> {
-        let key = Key::of(tree);
+    /// Collects the system types of a tree, whose names have this key. Fails only if memory runs out.
+    pub fn of(alloc: Global, key: Key, tree: &'t Tree) -> Result<Systems<'t>, AllocError> {
         let mut systems = Systems {
             names: NameTable::new(alloc, key),
             key,

@@ -123,9 +123,15 @@ impl<'t> Walk<'t> {
     }
 }
 
-/// The notes on an accepted text, in the order of the text. Fails only if memory runs out.
-pub fn notes(alloc: Global, text: &[u8], tree: &Tree) -> Result<Vec<NoteText>, AllocError> {
-    let mut walk = Walk::new(alloc, Key::of(tree))?;
+/// The notes on an accepted text, in the order of the text. The key is that of its names. Fails
+/// only if memory runs out.
+pub fn notes(
+    alloc: Global,
+    key: Key,
+    text: &[u8],
+    tree: &Tree,
+) -> Result<Vec<NoteText>, AllocError> {
+    let mut walk = Walk::new(alloc, key)?;
     walk.text(tree)?;
     walk.notes.reported(alloc, text)
 }
@@ -134,12 +140,13 @@ pub fn notes(alloc: Global, text: &[u8], tree: &Tree) -> Result<Vec<NoteText>, A
 /// runs out.
 pub fn add_notes(
     alloc: Global,
+    key: Key,
     page: &mut Page,
     file: &[u8],
     text: &[u8],
     tree: &Tree,
 ) -> Result<(), AllocError> {
-    for note in &notes(alloc, text, tree)? {
+    for note in &notes(alloc, key, text, tree)? {
         note.write(page, file);
     }
     Ok(())

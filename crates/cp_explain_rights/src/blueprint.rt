@@ -110,9 +110,8 @@ pub(crate) struct Blueprints<'t> {
 }
 
 impl<'t> Blueprints<'t> {
-    /// Makes the blueprints of a tree. Fails only if memory runs out.
-    pub fn of(alloc: Global, tree: &'t Tree) -> Result<Blueprints<'t>, AllocError> {
-        let key = Key::of(tree);
+    /// Makes the blueprints of a tree, whose names have this key. Fails only if memory runs out.
+    pub fn of(alloc: Global, key: Key, tree: &'t Tree) -> Result<Blueprints<'t>, AllocError> {
         let mut blueprints = Blueprints {
             kinds: NameTable::new(alloc, key),
             key,

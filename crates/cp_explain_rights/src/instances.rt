@@ -4,6 +4,7 @@
 //! instance gets its rights before they are handed on to its own parts.
 
 use crate::blueprint::{Blueprint, Blueprints, Origin, Part, Right};
+use cp_base_names::Key;
 use cp_model::tree::{Identifier, Sort, Tree};
 use std::alloc::{AllocError, Global};
 
@@ -72,8 +73,8 @@ pub(crate) struct Instances<'t> {
 
 impl<'t> Instances<'t> {
     /// Makes the components of a tree's program. Fails only if memory runs out.
-    pub fn of(alloc: Global, tree: &'t Tree) -> Result<Instances<'t>, AllocError> {
-        let blueprints = Blueprints::of(alloc, tree)?;
+    pub fn of(alloc: Global, key: Key, tree: &'t Tree) -> Result<Instances<'t>, AllocError> {
+        let blueprints = Blueprints::of(alloc, key, tree)?;
         let mut instances = Instances {
             alloc,
             all: Vec::new(alloc),

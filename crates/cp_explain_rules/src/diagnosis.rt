@@ -4,6 +4,7 @@
 
 use crate::finder::Finder;
 use crate::site::{NameRole, Site};
+use cp_base_names::Key;
 use cp_explain_names::components::{Components, Systems};
 use cp_explain_names::scope::{Declaration, Kind};
 use cp_model::rules::{Rule, Violation};
@@ -62,13 +63,14 @@ fn push_hidden(page: &mut Page, text: &[u8], declared: Declaration<'_>) {
 // The sort and the number of the component that a name declares.
 fn number(
     alloc: Global,
+    key: Key,
     tree: &Tree,
     found: Option<&Identifier>,
 ) -> Result<Option<(Sort, usize)>, AllocError> {
     let Some(found) = found else {
         return Ok(None);
     };
-    let systems = Systems::of(alloc, tree)?;
+    let systems = Systems::of(alloc, key, tree)?;
     let components = Components::of(alloc, &systems, &[], &tree.variables)?;
     Ok(match components.find(found) {
         Some(component) => Some((component.sort, component.number)),
@@ -130,13 +132,14 @@ impl<'t> Site<'t> {
 // What stands at the place of a violation.
 fn site_of<'t>(
     alloc: Global,
+    key: Key,
     tree: &'t Tree,
     violation: Violation,
 ) -> Result<Site<'t>, AllocError> {
     let Violation { rule, at } = violation;
     let mut site = Finder::find(tree, at);
     if rule == Rule::C13 {
-        site.number = number(alloc, tree, site.identifier())?;
+        site.number = number(alloc, key, tree, site.identifier())?;
     }
     Ok(site)
 }
@@ -164,15 +167,17 @@ impl<'t> Site<'t> {
     }
 }
 
-/// Explains a broken rule, after the heading. Fails only if memory runs out.
+/// Explains a broken rule, after the heading. The key is that of the text's names. Fails only if
+/// memory runs out.
 pub fn of_violation(
     alloc: Global,
+    key: Key,
     text: &[u8],
     tree: &Tree,
     violation: Violation,
 ) -> Result<Vec<u8>, AllocError> {
     let Violation { rule, at } = violation;
-    let site = site_of(alloc, tree, violation)?;
+    let site = site_of(alloc, key, tree, violation)?;
     let mut page = Page::new(alloc);
     page.message(text, at, site.message(rule), site.about());
     site.push_facts(alloc, &mut page, text, violation)?;
@@ -180,16 +185,17 @@ pub fn of_violation(
     page.finish()
 }
 
-/// Explains a broken rule in short, after the heading: without advice and without the hint. Fails
-/// only if memory runs out.
+/// Explains a broken rule in short, after the heading: without advice and without the hint. The key
+/// is that of the text's names. Fails only if memory runs out.
 pub fn of_violation_in_short(
     alloc: Global,
+    key: Key,
     text: &[u8],
     tree: &Tree,
     violation: Violation,
 ) -> Result<Vec<u8>, AllocError> {
     let Violation { rule, at } = violation;
-    let site = site_of(alloc, tree, violation)?;
+    let site = site_of(alloc, key, tree, violation)?;
     let mut page = Page::new(alloc);
     page.template(site.message(rule).head, site.about());
     page.place(text, at);

@@ -9,7 +9,7 @@ use Rattle.cp_frontend.specs.KnownRefusals.{RefusesInput, RefusesInputOf, Refuse
 use Rattle.cp_model.specs.Syntax as s
 use Rattle.cp_model.specs.View as view
 use Rattle.cp_model.specs.Rules.{Accepted}
-use Rattle.cp_model.specs.declared.tree.Tree.{Tree}
+use Rattle.cp_frontend.specs.declared.checking.AcceptedTree.{AcceptedTree}
 use Rattle.cp_model.specs.Spelling.{Spells}
 use Rattle.cp_model.specs.Tokens.{Token}
 use Rattle.cp_model.proofs.Options.{same_some}
@@ -63,13 +63,13 @@ refused_known (Ok p) known bytes k h = tt
 refused_known (Err e) None bytes k h = tt
 refused_known (Err e) (Some xs) bytes k h = refuses_text xs e (subst (λ (ys : List ℕ). Refuses ys e) k h)
 
-pub accepted_known : (r : Result Tree Refusal) (known : Option (List ℕ)) (bytes : List ℕ) → IfSome known (λ xs. bytes ≡ front xs)
-    → IfOk r (λ t. IsAccepted bytes (view.tree t)) → IfOk r (λ t. IfSome known (λ xs. IsAccepted xs (view.tree t)))
+pub accepted_known : (r : Result AcceptedTree Refusal) (known : Option (List ℕ)) (bytes : List ℕ) → IfSome known (λ xs. bytes ≡ front xs)
+    → IfOk r (λ t. IsAccepted bytes (view.tree t.tree)) → IfOk r (λ t. IfSome known (λ xs. IsAccepted xs (view.tree t.tree)))
 accepted_known (Err e) known bytes k h = tt
 accepted_known (Ok t) None bytes k h = tt
-accepted_known (Ok t) (Some xs) bytes k h = subst (λ (ys : List ℕ). IsAccepted ys (view.tree t)) (whole bytes xs k h.text.within) h
+accepted_known (Ok t) (Some xs) bytes k h = subst (λ (ys : List ℕ). IsAccepted ys (view.tree t.tree)) (whole bytes xs k h.text.within) h
 
-pub known_accepted : (r : Result Tree Refusal) (bytes : List ℕ) → IfOk r (λ t. IsAccepted bytes (view.tree t)) → IfOk r (λ t. Accepted (view.tree t))
+pub known_accepted : (r : Result AcceptedTree Refusal) (bytes : List ℕ) → IfOk r (λ t. IsAccepted bytes (view.tree t.tree)) → IfOk r (λ t. Accepted (view.tree t.tree))
 known_accepted (Err e) bytes h = h
 known_accepted (Ok t) bytes h = h.accepted
 

@@ -6,11 +6,19 @@ ghost use Rattle.cp_frontend.specs.Refusals.{of_syntax};
 ghost use Rattle.cp_frontend.specs.Texts.{IsAccepted, IsTextOf, Refuses};
 
 use crate::refusal::Refusal;
+use cp_base_names::Key;
 use cp_model::tree::Tree;
 use cp_rules::text::judge;
 use cp_scan::scan;
 use cp_syntax::{SyntaxError, parse};
 use std::alloc::Global;
+
+/// The syntax tree of an accepted text, and the key of its names.
+#[derive(Drop)]
+pub struct AcceptedTree {
+    pub tree: Tree,
+    pub key: Key,
+}
 
 fn syntax_refusal(error: SyntaxError) -> Refusal
     ensures { result ≡ of_syntax error }
@@ -47,11 +55,12 @@ pub fn tree_of(alloc: Global, text: &[u8]) -> Result<Tree, Refusal>
 /// # Errors
 ///
 /// A refusal of S, Y or C, in this order, if the text isn't accepted, and M if memory runs out.
-pub fn accept(alloc: Global, text: &[u8]) -> Result<Tree, Refusal>
-    ensures accepted { IfOk result (λ t. IsAccepted text.now (view.tree t)) }
+pub fn accept(alloc: Global, text: &[u8]) -> Result<AcceptedTree, Refusal>
+    ensures accepted { IfOk result (λ t. IsAccepted text.now (view.tree t.tree)) }
     ensures refused { IfErr result (Refuses text.now) }
 {
     let tree = tree_of(alloc, text)?;
-    judge(alloc, &tree)?;
-    Ok(tree)
+    let key = Key::of(&tree);
+    judge(alloc, key, &tree)?;
+    Ok(AcceptedTree { tree, key })
 }

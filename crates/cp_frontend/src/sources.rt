@@ -8,19 +8,21 @@ ghost use Rattle.cp_frontend.specs.KnownRefusals.{RefusesInputOf, RefusesText};
 ghost use Rattle.cp_frontend.specs.Takings.{IsAboutText, TakesInput, TakesText, concern};
 ghost use Rattle.cp_frontend.specs.Texts.{IsAccepted};
 
-use crate::checking::accept;
+use crate::checking::{AcceptedTree, accept};
 use crate::cutting::check_input;
 use crate::reading::read_text;
 use crate::refusal::Refusal;
+use cp_base_names::Key;
 use cp_model::tree::Tree;
 use std::alloc::Global;
 use std::io::Read;
 
-/// The bytes of a text, and its syntax tree.
+/// The bytes of an accepted text, its syntax tree, and the key of its names.
 #[derive(Drop)]
 pub struct Text {
     pub bytes: Vec<u8>,
     pub tree: Tree,
+    pub key: Key,
 }
 
 /// Reads a text and returns it if it is accepted.
@@ -37,8 +39,12 @@ pub fn read_accepted_text<R: Read>(alloc: Global, text: &mut R) -> Result<Text, 
     ensures taken { TakesText result (R.remaining text.old) (R.remaining text.new) }
 {
     let bytes = read_text(alloc, text)?;
-    let tree = accept(alloc, &bytes)?;
-    Ok(Text { bytes, tree })
+    let accepted = accept(alloc, &bytes)?;
+    Ok(Text {
+        bytes,
+        tree: accepted.tree,
+        key: accepted.key,
+    })
 }
 
 /// Reads a text and returns its syntax tree if the text is accepted.
@@ -46,16 +52,19 @@ pub fn read_accepted_text<R: Read>(alloc: Global, text: &mut R) -> Result<Text, 
 /// # Errors
 ///
 /// As `read_accepted_text`.
-pub fn read_accepted<R: Read>(alloc: Global, text: &mut R) -> Result<Tree, Refusal>
-    ensures accepted { IfOk result (λ t. Accepted (view.tree t)) }
+pub fn read_accepted<R: Read>(alloc: Global, text: &mut R) -> Result<AcceptedTree, Refusal>
+    ensures accepted { IfOk result (λ t. Accepted (view.tree t.tree)) }
     ensures text { IfOk result
-        (λ t. IfSome (R.remaining text.old) (λ xs. IsAccepted xs (view.tree t))) }
+        (λ t. IfSome (R.remaining text.old) (λ xs. IsAccepted xs (view.tree t.tree))) }
     ensures refused { IfErr result (λ e. IfSome (R.remaining text.old) (λ xs. RefusesText xs e)) }
     ensures about_text { IfErr result (λ e. IsAboutText (concern e)) }
     ensures taken { TakesText result (R.remaining text.old) (R.remaining text.new) }
 {
     let read = read_accepted_text(alloc, text)?;
-    Ok(read.tree)
+    Ok(AcceptedTree {
+        tree: read.tree,
+        key: read.key,
+    })
 }
 
 /// Reads an input and returns it if it is fit for a run.

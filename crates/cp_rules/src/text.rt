@@ -78,13 +78,14 @@ impl<'t> Checker<'t> {
     // told in the definitions, the rest is judged only if it could tell something earlier.
     fn text(
         alloc: Global,
+        key: Key,
         diagnostics: Diagnostics,
         tree: &'t Tree,
     ) -> Result<Checker<'t>, AllocError>
         requires nothing { diagnostics ≡ None }
         ensures { IfOk result (λ c. c.diagnostics ≡ first_violation (view.tree tree.now)) }
     {
-        let mut checker = Checker::new(alloc, Key::of(tree), diagnostics)?;
+        let mut checker = Checker::new(alloc, key, diagnostics)?;
         let left = checker.define_until_broken(tree)?;
         if checker.is_decided(&left) {
             return Ok(checker);
@@ -94,15 +95,15 @@ impl<'t> Checker<'t> {
     }
 }
 
-/// Judges a text by all rules.
+/// Judges a text by all rules. The key is that of its names.
 ///
 /// # Errors
 ///
 /// `Broken` if the text breaks a rule, `Memory` if memory runs out.
-pub fn judge(alloc: Global, tree: &Tree) -> Result<(), RuleError>
+pub fn judge(alloc: Global, key: Key, tree: &Tree) -> Result<(), RuleError>
     ensures { Judges (view.tree tree.now) result }
 {
-    match Checker::text(alloc, Diagnostics::earliest(), tree) {
+    match Checker::text(alloc, key, Diagnostics::earliest(), tree) {
         Err(_) => Err(RuleError::Memory),
         Ok(checker) => match checker.diagnostics.first() {
             Some(violation) => Err(RuleError::Broken(violation)),
@@ -112,14 +113,14 @@ pub fn judge(alloc: Global, tree: &Tree) -> Result<(), RuleError>
 }
 
 /// All violations of a text, in the order of their places, and of several at one place by the
-/// number of the rule. None is listed twice.
+/// number of the rule. None is listed twice. The key is that of the text's names.
 ///
 /// # Errors
 ///
 /// Memory runs out.
-pub fn violations(alloc: Global, tree: &Tree) -> Result<Vec<Violation>, AllocError>
+pub fn violations(alloc: Global, key: Key, tree: &Tree) -> Result<Vec<Violation>, AllocError>
     ensures { IfOk result (λ list. Lists (view.tree tree.now) list.items) }
 {
-    let checker = Checker::text(alloc, Diagnostics::all(alloc), tree)?;
+    let checker = Checker::text(alloc, key, Diagnostics::all(alloc), tree)?;
     checker.diagnostics.into_list(alloc)
 }

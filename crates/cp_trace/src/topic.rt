@@ -1,5 +1,6 @@
 //! Of what a trace tells.
 
+use cp_base_names::Key;
 use cp_inspect::component_table::ComponentTable;
 use cp_model::tree::Tree;
 
@@ -8,6 +9,8 @@ use cp_model::tree::Tree;
 pub struct Topic<'a, 't> {
     /// The tree of the text.
     pub tree: &'t Tree,
+    /// The key of its names.
+    pub key: Key,
     /// Its processes and monitors.
     pub component_table: ComponentTable<'t>,
     /// The names of those that are told of, or none if all are. A name that no process or monitor

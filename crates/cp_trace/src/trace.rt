@@ -83,7 +83,7 @@ impl<'t> Trace<'t> {
         let owners = chosen(alloc, &topic.component_table, topic.only)?;
         let mut trace = Trace {
             alloc,
-            vocabulary: Vocabulary::of(alloc, topic.component_table, topic.tree)?,
+            vocabulary: Vocabulary::of(alloc, topic.key, topic.component_table, topic.tree)?,
             shapes: Shapes::new(alloc),
             all: Vec::new(alloc),
         };

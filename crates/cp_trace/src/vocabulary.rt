@@ -37,8 +37,12 @@ fn add_enumerations<'t>(
     Ok(())
 }
 
-fn enumerations<'t>(alloc: Global, tree: &'t Tree) -> Result<Enumerations<'t>, AllocError> {
-    let mut enumerations = NameTable::new(alloc, Key::of(tree));
+fn enumerations<'t>(
+    alloc: Global,
+    key: Key,
+    tree: &'t Tree,
+) -> Result<Enumerations<'t>, AllocError> {
+    let mut enumerations = NameTable::new(alloc, key);
     for section in &tree.sections {
         if let Section::Types(definitions) = section {
             add_enumerations(&mut enumerations, definitions)?;
@@ -51,13 +55,14 @@ impl<'t> Vocabulary<'t> {
     /// Returns the vocabulary of a text with this tree, whose processes and monitors these are.
     pub(crate) fn of(
         alloc: Global,
+        key: Key,
         component_table: ComponentTable<'t>,
         tree: &'t Tree,
     ) -> Result<Vocabulary<'t>, AllocError> {
         Ok(Vocabulary {
             alloc,
             component_table,
-            enumerations: enumerations(alloc, tree)?,
+            enumerations: enumerations(alloc, key, tree)?,
         })
     }
 

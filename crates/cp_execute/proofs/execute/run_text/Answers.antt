@@ -13,21 +13,21 @@ use Rattle.cp_frontend.proofs.Takings.{input_kept, input_written, memory_at, no_
 use Rattle.cp_frontend.proofs.TextRefusals.{of_known, run_refused_input, run_refused_text}
 use Rattle.cp_execute.proofs.execute.run_text.Given.{Over}
 use Rattle.cp_execute.proofs.execute.run_text.Goals as goal
-use Rattle.cp_execute.proofs.execute.run_text.Goals.{After-drop-tree-2}
+use Rattle.cp_execute.proofs.execute.run_text.Goals.{After-drop-accepted-2}
 
 -- The text is accepted and the input, if it is known, is fit. The report that was made is the one
 -- that is due.
-abbrev Made : (g : Over) → After-drop-tree-2 g → List ℕ → Type 0
+abbrev Made : (g : Over) → After-drop-accepted-2 g → List ℕ → Type 0
 Made g c xs =
-    IsAccepted xs (view.tree c.in_ok-tree.tree)
+    IsAccepted xs (view.tree c.in_ok-accepted.accepted.tree)
     × ((ys : List ℕ) → g.S.Read.remaining c.args.input.now ≡ Some ys
-    → (judge_input ys ≡ Ok tt) × IsDue c.args.run.now (view.tree c.in_ok-tree.tree) ys c.in_ok-report.report.items)
+    → (judge_input ys ≡ Ok tt) × IsDue c.args.run.now (view.tree c.in_ok-accepted.accepted.tree) ys c.in_ok-report.report.items)
 
-made : (g : Over) (c : After-drop-tree-2 g) (xs : List ℕ) → g.R.Read.remaining c.args.text.now ≡ Some xs → Made g c xs
-made g c xs text = (of_known (λ zs. IsAccepted zs t) (g.R.Read.remaining c.args.text.now) xs c.in_ok-tree.ensures.text text, of_input)
+made : (g : Over) (c : After-drop-accepted-2 g) (xs : List ℕ) → g.R.Read.remaining c.args.text.now ≡ Some xs → Made g c xs
+made g c xs text = (of_known (λ zs. IsAccepted zs t) (g.R.Read.remaining c.args.text.now) xs c.in_ok-accepted.ensures.text text, of_input)
   where
     t : s.Tree
-    t = view.tree c.in_ok-tree.tree
+    t = view.tree c.in_ok-accepted.accepted.tree
 
     of_input : (ys : List ℕ) → g.S.Read.remaining c.args.input.now ≡ Some ys → (judge_input ys ≡ Ok tt) × IsDue c.args.run.now t ys c.in_ok-report.report.items
     of_input ys input =
@@ -38,31 +38,31 @@ made g c xs text = (of_known (λ zs. IsAccepted zs t) (g.R.Read.remaining c.args
 
 -- ---- the text is refused
 
-pub returns-in_err-tree-clause-beginning : goal.returns-in_err-tree-clause-beginning
-returns-in_err-tree-clause-beginning g c =
+pub returns-in_err-accepted-clause-beginning : goal.returns-in_err-accepted-clause-beginning
+returns-in_err-accepted-clause-beginning g c =
     let p = err_from_is_err_and c.from_residual.result c.from_residual.ensures.1 in
-    rw (p.1, p.2) (λ write. absurd (no_write_of_text c.in_err-tree.field-0.0 c.in_err-tree.ensures.about_text write))
+    rw (p.1, p.2) (λ write. absurd (no_write_of_text c.in_err-accepted.field-0.0 c.in_err-accepted.ensures.about_text write))
 
-pub returns-in_err-tree-clause-refused : goal.returns-in_err-tree-clause-refused
-returns-in_err-tree-clause-refused g c =
+pub returns-in_err-accepted-clause-refused : goal.returns-in_err-accepted-clause-refused
+returns-in_err-accepted-clause-refused g c =
     let p = err_from_is_err_and c.from_residual.result c.from_residual.ensures.1 in
-    rw (p.1, p.2) (λ other. run_refused_text (g.R.Read.remaining c.args.text.now) (g.S.Read.remaining c.args.input.now) c.in_err-tree.field-0.0 c.in_err-tree.ensures.refused)
+    rw (p.1, p.2) (λ other. run_refused_text (g.R.Read.remaining c.args.text.now) (g.S.Read.remaining c.args.input.now) c.in_err-accepted.field-0.0 c.in_err-accepted.ensures.refused)
 
-pub returns-in_err-tree-clause-faults : goal.returns-in_err-tree-clause-faults
-returns-in_err-tree-clause-faults g c =
+pub returns-in_err-accepted-clause-faults : goal.returns-in_err-accepted-clause-faults
+returns-in_err-accepted-clause-faults g c =
     let p = err_from_is_err_and c.from_residual.result c.from_residual.ensures.1 in
-    rw (p.1, p.2) (known_text_fault (g.R.Read.remaining c.args.text.now) (g.S.Read.remaining c.args.input.now) c.in_err-tree.field-0.0 c.in_err-tree.ensures.refused)
+    rw (p.1, p.2) (known_text_fault (g.R.Read.remaining c.args.text.now) (g.S.Read.remaining c.args.input.now) c.in_err-accepted.field-0.0 c.in_err-accepted.ensures.refused)
 
-pub returns-in_err-tree-clause-text : goal.returns-in_err-tree-clause-text
-returns-in_err-tree-clause-text g c =
+pub returns-in_err-accepted-clause-text : goal.returns-in_err-accepted-clause-text
+returns-in_err-accepted-clause-text g c =
     let p = err_from_is_err_and c.from_residual.result c.from_residual.ensures.1 in
-    rw (p.1, p.2) c.in_err-tree.ensures.taken
+    rw (p.1, p.2) c.in_err-accepted.ensures.taken
 
-pub returns-in_err-tree-clause-input : goal.returns-in_err-tree-clause-input
-returns-in_err-tree-clause-input g c =
+pub returns-in_err-accepted-clause-input : goal.returns-in_err-accepted-clause-input
+returns-in_err-accepted-clause-input g c =
     let p = err_from_is_err_and c.from_residual.result c.from_residual.ensures.1 in
     let input = g.S.Read.remaining c.args.input.now in
-    rw (p.1, p.2) (input_kept input input (concern c.in_err-tree.field-0.0) c.in_err-tree.ensures.about_text (Keeps-refl input))
+    rw (p.1, p.2) (input_kept input input (concern c.in_err-accepted.field-0.0) c.in_err-accepted.ensures.about_text (Keeps-refl input))
 
 -- ---- the input is refused
 
@@ -74,8 +74,8 @@ returns-in_err-bytes-clause-beginning g c =
 pub returns-in_err-bytes-clause-refused : goal.returns-in_err-bytes-clause-refused
 returns-in_err-bytes-clause-refused g c =
     let p = err_from_is_err_and c.from_residual-in_err-bytes.result c.from_residual-in_err-bytes.ensures.1 in
-    rw (p.1, p.2) (λ other. run_refused_input (g.R.Read.remaining c.args.text.now) (g.S.Read.remaining c.args.input.now) (view.tree c.in_ok-tree.tree) c.in_err-bytes.field-0.0
-    c.in_ok-tree.ensures.text c.in_err-bytes.ensures.refused)
+    rw (p.1, p.2) (λ other. run_refused_input (g.R.Read.remaining c.args.text.now) (g.S.Read.remaining c.args.input.now) (view.tree c.in_ok-accepted.accepted.tree) c.in_err-bytes.field-0.0
+    c.in_ok-accepted.ensures.text c.in_err-bytes.ensures.refused)
 
 pub returns-in_err-bytes-clause-faults : goal.returns-in_err-bytes-clause-faults
 returns-in_err-bytes-clause-faults g c =
@@ -85,7 +85,7 @@ returns-in_err-bytes-clause-faults g c =
 pub returns-in_err-bytes-clause-text : goal.returns-in_err-bytes-clause-text
 returns-in_err-bytes-clause-text g c =
     let p = err_from_is_err_and c.from_residual-in_err-bytes.result c.from_residual-in_err-bytes.ensures.1 in
-    rw (p.1, p.2) (text_at _ _ (concern c.in_err-bytes.field-0.0) c.in_ok-tree.ensures.taken)
+    rw (p.1, p.2) (text_at _ _ (concern c.in_err-bytes.field-0.0) c.in_ok-accepted.ensures.taken)
 
 pub returns-in_err-bytes-clause-input : goal.returns-in_err-bytes-clause-input
 returns-in_err-bytes-clause-input g c =
@@ -102,7 +102,7 @@ returns-in_err-report-clause-faults g c =
 pub returns-in_err-report-clause-text : goal.returns-in_err-report-clause-text
 returns-in_err-report-clause-text g c =
     let p = err_from_is_err_and c.from_residual-in_err-report.result c.from_residual-in_err-report.ensures.1 in
-    rw (p.1, p.2) (text_at _ _ (concern c.in_err-report.field-0.0) c.in_ok-tree.ensures.taken)
+    rw (p.1, p.2) (text_at _ _ (concern c.in_err-report.field-0.0) c.in_ok-accepted.ensures.taken)
 
 pub returns-in_err-report-clause-input : goal.returns-in_err-report-clause-input
 returns-in_err-report-clause-input g c =
@@ -116,7 +116,7 @@ returns-clause-reports g c =
     on_ok_weaker c.write_result.result
     (λ written xs text.
     let m = made g c xs text in
-    (view.tree c.in_ok-tree.tree, m.0, λ ys input. let d = m.1 ys input in (d.0, c.in_ok-report.report.items, d.1, written)))
+    (view.tree c.in_ok-accepted.accepted.tree, m.0, λ ys input. let d = m.1 ys input in (d.0, c.in_ok-report.report.items, d.1, written)))
     (rw c.deref-2.ensures.value at c.write_result.ensures.whole)
 
 pub returns-clause-beginning : goal.returns-clause-beginning
@@ -124,14 +124,14 @@ returns-clause-beginning g c =
     on_err c.write_result.result
     (λ e begun write xs text.
     let m = made g c xs text in
-    (view.tree c.in_ok-tree.tree, m.0, λ ys input. let d = m.1 ys input in (d.0, c.in_ok-report.report.items, d.1, begun)))
+    (view.tree c.in_ok-accepted.accepted.tree, m.0, λ ys input. let d = m.1 ys input in (d.0, c.in_ok-report.report.items, d.1, begun)))
     (rw c.deref-2.ensures.value at c.write_result.ensures.beginning)
 
 pub returns-clause-faults : goal.returns-clause-faults
 returns-clause-faults g c = if_err c.write_result.result (λ e write xs t text is. inl (write_fault e write)) c.write_result.ensures.write
 
 pub returns-clause-text : goal.returns-clause-text
-returns-clause-text g c = text_taken c.write_result.result _ _ c.in_ok-tree.ensures.taken
+returns-clause-text g c = text_taken c.write_result.result _ _ c.in_ok-accepted.ensures.taken
 
 pub returns-clause-input : goal.returns-clause-input
 returns-clause-input g c = input_written c.write_result.result _ _ c.in_ok-bytes.ensures.taken c.write_result.ensures.write

@@ -12,35 +12,35 @@ use Rattle.cp_execute.proofs.execute_order.execute_order.Goals as goal
 
 -- ---- the text is refused
 
-pub returns-in_err-tree-clause-beginning : goal.returns-in_err-tree-clause-beginning
-returns-in_err-tree-clause-beginning g c =
+pub returns-in_err-accepted-clause-beginning : goal.returns-in_err-accepted-clause-beginning
+returns-in_err-accepted-clause-beginning g c =
     let p = err_from_is_err_and c.from_residual.result c.from_residual.ensures.1 in
-    rw (p.1, p.2) (λ write. absurd (no_write_of_text c.in_err-tree.field-0.0 c.in_err-tree.ensures.about_text write))
+    rw (p.1, p.2) (λ write. absurd (no_write_of_text c.in_err-accepted.field-0.0 c.in_err-accepted.ensures.about_text write))
 
-pub returns-in_err-tree-clause-refused : goal.returns-in_err-tree-clause-refused
-returns-in_err-tree-clause-refused g c =
+pub returns-in_err-accepted-clause-refused : goal.returns-in_err-accepted-clause-refused
+returns-in_err-accepted-clause-refused g c =
     let p = err_from_is_err_and c.from_residual.result c.from_residual.ensures.1 in
-    rw (p.1, p.2) (λ other. replay_refused_text (g.R.Read.remaining c.args.text.now) (g.S.Read.remaining c.args.input.now) (g.O.Read.remaining c.args.order.now) c.in_err-tree.field-0.0 c.in_err-tree.ensures.refused)
+    rw (p.1, p.2) (λ other. replay_refused_text (g.R.Read.remaining c.args.text.now) (g.S.Read.remaining c.args.input.now) (g.O.Read.remaining c.args.order.now) c.in_err-accepted.field-0.0 c.in_err-accepted.ensures.refused)
 
-pub returns-in_err-tree-clause-accepted : goal.returns-in_err-tree-clause-accepted
-returns-in_err-tree-clause-accepted g c =
+pub returns-in_err-accepted-clause-accepted : goal.returns-in_err-accepted-clause-accepted
+returns-in_err-accepted-clause-accepted g c =
     let p = err_from_is_err_and c.from_residual.result c.from_residual.ensures.1 in
-    rw (p.1, p.2) (text_refused (g.R.Read.remaining c.args.text.now) c.in_err-tree.field-0.0 c.in_err-tree.ensures.refused)
+    rw (p.1, p.2) (text_refused (g.R.Read.remaining c.args.text.now) c.in_err-accepted.field-0.0 c.in_err-accepted.ensures.refused)
 
-pub returns-in_err-tree-clause-text : goal.returns-in_err-tree-clause-text
-returns-in_err-tree-clause-text g c =
+pub returns-in_err-accepted-clause-text : goal.returns-in_err-accepted-clause-text
+returns-in_err-accepted-clause-text g c =
     let p = err_from_is_err_and c.from_residual.result c.from_residual.ensures.1 in
-    rw (p.1, p.2) c.in_err-tree.ensures.taken
+    rw (p.1, p.2) c.in_err-accepted.ensures.taken
 
-pub returns-in_err-tree-clause-input : goal.returns-in_err-tree-clause-input
-returns-in_err-tree-clause-input g c =
+pub returns-in_err-accepted-clause-input : goal.returns-in_err-accepted-clause-input
+returns-in_err-accepted-clause-input g c =
     let p = err_from_is_err_and c.from_residual.result c.from_residual.ensures.1 in
-    rw (p.1, p.2) (input_kept (g.S.Read.remaining c.args.input.now) (g.S.Read.remaining c.args.input.now) (concern c.in_err-tree.field-0.0) c.in_err-tree.ensures.about_text (Keeps-refl (g.S.Read.remaining c.args.input.now)))
+    rw (p.1, p.2) (input_kept (g.S.Read.remaining c.args.input.now) (g.S.Read.remaining c.args.input.now) (concern c.in_err-accepted.field-0.0) c.in_err-accepted.ensures.about_text (Keeps-refl (g.S.Read.remaining c.args.input.now)))
 
-pub returns-in_err-tree-clause-order : goal.returns-in_err-tree-clause-order
-returns-in_err-tree-clause-order g c =
+pub returns-in_err-accepted-clause-order : goal.returns-in_err-accepted-clause-order
+returns-in_err-accepted-clause-order g c =
     let p = err_from_is_err_and c.from_residual.result c.from_residual.ensures.1 in
-    rw (p.1, p.2) (order_after_text (g.O.Read.remaining c.args.order.now) (g.O.Read.remaining c.args.order.now) (concern c.in_err-tree.field-0.0) c.in_err-tree.ensures.about_text (Keeps-refl (g.O.Read.remaining c.args.order.now)))
+    rw (p.1, p.2) (order_after_text (g.O.Read.remaining c.args.order.now) (g.O.Read.remaining c.args.order.now) (concern c.in_err-accepted.field-0.0) c.in_err-accepted.ensures.about_text (Keeps-refl (g.O.Read.remaining c.args.order.now)))
 
 -- ---- the input is refused
 
@@ -52,8 +52,8 @@ returns-in_err-bytes-clause-beginning g c =
 pub returns-in_err-bytes-clause-refused : goal.returns-in_err-bytes-clause-refused
 returns-in_err-bytes-clause-refused g c =
     let p = err_from_is_err_and c.from_residual-in_err-bytes.result c.from_residual-in_err-bytes.ensures.1 in
-    rw (p.1, p.2) (λ other. replay_refused_input (g.R.Read.remaining c.args.text.now) (g.S.Read.remaining c.args.input.now) (g.O.Read.remaining c.args.order.now) (view.tree c.in_ok-tree.tree) c.in_err-bytes.field-0.0
-    c.in_ok-tree.ensures.text c.in_err-bytes.ensures.refused)
+    rw (p.1, p.2) (λ other. replay_refused_input (g.R.Read.remaining c.args.text.now) (g.S.Read.remaining c.args.input.now) (g.O.Read.remaining c.args.order.now) (view.tree c.in_ok-accepted.accepted.tree) c.in_err-bytes.field-0.0
+    c.in_ok-accepted.ensures.text c.in_err-bytes.ensures.refused)
 
 pub returns-in_err-bytes-clause-accepted : goal.returns-in_err-bytes-clause-accepted
 returns-in_err-bytes-clause-accepted g c =
@@ -63,7 +63,7 @@ returns-in_err-bytes-clause-accepted g c =
 pub returns-in_err-bytes-clause-text : goal.returns-in_err-bytes-clause-text
 returns-in_err-bytes-clause-text g c =
     let p = err_from_is_err_and c.from_residual-in_err-bytes.result c.from_residual-in_err-bytes.ensures.1 in
-    rw (p.1, p.2) (text_at _ _ (concern c.in_err-bytes.field-0.0) c.in_ok-tree.ensures.taken)
+    rw (p.1, p.2) (text_at _ _ (concern c.in_err-bytes.field-0.0) c.in_ok-accepted.ensures.taken)
 
 pub returns-in_err-bytes-clause-input : goal.returns-in_err-bytes-clause-input
 returns-in_err-bytes-clause-input g c =
@@ -80,31 +80,31 @@ returns-in_err-bytes-clause-order g c =
 pub returns-in_err-events-clause-beginning : goal.returns-in_err-events-clause-beginning
 returns-in_err-events-clause-beginning g c =
     let p = err_from_is_err_and c.from_residual-in_err-events.result c.from_residual-in_err-events.ensures.1 in
-    let unread = order_unread (g.O.Read.remaining c.args.order.now) (view.tree c.in_ok-tree.tree) c.in_err-events.field-0.0 in
+    let unread = order_unread (g.O.Read.remaining c.args.order.now) (view.tree c.in_ok-accepted.accepted.tree) c.in_err-events.field-0.0 in
     rw (p.1, p.2) (λ write. absurd (no_write_of_order _ unread.0 write))
 
 pub returns-in_err-events-clause-refused : goal.returns-in_err-events-clause-refused
 returns-in_err-events-clause-refused g c =
     let p = err_from_is_err_and c.from_residual-in_err-events.result c.from_residual-in_err-events.ensures.1 in
-    let unread = order_unread (g.O.Read.remaining c.args.order.now) (view.tree c.in_ok-tree.tree) c.in_err-events.field-0.0 in
-    rw (p.1, p.2) (λ other. replay_refused_order (g.R.Read.remaining c.args.text.now) (g.S.Read.remaining c.args.input.now) (g.O.Read.remaining c.args.order.now) (view.tree c.in_ok-tree.tree) _ c.in_ok-tree.ensures.text
+    let unread = order_unread (g.O.Read.remaining c.args.order.now) (view.tree c.in_ok-accepted.accepted.tree) c.in_err-events.field-0.0 in
+    rw (p.1, p.2) (λ other. replay_refused_order (g.R.Read.remaining c.args.text.now) (g.S.Read.remaining c.args.input.now) (g.O.Read.remaining c.args.order.now) (view.tree c.in_ok-accepted.accepted.tree) _ c.in_ok-accepted.ensures.text
     (input_is_fit (g.S.Read.remaining c.args.input.now) c.in_ok-bytes.bytes.items c.in_ok-bytes.ensures.input c.in_ok-bytes.ensures.judged) unread)
 
 pub returns-in_err-events-clause-accepted : goal.returns-in_err-events-clause-accepted
 returns-in_err-events-clause-accepted g c =
     let p = err_from_is_err_and c.from_residual-in_err-events.result c.from_residual-in_err-events.ensures.1 in
-    let unread = order_unread (g.O.Read.remaining c.args.order.now) (view.tree c.in_ok-tree.tree) c.in_err-events.field-0.0 in
+    let unread = order_unread (g.O.Read.remaining c.args.order.now) (view.tree c.in_ok-accepted.accepted.tree) c.in_err-events.field-0.0 in
     rw (p.1, p.2) (order_refused (g.R.Read.remaining c.args.text.now) _ unread.0)
 
 pub returns-in_err-events-clause-text : goal.returns-in_err-events-clause-text
 returns-in_err-events-clause-text g c =
     let p = err_from_is_err_and c.from_residual-in_err-events.result c.from_residual-in_err-events.ensures.1 in
-    rw (p.1, p.2) (text_at _ _ (concern (of_read c.in_err-events.field-0.0)) c.in_ok-tree.ensures.taken)
+    rw (p.1, p.2) (text_at _ _ (concern (of_read c.in_err-events.field-0.0)) c.in_ok-accepted.ensures.taken)
 
 pub returns-in_err-events-clause-input : goal.returns-in_err-events-clause-input
 returns-in_err-events-clause-input g c =
     let p = err_from_is_err_and c.from_residual-in_err-events.result c.from_residual-in_err-events.ensures.1 in
-    let unread = order_unread (g.O.Read.remaining c.args.order.now) (view.tree c.in_ok-tree.tree) c.in_err-events.field-0.0 in
+    let unread = order_unread (g.O.Read.remaining c.args.order.now) (view.tree c.in_ok-accepted.accepted.tree) c.in_err-events.field-0.0 in
     rw (p.1, p.2) (input_before _ _ (concern (of_read c.in_err-events.field-0.0)) unread.0 c.in_ok-bytes.ensures.taken)
 
 pub returns-in_err-events-clause-order : goal.returns-in_err-events-clause-order
@@ -117,63 +117,63 @@ returns-in_err-events-clause-order g c =
 pub returns-in_err-report-clause-beginning : goal.returns-in_err-report-clause-beginning
 returns-in_err-report-clause-beginning g c =
     let p = err_from_is_err_and c.from_residual-in_err-report.result c.from_residual-in_err-report.ensures.1 in
-    let reported : RefusesOrder (view.tree c.in_ok-tree.tree) c.in_ok-events.events.items c.in_err-report.field-0.0 = rw c.deref-2.ensures.value at c.in_err-report.ensures.refused in
-    let refused = refuses_order_of (g.O.Read.remaining c.args.order.now) (view.tree c.in_ok-tree.tree) c.in_ok-events.events.items c.in_err-report.field-0.0 c.in_ok-events.ensures.bytes reported in
+    let reported : RefusesOrder (view.tree c.in_ok-accepted.accepted.tree) c.in_ok-events.events.items c.in_err-report.field-0.0 = rw c.deref-2.ensures.value at c.in_err-report.ensures.refused in
+    let refused = refuses_order_of (g.O.Read.remaining c.args.order.now) (view.tree c.in_ok-accepted.accepted.tree) c.in_ok-events.events.items c.in_err-report.field-0.0 c.in_ok-events.ensures.bytes reported in
     rw (p.1, p.2) (λ write. absurd (no_write_of_order c.in_err-report.field-0.0 refused.0 write))
 
 pub returns-in_err-report-clause-refused : goal.returns-in_err-report-clause-refused
 returns-in_err-report-clause-refused g c =
     let p = err_from_is_err_and c.from_residual-in_err-report.result c.from_residual-in_err-report.ensures.1 in
-    let reported : RefusesOrder (view.tree c.in_ok-tree.tree) c.in_ok-events.events.items c.in_err-report.field-0.0 = rw c.deref-2.ensures.value at c.in_err-report.ensures.refused in
-    let refused = refuses_order_of (g.O.Read.remaining c.args.order.now) (view.tree c.in_ok-tree.tree) c.in_ok-events.events.items c.in_err-report.field-0.0 c.in_ok-events.ensures.bytes reported in
-    rw (p.1, p.2) (λ other. replay_refused_order (g.R.Read.remaining c.args.text.now) (g.S.Read.remaining c.args.input.now) (g.O.Read.remaining c.args.order.now) (view.tree c.in_ok-tree.tree) c.in_err-report.field-0.0 c.in_ok-tree.ensures.text
+    let reported : RefusesOrder (view.tree c.in_ok-accepted.accepted.tree) c.in_ok-events.events.items c.in_err-report.field-0.0 = rw c.deref-2.ensures.value at c.in_err-report.ensures.refused in
+    let refused = refuses_order_of (g.O.Read.remaining c.args.order.now) (view.tree c.in_ok-accepted.accepted.tree) c.in_ok-events.events.items c.in_err-report.field-0.0 c.in_ok-events.ensures.bytes reported in
+    rw (p.1, p.2) (λ other. replay_refused_order (g.R.Read.remaining c.args.text.now) (g.S.Read.remaining c.args.input.now) (g.O.Read.remaining c.args.order.now) (view.tree c.in_ok-accepted.accepted.tree) c.in_err-report.field-0.0 c.in_ok-accepted.ensures.text
     (input_is_fit (g.S.Read.remaining c.args.input.now) c.in_ok-bytes.bytes.items c.in_ok-bytes.ensures.input c.in_ok-bytes.ensures.judged) refused)
 
 pub returns-in_err-report-clause-accepted : goal.returns-in_err-report-clause-accepted
 returns-in_err-report-clause-accepted g c =
     let p = err_from_is_err_and c.from_residual-in_err-report.result c.from_residual-in_err-report.ensures.1 in
-    let reported : RefusesOrder (view.tree c.in_ok-tree.tree) c.in_ok-events.events.items c.in_err-report.field-0.0 = rw c.deref-2.ensures.value at c.in_err-report.ensures.refused in
-    let refused = refuses_order_of (g.O.Read.remaining c.args.order.now) (view.tree c.in_ok-tree.tree) c.in_ok-events.events.items c.in_err-report.field-0.0 c.in_ok-events.ensures.bytes reported in
+    let reported : RefusesOrder (view.tree c.in_ok-accepted.accepted.tree) c.in_ok-events.events.items c.in_err-report.field-0.0 = rw c.deref-2.ensures.value at c.in_err-report.ensures.refused in
+    let refused = refuses_order_of (g.O.Read.remaining c.args.order.now) (view.tree c.in_ok-accepted.accepted.tree) c.in_ok-events.events.items c.in_err-report.field-0.0 c.in_ok-events.ensures.bytes reported in
     rw (p.1, p.2) (order_refused (g.R.Read.remaining c.args.text.now) c.in_err-report.field-0.0 refused.0)
 
 pub returns-in_err-report-clause-text : goal.returns-in_err-report-clause-text
 returns-in_err-report-clause-text g c =
     let p = err_from_is_err_and c.from_residual-in_err-report.result c.from_residual-in_err-report.ensures.1 in
-    rw (p.1, p.2) (text_at _ _ (concern c.in_err-report.field-0.0) c.in_ok-tree.ensures.taken)
+    rw (p.1, p.2) (text_at _ _ (concern c.in_err-report.field-0.0) c.in_ok-accepted.ensures.taken)
 
 pub returns-in_err-report-clause-input : goal.returns-in_err-report-clause-input
 returns-in_err-report-clause-input g c =
     let p = err_from_is_err_and c.from_residual-in_err-report.result c.from_residual-in_err-report.ensures.1 in
-    let reported : RefusesOrder (view.tree c.in_ok-tree.tree) c.in_ok-events.events.items c.in_err-report.field-0.0 = rw c.deref-2.ensures.value at c.in_err-report.ensures.refused in
-    let refused = refuses_order_of (g.O.Read.remaining c.args.order.now) (view.tree c.in_ok-tree.tree) c.in_ok-events.events.items c.in_err-report.field-0.0 c.in_ok-events.ensures.bytes reported in
+    let reported : RefusesOrder (view.tree c.in_ok-accepted.accepted.tree) c.in_ok-events.events.items c.in_err-report.field-0.0 = rw c.deref-2.ensures.value at c.in_err-report.ensures.refused in
+    let refused = refuses_order_of (g.O.Read.remaining c.args.order.now) (view.tree c.in_ok-accepted.accepted.tree) c.in_ok-events.events.items c.in_err-report.field-0.0 c.in_ok-events.ensures.bytes reported in
     rw (p.1, p.2) (input_before _ _ (concern c.in_err-report.field-0.0) refused.0 c.in_ok-bytes.ensures.taken)
 
 pub returns-in_err-report-clause-order : goal.returns-in_err-report-clause-order
 returns-in_err-report-clause-order g c =
     let p = err_from_is_err_and c.from_residual-in_err-report.result c.from_residual-in_err-report.ensures.1 in
-    let reported : RefusesOrder (view.tree c.in_ok-tree.tree) c.in_ok-events.events.items c.in_err-report.field-0.0 = rw c.deref-2.ensures.value at c.in_err-report.ensures.refused in
-    let refused = refuses_order_of (g.O.Read.remaining c.args.order.now) (view.tree c.in_ok-tree.tree) c.in_ok-events.events.items c.in_err-report.field-0.0 c.in_ok-events.ensures.bytes reported in
+    let reported : RefusesOrder (view.tree c.in_ok-accepted.accepted.tree) c.in_ok-events.events.items c.in_err-report.field-0.0 = rw c.deref-2.ensures.value at c.in_err-report.ensures.refused in
+    let refused = refuses_order_of (g.O.Read.remaining c.args.order.now) (view.tree c.in_ok-accepted.accepted.tree) c.in_ok-events.events.items c.in_err-report.field-0.0 c.in_ok-events.ensures.bytes reported in
     rw (p.1, p.2) (order_at _ _ (concern c.in_err-report.field-0.0) refused.0 c.in_ok-events.ensures.front)
 
 -- ---- the report is written
 
 pub returns-clause-done : goal.returns-clause-done
 returns-clause-done g c =
-    let made : IsReplayed c.args.replay.now (view.tree c.in_ok-tree.tree) c.in_ok-bytes.bytes.items c.in_ok-events.events.items c.in_ok-report.report.items =
+    let made : IsReplayed c.args.replay.now (view.tree c.in_ok-accepted.accepted.tree) c.in_ok-bytes.bytes.items c.in_ok-events.events.items c.in_ok-report.report.items =
     rw (c.deref.ensures.value, c.deref-2.ensures.value) at c.in_ok-report.ensures.report in
     on_ok_weaker c.write_result.result
-    (λ written. replay_due c.args.replay.now (g.R.Read.remaining c.args.text.now) (g.S.Read.remaining c.args.input.now) (g.O.Read.remaining c.args.order.now) (view.tree c.in_ok-tree.tree)
-    c.in_ok-bytes.bytes.items c.in_ok-events.events.items c.in_ok-report.report.items _ c.in_ok-tree.ensures.text c.in_ok-bytes.ensures.input
+    (λ written. replay_due c.args.replay.now (g.R.Read.remaining c.args.text.now) (g.S.Read.remaining c.args.input.now) (g.O.Read.remaining c.args.order.now) (view.tree c.in_ok-accepted.accepted.tree)
+    c.in_ok-bytes.bytes.items c.in_ok-events.events.items c.in_ok-report.report.items _ c.in_ok-accepted.ensures.text c.in_ok-bytes.ensures.input
     c.in_ok-bytes.ensures.judged c.in_ok-events.ensures.bytes made written)
     (rw c.deref-3.ensures.value at c.write_result.ensures.whole)
 
 pub returns-clause-beginning : goal.returns-clause-beginning
 returns-clause-beginning g c =
-    let made : IsReplayed c.args.replay.now (view.tree c.in_ok-tree.tree) c.in_ok-bytes.bytes.items c.in_ok-events.events.items c.in_ok-report.report.items =
+    let made : IsReplayed c.args.replay.now (view.tree c.in_ok-accepted.accepted.tree) c.in_ok-bytes.bytes.items c.in_ok-events.events.items c.in_ok-report.report.items =
     rw (c.deref.ensures.value, c.deref-2.ensures.value) at c.in_ok-report.ensures.report in
     on_err c.write_result.result
-    (λ e begun write. replay_due c.args.replay.now (g.R.Read.remaining c.args.text.now) (g.S.Read.remaining c.args.input.now) (g.O.Read.remaining c.args.order.now) (view.tree c.in_ok-tree.tree)
-    c.in_ok-bytes.bytes.items c.in_ok-events.events.items c.in_ok-report.report.items _ c.in_ok-tree.ensures.text c.in_ok-bytes.ensures.input
+    (λ e begun write. replay_due c.args.replay.now (g.R.Read.remaining c.args.text.now) (g.S.Read.remaining c.args.input.now) (g.O.Read.remaining c.args.order.now) (view.tree c.in_ok-accepted.accepted.tree)
+    c.in_ok-bytes.bytes.items c.in_ok-events.events.items c.in_ok-report.report.items _ c.in_ok-accepted.ensures.text c.in_ok-bytes.ensures.input
     c.in_ok-bytes.ensures.judged c.in_ok-events.ensures.bytes made begun)
     (rw c.deref-3.ensures.value at c.write_result.ensures.beginning)
 
@@ -181,7 +181,7 @@ pub returns-clause-accepted : goal.returns-clause-accepted
 returns-clause-accepted g c = if_err c.write_result.result (λ e write. write_refused (g.R.Read.remaining c.args.text.now) e write) c.write_result.ensures.write
 
 pub returns-clause-text : goal.returns-clause-text
-returns-clause-text g c = text_taken c.write_result.result _ _ c.in_ok-tree.ensures.taken
+returns-clause-text g c = text_taken c.write_result.result _ _ c.in_ok-accepted.ensures.taken
 
 pub returns-clause-input : goal.returns-clause-input
 returns-clause-input g c = input_written c.write_result.result _ _ c.in_ok-bytes.ensures.taken c.write_result.ensures.write

@@ -5,7 +5,7 @@ use Rattle.cp_execute_observe.proofs.tracing.machine_after_trace.Goals as goal
 
 pub returns-clause-state : goal.returns-clause-state
 returns-clause-state g c =
-    let t = view.tree c.args.tree.now in
+    let t = view.tree c.args.accepted.now.tree in
     let input = c.args.input.now in
     let begun = c.in_ok-machine.ensures.state t c.in_ok-compiled.ensures.program in
     IfOk-weaker c.trace_machine.result _ (λ m. IsTraced c.args.how.now t input m) (λ m traced. traced t input begun) c.trace_machine.ensures.state
