@@ -153,7 +153,7 @@ pub fn unknown_name<'a>(
     let accepted = accept(alloc, text)?;
     let component_table = component_table_of(alloc, &accepted)?;
     for name in names {
-        if component_table.member(name.as_bytes())?.is_none() {
+        if component_table.owner(name.as_bytes())?.is_none() {
             return Ok(Some(*name));
         }
     }
