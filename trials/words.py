@@ -1,17 +1,13 @@
 #!/usr/bin/env python3
 """Checks the English of the pages: misleading words, long sentences, long lines, and names of files and definitions that don't exist.
 
-    trials/words.py [--comments]      with --comments also the comments of crates, where it looks for words only
-
-It prints each finding with its page and line, and fails if there is one. Code, headings and tables have no sentences; a table's cells are counted by themselves.
+It looks for words in the comments of crates, too. It prints each finding with its page and line, and fails if there is one. Code, headings and tables have no sentences; a table's cells are counted by themselves.
 """
 import pathlib
 import re
 import sys
 
 ROOT = pathlib.Path(__file__).resolve().parent.parent
-# Pages that are still to be rewritten: nothing in them is checked.
-NOT_YET = ()
 MAX_COLUMNS = 100
 MAX_CELL_WORDS = 25
 LONG_SENTENCE_WORDS, MAX_LONG_PERCENT = 30, 5
@@ -27,9 +23,8 @@ AVOIDED = {
     r'anew': 'again',
     r'of whom': 'which',
     r'for ever': 'forever',
-    r'nothing but|alone': 'only',
+    r'nothing but': 'only',
     r'by the clock': 'wall-clock',
-    r'beside': 'next to, with',
     r'slip|slips': 'mistake',
     r'go on|goes on|going on|went on': 'continue, keep',
     r'gives? up|refuses? to': 'stop, fail',
@@ -38,6 +33,8 @@ AVOIDED = {
     r'for all that': 'nevertheless',
     r'asked of|had of': 'for, from',
 }
+# What to avoid in pages. Comments speak of one thing alone, or beside another.
+AVOIDED_IN_PAGES = {r'alone': 'only', r'beside': 'next to, with'}
 # Where these words are right.
 IDIOMS = (r'let alone', r'lays? out', r'stand-ins?')
 DEFINITION = r'`((?:cp_\w+/)?[A-Z]\w+\.\w+)`'
@@ -51,7 +48,7 @@ NOT_KEPT = r'/out\b|(?:FILE|FOLDER|NAME)\b'
 def pages():
     """The pages that are checked."""
     found = [*ROOT.glob('*.md'), *ROOT.glob('*/README.md'), *ROOT.glob('docs/**/*.md')]
-    return sorted({page for page in found if str(page.relative_to(ROOT)) not in NOT_YET})
+    return sorted(set(found))
 
 
 def without_code(page):
@@ -95,10 +92,10 @@ def count_words(text):
     return len(re.findall(r"[\w'-]*\w[\w'-]*", text))
 
 
-def avoided_in(text):
+def avoided_in(text, avoided):
     """The words of a text that should be others."""
     text = re.sub('|'.join(IDIOMS), '', plain(text), flags=re.I)
-    for pattern, better in AVOIDED.items():
+    for pattern, better in avoided.items():
         for found in re.findall(rf'\b(?:{pattern})\b', text, re.I):
             yield f'"{found}": {better}'
 
@@ -106,7 +103,7 @@ def avoided_in(text):
 def wrong_lines(page):
     """Avoided words, long lines and long cells of a page."""
     for number, line in without_code(page):
-        for finding in avoided_in(line):
+        for finding in avoided_in(line, AVOIDED | AVOIDED_IN_PAGES):
             yield number, finding
         if is_table(line):
             for cell in re.split(r'(?<!\\)\|', line):
@@ -162,7 +159,7 @@ def comments():
                 yield file, number, line
 
 
-def main(words):
+def main():
     wrong, counted = [], []
     for page in pages():
         findings = [*wrong_lines(page), *missing_files(page), *wrong_sentences(page, counted)]
@@ -171,11 +168,11 @@ def main(words):
     if 100 * len(long) > MAX_LONG_PERCENT * len(counted):
         wrong += [f'{page.relative_to(ROOT)}:{number}: a sentence of {count} words' for page, number, count in long]
         wrong.append(f'{len(long)} of {len(counted)} sentences have more than {LONG_SENTENCE_WORDS} words')
-    if '--comments' in words:
-        wrong += [f'{file.relative_to(ROOT)}:{number}: {what}' for file, number, line in comments() for what in avoided_in(line)]
+    wrong += [f'{file.relative_to(ROOT)}:{number}: {what}'
+              for file, number, line in comments() for what in avoided_in(line, AVOIDED)]
     print(*wrong, sep='\n', end='\n' if wrong else '')
     return 1 if wrong else 0
 
 
 if __name__ == '__main__':
-    sys.exit(main(sys.argv[1:]))
+    sys.exit(main())

@@ -1,6 +1,6 @@
 //! What an explanation is asked for.
 
-/// How much is told of a refused text.
+/// How much is reported of a refused text.
 #[derive(Clone, Copy)]
 pub enum Extent {
     /// The first refusal.

@@ -1,4 +1,4 @@
-//! How a run is made, and what is asked of it and of explanations: numbers and forms, each within
+//! How a run is made, and what is asked for it and of explanations: numbers and forms, each within
 //! its range, which the command line reads and the crates above obey. Nothing here knows the
 //! machine.
 //!

@@ -39,7 +39,7 @@ fn parts_of(all: usize, size: usize) -> usize
 }
 
 impl Plan {
-    /// Returns the plan with these numbers.
+    /// The plan with these numbers.
     ///
     /// # Errors
     ///
@@ -70,7 +70,7 @@ impl Plan {
         })
     }
 
-    /// Returns how many waves a round of `processes` processes has.
+    /// How many waves a round of `processes` processes has.
     pub fn waves(&self, processes: usize) -> usize
         ensures parts { AreParts result self.now.wave processes }
         ensures most { result ≤ processes }
@@ -78,7 +78,7 @@ impl Plan {
         parts_of(processes, self.wave as usize)
     }
 
-    /// Returns how many chunks the wave at this index has, in a round of `processes` processes.
+    /// How many chunks the wave at this index has, in a round of `processes` processes.
     pub fn chunks(&self, wave: usize, processes: usize) -> usize
         ensures parts { AreParts result self.now.chunk
             (wave_size self.now.wave wave processes) }
@@ -91,7 +91,7 @@ impl Plan {
         parts_of(size, self.chunk as usize)
     }
 
-    /// Returns how many threads make the rounds of `processes` processes: at most one for each
+    /// How many threads make the rounds of `processes` processes: at most one for each
     /// chunk of a wave, and one more if there are several waves, because the calling thread makes
     /// the kernel turns of a wave alongside the next one.
     pub fn threads(&self, processes: usize) -> usize

@@ -1,4 +1,4 @@
-//! Ticks: every `rounds` rounds, the processes that wait for the clock go on.
+//! Ticks: every `rounds` rounds, the processes that wait for the clock continue.
 
 ghost use Rattle.std.specs.Prelude.{◌≡◌, ◌↔◌, IfErr, IfOk, IsOk};
 ghost use Rattle.cp_base_config.specs.Plans.{IsTick};
@@ -14,7 +14,7 @@ pub struct Tick {
 }
 
 impl Tick {
-    /// Returns a tick of `rounds` rounds.
+    /// A tick of `rounds` rounds.
     ///
     /// # Errors
     ///

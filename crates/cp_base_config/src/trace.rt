@@ -3,7 +3,7 @@
 use crate::plan::Plan;
 use crate::tick::Tick;
 
-/// How a trace is told.
+/// How a trace is reported.
 #[derive(Clone, Copy)]
 pub enum TraceForm {
     /// What each round changed, as a line for each process or monitor.
@@ -16,8 +16,8 @@ pub enum TraceForm {
     Svg,
 }
 
-/// The parameters of a trace: the number of rounds, the first round that is told, in which form,
-/// how each is made, and how often the clock ticks.
+/// The parameters of a trace: the number of rounds, the first round that is reported, in which
+/// form, how each is made, and how often the clock ticks.
 #[derive(Clone, Copy)]
 pub struct Tracing {
     pub rounds: u32,

@@ -14,7 +14,7 @@ pub struct Turn {
 }
 
 impl Turn {
-    /// Returns a turn of `steps` steps.
+    /// A turn of `steps` steps.
     ///
     /// # Errors
     ///
@@ -31,7 +31,7 @@ impl Turn {
         }
     }
 
-    /// Returns the number of steps.
+    /// The number of steps.
     pub fn steps(&self) -> u32
         ensures steps { result ≡ self.now.steps }
         ensures range { IsTurn result }

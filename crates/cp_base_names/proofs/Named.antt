@@ -45,7 +45,7 @@ distinct-named {A} (x ∷ es) d zero (suc j) e f lt at_i at_j =
 distinct-named (x ∷ es) d (suc i) (suc j) e f lt at_i at_j =
     distinct-named es (IsDistinct-tail same_name x.0 (keys_of es) d) i j e f (omega (arith, lt)) at_i at_j
 
--- ---- a name that is there stands for what it did, once that is put back
+-- ---- a name that is there represents what it did, once that is put back
 
 pub put_back : {A : Type 0} (es : List (Name × A)) (k : Name) (v first : A) → lookup k.letters.now (map named es) ≡ Some first
     → set_value_at (insert_entry same_name es k v) (position_or_len (same_name k) (keys_of es)) first ≡ es

@@ -1,4 +1,4 @@
-//! Tables of names: what the names of a text stand for, in the order of their declarations.
+//! Tables of names: what the names of a text represent, in the order of their declarations.
 //!
 //! A name is found by its hash, whose key is a digest of all names of the text (`key`), so that no
 //! one can write a text whose names collide. Among few names it is found by comparison.

@@ -41,7 +41,7 @@ impl Hash for Name<'_> {
     }
 }
 
-// A name of a text stands for the same name of another.
+// A name of a text represents the same name of another.
 impl<'q, 't> Equivalent<Name<'t>> for Name<'q> {
     ghost equivalent = { λ q k. bytes_eq q.letters.now k.letters.now };
 

@@ -14,13 +14,13 @@ use std::marker::Model;
 // Among so few names one is found by comparing it with each, which takes less than its hash.
 const MAX_COMPARED_NAMES: usize = 8;
 
-/// Names and what they stand for. Contracts see the list of them, in the order in which they were
+/// Names and what they represent. Contracts see the list of them, in the order in which they were
 /// added. No name occurs twice.
 pub struct NameTable<'t, A: Copy> {
     entries: IndexMap<Name<'t>, A, Key>,
 }
 
-// A derived one would make proofs slower (docs/GATE.md).
+// A derived one would make proofs slower (docs/CI.md).
 impl<A: Copy> Drop for NameTable<'_, A> {
     fn drop(self) {
         let NameTable { entries: _ } = self;
@@ -34,7 +34,7 @@ impl<'t, A: Copy> Model for NameTable<'t, A> {
 }
 
 impl<'t, A: Copy> NameTable<'t, A> {
-    /// Returns a table without names.
+    /// A table without names.
     pub fn new(alloc: Global, key: Key) -> NameTable<'t, A>
         ensures { result ≡ [] }
     {
@@ -59,7 +59,7 @@ impl<'t, A: Copy> NameTable<'t, A> {
         self.entries.reserve(count)
     }
 
-    /// What a name stands for, if it is in the table.
+    /// What a name represents, if it is in the table.
     pub fn find(&self, name: &[u8]) -> Option<A>
         ensures { result ≡ lookup name.now self.now }
     {
@@ -70,7 +70,7 @@ impl<'t, A: Copy> NameTable<'t, A> {
         }
     }
 
-    // What a name stands for, by comparing it with each name from the first on.
+    // What a name represents, by comparing it with each name from the first on.
     fn first_with(&self, name: &[u8]) -> Option<A>
         ensures { result ≡ lookup name.now self.now }
     {
@@ -82,7 +82,7 @@ impl<'t, A: Copy> NameTable<'t, A> {
         None
     }
 
-    /// The name with a number, and what it stands for.
+    /// The name with a number, and what it represents.
     pub fn get(&self, number: usize) -> Option<(&'t [u8], A)>
         ensures { option_map entry_view result ≡ slice_get self.now number }
     {
@@ -110,14 +110,14 @@ impl<'t, A: Copy> NameTable<'t, A> {
         match first {
             None => Ok(true),
             Some(first) => {
-                // The name stands for what it did.
+                // The name represents what it did.
                 self.entries[number] = first;
                 Ok(false)
             }
         }
     }
 
-    /// Lets the names from number `from` on stand for `value` from now on.
+    /// Lets the names from number `from` on represent `value` from now on.
     pub fn set_from(&mut self, from: usize, value: A)
         ensures { self.new ≡ with_values_from from value self.old }
     {
@@ -126,7 +126,7 @@ impl<'t, A: Copy> NameTable<'t, A> {
         }
     }
 
-    /// Lets a name stand for `value` from now on. Fails only if memory runs out.
+    /// Lets a name represent `value` from now on. Fails only if memory runs out.
     pub fn set(&mut self, name: &'t [u8], value: A) -> Result<(), AllocError>
         ensures { OnOk result
             ((x : Text) → lookup x self.new ≡ lookup x ((name.now, value) ∷ self.old)) }

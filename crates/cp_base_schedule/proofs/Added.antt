@@ -14,7 +14,7 @@ use Rattle.cp_base_schedule.specs.declared.event.Event.{Event}
 use Rattle.cp_base_schedule.proofs.Lines.{after_rounds, line_given, line_read, line_refused, text_read}
 use Rattle.cp_base_schedule.proofs.Parts.{end_more, parts_more}
 
--- The events and ends so far stand for what was read before `at`, and `rest` is what is left.
+-- The events and ends so far represent what was read before `at`, and `rest` is what is left.
 pub record IsRead (n at : ℕ) (ends : List ℕ) (events : List Event) (rest : List ℕ) (reported : OrderText) : Type 0 where
   pub whole : Cover ends events
   pub orders : after_rounds (parts_from 0 ends (events_of events)) (orders_from n at (lines_of rest)) ≡ reported

@@ -34,7 +34,7 @@ module _ {X : Type 0} where
   parts_count from [] xs = refl
   parts_count from (end ∷ ends) xs = ap suc (parts_count end ends xs)
 
-  -- The part at an index is what lies within its bounds.
+  -- The part at an index is what is within its bounds.
   pub part_at : (from : ℕ) (ends : List ℕ) (xs : List X) (k : ℕ)
       → slice_get (parts_from from ends xs) k ≡ option_map (λ (b : ℕ × ℕ). slice_range xs b.0 b.1) (bounds_at from ends k)
   part_at from [] xs k = refl

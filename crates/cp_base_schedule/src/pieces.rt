@@ -4,7 +4,7 @@ ghost use Rattle.std.specs.Prelude.{◌≡◌, ◌<◌, ◌≤◌, ◌+◌, ◌�
 ghost use Rattle.cp_model.specs.OrderText.{split_at_byte};
 ghost use Rattle.cp_base_schedule.specs.Pieces.{pieces_after};
 
-/// Returns how many bytes there are before the first such byte, or in all.
+/// How many bytes there are before the first such byte, or in all.
 pub(crate) fn length_before(byte: u8, bytes: &[u8]) -> usize
     ensures within { result ≤ length bytes.now }
     ensures pieces { split_at_byte byte bytes.now
@@ -18,7 +18,7 @@ pub(crate) fn length_before(byte: u8, bytes: &[u8]) -> usize
     bytes.len()
 }
 
-/// Returns the bytes after the one at an index.
+/// The bytes after the one at an index.
 pub(crate) fn after(bytes: &[u8], index: usize) -> &[u8]
     requires { index < length bytes.now }
     ensures { result.now ≡ drop (index + 1) bytes.now }

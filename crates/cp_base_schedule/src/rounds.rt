@@ -29,7 +29,7 @@ fn part(events: &[Event], from: usize, end: usize) -> &[Event]
 }
 
 impl Orders {
-    /// Returns the number of rounds.
+    /// The number of rounds.
     #[tactic(auto, using(crate::proofs::Parts::parts_count))]
     pub fn len(&self) -> usize
         ensures { result ≡ length (rounds_of self.now) }
@@ -37,7 +37,7 @@ impl Orders {
         self.ends.len()
     }
 
-    /// Returns the events of the round at an index, from 0, if there is one.
+    /// The events of the round at an index, from 0, if there is one.
     pub fn round(&self, index: usize) -> Option<&[Event]>
         ensures { option_map (λ es. events_of es.now) result
             ≡ slice_get (rounds_of self.now) index }

@@ -31,7 +31,7 @@ fn number(digits: &[u8], most: usize) -> Option<usize>
     (value <= most).then_some(value)
 }
 
-// The same of digits without leading zeros, which spell a number above 0.
+// The same for digits without leading zeros, which spell a number above 0.
 fn numeral(digits: &[u8], most: usize) -> Option<usize>
     ensures { result ≡ at_most most (definition.numeral digits.now) }
 {
@@ -41,7 +41,7 @@ fn numeral(digits: &[u8], most: usize) -> Option<usize>
     number(digits, most)
 }
 
-/// Returns the event that a word names, of the processes 1 to `processes`.
+/// The event that a word names, of the processes 1 to `processes`.
 pub(crate) fn event(word: &[u8], processes: usize) -> Option<Event>
     ensures { option_map event_of result ≡ event_named processes word.now }
 {

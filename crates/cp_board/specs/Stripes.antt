@@ -1,5 +1,6 @@
--- How the numbers of a board are spread over its stripes: ticket r of stripe j is the number r * stripes + j.
--- The ticket words of stripes lie apart, and the stop word lies where a stripe after the last would have its own.
+-- How the numbers of a board are spread over its stripes: ticket r of stripe j is the number r *
+-- stripes + j. The ticket words of stripes are apart, and the stop word is where a stripe after the
+-- last would have its own.
 use Rattle.std.specs.Prelude.{ℕ, ◌+◌, ◌*◌, ◌/◌, ◌%◌}
 use Rattle.cp_board.specs.declared.view.Shape.{Shape}
 use Rattle.cp_board.specs.declared.view.TheConstants.{WORDS_APART}

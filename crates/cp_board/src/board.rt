@@ -28,7 +28,7 @@ use std::marker::Model;
 /// and its shape.
 #[derive(Drop)]
 pub struct Board {
-    // The ticket words, one for each stripe, followed by the stop word. They lie on cache lines of
+    // The ticket words, one for each stripe, followed by the stop word. They are on cache lines of
     // their own.
     table: Table<(), View, Shape, BoardRule, Global>,
     shape: Shape,
@@ -47,7 +47,7 @@ impl Model for Board {
 }
 
 impl Board {
-    /// Returns a board of the numbers below `n` over `stripes` stripes, and its first seat, which
+    /// A board of the numbers below `n` over `stripes` stripes, and its first seat, which
     /// has the whole allowance, no draws and no marks. Returns `Err` if memory runs out.
     pub fn new(alloc: Global, n: usize, stripes: usize) -> Result<(Board, Seat), AllocError>
         requires numbers { n ≤ MAX_TICKETS }
@@ -108,7 +108,7 @@ impl Board {
         }
     }
 
-    /// Returns a number below n that nobody else draws. Returns `None` if all numbers have been
+    /// A number below n that nobody else draws. Returns `None` if all numbers have been
     /// drawn, and from then on whenever this seat asks.
     pub fn claim(&self, seat: &mut Seat) -> Option<usize>
         requires { IsSeatOf self.now seat.old }

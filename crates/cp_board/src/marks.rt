@@ -7,7 +7,7 @@ use crate::view::MAX_STRIPES;
 /// One mark for each stripe. A board with fewer stripes leaves the rest unmarked.
 pub(crate) type Marks = [bool; MAX_STRIPES];
 
-/// Returns the stripes that either seat has found used up.
+/// The stripes that either seat has found used up.
 pub(crate) fn either(first: &Marks, second: &Marks) -> Marks
     ensures { result ≡ or_each first.now second.now }
 {

@@ -32,7 +32,7 @@ impl Model for Seat {
 }
 
 impl Seat {
-    /// Returns how many seats this one may be split into.
+    /// How many seats this one may be split into.
     pub fn allowance(&self) -> usize
         ensures { result ≡ self.now.view.allowance }
     {

@@ -10,7 +10,7 @@ pub const MAX_STRIPES: usize = 64;
 /// The allowance of a board's first seat, which is the number of seats that it may be split into.
 pub const FULL_ALLOWANCE: usize = 64;
 
-/// How far apart the words of a board lie, so that each has a cache line of 64 bytes to itself: a
+/// How far apart the words of a board are, so that each has a cache line of 64 bytes to itself: a
 /// thread that draws from its own stripe then waits for no other thread.
 pub(crate) const WORDS_APART: usize = 8;
 

@@ -15,11 +15,11 @@ use Rattle.cp_rules.specs.declared.text.RuleError.TheVariants as refused
 use Rattle.cp_compile_symbols.specs.Texts.{TablesRepresent}
 use Rattle.cp_check.specs.declared.checking.CompiledText.{CompiledText}
 
--- The program stands for the text.
+-- The program represents the text.
 abbrev pub IsProgramOf : s.Tree → Program → Type 0
 IsProgramOf t program = (setup : Setup) → setup.tree ≡ erase.abstract t → IsProgramFor (view.program program) setup
 
--- The program stands for the text of this tree, and the tables are those of the text.
+-- The program represents the text of this tree, and the tables are those of the text.
 pub record IsCompiled (t : tree.Tree) (text : CompiledText) : Type 0 where
   pub program : IsProgramOf (syntax.tree t) text.program
   pub tables : TablesRepresent (globals (erase.abstract (syntax.tree t))) text.tables.value t

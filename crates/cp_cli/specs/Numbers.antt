@@ -1,4 +1,4 @@
--- The numbers that decimal digits stand for.
+-- The numbers that decimal digits represent.
 use Rattle.std.specs.Prelude.{Bool, ℕ, ◌+◌, ◌-◌, ◌*◌, ◌&&◌, Option, None, Some, List, [], ◌∷◌, if◌then◌else◌, nat_le}
 
 abbrev pub is_digit : ℕ → Bool
@@ -15,7 +15,7 @@ abbrev pub at_least : ℕ → Option ℕ → Option ℕ
 at_least low None = None
 at_least low (Some n) = if nat_le low n then Some n else None
 
--- At least one digit, and nothing but digits.
+-- At least one digit, and only digits.
 abbrev pub number_within : ℕ → ℕ → List ℕ → Option ℕ
 number_within low most [] = None
 number_within low most (b ∷ bs) = at_least low (number_from most 0 (b ∷ bs))

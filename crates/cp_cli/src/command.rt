@@ -12,7 +12,7 @@ use cp_base_config::trace::Tracing;
 use std::alloc::AllocError;
 use thiserror::Error;
 
-/// The word that stands for standard input in place of a file name.
+/// The word that represents standard input in place of a file name.
 pub const STANDARD_INPUT: &str = "-";
 
 /// The version of cpm.
@@ -52,7 +52,7 @@ pub enum Command<'a> {
         input: Inputs<'a>,
         progress: bool,
     },
-    /// `trace FILE`: runs the text of a file and tells, in one of its forms, what became of the
+    /// `trace FILE`: runs the text of a file and reports, in one of its forms, what became of the
     /// processes and monitors with the names in `only`, or of all if there are none.
     Trace {
         file: &'a str,
@@ -77,7 +77,7 @@ pub enum Inputs<'a> {
     Empty,
     /// `--input FILE`: from one file, with byte 28 between them.
     Joined(&'a str),
-    /// `--in NAME=FILE`: from a file for each of these processes. No name stands twice.
+    /// `--in NAME=FILE`: from a file for each of these processes. No name is twice.
     Named(Vec<NamedInput<'a>>),
 }
 

@@ -1,4 +1,4 @@
-//! The numbers that stand for options that aren't given.
+//! The numbers that represent options that aren't given.
 
 use cp_base_config::limits::MAX_CHUNK_PROCESSES;
 

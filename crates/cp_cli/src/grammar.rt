@@ -341,7 +341,7 @@ fn with_command<'a>(
     cpm.subcommand(command?)
 }
 
-/// Returns the grammar of the command line.
+/// The grammar of the command line.
 ///
 /// # Errors
 ///

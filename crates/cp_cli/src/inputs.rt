@@ -40,7 +40,7 @@ fn all_named<'a>(alloc: Global, words: &[&'a str]) -> Result<Vec<NamedInput<'a>>
     Ok(all)
 }
 
-/// The inputs that the options tell.
+/// The inputs that the options report.
 pub(crate) fn read_inputs<'a>(
     alloc: Global,
     matches: &ArgMatches<'a>,

@@ -72,7 +72,7 @@ fn reported(
 }
 
 impl<'a> Misuse<'a> {
-    /// The error that tells it, with the usage of the program.
+    /// The error that reports it, with the usage of the program.
     pub(crate) fn error(&self, alloc: Global, grammar: &mut clap::Command<'_>) -> CommandError {
         if let Misuse::Memory = self {
             return CommandError::Memory;

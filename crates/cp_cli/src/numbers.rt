@@ -6,7 +6,7 @@ ghost use Rattle.cp_cli.specs.Numbers.{number_within};
 /// The largest number that an option may have, also one of rounds.
 pub const MAX_OPTION_NUMBER: u32 = 1_000_000;
 
-/// Parses a text of decimal digits alone, and returns its number if that lies from `low` to `most`.
+/// Parses a text of decimal digits alone, and returns its number if that is from `low` to `most`.
 pub fn number(text: &[u8], low: u32, most: u32) -> Option<u32>
     requires small { most ≤ MAX_OPTION_NUMBER }
     ensures value { result ≡ number_within low most text.now }

@@ -91,7 +91,7 @@ pub(crate) fn read_run<'a>(
     Ok(run_of(rounds, turn, workers, chunk, wave, tick, chains))
 }
 
-/// The run until nothing can move that the options tell.
+/// The run until nothing can move that the options report.
 pub(crate) fn read_outcome<'a>(matches: &ArgMatches<'a>) -> Result<UntilStill, Misuse<'a>>
     ensures { IfOk result (λ how. how.limit ≤ MAX_OPTION_NUMBER) }
 {
@@ -100,7 +100,7 @@ pub(crate) fn read_outcome<'a>(matches: &ArgMatches<'a>) -> Result<UntilStill, M
     Ok(UntilStill { limit, plan, tick })
 }
 
-/// The form of an outcome that the options tell. The grammar lets only one of them pass.
+/// The form of an outcome that the options report. The grammar lets only one of them pass.
 pub(crate) fn read_form<'a>(matches: &ArgMatches<'a>) -> OutcomeForm<&'a str> {
     match matches.get_str("out") {
         Some(process) => OutcomeForm::Transcript(process),
@@ -110,7 +110,7 @@ pub(crate) fn read_form<'a>(matches: &ArgMatches<'a>) -> OutcomeForm<&'a str> {
     }
 }
 
-// The form of a trace that the options tell. The grammar lets only one of them pass.
+// The form of a trace that the options report. The grammar lets only one of them pass.
 fn read_trace_form<'a>(matches: &ArgMatches<'a>) -> TraceForm {
     if matches.get_flag("timeline") {
         TraceForm::Timeline
@@ -123,7 +123,7 @@ fn read_trace_form<'a>(matches: &ArgMatches<'a>) -> TraceForm {
     }
 }
 
-/// The trace that the options tell. It ends with the last round that is told.
+/// The trace that the options report. It ends with the last round that is reported.
 pub(crate) fn read_trace<'a>(matches: &ArgMatches<'a>) -> Result<Tracing, Misuse<'a>>
     ensures { IfOk result (λ how. how.rounds ≤ MAX_OPTION_NUMBER) }
 {
@@ -161,7 +161,7 @@ pub(crate) fn read_only<'a>(
     Ok(names)
 }
 
-/// The replay that the options tell.
+/// The replay that the options report.
 pub(crate) fn read_replay<'a>(matches: &ArgMatches<'a>) -> Result<Replay, Misuse<'a>> {
     let turn = count(matches, "turn", 1, MAX_TURN_STEPS, defaults::TURN)?;
     let tick = count(matches, "tick", 1, MAX_TICK_ROUNDS, defaults::TICK)?;

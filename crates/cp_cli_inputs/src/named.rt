@@ -120,7 +120,7 @@ fn read_inputs<'a, R: Read>(
     Ok(())
 }
 
-/// Returns the number of the process with this name, in any letter case. Process 1 is named
+/// The number of the process with this name, in any letter case. Process 1 is named
 /// `initial`, unless another process has that name.
 ///
 /// # Errors
@@ -139,7 +139,7 @@ pub fn process_number<'a>(
     }
 }
 
-/// Returns the first of these names that no process and no monitor of a text has, in any letter
+/// The first of these names that no process and no monitor of a text has, in any letter
 /// case, if there is one.
 ///
 /// # Errors

@@ -23,7 +23,7 @@ pub record PartlyLaid {A B : Type 0} (plans : List StartPlan) (g : GlobalScope) 
   pub rest : map shown laid ++ from at others ≡ from start xs
   pub end : at + sum_words f others ≡ start + sum_words f xs
 
--- The component `x` is laid out as `z` at the word `at`, and the others lie after it.
+-- The component `x` is laid out as `z` at the word `at`, and the others are after it.
 pub record IsFirst {A B : Type 0} (shown : A → B) (from : ℕ → List code.Owner → List B) (f : System → ℕ) (z : A) (at next : ℕ) (x : code.Owner) : Type 0 where
   pub laid : (others : List code.Owner) → from at (x ∷ others) ≡ shown z ∷ from next others
   pub next_is : next ≡ at + f x.system

@@ -53,7 +53,7 @@ PutsOwner plans g firsts groups v o =
 
 -- ---- The initial process
 
--- The tables stand for the text, and its initial process declares the variables `vs`. From number
+-- The tables represent the text, and its initial process declares the variables `vs`. From number
 -- `of.plans` on, the plans are those of the system types.
 pub record IsInitial (of : InitialCompiler) (plans : List StartPlan) (g : GlobalScope) (firsts : List (Name × ℕ))
     (groups : List Group) (vs : List (Name × Variable))

@@ -17,7 +17,7 @@ use Rattle.cp_compile_symbols.specs.Texts.{AreSystems}
 use Rattle.cp_compile.specs.Compiles.{IsCompiled}
 use Rattle.cp_compile.specs.declared.system.SystemCompiler.{SystemCompiler}
 
--- The tables stand for the text with the outermost scope `g`, and for the system type `s`.
+-- The tables represent the text with the outermost scope `g`, and for the system type `s`.
 pub record IsSystem (of : SystemCompiler) (g : GlobalScope) (s : System) (firsts : List (Name × ℕ)) : Type 0 where
   pub parameters : List Parameters
   pub variables : List Fields

@@ -17,7 +17,7 @@ use Rattle.cp_compile_symbols.specs.declared.tables.Tables.{Tables}
 use Rattle.cp_compile.specs.declared.definitions.TextCompiler.{TextCompiler}
 use Rattle.cp_compile.specs.Compiles.{IsCompiled}
 
--- The tables stand for the text with the outermost scope `g`.
+-- The tables represent the text with the outermost scope `g`.
 pub record IsText (of : TextCompiler) (g : GlobalScope) : Type 0 where
   pub names : ScopeRepresents of.tables.now.names of.tables.now.types g
   pub laid : EachIsLaid g of.tables.now.types of.tables.now.layouts.rows.items

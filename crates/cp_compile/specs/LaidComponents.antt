@@ -1,4 +1,4 @@
--- When components lie where the definition has them.
+-- When components are where the definition has them.
 use Rattle.std.specs.Prelude.{◌≡◌, ◌+◌, ℕ, List, map}
 use Rattle.cp_model.specs.Types.{GlobalScope}
 use Rattle.cp_model_program.specs.Compile as code

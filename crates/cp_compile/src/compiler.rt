@@ -142,9 +142,9 @@ fn lay_components<'t>(
     })
 }
 
-/// Compiles a text with these tables to a program. For an accepted text and the tables that stand
+/// Compiles a text with these tables to a program. For an accepted text and the tables that are
 /// for it, it is the program that the definition `compile` of `cp_model_program` makes, which
-/// stands for the text. Each operation has an origin.
+/// represents the text. Each operation has an origin.
 ///
 /// # Errors
 ///

@@ -1,4 +1,4 @@
-//! Monitors and processes, and where their words lie.
+//! Monitors and processes, and where their words are.
 
 ghost use Rattle.std.specs.Prelude.{◌≡◌, ◌++◌, ◌∷◌, [], List, Some, ℕ, IfOk, OnOk, slice_get};
 ghost use Rattle.cp_model.specs.Abstract.{Group, Name};

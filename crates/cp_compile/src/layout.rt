@@ -12,14 +12,14 @@ use cp_compile_symbols::small_sum;
 use cp_program::program::{Monitor, Process};
 use std::alloc::{AllocError, Global};
 
-/// Monitors that lie one after another, and the number of words that they take.
+/// Monitors that are one after another, and the number of words that they take.
 #[derive(Drop)]
 pub struct MonitorLayout {
     pub(crate) monitors: Vec<Monitor>,
     pub(crate) words: u32,
 }
 
-/// Processes whose waiting parameters lie one after another, and the word after all of them.
+/// Processes whose waiting parameters are one after another, and the word after all of them.
 #[derive(Drop)]
 pub struct ProcessLayout {
     pub(crate) processes: Vec<Process>,

@@ -5,11 +5,11 @@
 //!   by its body.
 //! - `definitions`: compiles the system types of a text in order, and records the first unit of
 //!   each named type.
-//! - `components`, `layout`: monitors and processes, and where their words lie.
+//! - `components`, `layout`: monitors and processes, and where their words are.
 //! - `compiler`: compiles a whole tree.
 //!
 //! The tables of the text are made before (cp_check). For an accepted text, the result is that of
-//! `cp_model_program`'s function `compile`, which stands for the text by a law
+//! `cp_model_program`'s function `compile`, which represents the text by a law
 //! (`cp_model_program::law::accepted_tree_has_program`).
 #![tactic(auto)]
 

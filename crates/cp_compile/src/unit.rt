@@ -16,7 +16,7 @@ use cp_program::operation::Operation;
 use cp_program::program::StartPiece;
 use std::alloc::{AllocError, Global};
 
-/// Compiles the statements `body` to a unit, which stands at the place `origin` of the text. It
+/// Compiles the statements `body` to a unit, which is at the place `origin` of the text. It
 /// ends with the operation `last`, and its activations start by the plan `starts`.
 pub fn compile_unit(
     alloc: Global,

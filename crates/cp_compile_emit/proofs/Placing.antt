@@ -13,7 +13,7 @@ use Rattle.cp_model_program.specs.CodedStatements.{places_from}
 
 -- ---- Places
 
--- An arm whose label lies below all numbers gives none of them a place.
+-- An arm whose label is below all numbers gives none of them a place.
 none_put : (xs : List Arm) (x : Arm) (low : ℤ) (n : ℕ) → int_le low x.label ≡ false → places_from xs low n ≡ places_from (x ∷ xs) low n
 none_put xs x low zero h = refl
 none_put xs x low (suc n) h = λ i.

@@ -18,8 +18,8 @@ pub struct MadeTerm {
     pub temps: u32,
 }
 
-/// Adds a call, which stands at the place `at` of the text and whose value goes to the temp `into`.
-/// Returns the term for its value.
+/// Adds a call, which is at the place `at` of the text and whose value goes to the temp `into`.
+/// The term for its value.
 pub fn make_call(
     alloc: Global,
     calls: &mut Vec<CodedCall>,

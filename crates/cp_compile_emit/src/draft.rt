@@ -133,7 +133,7 @@ impl Draft {
         Ok(())
     }
 
-    /// Returns the plan, with its first piece first.
+    /// The plan, with its first piece first.
     pub fn into_starts(self) -> Vec<StartPiece>
         ensures { (known : List code.StartPlan) → view.plan_of known result.items
             ≡ plan_of known self }

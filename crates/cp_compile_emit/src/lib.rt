@@ -8,7 +8,7 @@
 //! - `table`: where a `case` leads.
 //! - `plan`: the plans so far, and what they are made from. `pieces`: what the pieces of a plan
 //!   are.
-//! - `parts`: the plans of parts that lie one after another. `type_plans`: the plans of types.
+//! - `parts`: the plans of parts that are one after another. `type_plans`: the plans of types.
 //! - `starts`: plans for the start values of the words of activations and components.
 //! - `draft`: a plan in progress, which is made from its end.
 //! - `members`: what plans are made from.

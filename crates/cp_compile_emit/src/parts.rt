@@ -1,4 +1,4 @@
-//! Plans of parts that lie one after another.
+//! Plans of parts that are one after another.
 
 ghost use Rattle.std.specs.Prelude.{◌≡◌, IfOk, OnOk, map};
 ghost use Rattle.cp_model_program.specs.Plans as text_plans;

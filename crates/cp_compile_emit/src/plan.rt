@@ -48,7 +48,7 @@ pub struct Planner<'a, 't> {
     pub(crate) plans: Vec<StartPlan>,
 }
 
-// A derived one would make proofs slower (docs/GATE.md).
+// A derived one would make proofs slower (docs/CI.md).
 impl Drop for Planner<'_, '_> {
     fn drop(self) {
         let Planner {
@@ -77,7 +77,7 @@ impl<'a, 't> Planner<'a, 't> {
         self.alloc
     }
 
-    /// Returns the plans.
+    /// The plans.
     pub fn into_plans(self) -> Vec<StartPlan>
         ensures { result ≡ self.entry.plans }
     {

@@ -1,4 +1,4 @@
-//! Where a `case` leads. If the labels lie close to one another, the table has a place for each
+//! Where a `case` leads. If the labels are close to one another, the table has a place for each
 //! number, and otherwise it has the labels.
 
 ghost use Rattle.std.specs.Prelude.{◌≡◌, ℕ, ◌*◌, None, Some, IfOk, [], if◌then◌else◌, int_le, length, map, replicate, slice_set};

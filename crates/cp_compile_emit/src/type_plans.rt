@@ -102,7 +102,7 @@ impl<'a, 't> Planner<'a, 't> {
         Ok(draft)
     }
 
-    // Plans the members of a component, if they lie in its variable.
+    // Plans the members of a component, if they are in its variable.
     fn plan_component(
         &self,
         zeros: bool,

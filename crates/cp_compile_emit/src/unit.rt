@@ -72,7 +72,7 @@ impl Emitter {
         small_number(self.units.len())
     }
 
-    /// Returns the operations, their origins and the units.
+    /// The operations, their origins and the units.
     pub fn into_parts(self) -> (Vec<Operation>, Vec<usize>, Vec<CodeUnit>)
         ensures operations { map view.operation result.0.items ≡ operations_of self }
         ensures origins { length result.1.items ≡ place_of self }

@@ -69,7 +69,7 @@ pub got : {X : Type 0} (xs : List X) (i : ℕ) (r : Option (Bor X)) (x : Bor X)
     → MatchOption r (length xs ≤ i) (λ y. (i < length xs) × HoldsAt (λ z. y.now ≡ z) xs i) → r ≡ Some x → slice_get xs i ≡ Some x.now
 got xs i r x h is = let there = rw is at h in slice_get-get_or xs i x.now there.0 ∙ ap Some (sym (there.1 x.now))
 
--- The parameter with this number stands for the variable with this number.
+-- The parameter with this number represents the variable with this number.
 pub record DeclaredAt (types : Types) (d : Declared) (vs : List (Name × Variable)) (k : ℕ) : Type 0 where
   pub declared : Name × Variable
   pub split : drop k vs ≡ declared ∷ drop (suc k) vs

@@ -80,7 +80,7 @@ no_signed s at e = subst (λ x. IsNoUse (erase.expression x)) (sym (view_signed 
     go sign.Plus = tt
     go sign.Minus = tt
 
--- ---- What other expressions stand for
+-- ---- What other expressions represent
 
 pub no_variable : (s : Scope) (e : a.Expression) (low : ℕ) → IsNoUse e → coded_variable s e low ≡ lone_place_expression (Rooted (Local 0)) low
 no_variable s (a.Literal n) low bare = refl

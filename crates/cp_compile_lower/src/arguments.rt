@@ -91,7 +91,7 @@ impl<'s, 't> Translator<'s, 't> {
         }
     }
 
-    /// The word at which the next parameter lies.
+    /// The word at which the next parameter is.
     pub fn next_parameter(&self, at: u32, parameter: &Declared) -> Result<u32, AllocError>
         ensures { IfOk result (λ n. (s : code.Scope) (v : Variable) → IsScope self.now.scope s
             → parameter.now.by_reference ≡ v.by_reference

@@ -108,7 +108,7 @@ impl<'s, 't> Translator<'s, 't> {
         })
     }
 
-    /// A call of a function with these arguments, which stands at the place `origin` of the text.
+    /// A call of a function with these arguments, which is at the place `origin` of the text.
     /// Its value goes to the first temp after their calls.
     pub fn function_call(
         &self,

@@ -1,4 +1,4 @@
-//! The components that names mean, and where their parameters lie.
+//! The components that names mean, and where their parameters are.
 
 ghost use Rattle.std.specs.Prelude.{◌≡◌, IfOk, IsSomeAnd};
 ghost use Rattle.cp_model.specs.Abstract as a;
@@ -28,7 +28,7 @@ use cp_model::tree::{Expression, Sort};
 use cp_program::operation::Target;
 use std::alloc::AllocError;
 
-/// The word at which a member lies in a component of a system type.
+/// The word at which a member is in a component of a system type.
 pub fn member_at(table: &SystemTable, name: &[u8]) -> Result<u32, AllocError>
     ensures { IfOk result (λ at. (g : GlobalScope) (types : Types) (y : a.System)
         → IsTable g types table.now y → at ≡ part_start (layout.member g y name.now)) }

@@ -284,7 +284,7 @@ impl<'s, 't> Translator<'s, 't> {
         self.apply(self.function(name, expression)?, made)
     }
 
-    /// Makes the arguments for these parameters, the first of which lies `at` words from the first
+    /// Makes the arguments for these parameters, the first of which is `at` words from the first
     /// word of the new activation.
     #[cycle(terms)]
     pub fn arguments(

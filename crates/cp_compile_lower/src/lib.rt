@@ -2,7 +2,7 @@
 //!
 //! A `Translator` has the scope of a unit. Whatever the tree, the result of each function equals
 //! that of a function of `cp_model_program`'s definitions (`CodedTerms.antt`,
-//! `CodedStatements.antt`), in each scope that its tables stand for:
+//! `CodedStatements.antt`), in each scope that its tables represent:
 //!
 //! - `expressions`: terms and spots, and the calls to make before them, in order
 //!   (`specs/Translated.antt`). Expressions, designators and arguments contain one another.
@@ -16,7 +16,7 @@
 //! Recursion follows nesting alone, and lists are handled by loops. Each part of a tree is visited
 //! once, except that `succ`, `pred`, `display` and `accept` also look for the type of their
 //! argument. What no accepted text has, as a part of something without parts or a name that means
-//! nothing, stands for what the definitions say. The only error is want of room.
+//! nothing, represents what the definitions say. The only error is want of room.
 #![tactic(auto)]
 
 mod arguments;

@@ -100,7 +100,7 @@ impl<'s, 't> Translator<'s, 't> {
         Ok(self.root(name)?.unwrap_or(Root::Local(0)))
     }
 
-    // The value of the constant with this name. Any other name stands for 0.
+    // The value of the constant with this name. Any other name represents 0.
     fn constant(&self, name: &[u8]) -> Term
         ensures { (s : code.Scope) → IsScope self.now.scope s → view.term result
             ≡ plain.Number (ordinal_or_zero (lookup name.now s.globals.constants)) }

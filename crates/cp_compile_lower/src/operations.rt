@@ -133,7 +133,7 @@ impl<'s, 't> Translator<'s, 't> {
         })
     }
 
-    /// Emits the operation with which a `for` begins. Its variable stands at the place `origin`.
+    /// Emits the operation with which a `for` begins. Its variable is at the place `origin`.
     pub fn start_counting(
         &self,
         counting: Counting,

@@ -50,7 +50,7 @@ impl<'s, 't> Translator<'s, 't> {
         })
     }
 
-    // Where the member with this name lies in a variable of the type `of`.
+    // Where the member with this name is in a variable of the type `of`.
     fn part(&self, of: Option<usize>, name: &[u8]) -> Option<Part>
         ensures { (s : code.Scope) (t : ResolvedType) → IsScope self.now.scope s
             → TypeIs self.now.scope.tables.now.types of t
@@ -60,7 +60,7 @@ impl<'s, 't> Translator<'s, 't> {
         self.scope.tables().layouts.part(of?, name)
     }
 
-    /// The member of a variable that has this name. A name of no member of its type stands for the
+    /// The member of a variable that has this name. A name of no member of its type represents the
     /// variable.
     pub fn field(
         &self,

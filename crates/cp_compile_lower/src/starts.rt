@@ -1,4 +1,4 @@
-//! Where parts of variables begin, and where rights lie.
+//! Where parts of variables begin, and where rights are.
 
 ghost use Rattle.std.specs.Prelude.{◌≡◌, ℕ, Option, IfOk};
 ghost use Rattle.cp_model.specs.Declarations.{Variable};

@@ -49,7 +49,7 @@ impl<'s, 't> Translator<'s, 't> {
         }
     }
 
-    /// The size in words of a variable of the type `of`, where `None` stands for no type.
+    /// The size in words of a variable of the type `of`, where `None` represents no type.
     pub fn place_words(&self, of: Option<usize>) -> Result<u32, AllocError>
         ensures { IfOk result (λ n. (s : code.Scope) (t : ResolvedType) → IsScope self.now.scope s
             → TypeIs self.now.scope.tables.now.types of t → n ≡ words s.globals t) }

@@ -12,7 +12,7 @@ use Rattle.cp_compile_symbols.proofs.Standing.{grows_more, grows_not, still_scop
 
 -- For any kind of group, and anything that groups make.
 module _ {A E M : Type 0} (are : Types → List E → M → Type 0) (with_all : List A → GlobalScope → M → M) where
-  -- Placed before what the remaining groups make, the added entries stand for what all groups make.
+  -- Placed before what the remaining groups make, the added entries represent what all groups make.
   pub record Added (names : Names) (old new : Types) (before after added : List E) (all left : List A) : Type 0 where
     pub grows : Grows old new
     pub ends : after ≡ before ++ added

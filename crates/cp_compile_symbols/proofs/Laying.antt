@@ -26,12 +26,12 @@ use Rattle.cp_compile_symbols.specs.Layouts.{AreLaid, Counts, LaysRow, LayoutIs,
 use Rattle.cp_compile_symbols.specs.Standing.{AreMembers, Grows, ScopeRepresents, Represents, entry, row_at, system_at}
 use Rattle.cp_compile_symbols.specs.Tables.{Behind, or_last}
 
--- Where a part lies: as recorded if it is laid out already, and otherwise among those that remain.
+-- Where a part is: as recorded if it is laid out already, and otherwise among those that remain.
 abbrev pub PartFound : GlobalScope → Types → Option Part → Option code.Part → Option code.Part → Type 0
 PartFound g types None wanted left = wanted ≡ left
 PartFound g types (Some p) wanted left = PartIs types (Some p) wanted
 
--- The remaining members lie after those that are laid out.
+-- The remaining members are after those that are laid out.
 pub record PartlyLaid (g : GlobalScope) (types : Types) (at : ℕ) (ms : Members) (left : List (Name × ℕ)) (l : Layout) : Type 0 where
   pub here : ℕ
   pub others : Members

@@ -15,13 +15,13 @@ use Rattle.cp_compile_symbols.specs.Standing.{Represents}
 use Rattle.cp_compile_symbols.specs.Tables.{Behind, or_last}
 use Rattle.cp_compile_symbols.specs.Variables.{AreDeclared, Entry}
 
--- Where a variable lies: as recorded if it is laid out already, and otherwise among those that
+-- Where a variable is: as recorded if it is laid out already, and otherwise among those that
 -- remain.
 abbrev pub LocalFound : Types → Option Local → Option (ℕ × Variable) → Option (ℕ × Variable) → Type 0
 LocalFound types None wanted left = wanted ≡ left
 LocalFound types (Some p) wanted left = LocalIs types (Some p) wanted
 
--- The remaining variables lie after those that are laid out.
+-- The remaining variables are after those that are laid out.
 pub record PartlyLaid (g : GlobalScope) (types : Types) (at : ℕ) (vs : List (Name × Variable)) (left : List Entry) (l : Locals) : Type 0 where
   pub here : ℕ
   pub others : List (Name × Variable)

@@ -63,7 +63,7 @@ abbrev pub RightFound : Types → Option Right → Option (ℕ × Variable) → 
 RightFound types None wanted left = wanted ≡ left
 RightFound types (Some r) wanted left = RightIs types (Some r) wanted
 
--- The remaining rights lie after those that are laid out.
+-- The remaining rights are after those that are laid out.
 pub record PartlyLaid (types : Types) (vs : List (Name × Variable)) (at : ℕ) (left : List Entry) (rights : List (Name × Right)) : Type 0 where
   pub others : List (Name × Variable)
   pub represent : AreDeclared types left others

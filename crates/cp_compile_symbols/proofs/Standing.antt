@@ -1,4 +1,4 @@
--- What stands for something still stands for it after types are added.
+-- What represents something still represents it after types are added.
 use Rattle.std.proofs.Common.{◌≡◌, ◌<◌, ◌++◌, ◌∷◌, ◌∙◌, Global, Vec, ℕ, zero, suc, ℤ, List, [], Option, None, Some, ap, length, map, refl, slice_get, sym}
 use Rattle.std.proofs.lemmas.Option.{slice_get_within}
 use Rattle.cp_model.specs.Abstract.{BaseType, Name}

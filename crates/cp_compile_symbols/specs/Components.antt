@@ -1,4 +1,4 @@
--- When a table is right about where the members and rights of a component lie.
+-- When a table is right about where the members and rights of a component are.
 use Rattle.std.specs.Prelude.{◌≡◌, ◌++◌, ◌∷◌, if◌then◌else◌, ℕ, suc, List, [], Option, None, Some, filter}
 use Rattle.cp_model.specs.Abstract.{Name}
 use Rattle.cp_model.specs.Declarations.{Variable, is_component, members_from}
@@ -20,7 +20,7 @@ use Rattle.cp_compile_symbols.specs.Variables.{AreDeclared, Entry, variables_of}
 abbrev pub Picks : Types → Entry → List Entry → List Entry → Type 0
 Picks types d before after = (v : Variable) → Represents types d.1.1 v.type → after ≡ (if is_component v.type then before ++ d ∷ [] else before)
 
--- If `list` stands for the variables `vs`, then `picked` stands for the components among them.
+-- If `list` represents the variables `vs`, then `picked` represents the components among them.
 abbrev pub PicksComponents : Types → List Entry → List Entry → Type 0
 PicksComponents types list picked =
     (vs : List (Name × Variable)) → AreDeclared types list vs → AreDeclared types picked (filter (λ v. is_component v.1.type) vs)
@@ -30,7 +30,7 @@ RightIs types None None = Unit {0}
 RightIs types (Some r) (Some q) = (r.at ≡ q.0) × Represents types r.of q.1.type
 RightIs types _ _ = ⊥
 
--- The rights lie one after another from word 1 on, after the mark.
+-- The rights are one after another from word 1 on, after the mark.
 abbrev pub RightsLie : Types → List Entry → List (Name × Right) → Type 0
 RightsLie types list rights = (vs : List (Name × Variable)) → AreDeclared types list vs → (x : Name) → RightIs types (lookup x rights) (right_at 1 vs x)
 

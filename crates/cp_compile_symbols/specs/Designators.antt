@@ -26,7 +26,7 @@ pub record IsFirstPart (ss : List Selector) (first : Selector) (rest : List Sele
   pub selects : Selects (view.selector first)
   pub same : (d : a.Designator) → part_of d ss ≡ part_of (erase.select d (view.selector first)) rest
 
--- Without a first part, the selectors select nothing but the whole.
+-- Without a first part, the selectors select only the whole.
 abbrev pub FirstPart : List Selector → Option (Bor Selector × Bor (List Selector)) → Type 0
 FirstPart ss None = (d : a.Designator) → part_of d ss ≡ d
 FirstPart ss (Some p) = IsFirstPart ss p.0.now p.1.now

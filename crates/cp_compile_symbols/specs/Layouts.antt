@@ -1,4 +1,4 @@
--- When layouts are right about the sizes of types and where their members lie.
+-- When layouts are right about the sizes of types and where their members are.
 use Rattle.std.specs.Prelude.{◌≡◌, ℕ, List, [], ◌∷◌, Option, None, Some, filter, if◌then◌else◌, length, map, slice_get, ◌+◌, ◌≤◌}
 use Rattle.cp_model.specs.Abstract.{Name}
 use Rattle.cp_model.specs.Declarations.{declarations, is_component}
@@ -44,7 +44,7 @@ pub record EachIsLaid (g : GlobalScope) (types : Types) (layouts : List Layout) 
   pub laid : AreLaid g types layouts
   pub complete : length types.rows.items ≤ length layouts
 
--- The layout of the members `ms`, the first of which lies `at` words from the first word.
+-- The layout of the members `ms`, the first of which is `at` words from the first word.
 pub record MembersLie (g : GlobalScope) (types : Types) (at : ℕ) (ms : Members) (l : Layout) : Type 0 where
   pub words : Counts l.words (at + words_of_members g ms)
   pub parts : (x : Name) → PartIs types (lookup x l.parts) (member_part g at ms x [])
@@ -66,7 +66,7 @@ LaysComponent names types layouts y members l =
     (g : GlobalScope) (later : Types) (ms : Members) → ScopeRepresents names types g → Grows types later → AreLaid g types layouts → AreMembers later members ms
     → LayoutIs g later l (ComponentOf (erase.system (view.system y)) ms)
 
--- `l` is the layout of the type that this row stands for.
+-- `l` is the layout of the type that this row represents.
 abbrev pub LaysRow : Names → Types → List Layout → TypeRow → Layout → Type 0
 LaysRow names types layouts r l =
     (g : GlobalScope) (later : Types) (n : ℕ) (t : ResolvedType) → ScopeRepresents names types g → Grows types later → AreLaid g types layouts

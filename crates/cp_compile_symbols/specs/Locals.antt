@@ -1,4 +1,4 @@
--- When a table is right about where the parameters and variables of a routine lie.
+-- When a table is right about where the parameters and variables of a routine are.
 use Rattle.std.specs.Prelude.{◌≡◌, ◌+◌, ℕ, List, Option, None, Some}
 use Rattle.cp_model.specs.Abstract.{Name}
 use Rattle.cp_model.specs.Declarations.{Variable}
@@ -19,7 +19,7 @@ LocalIs types None None = Unit {0}
 LocalIs types (Some l) (Some q) = Counts l.at q.0 × (l.by_reference ≡ q.1.by_reference) × Represents types l.of q.1.type
 LocalIs types _ _ = ⊥
 
--- The layout of the variables `vs`, the first of which lies `at` words from the start of the
+-- The layout of the variables `vs`, the first of which is `at` words from the start of the
 -- activation.
 pub record LocalsLie (g : GlobalScope) (types : Types) (at : ℕ) (vs : List (Name × Variable)) (l : Locals) : Type 0 where
   pub words : Counts l.words (at + locals_words g vs)

@@ -1,4 +1,4 @@
--- The outermost scope: when the tables stand for it, and how definitions change it.
+-- The outermost scope: when the tables represent it, and how definitions change it.
 use Rattle.std.specs.Prelude.{◌++◌, ◌∷◌, ℕ, ℤ, List, map}
 use Rattle.cp_model.specs.Abstract as a
 use Rattle.cp_model.specs.Abstract.{Definition, Name}
@@ -16,7 +16,7 @@ use Rattle.cp_compile_symbols.specs.Standing.{Keeps, ScopeRepresents, Represents
 abbrev pub OuterRepresents : Outer → GlobalScope → Type 0
 OuterRepresents outer g = ScopeRepresents outer.names outer.types g
 
--- If the old tables stand for a scope `g`, the new ones stand for `f g`.
+-- If the old tables represent a scope `g`, the new ones represent `f g`.
 abbrev pub Defines : Outer → Outer → (GlobalScope → GlobalScope) → Type 0
 Defines old new f = (g : GlobalScope) → OuterRepresents old g → OuterRepresents new (f g)
 
@@ -32,7 +32,7 @@ with_type x of g = record g { types = (x, of g) ∷ g.types }
 abbrev pub with_standard : GlobalScope → GlobalScope
 with_standard g = record { constants = standard_scope.constants ++ g.constants; types = standard_scope.types ++ g.types }
 
--- The new tables give the name `x` to type number `n`, whatever type that number stands for.
+-- The new tables give the name `x` to type number `n`, whatever type that number represents.
 abbrev pub NamesType : Outer → Outer → Name → ℕ → Type 0
 NamesType old new x n =
     (g : GlobalScope) (t : ResolvedType) → OuterRepresents old g → Represents old.types n t → OuterRepresents new (with_type x (λ h. t) g)

@@ -47,7 +47,7 @@ abbrev pub words_of : GlobalScope → Option Routine → ℕ
 words_of g None = 0
 words_of g (Some r) = activation_words g r
 
--- The scope is that of a unit: its tables stand for the text, the system type and the routine of
+-- The scope is that of a unit: its tables represent the text, the system type and the routine of
 -- `s`.
 pub record IsScope (scope : Scope) (s : code.Scope) : Type 0 where
   pub parameters : List Parameters

@@ -1,4 +1,4 @@
--- When type numbers, rows and names stand for what the meaning of the text says.
+-- When type numbers, rows and names represent what the meaning of the text says.
 use Rattle.std.specs.Prelude.{◌≡◌, ◌++◌, ℕ, ℤ, List, [], ◌∷◌, Option, None, Some, filter, if◌then◌else◌, map, not, option_map, slice_get, Vec}
 use Rattle.std.specs.Global.{Global}
 use Rattle.std.specs.Borrow.{Bor}
@@ -46,7 +46,7 @@ system_at types k = slice_get types.systems.items k
 abbrev pub entry : Field → Name × ℕ
 entry f = (f.name.now, f.of)
 
--- Type number `n` stands for this resolved type.
+-- Type number `n` represents this resolved type.
 abbrev mutual
   pub Represents : Types → ℕ → ResolvedType → Type 0
   Represents types n (Simple b low high start) = (s : plain.Simple) × (row_at types n ≡ Some (row.Simple s)) × (simple_of s ≡ Simple b low high start)
@@ -97,21 +97,21 @@ TypeMeans types _ _ = ⊥
 abbrev pub ConstantsRepresent : Names → GlobalScope → Type 0
 ConstantsRepresent names g = (x : Name) → option_map value_of (lookup x names.constants) ≡ lookup x g.constants
 
--- The names stand for those of the outermost scope `g`.
+-- The names represent those of the outermost scope `g`.
 pub record ScopeRepresents (names : Names) (table : Types) (g : GlobalScope) : Type 0 where
   pub constants : ConstantsRepresent names g
   pub types : (x : Name) → TypeMeans table (lookup x names.types) (lookup x g.types)
 
 -- ---- Making
 
--- Number `n` is made and stands for `of g` in any scope `g` that the names stand for. Older numbers
+-- Number `n` is made and represents `of g` in any scope `g` that the names represent. Older numbers
 -- keep their meaning.
 pub record Makes (names : Names) (old new : Types) (of : GlobalScope → ResolvedType) (n : ℕ) : Type 0 where
   pub grows : Grows old new
   pub represents : (g : GlobalScope) → ScopeRepresents names old g → Represents new n (of g)
 
--- Number `n` is made and stands for the array type of any index and element types that the given
--- numbers stand for.
+-- Number `n` is made and represents the array type of any index and element types that the given
+-- numbers represent.
 pub record MakesArray (old new : Types) (index element n : ℕ) : Type 0 where
   pub grows : Grows old new
   pub represents : (i e : ResolvedType) → Represents old index i → Represents old element e → Represents new n (array_type i e)
@@ -138,7 +138,7 @@ abbrev pub array_type_over : List TypeExpression → ResolvedType → GlobalScop
 array_type_over [] of g = of
 array_type_over (i ∷ is) of g = array_type (type_from i g) (array_type_over is of g)
 
--- Number `n` is made and stands for that array of arrays, whatever the element number stands for.
+-- Number `n` is made and represents that array of arrays, whatever the element number represents.
 pub record MakesIndexed (names : Names) (old new : Types) (indices : List TypeExpression) (element n : ℕ) : Type 0 where
   pub grows : Grows old new
   pub represents : (g : GlobalScope) (e : ResolvedType) → ScopeRepresents names old g → Represents old element e → Represents new n (array_type_over indices e g)
@@ -152,8 +152,8 @@ fields_of groups g = members_of g (erase.fields (view.fields_of (map view.variab
 abbrev pub entries_of : List Identifier → ℕ → List (Name × ℕ)
 entries_of xs n = map (λ x. (x.name, n)) xs
 
--- Entries are added after those that were there. Placed before entries that stand for any `ms`, the
--- added ones stand for `make g ms`.
+-- Entries are added after those that were there. Placed before entries that represent any `ms`, the
+-- added ones represent `make g ms`.
 pub record MakesList {E M : Type 0} (are : Types → List E → M → Type 0) (names : Names) (old new : Types) (before after : List E) (make : GlobalScope → M → M)
     : Type 0 where
   pub grows : Grows old new
@@ -162,7 +162,7 @@ pub record MakesList {E M : Type 0} (are : Types → List E → M → Type 0) (n
   pub represents : (g : GlobalScope) (later : Types) (rest : List E) (ms : M) → ScopeRepresents names old g → Grows new later
       → are later rest ms → are later (added ++ rest) (make g ms)
 
--- `MakesList` for fields, which stand for members.
+-- `MakesList` for fields, which represent members.
 abbrev pub MakesFields : Names → Types → Types → List (Name × ℕ) → List (Name × ℕ) → (GlobalScope → Members → Members) → Type 0
 MakesFields = MakesList AreMembers
 

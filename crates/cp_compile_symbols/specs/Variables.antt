@@ -1,4 +1,4 @@
--- Declared parameters and variables: when a list of entries stands for what groups declare.
+-- Declared parameters and variables: when a list of entries represents what groups declare.
 use Rattle.std.specs.Prelude.{◌≡◌, Bool, false, ℕ, List, [], ◌∷◌, is_some, map}
 use Rattle.cp_model.specs.Abstract.{Name}
 use Rattle.cp_model.specs.Declarations.{Variable, declarations, declared_group}
@@ -23,7 +23,7 @@ declared_entry d = (d.name.now, (d.by_reference, d.of))
 abbrev pub declared_entries : List Identifier → Bool → ℕ → List Entry
 declared_entries xs r n = map (λ x. (x.name, (r, n))) xs
 
--- The entries stand for these variables, one by one.
+-- The entries represent these variables, one by one.
 abbrev pub AreDeclared : Types → List Entry → List (Name × Variable) → Type 0
 AreDeclared types [] [] = Unit {0}
 AreDeclared types (d ∷ ds) (v ∷ vs) = (d.0 ≡ v.0) × (d.1.0 ≡ v.1.by_reference) × Represents types d.1.1 v.1.type × AreDeclared types ds vs

@@ -48,7 +48,7 @@ impl<'t> Types<'t> {
         Ok(components)
     }
 
-    /// The rights to these components. They lie one after another, after the mark in the first
+    /// The rights to these components. They are one after another, after the mark in the first
     /// word.
     pub fn rights_to(&self, components: &[Declared<'t>]) -> Result<NameTable<'t, Right>, AllocError>
         ensures { IfOk result (λ rights. RightsLie self.now
@@ -72,7 +72,7 @@ impl<'t> Types<'t> {
 
 impl<'t> Layouts<'t> {
     /// The layout of a component of a system type with these parameters and variables: its size in
-    /// words, and where its members lie.
+    /// words, and where its members are.
     pub fn own_members(
         &mut self,
         names: &Names<'t>,

@@ -1,4 +1,4 @@
-//! The size in words of a variable of each type, and where the members of records and classes lie.
+//! The size in words of a variable of each type, and where the members of records and classes are.
 
 ghost use Rattle.std.specs.Prelude.{◌≡◌, ◌∷◌, ◌≤◌, ◌+◌, ◌*◌, [], ℕ, IfOk, OnOk, length, map, option_map, slice_get};
 ghost use Rattle.cp_model.specs.Declarations.{is_component};
@@ -127,7 +127,7 @@ impl<'t> Layouts<'t> {
         self.layout(number)?.words
     }
 
-    /// Where a member of a record or class lies in a variable of the type, or `None` if the type
+    /// Where a member of a record or class is in a variable of the type, or `None` if the type
     /// has no member of that name.
     pub fn part(&self, number: usize, name: &[u8]) -> Option<Part>
         ensures { (g : GlobalScope) (types : Types) (t : ResolvedType)
@@ -147,7 +147,7 @@ impl<'t> Layouts<'t> {
         }
     }
 
-    /// Lays out these members one after another. The first one lies `head` words from the first
+    /// Lays out these members one after another. The first one is `head` words from the first
     /// word.
     pub fn members(
         &self,
@@ -168,8 +168,8 @@ impl<'t> Layouts<'t> {
         Ok(layout)
     }
 
-    // The layout of a component. A class component lies in its variable, with its members. A
-    // process or a monitor lies elsewhere, so its variable takes no words.
+    // The layout of a component. A class component is in its variable, with its members. A
+    // process or a monitor is elsewhere, so its variable takes no words.
     fn component(
         &self,
         names: &Names<'t>,

@@ -1,4 +1,4 @@
-//! Symbol tables and layouts: what the names of a text stand for, and where its variables lie.
+//! Symbol tables and layouts: what the names of a text represent, and where its variables are.
 //!
 //! `Tables::of_tree` makes the tables of any tree, in two passes over its definitions:
 //!
@@ -7,15 +7,15 @@
 //!   A chain of named types of any length is therefore followed without recursion, and only written
 //!   types nest.
 //! - **Layouts and system types.** Once the scope is final, `Layouts` computes the size of each
-//!   type and where its members lie from the layouts of its parts. A `SystemTable` has the
-//!   parameters and variables of a system type, where its members and rights lie, which components
+//!   type and where its members are from the layouts of its parts. A `SystemTable` has the
+//!   parameters and variables of a system type, where its members and rights are, which components
 //!   its names mean, and for each routine a `RoutineTable` with the layout of its locals.
 //! - **Scopes.** A `Scope` is what the code of a unit is compiled with. It knows what names,
 //!   designators and calls mean there (`specs/Scopes.antt`), the types of places and values
 //!   (`specs/Places.antt`, `specs/Expressions.antt`), and the numbers of units.
 //!
 //! Names are borrowed from the tree and found by comparison, in logarithmic time. Look-ups alone
-//! define what names and numbers stand for (`specs/Standing.antt`, and `specs/Texts.antt` for a
+//! define what names and numbers represent (`specs/Standing.antt`, and `specs/Texts.antt` for a
 //! whole text). Sizes and offsets that don't fit their fields are `None`, and an error only when
 //! they are used, because a text may declare a type that is far larger than any variable.
 #![tactic(auto)]

@@ -1,4 +1,4 @@
-//! Where the parameters and variables of a routine lie in its activation.
+//! Where the parameters and variables of a routine are in its activation.
 
 ghost use Rattle.std.specs.Prelude.{◌≡◌, ◌+◌, [], ℕ, IfOk, map};
 ghost use Rattle.cp_model.specs.Declarations.{Variable};
@@ -48,7 +48,7 @@ impl<'t> Layouts<'t> {
         }
     }
 
-    /// Lays out these parameters and variables one after another. The first one lies `head` words
+    /// Lays out these parameters and variables one after another. The first one is `head` words
     /// from the first word of the activation.
     pub fn locals(&self, list: &[Declared<'t>], head: Option<u32>) -> Result<Locals<'t>, AllocError>
         ensures { IfOk result (λ l. LaysLocals self.now.rows.items

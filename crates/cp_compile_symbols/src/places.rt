@@ -47,7 +47,7 @@ impl<'t> Types<'t> {
         }
     }
 
-    /// The type of an element of a value of the type `of`, where `None` stands for no type.
+    /// The type of an element of a value of the type `of`, where `None` represents no type.
     pub fn element_type(&self, of: Option<usize>) -> Option<usize>
         ensures { (t : ResolvedType) → TypeIs self.now of t → TypeIs self.now result
             (static.element_type t) }

@@ -1,4 +1,4 @@
-//! What written constants and types stand for.
+//! What written constants and types represent.
 
 ghost use Rattle.std.specs.Prelude.{◌≡◌, ◌++◌, IfOk, OnOk, map, option_map};
 ghost use Rattle.cp_model.specs.Abstract.{Integer};

@@ -1,4 +1,4 @@
-//! What is known of a routine: its parameters and variables, where they lie, and the type of its
+//! What is known of a routine: its parameters and variables, where they are, and the type of its
 //! result.
 
 ghost use Rattle.std.specs.Prelude.{◌≡◌, ◌++◌, IfOk, map};
@@ -16,7 +16,7 @@ use crate::variables::Declared;
 use cp_model::tree::{Identifier, Routine};
 use std::alloc::{AllocError, Global};
 
-/// A routine: its name, its parameters and variables in text order, where they lie in an activation
+/// A routine: its name, its parameters and variables in text order, where they are in an activation
 /// (`locals` also has the size of the activation), and the number of the type of its result if it
 /// is a function.
 #[derive(Drop)]

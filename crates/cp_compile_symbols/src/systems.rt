@@ -1,5 +1,5 @@
 //! What is known of a system type: its parameters, variables and routines, and where the members
-//! and rights of its components lie.
+//! and rights of its components are.
 
 ghost use Rattle.std.specs.Prelude.{◌≡◌, [], IfOk, option_map, slice_get};
 ghost use Rattle.cp_model.specs.Abstract.{Name};
@@ -20,7 +20,7 @@ use cp_model::tree::{Fields, Parameters, Routine};
 use std::alloc::{AllocError, Global};
 
 /// A system type: its parameters, variables and routines in text order, and where the members and
-/// rights of its components lie. `members` also has the size of a component. Parameters, variables,
+/// rights of its components are. `members` also has the size of a component. Parameters, variables,
 /// routines and the names of the types of parameters and variables can also be found by name.
 #[derive(Drop)]
 pub struct SystemTable<'t> {

@@ -27,7 +27,7 @@ pub struct Tables<'t> {
     pub initial: SystemTable<'t>,
 }
 
-// A derived one would make proofs slower (docs/GATE.md).
+// A derived one would make proofs slower (docs/CI.md).
 impl Drop for Tables<'_> {
     fn drop(self) {
         let Tables {

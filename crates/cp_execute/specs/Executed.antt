@@ -41,7 +41,7 @@ IsDue run t input bytes =
 abbrev pub AreTablesOf : tree.Tree → Tables → Type 0
 AreTablesOf t tables = TablesRepresent (globals (erase.abstract (view.tree t))) tables t
 
--- The same of every text of which this is the program, with these tables.
+-- The same for every text of which this is the program, with these tables.
 abbrev pub IsDueOf : Run → Program → Tables → List ℕ → List ℕ → Type 0
 IsDueOf run program tables input bytes = (t : tree.Tree) → IsProgramOf (view.tree t) program → AreTablesOf t tables → IsDue run (view.tree t) input bytes
 

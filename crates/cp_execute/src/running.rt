@@ -23,7 +23,7 @@ use std::alloc::{AllocError, Global};
 use std::sync::Wait;
 use std::thread::Threads;
 
-/// Returns the report of a machine, with the chains of askers if they are asked for.
+/// The report of a machine, with the chains of askers if they are asked for.
 ///
 /// # Errors
 ///

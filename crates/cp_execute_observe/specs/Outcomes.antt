@@ -24,7 +24,7 @@ abbrev pub is_still_after : UntilStill → s.Tree → List ℕ → ℕ → Bool
 is_still_after how t input n = is_still (setup_of t input how.tick.rounds) (state_after how t input n)
 
 -- After so many rounds nothing can move or the limit is reached, and after no fewer. It is the
--- verdict on that state, and the bytes tell of both in the form.
+-- verdict on that state, and the bytes report of both in the form.
 pub record IsOutcome (how : UntilStill) (form : OutcomeForm ℕ) (t : s.Tree) (input : List ℕ) (v : Verdict) (bytes : List ℕ) : Type 0 where
   pub rounds : ℕ
   pub most : rounds ≤ how.limit

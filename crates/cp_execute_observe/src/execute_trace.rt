@@ -21,8 +21,8 @@ use std::sync::Wait;
 use std::thread::Threads;
 
 /// Runs the text of one reader on the input of another, and writes in the form of the trace what
-/// became of its processes and monitors, from the first round that is told. Returns the machine
-/// after the last round. Tells of those with the names in `only`, or of all if there are none.
+/// became of its processes and monitors, from the first round that is reported. Returns the machine
+/// after the last round. Reports of those with the names in `only`, or of all if there are none.
 /// Takes memory that doesn't grow with the rounds.
 ///
 /// # Errors

@@ -42,7 +42,7 @@ fn object_of(alloc: Global, source: Source<'_, '_>, verdict: Verdict) -> Result<
     )
 }
 
-/// Returns what is written of a machine that runs the program of a text, and of the verdict on it.
+/// What is written of a machine that runs the program of a text, and of the verdict on it.
 ///
 /// # Errors
 ///

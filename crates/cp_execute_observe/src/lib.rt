@@ -2,8 +2,8 @@
 //!
 //! - `execute_outcome`: runs until nothing can move. `execute_trace`: what each round changed.
 //! - `until_still`, `tracing`: builds the program of an accepted text, runs it, and makes the
-//!   outcome or the trace. `form`: what is written of an outcome. `snapshot`: where all stand.
-//! - `rounds`: makes the rounds of a machine, and writes what is told of them.
+//!   outcome or the trace. `form`: what is written of an outcome. `snapshot`: where all are.
+//! - `rounds`: makes the rounds of a machine, and writes what is reported of them.
 //!
 //! Reading, judging and refusals are cp_frontend's, and the machine at its start is
 //! cp_execute_start's.

@@ -1,4 +1,4 @@
-//! Making rounds, and writing what is told of them.
+//! Making rounds, and writing what is reported of them.
 
 ghost use Rattle.std.specs.Prelude.{◌≡◌, ◌<◌, ◌+◌, ◌-◌, ◌^◌, IfErr, IfOk, OnOk};
 ghost use Rattle.cp_rounds.specs.InStates.{MakesRounds};
@@ -25,7 +25,7 @@ use std::thread::Threads;
 // As many bytes are written at once, or those of one round if they are more.
 const MAX_PENDING_BYTES: usize = 65_536;
 
-// Returns of what is told in so many rounds of a machine, whose text has this tree.
+// Returns of what is reported in so many rounds of a machine, whose text has this tree.
 fn topic_of<'a, 't>(
     alloc: Global,
     tree: &'t Tree,
@@ -56,7 +56,7 @@ fn tracer_of<'t>(
     Tracer::of(alloc, form, topic, machine)
 }
 
-// Makes a round, and adds what is told of it at once.
+// Makes a round, and adds what is reported of it at once.
 fn trace_round<'t, H: Threads + Wait + Sync, G: TurnGate>(
     rt: &H,
     machine: &mut Machine<'_, 't>,
@@ -94,7 +94,7 @@ fn write_if_long<W: Write>(out: &mut W, buffer: &mut Vec<u8>) -> Result<(), Refu
     Ok(())
 }
 
-// Makes rounds, and writes what is told of them.
+// Makes rounds, and writes what is reported of them.
 fn trace_rounds<'t, H: Threads + Wait + Sync, W: Write, G: TurnGate>(
     rt: &H,
     alloc: Global,
@@ -124,9 +124,9 @@ fn trace_rounds<'t, H: Threads + Wait + Sync, W: Write, G: TurnGate>(
     Ok(())
 }
 
-/// Makes all rounds of a machine at its start, and writes what is told of each from the first that
-/// is told. Tells of the processes and monitors with the names in `only`, or of all if there are
-/// none. The machine runs the program of a text with this tree.
+/// Makes all rounds of a machine at its start, and writes what is reported of each from the first
+/// that is reported. Reports of the processes and monitors with the names in `only`, or of all if
+/// there are none. The machine runs the program of a text with this tree.
 ///
 /// # Errors
 ///

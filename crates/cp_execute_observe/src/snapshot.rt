@@ -1,4 +1,4 @@
-//! Where the processes of a machine stand, and who is at its monitors.
+//! Where the processes of a machine are, and who is at its monitors.
 
 use cp_compile_symbols::{Field, small_number};
 use cp_inspect::component_table::ComponentTable;
@@ -37,7 +37,7 @@ fn operation_of(private: &Private, state: ProcState) -> Option<u32> {
     }
 }
 
-// Where in the text a process in a state is, and what stands there.
+// Where in the text a process in a state is, and what is there.
 fn place_of(machine: &Machine, number: u32, state: ProcState) -> Option<(usize, Site)> {
     let operation = operation_of(machine.private(number as usize)?, state)?;
     let program = machine.program();
@@ -70,7 +70,7 @@ fn queue_of(
     Ok(path)
 }
 
-// Where a process stands.
+// Where a process is.
 fn process_snapshot(
     alloc: Global,
     machine: &Machine,
@@ -120,7 +120,7 @@ fn monitor_snapshots(
     Ok(monitors)
 }
 
-/// Returns where the processes of a machine stand, and who is at its monitors.
+/// Where the processes of a machine are, and who is at its monitors.
 ///
 /// # Errors
 ///

@@ -21,8 +21,8 @@ use std::io::Write;
 use std::sync::Wait;
 use std::thread::Threads;
 
-// Makes all rounds of a machine at its start, writes what is told of each, and returns the machine
-// after the last one.
+// Makes all rounds of a machine at its start, writes what is reported of each, and returns the
+// machine after the last one.
 fn trace_machine<'t, H: Threads + Wait + Sync, W: Write, G: TurnGate>(
     rt: &H,
     alloc: Global,
@@ -44,9 +44,9 @@ fn trace_machine<'t, H: Threads + Wait + Sync, W: Write, G: TurnGate>(
     Ok(machine.halt())
 }
 
-/// Runs the program of an accepted text, writes what is told of each round from the first that is
-/// told, and returns the machine after the last round. Tells of the processes and monitors with the
-/// names in `only`, or of all if there are none.
+/// Runs the program of an accepted text, writes what is reported of each round from the first that
+/// is reported, and returns the machine after the last round. Reports of the processes and monitors
+/// with the names in `only`, or of all if there are none.
 ///
 /// # Errors
 ///

@@ -12,7 +12,7 @@ use cp_program::program::Program;
 use cp_rounds::machine::Machine;
 use std::alloc::{AllocError, Global};
 
-/// Returns the machine of a text's program and tables at its start.
+/// The machine of a text's program and tables at its start.
 ///
 /// # Errors
 ///

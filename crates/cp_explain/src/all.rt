@@ -11,13 +11,13 @@ use cp_output::page::Page;
 use cp_rules::text::violations;
 use std::alloc::{AllocError, Global};
 
-/// The most violations that are told.
+/// The most violations that are reported.
 const MAX_VIOLATIONS: usize = 1_000;
 
-/// How many bytes are walked over: what stands at a place is found by a walk over the whole text.
+/// How many bytes are walked over: what is at a place is found by a walk over the whole text.
 const MAX_WALKED_BYTES: usize = 67_108_864;
 
-/// How many violations of a text are told, so that a long one takes no longer than a short one.
+/// How many violations of a text are reported, so that a long one takes no longer than a short one.
 pub(crate) fn most(text: &[u8]) -> usize {
     (MAX_WALKED_BYTES / text.len().max(1)).min(MAX_VIOLATIONS)
 }
@@ -37,7 +37,7 @@ fn push_hint(page: &mut Page, file: &[u8], list: &[Violation]) {
     page.text("` how to mend the first violation.\n");
 }
 
-// Adds how many violations there are, of which so many are told.
+// Adds how many violations there are, of which so many are reported.
 fn push_count(page: &mut Page, count: usize, reported: usize) {
     page.number(count);
     page.text(if count == 1 {

@@ -112,7 +112,7 @@ fn explain_refusal(
     })
 }
 
-// What is told of a text that breaks a rule, after the first heading.
+// What is reported of a text that breaks a rule, after the first heading.
 fn reported_of_tree(
     alloc: Global,
     key: Key,
@@ -128,7 +128,7 @@ fn reported_of_tree(
     }
 }
 
-// What is told of a text that has no tree, after the heading.
+// What is reported of a text that has no tree, after the heading.
 fn reported_of_no_tree(
     alloc: Global,
     text: &[u8],
@@ -286,8 +286,8 @@ pub fn explain_text<R: Read, W: Write>(
     explain_to(alloc, file, text, form, Extent::First, out)
 }
 
-/// Tells all violations of the text of a reader, and if it has no tree, what an old text uses that
-/// this language hasn't. Returns why the text is refused, unless it is accepted.
+/// Reports all violations of the text of a reader, and if it has no tree, what an old text uses
+/// that this language hasn't. Returns why the text is refused, unless it is accepted.
 ///
 /// # Errors
 ///

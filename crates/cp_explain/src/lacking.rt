@@ -276,7 +276,7 @@ impl Lacking {
 }
 
 /// Adds what a text uses of the book's language that this one hasn't: how often, and where first.
-/// Comments and what stands between apostrophes don't count.
+/// Comments and what is between apostrophes don't count.
 pub fn push_lacking(page: &mut Page, text: &[u8]) {
     let lacking = Lacking::of(text);
     let is_used = lacking.called().iter().any(|(_, uses)| 0 < uses.count);

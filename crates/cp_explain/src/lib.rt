@@ -1,10 +1,11 @@
 //! Explanations: the judgement of `check`, written for people.
 //!
 //! `explain::explain_text` reads a text, judges it as `check` does, and writes the explanation. For
-//! a refused text that is its heading and what cp_explain_syntax (no tokens, or no tree: `reported`) or
-//! cp_explain_rules (a broken rule) tells. For an accepted text it is the access graph (cp_explain_rights).
-//! `all` tells all violations of a text, and what it uses of the book's language that this one
-//! hasn't (`lacking`). `object` tells the same of a text as a JSON object.
+//! a refused text that is its heading and what cp_explain_syntax (no tokens, or no tree:
+//! `reported`) or cp_explain_rules (a broken rule) reports. For an accepted text it is the access
+//! graph (cp_explain_rights). `all` reports all violations of a text, and what it uses of the
+//! book's language that this one hasn't (`lacking`). `object` reports the same for a text as a JSON
+//! object.
 //!
 //! The judgement, the position and the start of the first line are proved (`specs/Explained.antt`),
 //! and the judgement in an object (`specs/Objects.antt`). The wording is tested.

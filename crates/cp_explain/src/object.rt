@@ -129,7 +129,7 @@ fn note_objects(
     Ok(all)
 }
 
-// The violations that are told of a text.
+// The violations that are reported of a text.
 fn violation_objects(
     alloc: Global,
     key: Key,

@@ -1,4 +1,4 @@
-//! What names and types stand for.
+//! What names and types represent.
 
 use cp_model::ordinals::{FIRST_INTEGER, LAST_CHARACTER, LAST_INTEGER};
 use cp_model::tree::{Sort, TypeExpression};
@@ -45,7 +45,7 @@ pub enum Shape<'t> {
     Queue,
 }
 
-/// What a name stands for.
+/// What a name represents.
 #[derive(Clone, Copy)]
 pub enum Meaning<'t> {
     /// A constant, by its ordinal.

@@ -22,7 +22,7 @@ pub struct Names<'t> {
 }
 
 impl<'t> Names<'t> {
-    /// The standard names that stand for types and constants. Fails only if memory runs out.
+    /// The standard names that represent types and constants. Fails only if memory runs out.
     pub fn standard(alloc: Global, key: Key) -> Result<Names<'t>, AllocError> {
         let mut names = Names {
             visible: NameTable::new(alloc, key),
@@ -63,12 +63,12 @@ impl<'t> Names<'t> {
         self.visible.truncate(count);
     }
 
-    /// What a name stands for.
+    /// What a name represents.
     pub fn find(&self, name: &Identifier) -> Option<Meaning<'t>> {
         self.visible.find(name.name.as_bytes())
     }
 
-    /// Adds a name that can stand after a `.`. Fails only if memory runs out.
+    /// Adds a name that can be after a `.`. Fails only if memory runs out.
     pub fn add_member(
         &mut self,
         of: usize,
@@ -85,7 +85,7 @@ impl<'t> Names<'t> {
         }
     }
 
-    /// What a name after a `.` stands for.
+    /// What a name after a `.` represents.
     pub fn member(
         &self,
         before: Option<Meaning<'t>>,

@@ -1,4 +1,4 @@
-//! What a name stands for at a place of a text, according to its declarations.
+//! What a name represents at a place of a text, according to its declarations.
 //!
 //! In an accepted text no name hides another. In a text that breaks a rule, the innermost
 //! declaration counts.

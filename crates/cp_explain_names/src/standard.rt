@@ -1,4 +1,4 @@
-//! The names that are visible everywhere: what each stands for, and what it means.
+//! The names that are visible everywhere: what each represents, and what it means.
 
 use cp_output::page::Page;
 
@@ -38,7 +38,7 @@ impl StandardType {
     }
 }
 
-/// What a standard name stands for.
+/// What a standard name represents.
 #[derive(Clone, Copy)]
 pub enum StandardKind {
     Type,
@@ -48,7 +48,7 @@ pub enum StandardKind {
     Procedure(usize),
 }
 
-/// A standard name: what it stands for, how a routine is called, and what it means.
+/// A standard name: what it represents, how a routine is called, and what it means.
 #[derive(Clone, Copy)]
 pub struct Standard {
     pub name: &'static str,
@@ -190,7 +190,7 @@ pub fn standard_value(name: &[u8]) -> Option<StandardType> {
 }
 
 impl Standard {
-    // What it stands for, in words.
+    // What it represents, in words.
     fn kind_words(&self) -> &'static str {
         match self.kind {
             StandardKind::Type => "type",

@@ -1,4 +1,4 @@
-//! The types of names, constants and expressions, as far as their declarations tell them.
+//! The types of names, constants and expressions, as far as their declarations report them.
 
 use crate::scope::{Declaration, Kind, Scope, Wanted};
 use crate::standard::{StandardType, standard_value};
@@ -128,7 +128,7 @@ impl<'t> Scope<'t> {
         None
     }
 
-    // The type of the value of a name, if it stands for a variable, a constant or a function.
+    // The type of the value of a name, if it represents a variable, a constant or a function.
     fn type_of_declared(&self, declared: Declaration<'t>) -> Option<Type<'t>> {
         match declared.kind {
             Kind::Constant => self.type_of_constant(declared.value?),
@@ -140,7 +140,7 @@ impl<'t> Scope<'t> {
         }
     }
 
-    /// The type of what a name stands for, if it has a value.
+    /// The type of what a name represents, if it has a value.
     pub fn type_of_root(&self, name: &'t Identifier) -> Option<Type<'t>> {
         match self.find(Wanted::other_than(name)) {
             Some(declared) => self.type_of_declared(declared),
@@ -183,7 +183,7 @@ impl<'t> Scope<'t> {
         Some(of)
     }
 
-    /// The type of what a designator stands for.
+    /// The type of what a designator represents.
     pub fn type_of_designator(&self, designator: &'t Designator) -> Option<Type<'t>> {
         self.type_of_front(designator, designator.selectors.len())
     }

@@ -1,4 +1,4 @@
-//! The names that are visible at a place, by what they stand for.
+//! The names that are visible at a place, by what they represent.
 
 use crate::nearest::Nearest;
 use crate::scope::Scope;
@@ -6,7 +6,7 @@ use crate::standard::{STANDARD, StandardKind};
 use cp_model::tree::{Defined, Parameters, Routine, Section, TypeDefinition};
 use std::alloc::{AllocError, Global};
 
-/// What names may stand at a place.
+/// What names may be at a place.
 #[derive(Clone, Copy)]
 pub struct Fit {
     pub constants: bool,

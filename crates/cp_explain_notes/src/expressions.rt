@@ -79,7 +79,7 @@ impl<'t> Walk<'t> {
         self.calls(designator, list)
     }
 
-    /// Walks over what is assigned to. Returns what it stands for.
+    /// Walks over what is assigned to. Returns what it represents.
     pub(crate) fn target(
         &mut self,
         designator: &'t Designator,
@@ -88,7 +88,7 @@ impl<'t> Walk<'t> {
         self.meaning(designator)
     }
 
-    // Walks over the call that a designator stands for, unless it is a variable or a constant.
+    // Walks over the call that a designator represents, unless it is a variable or a constant.
     fn calls(
         &mut self,
         designator: &'t Designator,

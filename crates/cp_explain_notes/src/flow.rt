@@ -48,7 +48,7 @@ impl Flow {
     }
 }
 
-/// How often a statement runs, as far as constants tell.
+/// How often a statement runs, as far as constants report.
 #[derive(Clone, Copy)]
 pub enum Times {
     Never,

@@ -1,8 +1,8 @@
-//! Notes on accepted texts: what the rules allow, and what is doomed for all that.
+//! Notes on accepted texts: what the rules allow, and what is doomed whatever.
 //!
 //! `text` walks over declarations, `statements` over bodies and `expressions` over calls; `walk` is
 //! what they know on their way, and `flow` which ways lead to a place.
-//! Each kind of note stands in a module: `initialisation`, `queues`, `queue_uses`, `ranges` and
+//! Each kind of note is in a module: `initialisation`, `queues`, `queue_uses`, `ranges` and
 //! `results`, but for statements that never run, which `statements` notes. `note` orders and writes
 //! them in the words of `messages`.
 //!

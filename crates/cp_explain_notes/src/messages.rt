@@ -1,4 +1,4 @@
-//! The words of notes. `$` and `%` stand for the names that a note tells of.
+//! The words of notes. `$` and `%` represent the names that a note reports of.
 
 use crate::note::NoteKind;
 use cp_model::tree::Sort;

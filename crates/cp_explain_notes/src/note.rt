@@ -40,7 +40,7 @@ pub enum NoteKind {
     KeepsGate,
 }
 
-/// A note, with the names that it tells of.
+/// A note, with the names that it reports of.
 #[derive(Clone, Copy)]
 struct Note<'t> {
     at: usize,
@@ -70,12 +70,12 @@ impl<'t> Notes<'t> {
         Ok(())
     }
 
-    /// Adds a note that tells of no name. Fails only if memory runs out, as all that follow.
+    /// Adds a note that reports of no name. Fails only if memory runs out, as all that follow.
     pub fn add(&mut self, at: usize, note_kind: NoteKind) -> Result<(), AllocError> {
         self.push(at, note_kind, About::NOTHING)
     }
 
-    /// Adds a note that tells of a name.
+    /// Adds a note that reports of a name.
     pub fn add_on(
         &mut self,
         at: usize,
@@ -89,7 +89,7 @@ impl<'t> Notes<'t> {
         self.push(at, note_kind, about)
     }
 
-    /// Adds a note that tells of two names.
+    /// Adds a note that reports of two names.
     pub fn add_on_both(
         &mut self,
         at: usize,
@@ -153,7 +153,7 @@ pub struct NoteText {
     pub position: Position,
     /// What it says.
     pub head: Vec<u8>,
-    /// How to mend it.
+    /// How to fix it.
     pub advice: Vec<u8>,
 }
 

@@ -32,7 +32,7 @@ pub struct QueueUses<'t> {
     calls: Vec<DelayingCall<'t>>,
     // The first process that comes to each queue.
     first: BTreeMap<QueueInstance<'t>, &'t [u8]>,
-    // The queues, by their numbers, of which a note tells already.
+    // The queues, by their numbers, of which a note reports already.
     reported: BTreeSet<usize>,
 }
 
@@ -66,7 +66,7 @@ impl<'t> QueueUses<'t> {
         }
     }
 
-    // Whether a note tells of a queue already. From now on one does.
+    // Whether a note reports of a queue already. From now on one does.
     fn report(&mut self, queue: usize) -> Result<bool, AllocError> {
         match self.reported.insert(queue) {
             Ok(is_new) => Ok(!is_new),
@@ -79,7 +79,7 @@ impl<'t> QueueUses<'t> {
 const INITIAL: &[u8] = b"initial";
 
 impl<'t> Walk<'t> {
-    /// Notes a call that leads to a `delay`, if it stands in a monitor.
+    /// Notes a call that leads to a `delay`, if it is in a monitor.
     pub(crate) fn keeps_gate(
         &mut self,
         designator: &'t Designator,

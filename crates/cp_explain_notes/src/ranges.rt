@@ -8,7 +8,7 @@ use cp_model::tree::{
 };
 use std::alloc::AllocError;
 
-// The name of the variable or field of which a designator stands for the whole or for an element.
+// The name of the variable or field of which a designator represents the whole or for an element.
 fn last_name(designator: &Designator) -> &Identifier {
     let mut x = &designator.root;
     for selector in &designator.selectors {
@@ -57,7 +57,7 @@ impl<'t> Walk<'t> {
         }
     }
 
-    /// Compares arguments with the parameters for which they stand.
+    /// Compares arguments with the parameters for which they are.
     pub(crate) fn arguments(
         &mut self,
         groups: &'t [Parameters],
@@ -98,7 +98,7 @@ impl<'t> Walk<'t> {
         }
     }
 
-    /// What a designator stands for. Notes constant indices beyond the bounds.
+    /// What a designator represents. Notes constant indices beyond the bounds.
     pub(crate) fn meaning(
         &mut self,
         designator: &'t Designator,

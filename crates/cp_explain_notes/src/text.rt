@@ -1,4 +1,4 @@
-//! The walk over declarations: in the order of the text, so that what a name stands for is known
+//! The walk over declarations: in the order of the text, so that what a name represents is known
 //! where it is used.
 
 use crate::flow::Flow;

@@ -8,13 +8,13 @@ use std::alloc::{AllocError, Global};
 /// A walk over a body, which collects what it hands over.
 #[derive(Drop)]
 pub(crate) struct Handing<'n, 't> {
-    // The components that names stand for.
+    // The components that names represent.
     names: &'n NameTable<'t, Origin>,
     rights: Vec<Right>,
 }
 
 impl<'n, 't> Handing<'n, 't> {
-    /// Returns what the statements of a body hand over, in order of the parts that are given it.
+    /// What the statements of a body hand over, in order of the parts that are given it.
     /// Fails only if memory runs out.
     pub fn rights(
         alloc: Global,

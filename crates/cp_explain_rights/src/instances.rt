@@ -1,6 +1,6 @@
 //! The components of a program, each an instance of its type's blueprint, and their rights.
 //!
-//! Instances stand in a list: first the initial process, then the parts of each in turn. So an
+//! Instances are in a list: first the initial process, then the parts of each in turn. So an
 //! instance gets its rights before they are handed on to its own parts.
 
 use crate::blueprint::{Blueprint, Blueprints, Origin, Part, Right};
@@ -22,14 +22,14 @@ const MAX_RIGHTS: usize = 100_000;
 #[derive(Drop)]
 pub(crate) struct Instance<'t> {
     /// The names of the components that hold it, and its own, with `.` between them. The name of
-    /// the initial process stands before no other.
+    /// the initial process is before no other.
     pub(crate) path: Vec<u8>,
     /// The name of its type. The initial process has none.
     pub(crate) of: Option<&'t Identifier>,
     pub(crate) sort: Sort,
     /// How many components hold it. The initial process doesn't count.
     pub(crate) level: usize,
-    // How many bytes of the path stand before its own part, below the outermost component.
+    // How many bytes of the path are before its own part, below the outermost component.
     outside: usize,
     blueprint: usize,
     // Its parts, as a range of instances.
@@ -189,7 +189,7 @@ impl<'t> Instances<'t> {
         Ok(())
     }
 
-    // How many components hold the parts of an instance, and how many bytes of their paths stand
+    // How many components hold the parts of an instance, and how many bytes of their paths are
     // before what is below the outermost one.
     fn depth_of_parts(&self, index: usize) -> (usize, usize) {
         match self.all.get(index) {

@@ -154,7 +154,7 @@ impl<'t> Site<'t> {
         matches!(self.pair, Some(Pair::First(..) | Pair::Later(..)))
     }
 
-    // The name of the type of a variable as it is declared, if it stands alone and has one.
+    // The name of the type of a variable as it is declared, if it is alone and has one.
     fn declared_type(&self, expression: &'t Expression) -> Option<&'t Identifier> {
         match expression {
             Expression::Designated(d) if d.selectors.is_empty() => {
@@ -237,7 +237,7 @@ impl<'t> Site<'t> {
         }
     }
 
-    /// The second name that a message tells of: the component before a `.`, what is named after
+    /// The second name that a message reports of: the component before a `.`, what is named after
     /// it, or an enumeration.
     pub fn other(&self) -> Option<&'t Identifier> {
         match self.name {

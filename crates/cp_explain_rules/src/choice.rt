@@ -1,4 +1,4 @@
-//! Which message fits a broken rule, depending on what stands at the place.
+//! Which message fits a broken rule, depending on what is at the place.
 
 use crate::messages as m;
 use crate::site::{Declaring, Mark, NameRole, Pair, Purpose, Site, TypePlace};
@@ -23,7 +23,7 @@ impl<'t> Site<'t> {
         Some(role)
     }
 
-    // The routine that a name after a component's `.` stands for.
+    // The routine that a name after a component's `.` represents.
     fn member(&self, designator: &Designator, name: &'t Identifier) -> Option<Declaration<'t>> {
         let system = self.scope.system_of(&designator.root)?;
         Wanted::other_than(name).in_routines(&system.routines)
@@ -139,7 +139,7 @@ impl<'t> Site<'t> {
         }
     }
 
-    // The message for a name after a component's `.` that stands for no routine.
+    // The message for a name after a component's `.` that represents no routine.
     fn no_member(&self, name: &Identifier, system: &'t System) -> Message {
         let wanted = Wanted::other_than(name);
         let is_own = wanted.in_groups(&system.variables).is_some()
@@ -246,7 +246,7 @@ impl<'t> Site<'t> {
         }
     }
 
-    // The message for what stands alone where a variable should.
+    // The message for what is alone where a variable should.
     fn c10_variable(&self) -> Message {
         match (self.identifier(), self.purpose) {
             (None, _) => m::NO_VARIABLE,

@@ -57,7 +57,7 @@ impl<'t> Site<'t> {
         }
     }
 
-    // A name that stands alone where a value is wanted.
+    // A name that is alone where a value is wanted.
     fn c2_value(&self) -> Message {
         match self.kind() {
             Some(Kind::Function) => self.call_message(0),
@@ -123,7 +123,7 @@ impl<'t> Site<'t> {
         }
     }
 
-    // The message for a standard name that stands alone where a value is wanted.
+    // The message for a standard name that is alone where a value is wanted.
     fn standard_value(&self) -> Message {
         match self.standard_kind() {
             Some(StandardKind::Constant) => self.disagreement(),

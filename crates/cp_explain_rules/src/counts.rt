@@ -86,7 +86,7 @@ fn push_count(page: &mut Page, name: &Identifier, takes: usize, given: usize) {
 }
 
 impl<'t> Site<'t> {
-    // The number of arguments of the call or the `init` whose name stands at the place.
+    // The number of arguments of the call or the `init` whose name is at the place.
     fn arguments(&self) -> Option<usize> {
         let (_, role) = self.name?;
         match role {
@@ -154,7 +154,7 @@ impl<'t> Site<'t> {
         }
     }
 
-    /// Adds how many arguments what stands at the place takes, if it was given another number.
+    /// Adds how many arguments what is at the place takes, if it was given another number.
     pub fn push_counts(&self, page: &mut Page) {
         let (Some((x, _)), Some(given)) = (self.name, self.arguments()) else {
             return;
@@ -178,7 +178,7 @@ impl<'t> Site<'t> {
         }
     }
 
-    /// Adds what a standard routine takes, if its argument stands at the place.
+    /// Adds what a standard routine takes, if its argument is at the place.
     pub fn push_standard_callee(&self, page: &mut Page) {
         if let Some(standard) = self.standard_callee() {
             standard.push(page);

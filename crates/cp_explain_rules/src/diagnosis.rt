@@ -97,7 +97,7 @@ impl<'t> Site<'t> {
         }
     }
 
-    // Whether the name at the place stands for nothing that the text declares.
+    // Whether the name at the place represents nothing that the text declares.
     fn is_unknown(&self) -> bool {
         match self.name {
             Some((_, NameRole::Declared(_))) | None => false,
@@ -129,7 +129,7 @@ impl<'t> Site<'t> {
     }
 }
 
-// What stands at the place of a violation.
+// What is at the place of a violation.
 fn site_of<'t>(
     alloc: Global,
     key: Key,

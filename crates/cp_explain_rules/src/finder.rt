@@ -1,10 +1,10 @@
-//! Finds what stands at a place of a text, by walking over its tree.
+//! Finds what is at a place of a text, by walking over its tree.
 
 use crate::site::{Mark, NameRole, Pair, Purpose, Site};
 use cp_explain_names::scope::Scope;
 use cp_model::tree::{Expression, Identifier, Tree};
 
-/// Walks over a tree, and records what stands at one place of it.
+/// Walks over a tree, and records what is at one place of it.
 #[derive(Drop)]
 pub struct Finder<'t> {
     pub(crate) at: usize,
@@ -13,7 +13,7 @@ pub struct Finder<'t> {
 }
 
 impl<'t> Finder<'t> {
-    /// Returns a finder for the token at a place.
+    /// A finder for the token at a place.
     pub fn new(tree: &'t Tree, at: usize) -> Finder<'t> {
         let scope = Scope {
             tree,

@@ -1,8 +1,8 @@
 //! Diagnoses: which explanation a broken rule gets.
 //!
-//! `finder` and the walks find what stands at the place (`site`), and `choice` and `choice_types`
-//! pick the message for that (`messages`). `agreement` tells the types that don't agree, `counts`
-//! the arguments that a call takes, `members` what can stand after a `.`, and `spelling` what a
+//! `finder` and the walks find what is at the place (`site`), and `choice` and `choice_types`
+//! pick the message for that (`messages`). `agreement` reports the types that don't agree, `counts`
+//! the arguments that a call takes, `members` what can be after a `.`, and `spelling` what a
 //! name may have meant. `diagnosis` puts these together. What names are declared as is
 //! cp_explain_names's.
 //!

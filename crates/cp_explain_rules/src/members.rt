@@ -1,4 +1,4 @@
-//! What can stand after a `.`: the entries of a component's type, or the fields of a record.
+//! What can be after a `.`: the entries of a component's type, or the fields of a record.
 
 use crate::site::{NameRole, Site};
 use cp_explain_names::nearest::Nearest;
@@ -77,7 +77,7 @@ impl<'t> Site<'t> {
         }
     }
 
-    /// Adds what can stand after the `.` before the place.
+    /// Adds what can be after the `.` before the place.
     pub fn push_members(&self, page: &mut Page) {
         match self.owner() {
             Some(Owner::Component(_, Sort::Process, _)) | None => {}
@@ -86,7 +86,7 @@ impl<'t> Site<'t> {
         }
     }
 
-    /// Offers what can stand after the `.` before the place.
+    /// Offers what can be after the `.` before the place.
     pub fn offer_members(
         &self,
         alloc: Global,

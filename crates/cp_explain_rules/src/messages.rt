@@ -1,4 +1,4 @@
-//! The messages: one for each way to break a rule of the language. `$` stands for the name at the
+//! The messages: one for each way to break a rule of the language. `$` represents the name at the
 //! place, and `%` for another one (`Site::other`).
 
 use cp_output::message::Message;

@@ -1,4 +1,4 @@
-//! What stands at a place of a text: the role of a name there, or the purpose of an expression.
+//! What is at a place of a text: the role of a name there, or the purpose of an expression.
 
 use cp_explain_names::scope::Scope;
 use cp_model::tree::{Constant, Designator, Expression, Identifier, Operation, Operator, Sort};
@@ -116,7 +116,7 @@ pub enum Pair<'t> {
     Label(&'t Expression, &'t Constant),
 }
 
-/// What stands at a place. A name that begins an expression has a purpose as well as a role.
+/// What is at a place. A name that begins an expression has a purpose as well as a role.
 #[derive(Drop)]
 pub struct Site<'t> {
     pub(crate) scope: Scope<'t>,

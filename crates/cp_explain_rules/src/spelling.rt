@@ -7,7 +7,7 @@ use cp_explain_names::visible::{Fit, NO_NAME};
 use cp_output::page::Page;
 use std::alloc::{AllocError, Global};
 
-/// Names of other languages, and what stands for them.
+/// Names of other languages, and what represents them.
 const FOREIGN: [(&str, &str); 28] = [
     ("write", WRITE),
     ("writeln", WRITE),
@@ -98,7 +98,7 @@ fn names_for(role: NameRole<'_>) -> Fit {
     }
 }
 
-// What stands for a name of another language.
+// What represents a name of another language.
 fn foreign(name: &[u8]) -> Option<&'static str> {
     for (known, reported) in FOREIGN.as_slice() {
         if known.as_bytes() == name {

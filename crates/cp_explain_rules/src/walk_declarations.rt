@@ -18,7 +18,7 @@ pub(crate) fn constant_place(constant: &Constant) -> usize {
 }
 
 impl<'t> Finder<'t> {
-    /// Finds what stands at a place of a whole text.
+    /// Finds what is at a place of a whole text.
     pub fn find(tree: &'t Tree, at: usize) -> Site<'t> {
         let mut finder = Finder::new(tree, at);
         finder.sections(&tree.sections);

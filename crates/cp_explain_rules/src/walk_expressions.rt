@@ -74,7 +74,7 @@ impl<'t> Finder<'t> {
         }
     }
 
-    /// Walks over a designator. If its first name stands alone, it has the role `alone`. A name
+    /// Walks over a designator. If its first name is alone, it has the role `alone`. A name
     /// after its last `.` is called as `call` says.
     #[cycle(expressions)]
     pub(crate) fn designator(

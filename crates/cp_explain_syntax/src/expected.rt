@@ -1,15 +1,15 @@
-//! Which tokens can stand at a place. Each is tried instead of what stands there.
+//! Which tokens can be at a place. Each is tried instead of what is there.
 
 use cp_model::token::{Kind, Name, Span, Symbol, Token};
 use cp_output::page::Page;
 use cp_syntax::{SyntaxError, parse};
 use std::alloc::{AllocError, Global};
 
-/// If more tokens than this tell the parser's state, none is tried, so that an explanation takes no
-/// longer than a check and some milliseconds.
+/// If more tokens than this report the parser's state, none is tried, so that an explanation takes
+/// no longer than a check and some milliseconds.
 const MAX_TRIED_TOKENS: usize = 4_000;
 
-/// A token that may stand at a place.
+/// A token that may be at a place.
 #[derive(Clone, Copy, PartialEq, Eq)]
 pub enum Candidate {
     Name,
@@ -121,14 +121,14 @@ fn can_follow(
     answer
 }
 
-/// The tokens that can stand at a place.
+/// The tokens that can be at a place.
 #[derive(Drop)]
 pub struct Expected {
     candidates: Vec<(Candidate, &'static str)>,
 }
 
 impl Expected {
-    /// Finds the tokens that can stand after these, unless they are too many. Fails only if memory
+    /// Finds the tokens that can be after these, unless they are too many. Fails only if memory
     /// runs out.
     pub fn after(
         alloc: Global,
@@ -156,12 +156,12 @@ impl Expected {
         false
     }
 
-    /// Whether this symbol can stand at the place.
+    /// Whether this symbol can be at the place.
     pub fn has(&self, symbol: Symbol) -> bool {
         self.contains(Candidate::Symbol(symbol))
     }
 
-    /// Whether a name can stand at the place.
+    /// Whether a name can be at the place.
     pub fn has_name(&self) -> bool {
         self.contains(Candidate::Name)
     }
@@ -176,18 +176,18 @@ impl Expected {
         self.has(Symbol::While)
     }
 
-    /// Whether nothing but a name can stand at the place, or the word `entry` before one.
+    /// Whether only a name can be at the place, or the word `entry` before one.
     pub fn is_name(&self) -> bool {
         let others = if self.has(Symbol::Entry) { 1 } else { 0 };
         self.has_name() && self.candidates.len() == 1 + others
     }
 
-    /// Whether nothing but this symbol can stand at the place.
+    /// Whether only this symbol can be at the place.
     pub fn is_only(&self, symbol: Symbol) -> bool {
         self.has(symbol) && self.candidates.len() == 1
     }
 
-    /// Adds a line with the tokens that can stand at the place, if they are known.
+    /// Adds a line with the tokens that can be at the place, if they are known.
     pub fn push(&self, page: &mut Page) {
         if self.candidates.is_empty() {
             return;

@@ -44,17 +44,17 @@ pub fn part(text: &[u8], from: usize, to: usize) -> &[u8] {
 }
 
 impl<'t> Front<'t> {
-    /// The token that stands `count` tokens after the one at the place.
+    /// The token that is `count` tokens after the one at the place.
     pub fn token(&self, count: usize) -> Option<&'t Token> {
         self.tokens.get(self.index.saturating_add(count))
     }
 
-    /// What stands `count` tokens after the place, which is its own token if `count` is 0.
+    /// What is `count` tokens after the place, which is its own token if `count` is 0.
     pub fn after(&self, count: usize) -> Option<&'t Kind> {
         Some(self.token(count)?.kind())
     }
 
-    /// What stands `count` tokens before the place.
+    /// What is `count` tokens before the place.
     pub fn before(&self, count: usize) -> Option<&'t Kind> {
         let token = self.tokens.get(self.index.checked_sub(count)?)?;
         Some(token.kind())
@@ -81,7 +81,7 @@ impl<'t> Front<'t> {
         Some(part(self.text, token.place(), token.end()))
     }
 
-    /// Whether a comment stands between the token before the place and the one at it.
+    /// Whether a comment is between the token before the place and the one at it.
     pub fn follows_comment(&self) -> bool {
         let from = match self.index.checked_sub(1) {
             Some(number) => self.end_of(number),

@@ -1,9 +1,9 @@
-//! Slips of spelling and syntax: why a text has no tokens or no tree, in the words of someone who
+//! Syntax errors of spelling and syntax: why a text has no tokens or no tree, in the words of someone who
 //! knows Pascal or C.
 //!
 //! `spelling` explains where the scanner stops, by the bytes there. `syntax` explains where the
 //! parser stops: by a habit of Pascal or C (`marks`, `words`), or by a token that is missing
-//! (`repair`), and by the tokens that can stand there (`expected`). `front` has the tokens before
+//! (`repair`), and by the tokens that can be there (`expected`). `front` has the tokens before
 //! the place, `context` what is open there, and `shorten` the same state with fewer tokens.
 //!
 //! All of this is words, and tested.

@@ -1,4 +1,4 @@
-//! Habits of Pascal and C that show in a mark: what is meant by a mark that can't stand at a place.
+//! Habits of Pascal and C that show in a mark: what is meant by a mark that can't be at a place.
 
 use crate::expected::Expected;
 use crate::front::{Front, is_name, is_number, is_symbol};
@@ -6,7 +6,7 @@ use crate::messages as m;
 use cp_model::token::{Kind, Symbol};
 use cp_output::message::Message;
 
-/// Symbols that end a statement, or stand before one.
+/// Symbols that end a statement, or are before one.
 const AROUND_STATEMENTS: [Symbol; 8] = [
     Symbol::Semicolon,
     Symbol::Begin,
@@ -32,7 +32,7 @@ fn is_relation(kind: Option<&Kind>) -> bool {
     )
 }
 
-// Whether a relation stands before the place in the same expression, which could otherwise go on.
+// Whether a relation is before the place in the same expression, which could otherwise continue.
 fn has_relation(expected: &Expected) -> bool {
     expected.has(Symbol::Ampersand) && !expected.has(Symbol::Equal)
 }

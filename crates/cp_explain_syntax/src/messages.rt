@@ -1,4 +1,4 @@
-//! What is told of syntax. A message about a token is told after ``unexpected `=`: ``.
+//! What is reported of syntax. A message about a token is reported after ``unexpected `=`: ``.
 
 use cp_output::message::Message;
 

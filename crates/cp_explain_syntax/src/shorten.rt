@@ -1,13 +1,13 @@
 //! Fewer tokens that leave the parser in the same state.
 //!
-//! Where a statement can stand, it doesn't matter how many stood before it in the same list. So all
+//! Where a statement can be, it doesn't matter how many was before it in the same list. So all
 //! but the last one of each open list are left out, and all of a body that is complete. The same
 //! holds for the arms of a `case` and the fields of a record.
 
 use cp_model::token::{Kind, Symbol, Token};
 use std::alloc::{AllocError, Global};
 
-// A list that is open: how many of the kept tokens stand before its first item, once that is known,
+// A list that is open: how many of the kept tokens are before its first item, once that is known,
 // and whether it may be empty.
 #[derive(Clone, Copy)]
 struct Open {
@@ -98,7 +98,7 @@ impl Short {
     }
 }
 
-/// Tokens after which the same tokens can stand as after these. Fails only if memory runs out.
+/// Tokens after which the same tokens can be as after these. Fails only if memory runs out.
 pub fn shorten(alloc: Global, tokens: Vec<Token>) -> Result<Vec<Token>, AllocError> {
     let mut short = Short {
         kept: Vec::new(alloc),

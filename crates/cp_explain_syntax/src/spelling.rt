@@ -27,7 +27,7 @@ fn byte(bytes: &[u8], at: usize) -> Message {
     }
 }
 
-// Whether another apostrophe stands in the same line.
+// Whether another apostrophe is in the same line.
 fn is_closed(bytes: &[u8]) -> bool {
     for byte in bytes.iter().take(STRING) {
         if *byte == b'\'' {

@@ -1,4 +1,4 @@
-//! What is told of spelling.
+//! What is reported of spelling.
 
 use cp_output::message::Message;
 

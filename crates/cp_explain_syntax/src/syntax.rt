@@ -30,7 +30,7 @@ fn tokens_of(alloc: Global, text: &[u8]) -> Result<Vec<Token>, AllocError> {
     scan(alloc, text).map_err(|_| AllocError)
 }
 
-// Tokens that tell the parser's state before a place: those of the text, without what doesn't
+// Tokens that report the parser's state before a place: those of the text, without what doesn't
 // matter any more.
 fn state_before(
     alloc: Global,
@@ -71,7 +71,7 @@ fn habit(front: &Front<'_>, expected: &Expected) -> Option<Message> {
     }
 }
 
-// Adds what is often missing, of what can stand at the place.
+// Adds what is often missing, of what can be at the place.
 fn push_often(page: &mut Page, expected: &Expected) {
     let mut lead = " Often a ";
     for (symbol, called) in OFTEN.as_slice() {

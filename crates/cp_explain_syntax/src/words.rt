@@ -1,4 +1,4 @@
-//! Habits of Pascal and C that show in a word: what is meant by a word that can't stand at a place.
+//! Habits of Pascal and C that show in a word: what is meant by a word that can't be at a place.
 
 use crate::expected::Expected;
 use crate::front::{Front, is_symbol, letters};
@@ -9,7 +9,7 @@ use cp_output::message::Message;
 /// Symbols that begin an arm of a `case`, or its statement.
 const AROUND_ARMS: [Symbol; 3] = [Symbol::Colon, Symbol::Of, Symbol::Case];
 
-// `else` after a `;`, or in a `case`, where no `if` stands before it in the same arm.
+// `else` after a `;`, or in a `case`, where no `if` is before it in the same arm.
 fn otherwise(front: &Front<'_>) -> Option<Message> {
     let in_arm = front.innermost() == Some(Symbol::Case);
     if in_arm && !front.follows_sooner(Symbol::Then, &AROUND_ARMS) {

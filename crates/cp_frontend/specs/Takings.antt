@@ -39,7 +39,7 @@ concern refusal.Read = Fault
 concern refusal.Memory = Fault
 concern e = Text
 
--- Who reads a text alone tells a refusal about that, and so for an input and an order.
+-- Who reads a text alone reports a refusal about that, and so for an input and an order.
 abbrev pub IsAboutText : Concern → Type 0
 IsAboutText Text = Unit {0}
 IsAboutText Fault = Unit {0}

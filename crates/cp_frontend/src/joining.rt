@@ -22,7 +22,7 @@ pub fn misplaced(input: &[u8]) -> Option<usize>
     None
 }
 
-/// Joins the inputs of the processes, which stand in the order of their numbers. Cut again, the
+/// Joins the inputs of the processes, which are in the order of their numbers. Cut again, the
 /// joined input gives each process its own.
 ///
 /// # Errors

@@ -1,4 +1,4 @@
--- As a walk goes on, the text reported and what is left keep making up the same text.
+-- As a walk continues, the text reported and what is left keep making up the same text.
 use Rattle.std.proofs.Common.{◌≡◌, ℕ, zero, suc, ◌+◌, ◌*◌, ◌≤◌, ◌<◌, ℤ, pos, negsuc, List, [], ◌∷◌, ◌++◌, drop, length, map, take, Option, Some, None, refl, ap, sym, subst, ◌∙◌, arith}
 use Rattle.std.specs.Prelude.{◌+ℤ◌, codes, reverse, slice_get}
 use Rattle.std.proofs.lemmas.Int.{ints}

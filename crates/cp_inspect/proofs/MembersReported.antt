@@ -13,7 +13,7 @@ use Rattle.cp_compile_symbols.specs.declared.tables.Tables.{Tables}
 use Rattle.cp_compile_symbols.specs.declared.types.Types.{Types}
 use Rattle.cp_inspect.specs.Walks.{Visits}
 
--- These entries stand for the members that are left, and with those members the text is whole.
+-- These entries represent the members that are left, and with those members the text is whole.
 pub record MembersToReport (g : GlobalScope) (v : Visit) (types : Types) (es : List (Name × ℕ)) (at : ℕ) (out text : Text) : Type 0 where
   pub left : Members
   pub represent : AreMembers types es left

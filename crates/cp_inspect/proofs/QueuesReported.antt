@@ -14,7 +14,7 @@ use Rattle.cp_compile_symbols.specs.declared.types.Types.{Types}
 use Rattle.cp_inspect.specs.Lists.{AreListed}
 use Rattle.cp_inspect.specs.Walks.{ReportsComponent}
 
--- These entries stand for the monitors that are left, and with those monitors the text is whole.
+-- These entries represent the monitors that are left, and with those monitors the text is whole.
 pub record QueuesToReport (g : GlobalScope) (program : Program) (place : ℕ) (types : Types) (n : ℕ) (es : List (Name × ℕ)) (out text : Text) : Type 0 where
   pub left : List (Name × Variable)
   pub listed : AreListed types es left

@@ -1,4 +1,4 @@
--- The types that rows stand for.
+-- The types that rows represent.
 use Rattle.std.proofs.Common.{◌≡◌, ℕ, ℤ, List, map, Some, refl, ap, sym, subst, ◌∙◌}
 use Rattle.std.specs.Prelude.{Vec}
 use Rattle.std.specs.Borrow.{Bor}

@@ -1,4 +1,4 @@
--- What the stack of a walk stands for when its buffer changes or the stack grows.
+-- What the stack of a walk represents when its buffer changes or the stack grows.
 use Rattle.std.proofs.Common.{ℕ, ◌≤◌, List, [], ◌∷◌, ◌++◌, length, take, ap, sym, ◌∙◌, arith}
 use Rattle.cp_model.specs.Report.{Text}
 use Rattle.cp_compile_symbols.specs.declared.types.Types.{Types}

@@ -40,7 +40,7 @@ taken : (types : Types) (buffer : Text) (c : Cursor) (stack : List Cursor) (all 
 taken types buffer c stack [] S = absurd S
 taken types buffer c stack (left ∷ rest) S = record { left = left; rest = rest; is = refl; represents = S }
 
--- What goes on from a walk also goes on from the walk before the innermost variable was taken.
+-- What continues from a walk also continues from the walk before the innermost variable was taken.
 pub went_on : (g : GlobalScope) (v : Visit) (tables : Tables) (c : Cursor) (w mid new : Walk) (out between after : Text) (text : Text) (end : ℕ)
     → w.stack.items ≡ mid.stack.items ++ c ∷ [] → mid.path.items ≡ w.path.items → mid.at ≡ w.at → between ≡ out → ScopeRepresents tables.names tables.types g
     → Advances g v tables.types w out text end → Continues tables v c mid new between after → Advances g v tables.types new after text end

@@ -9,7 +9,7 @@ use Rattle.cp_compile_symbols.specs.Variables.{AreDeclared, Entry}
 use Rattle.cp_compile_symbols.specs.declared.types.Types.{Types}
 use Rattle.cp_compile_symbols.specs.declared.variables.Declared.{Declared}
 
--- Each name with the number of a type stands for one of the variables, in order.
+-- Each name with the number of a type represents one of the variables, in order.
 abbrev pub AreListed : Types → List (Name × ℕ) → List (Name × Variable) → Type 0
 AreListed types [] [] = Unit {0}
 AreListed types (e ∷ es) (v ∷ vs) = (e.0 ≡ v.0) × Represents types e.1 v.1.type × AreListed types es vs

@@ -17,7 +17,7 @@ use Rattle.cp_compile_symbols.specs.declared.tables.Tables.{Tables}
 use Rattle.cp_compile_symbols.specs.declared.types.Types.{Types}
 use Rattle.cp_inspect.specs.Lists.{AreListed}
 
--- The path of the queue that lies at address `at` of the shared words of these monitors is added.
+-- The path of the queue that is at address `at` of the shared words of these monitors is added.
 abbrev pub ReportsQueue : Tables → Program → List (Name × ℕ) → ℕ → Text → Text → Type 0
 ReportsQueue tables program es at out after =
     (g : GlobalScope) (vs : List (Name × Variable)) → ScopeRepresents tables.names tables.types g → AreListed tables.types es vs

@@ -6,7 +6,7 @@ use Rattle.cp_inspect.specs.declared.place.Kind.TheVariants as kind
 use Rattle.cp_inspect.specs.declared.place.Value.{Value}
 use Rattle.cp_inspect.specs.declared.place.Value.TheVariants as value
 
--- What a word holds. The number 0 in a queue stands for nobody.
+-- What a word holds. The number 0 in a queue represents nobody.
 abbrev pub value_in : Kind → ℤ → Value
 value_in kind.Simple n = value.Ordinal n
 value_in kind.Queue n = value.Queue (process_of_word n)

@@ -11,7 +11,7 @@ use Rattle.cp_inspect.specs.declared.place.Value.TheVariants as value
 use Rattle.cp_inspect.specs.declared.walk_output.WalkOutput.{WalkOutput}
 use Rattle.cp_inspect.specs.declared.walk_output.WalkOutput.TheVariants as walk_output
 
--- Nothing is told.
+-- Nothing is reported.
 abbrev pub silent_visit : Visit
 silent_visit = record { simple = λ path at. []; queue = λ path at. [] }
 

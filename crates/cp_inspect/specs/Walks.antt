@@ -1,4 +1,4 @@
--- When a walk stands for what is left to be visited.
+-- When a walk represents what is left to be visited.
 use Rattle.std.specs.Prelude.{◌≡◌, ◌≤◌, ◌+◌, ◌++◌, ℕ, ℤ, List, [], ◌∷◌, Option, None, Some, drop, length, map, reverse, take}
 use Rattle.cp_model.specs.Abstract.{Class, Name, Sort, System}
 use Rattle.cp_model.specs.Integers.{count_between}
@@ -53,7 +53,7 @@ AllRepresent types buffer _ _ = ⊥
 abbrev pub WalkRepresents : Types → Walk → List Remaining → Type 0
 WalkRepresents types w rest = AllRepresent types w.path.items (reverse w.stack.items) rest
 
--- The walk goes on: the text reported so far followed by what is left is `text`, and the words that
+-- The walk continues: the text reported so far followed by what is left is `text`, and the words that
 -- are left end at `end`.
 pub record Advances (g : GlobalScope) (v : Visit) (types : Types) (w : Walk) (out text : Text) (end : ℕ) : Type 0 where
   pub left : List Remaining

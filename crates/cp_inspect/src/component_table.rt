@@ -37,7 +37,7 @@ fn number_of(list: &[Field<'_>], name: &[u8], first: usize) -> Result<Option<u32
 }
 
 impl<'t> ComponentTable<'t> {
-    /// Returns the processes and the monitors of a text with these tables.
+    /// The processes and the monitors of a text with these tables.
     ///
     /// # Errors
     ///
@@ -58,7 +58,7 @@ impl<'t> ComponentTable<'t> {
         })
     }
 
-    /// Returns the monitor with this number. The number 0 is read as 1.
+    /// The monitor with this number. The number 0 is read as 1.
     pub fn monitor(&self, number: u32) -> Option<&Field<'t>>
         ensures { option_map (λ f. f.now) result
             ≡ slice_get self.now.monitors.items (number - 1) }
@@ -66,7 +66,7 @@ impl<'t> ComponentTable<'t> {
         self.monitors.get((number as usize).saturating_sub(1))
     }
 
-    /// Returns the name of the process with this number, or no bytes if there is none.
+    /// The name of the process with this number, or no bytes if there is none.
     pub fn process_name(&self, number: u32) -> &'t [u8] {
         if number == 1 {
             return INITIAL;
@@ -77,7 +77,7 @@ impl<'t> ComponentTable<'t> {
         }
     }
 
-    /// Returns the name of the monitor with this number, or no bytes if there is none.
+    /// The name of the monitor with this number, or no bytes if there is none.
     pub fn monitor_name(&self, number: u32) -> &'t [u8] {
         match self.monitor(number) {
             Some(monitor) => monitor.name,
@@ -85,7 +85,7 @@ impl<'t> ComponentTable<'t> {
         }
     }
 
-    /// Returns the number of the process with this name, in any letter case, if there is one.
+    /// The number of the process with this name, in any letter case, if there is one.
     /// Process 1 is named `initial`, unless another process has that name.
     ///
     /// # Errors
@@ -99,7 +99,7 @@ impl<'t> ComponentTable<'t> {
         })
     }
 
-    /// Returns the process or the monitor with this name, in any letter case, if there is one.
+    /// The process or the monitor with this name, in any letter case, if there is one.
     ///
     /// # Errors
     ///

@@ -14,7 +14,7 @@ use cp_compile_symbols::Tables;
 use cp_model::tree::Sort;
 use std::alloc::AllocError;
 
-/// Returns how many words the mark and the rights of a component of this system type take.
+/// How many words the mark and the rights of a component of this system type take.
 pub(crate) fn head_words(tables: &Tables, number: usize) -> Result<usize, AllocError>
     ensures { IfOk result (λ head. (g : GlobalScope) (y : Bor System)
         → ScopeRepresents tables.now.names tables.now.types g
@@ -30,7 +30,7 @@ pub(crate) fn head_words(tables: &Tables, number: usize) -> Result<usize, AllocE
     }
 }
 
-/// Returns the same for a class, and `None` for a process or a monitor, whose words are elsewhere.
+/// The same for a class, and `None` for a process or a monitor, whose words are elsewhere.
 pub(crate) fn class_head(tables: &Tables, number: usize) -> Result<Option<usize>, AllocError>
     ensures { IfOk result (λ head. (g : GlobalScope) (y : Bor System)
         → ScopeRepresents tables.now.names tables.now.types g

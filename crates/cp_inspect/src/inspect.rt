@@ -7,14 +7,14 @@ use cp_compile_symbols::{Base, Field};
 use cp_private::kernel_view::Holder;
 use std::alloc::{AllocError, Global};
 
-/// What a trace reads of the machine of a text. A trait, so that traces stand beside the rounds of
+/// What a trace reads of the machine of a text. A trait, so that traces are beside the rounds of
 /// machines and not above them: what names a machine names some ninety types, and is proved slowly
-/// (docs/GATE.md).
+/// (docs/CI.md).
 pub trait Inspect {
-    /// Returns the state of a process.
+    /// The state of a process.
     fn state_of(&self, process: u32) -> ProcState;
 
-    /// Returns a state in the words of a report, where the monitors are these.
+    /// A state in the words of a report, where the monitors are these.
     ///
     /// # Errors
     ///
@@ -26,22 +26,22 @@ pub trait Inspect {
         state: ProcState,
     ) -> Result<String, AllocError>;
 
-    /// Returns what a process has written, as far as the kernel has it, and the rest.
+    /// What a process has written, as far as the kernel has it, and the rest.
     fn transcript_of(&self, process: u32) -> (&[u8], &[u8]);
 
-    /// Returns the holder of the gate of a monitor.
+    /// The holder of the gate of a monitor.
     fn holder_of(&self, monitor: u32) -> Holder;
 
-    /// Returns the processes that ask for the gate of a monitor.
+    /// The processes that ask for the gate of a monitor.
     fn askers_of(&self, monitor: u32) -> &[u32];
 
-    /// Returns the value at a place.
+    /// The value at a place.
     fn value_at(&self, place: &place::Place) -> place::Value;
 
-    /// Returns the base type of the simple type with a number.
+    /// The base type of the simple type with a number.
     fn base_of(&self, number: usize) -> Option<Base<'_>>;
 
-    /// Returns the places of the components of a type, by its number, or those of the initial
+    /// The places of the components of a type, by its number, or those of the initial
     /// process.
     ///
     /// # Errors

@@ -1,4 +1,4 @@
-//! The places of the variables of a component, in the order in which a report tells them.
+//! The places of the variables of a component, in the order in which a report reports them.
 
 ghost use Rattle.std.specs.Prelude.{◌≡◌};
 
@@ -21,7 +21,7 @@ pub struct Leaf {
 }
 
 impl Leaf {
-    /// Returns the place in a machine of this part of a process or a monitor.
+    /// The place in a machine of this part of a process or a monitor.
     pub fn in_owner(&self, owner: Owner) -> place::Place
         ensures owner { result.owner ≡ owner }
         ensures place { result.at ≡ self.now.at }
@@ -35,7 +35,7 @@ impl Leaf {
     }
 }
 
-/// Returns the places of a component whose type has the number `row`.
+/// The places of a component whose type has the number `row`.
 ///
 /// # Errors
 ///
@@ -47,7 +47,7 @@ pub fn leaves(alloc: Global, tables: &Tables, row: usize) -> Result<Vec<Leaf>, A
     Ok(walk.into_leaves())
 }
 
-/// Returns the places of the initial process.
+/// The places of the initial process.
 ///
 /// # Errors
 ///

@@ -1,16 +1,17 @@
-//! Who there is in a text, and where their variables lie: processes and monitors by number and by
-//! name, and a walk over the parts of their variables, which tells of each part or keeps its place.
+//! Who there is in a text, and where their variables are: processes and monitors by number and by
+//! name, and a walk over the parts of their variables, which reports of each part or keeps its
+//! place.
 //!
-//! All of this is read off the tables of a text and the words of a state, so it stands below the
-//! machine and its rounds. What is told is that of cp_model_machine's `specs/Reports.antt`.
+//! All of this is read off the tables of a text and the words of a state, so it is below the
+//! machine and its rounds. What is reported is that of cp_model_machine's `specs/Reports.antt`.
 //!
-//! - `state`, `place`: the state of a process; whose a variable is, where it lies and its value.
+//! - `state`, `place`: the state of a process; whose a variable is, where it is and its value.
 //! - `listing`, `component_table`: the processes or monitors by number, and all of them by name.
-//! - `walk_output`, `walk`: what is told of a part of a variable, and the walk over all parts.
+//! - `walk_output`, `walk`: what is reported of a part of a variable, and the walk over all parts.
 //! - `heads`, `components`: how many words come before members, and the parts of whole components.
 //! - `leaves`: the places of the variables of a component.
 //! - `status`: the state of a process in words.
-//! - `inspect`: what a trace reads of a machine, which stands above.
+//! - `inspect`: what a trace reads of a machine, which is above.
 //! - `text`: queues and bytes as text.
 #![tactic(auto)]
 

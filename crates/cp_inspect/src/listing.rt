@@ -46,7 +46,7 @@ fn pick<'t>(
     Ok(())
 }
 
-/// Returns the processes without the initial one, or the monitors, by number.
+/// The processes without the initial one, or the monitors, by number.
 ///
 /// # Errors
 ///

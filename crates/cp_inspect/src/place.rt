@@ -15,7 +15,7 @@ pub enum Owner {
 pub enum Kind {
     /// The ordinal of a simple variable.
     Simple,
-    /// The process that stands in a queue.
+    /// The process that is in a queue.
     Queue,
 }
 
@@ -28,7 +28,7 @@ pub struct Place {
     pub kind: Kind,
 }
 
-/// The value of a variable: the ordinal of a simple one, or who stands in a queue.
+/// The value of a variable: the ordinal of a simple one, or who is in a queue.
 #[derive(Clone, Copy, PartialEq, Eq)]
 pub enum Value {
     Ordinal(i32),
@@ -36,7 +36,7 @@ pub enum Value {
 }
 
 impl Value {
-    /// Returns the value that a word of this kind holds.
+    /// The value that a word of this kind holds.
     pub fn of(kind: Kind, word: i32) -> Value
         ensures { result ≡ value_in kind word }
     {

@@ -12,7 +12,7 @@ pub enum ProcState {
     Ready,
     /// Waits for the gate of this monitor.
     Asking(u32),
-    /// Stands in a queue of this monitor, whose word is shared word `queue`.
+    /// Is in a queue of this monitor, whose word is shared word `queue`.
     Delayed { monitor: u32, queue: u32 },
     /// Waits for the clock.
     Waiting,

@@ -61,7 +61,7 @@ pub(crate) fn push_monitor(
     }
 }
 
-/// Returns the number of a fault, from 1 to 9.
+/// The number of a fault, from 1 to 9.
 pub fn fault_number(fault: Fault) -> u64
     ensures { result ≡ state.fault_number fault }
 {

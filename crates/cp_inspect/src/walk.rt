@@ -2,7 +2,7 @@
 //! of their words.
 //!
 //! A chain of named types may be very long, so the variables around a part are kept on a stack.
-//! Parts lie in the order in which they are visited, so the address of the next word only grows.
+//! Parts are in the order in which they are visited, so the address of the next word only grows.
 
 ghost use Rattle.std.specs.Prelude.{◌≡◌, ◌+◌, ◌+ℤ◌, ◌++◌, ◌∷◌, ◌<◌, ◌^◌, pos, [], Some, OnOk, IfOk, codes, length, map, take};
 ghost use Rattle.std.specs.Borrow.{Bor};
@@ -62,7 +62,7 @@ fn index_at(low: i32, next: usize) -> i64
 }
 
 impl Walk {
-    /// Returns the places that were kept.
+    /// The places that were kept.
     pub(crate) fn into_leaves(self) -> Vec<Leaf> {
         let Walk {
             stack: _,
@@ -73,7 +73,7 @@ impl Walk {
         leaves
     }
 
-    /// Returns a walk that begins at an address.
+    /// A walk that begins at an address.
     pub fn new(alloc: Global, at: usize) -> Walk
         ensures { result.at ≡ at }
     {
@@ -304,7 +304,7 @@ impl Walk {
         Err(AllocError)
     }
 
-    /// Reports all parts of a variable with this name and type, which lies at the next address.
+    /// Reports all parts of a variable with this name and type, which is at the next address.
     ///
     /// # Errors
     ///

@@ -33,7 +33,7 @@ MakesKernelTurn program n k x after y input clock =
     (turning after y input)
     × Invariant (meaning.kernel_turn setup n s p)
 
--- Whatever text the program stands for, the kernel is that of the start.
+-- Whatever text the program represents, the kernel is that of the start.
 abbrev pub IsAtStart : Program → Kernel → Type 0
 IsAtStart program k =
     (setup : Setup) (F : IsProgramFor (view.program program) setup) → KernelOf (view.program program) F.texts setup (start setup) (kernel_of k)

@@ -38,7 +38,7 @@ impl Iterator for Chain<'_> {
 }
 
 impl Kernel {
-    /// Returns the process for which process p waits: the holder of the gate that it asks for.
+    /// The process for which process p waits: the holder of the gate that it asks for.
     pub fn waits_for(&self, p: u32) -> Option<u32>
         ensures { result ≡ plain.waits_for (kernel_of self.now) p }
     {
@@ -51,7 +51,7 @@ impl Kernel {
         }
     }
 
-    /// Returns the asking chain of process p, of at most one process more than there are monitors.
+    /// The asking chain of process p, of at most one process more than there are monitors.
     pub fn chain(&self, p: u32) -> Chain<'_>
         ensures { processes_left result ≡ plain.chain (kernel_of self.now) p }
     {

@@ -35,7 +35,7 @@ fn copy_transcripts(alloc: Global, transcripts: &[Vec<u8>]) -> Result<Vec<Vec<u8
 }
 
 impl Kernel {
-    /// Returns a kernel with the same content.
+    /// A kernel with the same content.
     ///
     /// # Errors
     ///
@@ -53,7 +53,7 @@ impl Kernel {
         })
     }
 
-    /// Returns the kernel of no program. It takes no memory.
+    /// The kernel of no program. It takes no memory.
     pub fn empty(alloc: Global) -> Kernel
         ensures stages { length result.stages.items ≡ 0 }
     {

@@ -11,7 +11,7 @@ use crate::kernel::Kernel;
 use cp_private::kernel_view::{Holder, SchedulingState};
 
 impl Kernel {
-    /// Returns the holder of monitor m's gate. A missing monitor is unset.
+    /// The holder of monitor m's gate. A missing monitor is unset.
     pub fn holder(&self, m: u32) -> Holder
         ensures { holder_view result ≡ (plain.gate_of (kernel_of self.now).gates m).holder }
     {
@@ -24,7 +24,7 @@ impl Kernel {
         }
     }
 
-    /// Returns the processes that ask for the gate of monitor m, in the order in which they asked.
+    /// The processes that ask for the gate of monitor m, in the order in which they asked.
     pub fn askers(&self, m: u32) -> &[u32]
         ensures { result.now ≡ (plain.gate_of (kernel_of self.now).gates m).askers }
     {
@@ -37,7 +37,7 @@ impl Kernel {
         }
     }
 
-    /// Returns the stage of process p. A missing process has begun.
+    /// The stage of process p. A missing process has begun.
     pub fn stage(&self, p: u32) -> SchedulingState
         ensures { stage_view result ≡ plain.stage_of (kernel_of self.now).stages p }
     {
@@ -57,14 +57,14 @@ impl Kernel {
         matches!(self.stage(p), SchedulingState::Begun)
     }
 
-    /// Returns all shared words.
+    /// All shared words.
     pub fn all_words(&self) -> &[i32]
         ensures { result.now ≡ (kernel_of self.now).shared }
     {
         &self.shared
     }
 
-    /// Returns the shared word at an address. A missing word reads as 0.
+    /// The shared word at an address. A missing word reads as 0.
     pub fn word(&self, at: usize) -> i32
         ensures { result ≡ word (kernel_of self.now).shared at }
     {
@@ -74,7 +74,7 @@ impl Kernel {
         }
     }
 
-    /// Returns the transcript of process p, without the output that its private state still holds.
+    /// The transcript of process p, without the output that its private state still holds.
     pub fn transcript(&self, p: usize) -> &[u8]
         ensures { result.now ≡ transcript_of (transcripts_of self.now) p }
     {

@@ -115,7 +115,7 @@ impl Kernel {
         })
     }
 
-    /// Returns the kernel at the start: no monitor is initialised, and only the initial process has
+    /// The kernel at the start: no monitor is initialised, and only the initial process has
     /// begun.
     ///
     /// # Errors

@@ -196,7 +196,7 @@ fn has_nothing_to_do(program: &Program, kernel: &Kernel, private: &Private) -> b
     private.output().is_empty() && !is_due(program, kernel, private)
 }
 
-/// Returns whether the kernel turn of a process has neither a step to make nor output to move. It
+/// Whether the kernel turn of a process has neither a step to make nor output to move. It
 /// then leaves everything as it is.
 #[inline(always)]
 pub fn has_no_kernel_turn(program: &Program, kernel: &Kernel, private: &Private) -> bool

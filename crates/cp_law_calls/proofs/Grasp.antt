@@ -71,7 +71,7 @@ grasp_closed s p i = record {
     go l j (OfProcess q) f (inr h) e a = absurd (subst (λ y. IsActivation y) f a)
     go l j (OfMonitor q) f (inr h) e a = absurd (subst (λ y. IsActivation y) f a)
 
--- ---- What is left to do lies in it
+-- ---- What is left to do is in it
 
 environment_more : (t v : Owner → Bool) (env : Environment) → ((o : Owner) → t o ≡ true → v o ≡ true) → EnvironmentIn t env
     → EnvironmentIn v env

@@ -97,7 +97,7 @@ module _ (w : World) (O : IsOrdered w) (setup : Setup) (s : State) (p : ℕ) (i 
       by_action (action (s.continuation p)) (action_fits w (context setup s p) (configuration s p) before (s.continuation p) (i.fits p) refl)
       (action_in (in_reach p (marked_monitors (s.continuation p))) (s.continuation p) (in_own_reach s p i.invariant))
 
-  -- ---- Where its effect stands
+  -- ---- Where its effect is
 
   module _ (h : HoldsMarked s) (ready : s.status p ≡ Ready) where
     marked : (m : ℕ) (ms : List ℕ) → marked_monitors (s.continuation p) ≡ m ∷ ms → (s.gates m).holder ≡ HeldBy p

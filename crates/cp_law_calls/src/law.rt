@@ -51,7 +51,7 @@ pub fn orders_of_calls()
     ensures swap { DifferentCallsSwap }
 {}
 
-/// The same of accepted texts without `realtime` and `wait`.
+/// The same for accepted texts without `realtime` and `wait`.
 pub fn accepted_texts()
     ensures still { AcceptedStillIsByCalls }
     ensures order { AcceptedByCallsIsOrder }

@@ -1,4 +1,4 @@
--- A reduced order that a search has found is replayed to a state that its core tells of.
+-- A reduced order that a search has found is replayed to a state that its core reports of.
 use Rattle.std.specs.Prelude.{Bool, List, [], false, fold, if◌then◌else◌, length, refl, suc, true, ℕ, ◌+◌, ◌∷◌, ◌≡◌}
 use Rattle.std.proofs.Common.{ap, arith, subst, sym, ◌∙◌}
 use Rattle.cp_model.specs.Configurations as status

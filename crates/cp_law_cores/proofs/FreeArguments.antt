@@ -1,5 +1,5 @@
--- Arguments without values of calls stand for the same whatever is known of the temps. A call of a procedure
--- whose arguments are such needs only the temps that it keeps.
+-- Arguments without values of calls represent the same whatever is known of the temps. A call of a
+-- procedure whose arguments are such needs only the temps that it keeps.
 use Rattle.std.proofs.Common.{◌≡◌, ℕ, ◌+◌, ℤ, List, [], ◌∷◌, true, Option, Some, length, refl, ap, sym, subst, ◌∙◌, arith}
 use Rattle.std.proofs.lemmas.Bool.{true≢false}
 use Rattle.cp_model.proofs.Options.{same_some}

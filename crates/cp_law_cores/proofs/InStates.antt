@@ -1,4 +1,5 @@
--- Cores in states: their steps are those of the states, and a state tells which steps are private.
+-- Cores in states: their steps are those of the states, and a state reports which steps are
+-- private.
 use Rattle.std.specs.Prelude.{Bool, List, None, Option, Some, [], false, if◌then◌else◌, length, not, refl, slice_get, suc, true, zero, ℕ, ◌-◌, ◌||◌, ◌∷◌, ◌≡◌, ◌≤◌}
 use Rattle.std.proofs.Common.{ap, arith, subst, sym, ◌∙◌}
 use Rattle.std.proofs.lemmas.Bool.{true≢false}
@@ -176,7 +177,7 @@ module _ (program : Program) (setup : Setup) where
           let represents = h.inside.parts (suc i) x.0 (Prim.omega arith) (subst (λ k. slice_get m.parts k ≡ Some x.0) place x.1) in
           ap (is_private_on m.program) (map_got silent m.parts i x.0 x.1) ∙ agree m setup s h.inside (suc i) x.0 represents
 
-  -- What is settled is told by the state.
+  -- What is settled is reported by the state.
   pub settled_like : (s : State) (c d : Core) → IsCoreIn program setup s c → IsCoreIn program setup s d → IsSettled M c → IsSettled M d
   settled_like s c d h k settled = record {
     none = λ p there. kinds_agree s d p k there ∙ (sym (kinds_agree s c p h there) ∙ settled.none p there);

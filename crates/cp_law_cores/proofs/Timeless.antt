@@ -64,7 +64,7 @@ mutual
 
 -- ---- What the steps are made of
 
--- `W` stands for a test of activities that neither a fault nor an end passes.
+-- `W` represents a test of activities that neither a fault nor an end passes.
 module _ (W : Activity → Bool) (faulted : (f : Fault) → W (Faulted f) ≡ false) (ended : W Ended ≡ false) (c : ℕ) (written : List ℕ) where
   abbrev at : StepContext → StepContext
   at w = record w { clock = c }

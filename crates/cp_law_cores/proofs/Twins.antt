@@ -1,7 +1,7 @@
--- Closed sets up to cores that stand for the same states.
+-- Closed sets up to cores that represent the same states.
 --
--- Two cores that are cores of one state do the same from there on, though they may differ in words that
--- nothing reads again. So a search may put one in the other's place.
+-- Two cores that are cores of one state do the same from there on, though they may differ in words
+-- that nothing reads again. So a search may put one in the other's place.
 use Rattle.std.specs.Prelude.{Bool, Contains, List, [], false, nat_eq, refl, true, ℕ, ◌∷◌, ◌≡◌}
 use Rattle.std.proofs.Common.{ap, subst, sym, ◌∙◌}
 use Rattle.cp_model.specs.Orders as orders

@@ -66,7 +66,7 @@ no_activations b (EndCall env gate ∷ k) = refl
 no_activations b (EndBody gate ∷ k) = refl
 no_activations b (EndProcess ∷ k) = no_activations b k
 
--- The component lies below the words of the body.
+-- The component is below the words of the body.
 bottom : (G : Ground) (ts : List ℤ) (limit : ℕ) (K : Knowns) (R : Running) (place low : ℕ) (k : List Task) → Remaining G ts limit K R [] place low k → Stack G R.base []
 bottom G ts limit K R place low [] h = absurd h
 bottom G ts limit K R place low (Do s e ∷ k) h = bottom G ts limit nothing_known R h.2.0 h.2.1 k h.2.4
@@ -319,7 +319,7 @@ wiped_is_in m setup s I = record {
           subst (λ (z : PrivateState). Begins (ground_of m.program setup I.represents p (length z.words)) s m.kernel z) same B;
     }
 
--- The wiped core stands for whatever states the core does.
+-- The wiped core represents whatever states the core does.
 pub wiped_represents : WipedRepresents
 wiped_represents program setup c s h = record {
   machine = wiped_machine h.machine;

@@ -1,8 +1,8 @@
--- What matters of a machine to its further steps, where the program has nothing to do with the clock:
--- its kernel and its private states without what is written.
+-- What matters of a machine to its further steps, where the program has nothing to do with the
+-- clock: its kernel and its private states without what is written.
 --
--- No step reads what was written, nor the count of rounds. So a machine that displays for ever, or whose
--- rounds pass, comes back to cores that it had before.
+-- No step reads what was written, nor the count of rounds. So a machine that displays forever, or
+-- whose rounds pass, comes back to cores that it had before.
 use Rattle.std.specs.Prelude.{Bool, List, None, Option, Some, [], false, if◌then◌else◌, map, slice_get, slice_set, suc, zero, ℕ}
 use Rattle.cp_model.specs.States.{numbers_from}
 use Rattle.cp_model_program.specs.Programs.{Program}

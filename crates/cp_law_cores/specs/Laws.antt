@@ -108,7 +108,7 @@ FaultsAreWithin =
     → (replay setup (start setup) rounds).status p ≡ Faulted number
     → (w : Core) × Contains vs w × HasFault w p number
 
--- ---- What cores tell
+-- ---- What cores report
 
 -- Whether the state is still, all processes have ended, or none has faulted, is read off its core.
 abbrev pub CoreReportsStill : Type 0
@@ -152,7 +152,7 @@ TurnsSettle =
 abbrev pub NobodyBegins : Type 0
 NobodyBegins = (program : Program) (c : Core) → NoneFresh c.kernel → close program c ≡ c
 
--- The same as `NoOrderIsStuck`, of a set that is closed up to cores that stand for the same states.
+-- The same as `NoOrderIsStuck`, of a set that is closed up to cores that represent the same states.
 abbrev pub NoOrderIsStuckUpTo : Type 0
 NoOrderIsStuckUpTo =
     (program : Program) (setup : Setup) (vs : List Core) (rounds : List (ℕ × List Event))
@@ -184,6 +184,7 @@ StatesAreReduced =
     → (c : Core) × IsCoreIn program setup u c
     × ReducedFrom (core_moves program (process_count setup)) (first_core program setup) (length rounds) c
 
--- A core whose dead words are wiped stands for whatever states the core does, so a search may keep it instead.
+-- A core whose dead words are wiped represents whatever states the core does, so a search may keep
+-- it instead.
 abbrev pub WipedRepresents : Type 0
 WipedRepresents = (program : Program) (setup : Setup) (c : Core) → IsCoveredBy program setup c (wiped_core program c)

@@ -1,4 +1,4 @@
--- What cores tell of the states that orders lead to.
+-- What cores report of the states that orders lead to.
 use Rattle.std.specs.Prelude.{Bool, List, None, Option, Some, [], false, if◌then◌else◌, true, ℕ, ◌∷◌, ◌≡◌}
 use Rattle.cp_model.specs.Configurations as status
 use Rattle.cp_model.specs.Configurations.{Status}
@@ -93,7 +93,7 @@ core_has_ended n c = all_parts is_end c (numbers_from 1 n)
 abbrev pub core_is_sound : ℕ → Core → Bool
 core_is_sound n c = all_parts is_sound c (numbers_from 1 n)
 
--- ---- The same of states
+-- ---- The same for states
 
 abbrev pub has_ended : Status → Bool
 has_ended status.Ended = true
@@ -120,7 +120,7 @@ abbrev pub with_one : List (List Event) → List (ℕ × List Event)
 with_one [] = []
 with_one (es ∷ rs) = (1, es) ∷ with_one rs
 
--- ---- Cores that stand for the same states
+-- ---- Cores that represent the same states
 
 -- Nobody waits for the clock.
 abbrev pub waits : Activity → Bool
@@ -143,7 +143,7 @@ pub record IsCoreIn (program : Program) (setup : Setup) (s : State) (c : Core) :
 abbrev pub IsCoveredBy : Program → Setup → Core → Core → Type 0
 IsCoveredBy program setup w v = (s : State) → IsCoreIn program setup s w → IsCoreIn program setup s v
 
--- `x` settles as a core for which a member stands.
+-- `x` settles as a core for which a member is.
 pub record LeadsTo (program : Program) (setup : Setup) (V : Core → Type 0) (x : Core) : Type 0 where
   pub at : Core
   pub member : Core

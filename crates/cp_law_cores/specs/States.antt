@@ -1,6 +1,6 @@
 -- Settled states of the meaning, and reduced rounds.
 --
--- Within a round the clock stands still, so what is said here holds for every text. A round is reduced
+-- Within a round the clock is still, so what is said here holds for every text. A round is reduced
 -- that makes its private steps to settle: after the waking, and after each kernel step.
 use Rattle.std.specs.Prelude.{Bool, List, [], false, fold, suc, true, zero, ℕ, ◌∷◌, ◌≡◌}
 use Rattle.cp_model.specs.Rounds.{Event, close_round, replay_event, wake}

@@ -12,16 +12,16 @@ pub fn settling()
 {}
 
 /// Within a round, whatever its events lead to once it settles, a reduced round leads to, and the
-/// other way round. This holds for every text, since the clock stands still within a round.
+/// other way round. This holds for every text, since the clock is still within a round.
 pub fn rounds()
     ensures reduced { RoundIsReduced }
     ensures round { ReducedRoundIsRound }
     ensures settled { SettledRoundsAreReduced }
 {}
 
-/// Where a program has nothing to do with the clock, a closed set of settled cores tells of all states
-/// that orders lead to: each settles as a member, each still one is a member, and each fault has
-/// occurred in a member. No turn length and no order of rounds leads to anything else.
+/// Where a program has nothing to do with the clock, a closed set of settled cores reports of all
+/// states that orders lead to: each settles as a member, each still one is a member, and each fault
+/// has occurred in a member. No turn length and no order of rounds leads to anything else.
 pub fn schedules()
     ensures within { OrdersStayWithin }
     ensures still { StillStatesAreWithin }
@@ -36,8 +36,8 @@ pub fn reduced_orders()
     ensures real { FoundIsReal }
 {}
 
-/// What a core tells of its state. So if nobody has faulted in a member of the closed set, and all have
-/// ended in each still member, no order gets stuck or faults.
+/// What a core reports of its state. So if nobody has faulted in a member of the closed set, and
+/// all have ended in each still member, no order gets stuck or faults.
 pub fn verdicts()
     ensures still { CoreReportsStill }
     ensures end { CoreReportsEnd }

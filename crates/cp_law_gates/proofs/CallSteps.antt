@@ -147,7 +147,7 @@ module _ (w : World) (c : Context) (config : Configuration) (S : IsBefore w c co
       inside [] h = absurd h
       inside (n ∷ ms) h = subst (λ x. is_in m (x ∷ ms) ≡ true) (sym h) (in_head m ms)
 
-  -- S.fits monitor that is called may stand before those whose gates are held.
+  -- S.fits monitor that is called may be before those whose gates are held.
   pub next_down : (env : Environment) (k : List Task) (x : Name) (n : Component) → Fits w env k → component_named env x ≡ Some n → n.system.sort ≡ Monitor → marked_monitors k ≡ marked_monitors config.continuation
       → Descends w.place (monitor_number env config.store n ∷ marked_monitors config.continuation)
   next_down env k x n F is sort e = subst (λ ms. Descends w.place (monitor_number env config.store n ∷ ms)) e (by env.component.owner refl F.owner)

@@ -137,7 +137,7 @@ callee_is env (At d y) c e = absurd (grind arith)
 
 -- ---- Places
 
--- A designator that begins with a variable of the component itself lies there.
+-- A designator that begins with a variable of the component itself is there.
 pub own_place : (clock : Clock) (env : Environment) (store : Store) (d : Designator) → OwnVariable env (meaning env (first_name d))
     → IfGives (λ (p : Place). p.at.owner ≡ env.component.owner) (place clock env store d)
 own_place clock env store (Plain x) h = by (meaning env x) h

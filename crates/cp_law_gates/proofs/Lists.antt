@@ -1,4 +1,4 @@
--- Lists of numbers: what stands in them, and how long one without repetition can be.
+-- Lists of numbers: what is in them, and how long one without repetition can be.
 use Rattle.std.proofs.Common.{◌≡◌, ◌≢◌, ℕ, zero, suc, ◌<◌, ◌≤◌, List, [], ◌∷◌, ◌++◌, length, Bool, true, false, refl, ap, sym, subst, ◌∙◌, arith}
 use Rattle.std.specs.Prelude.{if◌then◌else◌, nat_eq}
 use Rattle.std.proofs.lemmas.Bool.{eqb-false, eqb-true, true≢false}
@@ -6,7 +6,7 @@ use Rattle.cp_model.specs.States.{is_in}
 use Rattle.cp_model.proofs.Lists.{in_head, in_more}
 use Rattle.cp_law_gates.specs.Hierarchy.{Descends, NoneTwice}
 
--- What stands in a longer list is its first, or stands in the rest.
+-- What is in a longer list is its first, or is in the rest.
 pub in_rest : (p q : ℕ) (ps : List ℕ) → is_in p (q ∷ ps) ≡ true → p ≢ q → is_in p ps ≡ true
 in_rest p q ps h d = go (nat_eq p q) refl h
   where
@@ -33,7 +33,7 @@ pub in_last : (q : ℕ) (ps : List ℕ) → is_in q (ps ++ q ∷ []) ≡ true
 in_last q [] = in_head q []
 in_last q (r ∷ ps) = in_more q r (ps ++ q ∷ []) (in_last q ps)
 
--- What stands in a list with one more at its end stood there, or is that one.
+-- What is in a list with one more at its end was there, or is that one.
 pub in_appended : (p q : ℕ) (ps : List ℕ) → is_in p (ps ++ q ∷ []) ≡ true → p ≢ q → is_in p ps ≡ true
 in_appended p q [] h d = in_rest p q [] h d
 in_appended p q (r ∷ ps) h d = go (nat_eq p r) h (λ x. in_appended p q ps x d)
@@ -147,7 +147,7 @@ pub descends_rest : (place : ℕ → ℕ) (m : ℕ) (ms : List ℕ) → Descends
 descends_rest place m [] h = tt
 descends_rest place m (n ∷ ms) h = h.1
 
--- The innermost of a list that descends doesn't stand in it again.
+-- The innermost of a list that descends isn't in it again.
 pub first_once : (place : ℕ → ℕ) (m : ℕ) (ms : List ℕ) → Descends place (m ∷ ms) → is_in m ms ≡ false
 first_once place m ms h = not_in m ms (λ i. absurd (irreflexive (found_above place (place m) m ms (all_above place m ms h) i)))
   where

@@ -1,4 +1,4 @@
--- What is known before a step, what it has to keep, and the steps by which a process goes on by itself.
+-- What is known before a step, what it has to keep, and the steps by which a process continues by itself.
 use Rattle.std.proofs.Common.{◌≡◌, ℕ, ◌≤◌, List, Bool, true, false, refl, sym, subst, ◌∙◌}
 use Rattle.std.specs.Prelude.{if◌then◌else◌}
 use Rattle.cp_model.specs.Abstract.{Statement}
@@ -53,7 +53,7 @@ module _ (w : World) (c : Context) (config : Configuration) (S : IsBefore w c co
   either true x y h k = h refl
   either false x y h k = k refl
 
-  -- The process goes on by itself, with these writes.
+  -- The process continues by itself, with these writes.
   pub proceeds : (k : List Task) (transcript : List ℕ) (n : ℕ) (ws : Writes) → AllTame w.place ws → AllFit w k → marked_monitors k ≡ marked_monitors config.continuation
       → StepFits (record { store = put_all ws config.store; continuation = k; transcript = transcript; consumed = n }, Own)
   proceeds k transcript n ws t o e = record {

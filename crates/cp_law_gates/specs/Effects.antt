@@ -6,16 +6,16 @@ use Rattle.cp_model.specs.Continuations.{marked_monitors}
 use Rattle.cp_model.specs.Configurations.{Configuration, Continues, Delays, Effect, Ends, Enters, Leaves, Opens, Own, Starts, Waits}
 use Rattle.cp_law_gates.specs.Gates.{IsInnermost}
 
--- No process stands in a queue where it didn't stand before.
+-- No process is in a queue where it didn't are before.
 abbrev pub NoNewQueue : Store → Store → Type 0
 NoNewQueue store after = (l : Location) (r : ℕ) → after l ≡ QueueHolds (Some r) → store l ≡ QueueHolds (Some r)
 
--- `p` now stands in the queue.
+-- `p` now is in the queue.
 abbrev pub OneNewQueue : ℕ → Location → Store → Store → Type 0
 OneNewQueue p q store after =
     (l : Location) (r : ℕ) → after l ≡ QueueHolds (Some r) → (store l ≡ QueueHolds (Some r)) ⊎ ((l ≡ q) × (r ≡ p))
 
--- The process that resumes stood in a queue of the monitor, and stands in none any more.
+-- The process that resumes was in a queue of the monitor, and is in none any more.
 abbrev pub Resumes : ℕ → Store → Store → Option ℕ → Type 0
 Resumes m store after None = Unit {0}
 Resumes m store after (Some r) =

@@ -18,7 +18,7 @@ IsStoppedAt m (Asking n) = n ≡ m
 IsStoppedAt m (Delayed n q) = n ≡ m
 IsStoppedAt m _ = ⊥
 
--- The process that stands in a queue is delayed there, and the queue is the monitor's.
+-- The process that is in a queue is delayed there, and the queue is the monitor's.
 pub record IsQueuedIn (s : State) (l : Location) (p : ℕ) : Type 0 where
   pub monitor : ℕ
   pub owner : l.owner ≡ OfMonitor monitor

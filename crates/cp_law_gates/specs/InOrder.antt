@@ -36,7 +36,7 @@ OwnerFits (OfProcess p) ms = ms ≡ []
 OwnerFits (OfMonitor m) ms = IsInnermost m ms
 OwnerFits (OfActivation p d) ms = ⊥
 
--- Where a component of a sort may lie.
+-- Where a component of a sort may be.
 abbrev pub SortFits : Sort → Owner → Type 0
 SortFits Process (OfProcess p) = Unit {0}
 SortFits Process _ = ⊥
@@ -89,7 +89,7 @@ HasFrame (Some f) = Unit {0}
 abbrev pub is_of_queues : Name → Bool
 is_of_queues x = not (bytes_eq x (codes "display")) && not (bytes_eq x (codes "accept"))
 
--- `wait` stands in processes, `delay` and `continue` in routines of monitors, with a queue of the
+-- `wait` is in processes, `delay` and `continue` in routines of monitors, with a queue of the
 -- monitor itself.
 abbrev pub StandardFits : Environment → Designator → Expressions → Type 0
 StandardFits env d NoExpression = env.system.sort ≡ Process
@@ -128,7 +128,7 @@ abbrev pub FrameFits : Option Frame → List Task → Type 0
 FrameFits None k = Unit {0}
 FrameFits (Some f) k = CallEndsNext k
 
--- A statement of this environment may stand before these tasks.
+-- A statement of this environment may be before these tasks.
 pub record Fits (w : World) (env : Environment) (k : List Task) : Type 0 where
   pub here : Here w env
   pub owner : OwnerFits env.component.owner (marked_monitors k)

@@ -1,4 +1,4 @@
--- What a set that is closed by calls tells of all orders, and what a search finds.
+-- What a set that is closed by calls reports of all orders, and what a search finds.
 use Rattle.std.specs.Prelude.{Bool, Contains, List, None, Option, Some, [], false, if◌then◌else◌, nat_eq, refl, true, ℕ, ◌∷◌, ◌≡◌}
 use Rattle.std.proofs.Common.{ap, arith, subst, sym, ◌∙◌}
 use Rattle.std.proofs.lemmas.Bool.{true≢false}
@@ -115,7 +115,7 @@ still_settled setup program C s still = record { none = λ p there e. by (s.stat
     by (status.Delayed m l) k h e = idle_no_eager e
     by (status.Faulted n) k h e = idle_no_eager e
 
--- What a core tells of a fault.
+-- What a core reports of a fault.
 fault_is : (program : Program) (setup : Setup) (s : State) (c : Core) (p number : ℕ) → IsCoreIn program setup s c → is_in p (processes setup) ≡ true → HasFault c p number
     → private_status (s.status p) ≡ parts.Failed number
 fault_is program setup s c p number h there fault =
@@ -127,7 +127,7 @@ fault_is program setup s c p number h there fault =
     own_status None = parts.Running
     own_status (Some o) = status_of o.activity
 
--- ---- What a core tells
+-- ---- What a core reports
 
 module _ (program : Program) (setup : Setup) (s : State) (c : Core) (h : IsCoreIn program setup s c) where
   reports_still : core_is_still (process_count setup) c ≡ is_still setup s
@@ -394,7 +394,7 @@ found_by_calls_is_real program setup calls c C run =
     let r = by_calls_runs (core_machine program (process_count setup)) calls (first_core program setup) c run in
     run_is_real program setup r.0 c C r.1
 
--- ---- Up to cores that stand for the same states
+-- ---- Up to cores that represent the same states
 
 module _ (program : Program) (setup : Setup) (C : IsClockless program setup) where
   -- What the same calls lead to, and a state of both.
@@ -422,7 +422,7 @@ module _ (program : Program) (setup : Setup) (C : IsClockless program setup) whe
         other = r.other;
       }
 
--- What tells the same of each state is as real.
+-- What reports the same for each state is as real.
 as_real : (setup : Setup) (c u : Core)
     → core_is_still (process_count setup) c ≡ core_is_still (process_count setup) u
     → core_has_ended (process_count setup) c ≡ core_has_ended (process_count setup) u

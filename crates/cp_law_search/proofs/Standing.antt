@@ -1,4 +1,5 @@
--- Closed states, in which the clock stands still, are those of a machine with movers, whatever the text.
+-- Closed states, in which the clock is still, are those of a machine with movers, whatever the
+-- text.
 use Rattle.std.specs.Prelude.{refl, ℕ, ◌≡◌}
 use Rattle.std.proofs.Common.{ap, sym, ◌∙◌}
 use Rattle.cp_model.specs.Configurations.{Ready}

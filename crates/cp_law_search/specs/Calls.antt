@@ -52,7 +52,7 @@ move_at program c p = close program (step_at program c p)
 abbrev pub core_machine : Program → ℕ → Machine Core
 core_machine program n = record { processes = numbers_from 1 n; move = move_at program; way = way_at program }
 
--- ---- Up to cores that stand for the same states
+-- ---- Up to cores that represent the same states
 
 -- Eager steps lead from `x` to a settled core, and whatever state that is a core of, so is `w`.
 pub record LeadsAs (program : Program) (setup : Setup) (x w : Core) : Type 0 where

@@ -19,7 +19,7 @@ use Rattle.cp_law_cores.specs.Schedules.{HasFault, IsCoreIn, all_pass, core_has_
 use Rattle.cp_law_cores.specs.Turns.{AreSilent, NoneFresh, private_turn}
 use Rattle.cp_law_search.specs.Calls.{IsClosedByCalls, IsFound, LeadsByCalls, SettlesByCalls, core_machine, move_at, way_at}
 
--- The program stands for the text, and has nothing to do with the clock.
+-- The program represents the text, and has nothing to do with the clock.
 pub record IsClockless (program : Program) (setup : Setup) : Type 0 where
   pub represents : IsProgramFor program setup
   pub free : is_timeless program ≡ true
@@ -86,7 +86,7 @@ StillStatesAreMembers =
 
 -- ---- What is found is real
 
--- Rounds of turns of one step lead to a state of which the core tells.
+-- Rounds of turns of one step lead to a state of which the core reports.
 pub record IsReal (setup : Setup) (c : Core) : Type 0 where
   pub rounds : List (List Event)
   pub within : AreAllOfProcesses setup (with_one rounds)
@@ -107,8 +107,8 @@ FoundByCallsIsReal =
     (program : Program) (setup : Setup) (calls : List ℕ) (c : Core)
     → IsClockless program setup → ByCalls (core_machine program (process_count setup)) (first_core program setup) calls c → IsReal setup c
 
--- What is found up to cores that stand for the same states is real as well: the same calls lead, without
--- putting one core for another, to a core of the same verdict.
+-- What is found up to cores that represent the same states is real as well: the same calls lead,
+-- without putting one core for another, to a core of the same verdict.
 pub record IsExact (program : Program) (setup : Setup) (calls : List ℕ) (u : Core) : Type 0 where
   pub at : Core
   pub reached : ByCalls (core_machine program (process_count setup)) (first_core program setup) calls at

@@ -8,9 +8,10 @@ pub fn ways()
     ensures { CoreReportsWay }
 {}
 
-/// Where the program has nothing to do with the clock, a set of cores that is closed by calls, and as a
-/// member of which the first core settles, tells of all states that orders lead to: each settles as a
-/// member, the verdict of each still one is that of a member, and each fault has occurred in a member.
+/// Where the program has nothing to do with the clock, a set of cores that is closed by calls, and
+/// as a member of which the first core settles, reports of all states that orders lead to: each
+/// settles as a member, the verdict of each still one is that of a member, and each fault has
+/// occurred in a member.
 pub fn closed_by_calls()
     ensures settles { OrdersSettleByCalls }
     ensures still { StillStatesAreMembers }

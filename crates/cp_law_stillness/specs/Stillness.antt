@@ -8,7 +8,7 @@ use Rattle.cp_model.specs.Rounds.{Event, KernelTurn, PrivateStep}
 -- ---- Still states
 
 -- A ready process has a next step. A fresh one is ready at the end of the round, and a waiting one
--- when the clock wakes it. Any other process goes on only by a step of another one, if ever: by the
+-- when the clock wakes it. Any other process continues only by a step of another one, if ever: by the
 -- `init` that starts it, by the step that hands it its gate, or by the `continue` of its queue.
 abbrev pub can_move : Status → Bool
 can_move Ready = true

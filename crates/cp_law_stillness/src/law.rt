@@ -9,7 +9,7 @@ pub fn turns()
     ensures turns { StillTurnsChangeNothing }
 {}
 
-/// Rounds of a still state, whole or as any lists of events of the processes, change nothing but
+/// Rounds of a still state, whole or as any lists of events of the processes, change only
 /// the count of rounds.
 pub fn rounds()
     ensures events { StillEventsChangeNothing }

@@ -90,7 +90,7 @@ all_declared env e xs h = each_declared (map (λ x. (x, e)) xs) env (subst (NewN
 
 -- ---- more names
 
--- what a new name stands for is known, and the old names are kept
+-- what a new name represents is known, and the old names are kept
 pub names_more : (G : GlobalScope → Type 0) (rs : Types) (names : Names) (x : Text) (e : Entity) → NamesAs G rs names → GlobalAs G rs x e → NamesAs G rs (names ++ (x, e) ∷ [])
 names_more G rs names x e h new y f found = go (lookup y names) refl (sym (lookup-append y names ((x, e) ∷ [])) ∙ found)
   where
@@ -109,7 +109,7 @@ names_added G rs names e (x ∷ xs) h new =
     subst (NamesAs G rs) (append_assoc names ((x.name, e) ∷ []) (entries e xs))
     (names_added G rs (names ++ (x.name, e) ∷ []) e xs (names_more G rs names x.name e h (new x.name)) new)
 
--- equal tables stand for the same types
+-- equal tables represent the same types
 pub tables_same : (G : GlobalScope → Type 0) (env after : Environment) (rs : Types) → env.types ≡ after.types → env.members ≡ after.members → env.routines ≡ after.routines
     → env.systems ≡ after.systems → env.parameters ≡ after.parameters → Tables G env rs → Tables G after rs
 tables_same G env after rs t m r y p tables =
@@ -184,7 +184,7 @@ all_counted env position.MonitorVariable j xs = refl
 all_counted env position.ComponentVariable j xs = refl
 all_counted env position.RoutineVariable j xs = refl
 
--- ---- where types may stand
+-- ---- where types may be
 
 abbrev pub AllowsSort : Position → a.Sort → Type 0
 AllowsSort p y = (z : Sort) × (erase.sort_of z ≡ y) × (allows_system p z ≡ true)

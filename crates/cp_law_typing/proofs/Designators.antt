@@ -50,7 +50,7 @@ before_same env x (s.MoreSelectors y ys) e0 e h =
     sound_same e0 e (also_sound (c4_c9_named env x e0) _ e h)
 
 module _ (G : GlobalScope → Type 0) (env : Environment) (rs : Types) (p : Place) (v : Visible G env rs p) where
-  -- a sound name stands for what it means
+  -- a sound name represents what it means
   pub named_as : (x : Identifier) (e : Entity) → c1_named env x ≡ Sound e → EntityAs G env rs p x.name e
   named_as x e h = v.names x.name e (resolved x (lookup x.name env.names) e h)
 

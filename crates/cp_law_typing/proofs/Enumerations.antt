@@ -77,7 +77,7 @@ entries_none t n (x ∷ xs) z h = go (bytes_eq z x.name) h (entries_none t (suc 
     go true h rest = absurd (cc)
     go false h rest = rest h
 
--- names that stand for values
+-- names that represent values
 pub record Named (g : GlobalScope) (rs : Types) (names : Names) : Type 0 where
   pub globals : NamesAs (Later g) rs names
   pub is_outer : (x : Text) (e : Entity) → lookup x names ≡ Some e → IsOuter e

@@ -1,4 +1,4 @@
--- What the names of one layer stand for, by the rules and by the meaning.
+-- What the names of one layer represent, by the rules and by the meaning.
 use Rattle.std.proofs.Common.{◌≡◌, ◌<◌, inr, ℕ, ℤ, Bool, true, false, List, [], ◌∷◌, ◌++◌, Option, Some, None, if◌then◌else◌, slice_get, refl, ap, ap₂, sym, subst, ◌∙◌, bytes_eq, is_some}
 use Rattle.std.specs.Option.{option_or}
 use Rattle.std.proofs.lemmas.Bool.{true≢false}

@@ -1,4 +1,4 @@
--- The layers of names that a statement sees, and what each name of a layer stands for.
+-- The layers of names that a statement sees, and what each name of a layer represents.
 use Rattle.std.proofs.Common.{◌≡◌, ◌<◌, ℕ, Bool, true, false, ◌||◌, [], ◌∷◌, ◌++◌, Option, Some, None, if◌then◌else◌, slice_get, refl, ap, sym, subst, ◌∙◌, codes, bytes_eq}
 use Rattle.std.specs.Option.{option_or}
 use Rattle.std.proofs.lemmas.Bool.{true≢false}

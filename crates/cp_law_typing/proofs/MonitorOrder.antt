@@ -142,7 +142,7 @@ module _ (t : s.Tree) (outer : Environment) (rs : Types) (stage : SchedulingStat
       by false e = e
       by true e = absurd (cc ((is_named p.env x c named).parameter e))
 
-  -- A monitor variable: the name of its type, and where that stands.
+  -- A monitor variable: the name of its type, and where that is.
   record MonitorRow (x : Text) (row : ℕ) (c : Component) : Type 0 where
     type : Text
     named : SystemName outer.names rs type row

@@ -1,4 +1,4 @@
--- Where the type of a monitor variable stands among the definitions: a monitor is numbered by its
+-- Where the type of a monitor variable is among the definitions: a monitor is numbered by its
 -- variable, and the type names of the monitors are listed by the same numbers.
 use Rattle.std.proofs.Common.{◌≡◌, ℕ, suc, ◌+◌, Bool, true, false, List, [], ◌∷◌, ◌++◌, Option, Some, None, if◌then◌else◌, slice_get, length, replicate, refl, ap, sym, ◌∙◌, arith, bytes_eq}
 use Rattle.std.proofs.lemmas.Bool.{true≢false}

@@ -1,4 +1,4 @@
--- The written types of variables that are components: only a name stands for a system type, so the
+-- The written types of variables that are components: only a name represents a system type, so the
 -- row of such a variable is that of the name.
 use Rattle.std.proofs.Common.{◌≡◌, ℕ, Bool, true, false, List, [], ◌∷◌, ◌++◌, Option, Some, None, if◌then◌else◌, map, refl, ap, sym, subst, ◌∙◌, bytes_eq}
 use Rattle.std.specs.Option.{option_or}
@@ -29,7 +29,7 @@ use Rattle.cp_law_typing.proofs.MonitorPlaces.{group_types}
 
 -- ---- Entries and their written types
 
--- If the variable is a component, its type is written as a name that stands for the same row.
+-- If the variable is a component, its type is written as a name that represents the same row.
 abbrev pub EntryNamed : Names → Types → Entity → a.TypeExpression → Type 0
 EntryNamed names rs (entity.Variable t acc) te =
     (y : a.System) (inner : Members) → TypeAt rs t (ComponentOf y inner) → (n : Text) × (te ≡ a.TypeName n) × (lookup n names ≡ Some (entity.Type t))
@@ -104,7 +104,7 @@ found_before names e xs other n t h = go (lookup n names) (sym (lookup-append n 
     go None k = absurd (no_entry xs k)
     go (Some f) k = k
 
--- ---- Names alone stand for system types
+-- ---- Names alone represent system types
 
 pub type_found : (x : Identifier) (o : Option Entity) (n : ℕ) → then_judge (resolve x o) (c2_type x) ≡ Sound n → o ≡ Some (entity.Type n)
 type_found x (Some (entity.Type t)) n h = ap (λ k. Some (entity.Type k)) (sound_same t n h)

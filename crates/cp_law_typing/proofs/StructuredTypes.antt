@@ -1,4 +1,5 @@
--- Subranges, arrays and records in which nothing is broken: the row of each, and what it stands for.
+-- Subranges, arrays and records in which nothing is broken: the row of each, and what it
+-- represents.
 use Rattle.std.proofs.Common.{◌≡◌, ◌≤◌, ℕ, ℤ, Bool, true, false, ◌||◌, not, List, [], ◌∷◌, ◌++◌, length, map, ◌*◌, bytes_eq, refl, ap, ap₂, sym, subst, ◌∙◌, arith, append-nil, length-append}
 use Rattle.std.proofs.lemmas.Bool.{true≢false}
 use Rattle.std.proofs.Math.Seq.{get_or-append_seam}

@@ -1,4 +1,4 @@
--- What the tables of the rules stand for: each type of the table has a resolved type of the
+-- What the tables of the rules represent: each type of the table has a resolved type of the
 -- meaning.
 --
 -- `G` selects the scopes about which facts are known: the scope of the definitions so far, and
@@ -64,7 +64,7 @@ taken_first xs ys zero n h = take_first xs ys n (omega (arith, h))
 taken_first [] ys (suc k) n h = absurd (omega (arith, h))
 taken_first (x ∷ xs) ys (suc k) n h = taken_first xs ys k n (omega (arith, h))
 
--- ---- what numbers of types stand for
+-- ---- what numbers of types represent
 
 abbrev pub Types : Type 0
 Types = List ResolvedType
@@ -202,7 +202,7 @@ simple_data G row b low high start words queues sound = record {
 pub queue_data : (G : GlobalScope → Type 0) → DataRow G queue_row Queue
 queue_data G = record { alone = refl; queues = refl; sound = tt; fits = omega arith; words = λ g k. omega arith }
 
--- ---- what names stand for
+-- ---- what names represent
 
 abbrev pub standard_name : Standard → Text
 standard_name standard.Abs = codes "abs"
@@ -234,7 +234,7 @@ GlobalAs G rs x _ = Unit {0}
 abbrev pub NamesAs : (GlobalScope → Type 0) → Types → Names → Type 0
 NamesAs G rs names = (x : Text) (e : Entity) → lookup x names ≡ Some e → GlobalAs G rs x e
 
--- the tables stand for these types
+-- the tables represent these types
 pub record Tables (G : GlobalScope → Type 0) (env : Environment) (rs : Types) : Type 0 where
   pub rows : (t : ℕ) (r : ResolvedType) → TypeAt rs t r → RowAs G env rs (row_of env t) r
   pub lengths : length env.types ≡ length rs

@@ -1,6 +1,6 @@
 -- The order of definitions, by the numbers of rows: a system type has a row of its own, after those
 -- of all types that were defined before it. So of two system types the one with the lower row
--- stands earlier in the text, by its name; two of them may be equal as values.
+-- is earlier in the text, by its name; two of them may be equal as values.
 use Rattle.std.proofs.Common.{◌≡◌, ◌⊎◌, inl, inr, ◌<◌, ◌≤◌, ℕ, zero, suc, ◌-◌, ℤ, Bool, true, false, List, [], ◌∷◌, ◌++◌, Option, Some, None, if◌then◌else◌, slice_get, length, refl, ap, sym, subst, ◌∙◌, arith, bytes_eq}
 use Rattle.std.proofs.lemmas.Bool.{true≢false}
 use Rattle.cp_model.specs.Abstract as a
@@ -71,13 +71,13 @@ module _ (G : GlobalScope → Type 0) (env after : Environment) (rs more : Types
 
 -- ---- Rows ascend
 
--- What a name stands for isn't a system type.
+-- What a name represents isn't a system type.
 abbrev pub IsNoSystem : Types → Entity → Type 0
 IsNoSystem rs (entity.Type t) = (r : ResolvedType) × TypeAt rs t r × (is_component r ≡ false)
 IsNoSystem rs (entity.Constant base n) = Unit {0}
 IsNoSystem rs _ = ⊥
 
--- What a name of a system type stands for: a row that is at least the first one and below the last.
+-- What a name of a system type represents: a row that is at least the first one and below the last.
 pub record SystemBetween (names : Names) (x : Text) (low high : ℕ) : Type 0 where
   pub row : ℕ
   pub is : lookup x names ≡ Some (entity.Type row)
@@ -194,7 +194,7 @@ module _ (names : Names) (rs : Types) where
       go true e k later = absurd (no_other x (defined_name d) t n h.0 e)
       go false e k later = later (omega (arith, k))
 
-  -- Of two system types that are defined here, the one with the lower row stands before the other.
+  -- Of two system types that are defined here, the one with the lower row is before the other.
   pub places_ascend : (low high : ℕ) (ds : List a.Definition) (x z : Text) (t u : ℕ) → SystemName x t → SystemName z u → Ascend names rs low high ds
       → place_of x ds ≤ length ds → t < u → place_of x ds < place_of z ds
   places_ascend low high [] x z t u n m h there less = absurd (omega (arith, there))

@@ -99,7 +99,7 @@ module _ (G : GlobalScope → Type 0) where
         (also_sound (unless (allows_structure env p (row_of env t).structure) C6 at) _ u h)).0,
   )
 
-  -- at a position where no system type may stand
+  -- at a position where no system type may be
   abbrev pub NoSystem : Position → Type 0
   NoSystem p = (y : _) → allows_system p y ≡ false
 

@@ -1,4 +1,4 @@
--- What the names of statements stand for, by the rules and by the meaning, and which types agree.
+-- What the names of statements represent, by the rules and by the meaning, and which types agree.
 use Rattle.std.proofs.Common.{◌≡◌, ◌<◌, ◌⊎◌, inl, inr, ℕ, ℤ, Bool, true, false, ◌&&◌, [], ◌∷◌, Option, Some, None, if◌then◌else◌, nat_eq, eqb-true, slice_get, refl, ap, sym, subst, ◌∙◌, bytes_eq}
 use Rattle.std.proofs.lemmas.Bool.{true≢false, and_parts}
 use Rattle.cp_model.specs.Abstract as a
@@ -118,7 +118,7 @@ module _ (G : GlobalScope → Type 0) (env : Environment) (rs : Types) (p : Plac
     pub systems : (t : ℕ) (y : a.System) (inner : Members) → TypeAt rs t (ComponentOf y inner) → (i : ℕ) × (slice_get p.systems i ≡ Some y)
     pub region : RegionAs
 
-  -- ---- what designators stand for
+  -- ---- what designators represent
 
   abbrev pub DesignatorAs : a.Designator → Entity → Type 0
   DesignatorAs d (entity.Variable t acc) = PartAs d t acc

@@ -15,7 +15,7 @@ use Rattle.cp_model.specs.Calls.{Callee, callee}
 use Rattle.cp_model.specs.Integers.{same_integer}
 use Rattle.cp_law_typing.specs.StaticTypes.{expression_type, is_clock, place_type}
 
--- ---- Where a statement stands
+-- ---- Where a statement is
 
 -- The environment, the system types that were defined before it, and the number of routines of its
 -- component that were declared before it. Only these may be called.

@@ -46,7 +46,7 @@ AreSmallDefinitions n (TypeDef x t ∷ ds) = IsSmallType n t × AreSmallDefiniti
 AreSmallDefinitions n (EnumDef x values ∷ ds) = (length values ≤ n) × AreSmallDefinitions n ds
 AreSmallDefinitions n (SystemDef x s ∷ ds) = IsSmallSystem n s × AreSmallDefinitions n ds
 
--- ---- What it stands for
+-- ---- What it represents
 
 abbrev mutual
   pub HasSmallBounds : ℕ → ResolvedType → Type 0

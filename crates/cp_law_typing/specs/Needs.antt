@@ -73,7 +73,7 @@ abbrev pub activation_words : GlobalScope → Routine → ℕ
 activation_words g r =
     1 + result_words r.result + parameter_words g (declarations g r.parameters) + words_of_variables g (declarations g r.variables)
 
--- names mean the same wherever a component and its activation lie
+-- names mean the same wherever a component and its activation are
 abbrev pub frame_of : Option Routine → Option Frame
 frame_of None = None
 frame_of (Some r) = Some (record { owner = OfProcess 0; routine = r })

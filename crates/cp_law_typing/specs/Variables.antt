@@ -1,4 +1,4 @@
--- Where variables lie, and which constants names are: what the meaning of a name says about its
+-- Where variables are, and which constants names are: what the meaning of a name says about its
 -- declaration.
 use Rattle.std.specs.Prelude.{◌≡◌, List, [], ◌∷◌, Option, None, Some, ℤ}
 use Rattle.cp_model.specs.Abstract.{BaseType, Name}

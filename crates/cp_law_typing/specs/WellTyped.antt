@@ -16,9 +16,9 @@ use Rattle.cp_law_typing.specs.Needs.{WordsFit}
 use Rattle.cp_law_typing.specs.PassedRights.{PassesInOrder}
 use Rattle.cp_law_typing.specs.TypePlaces.{type_place}
 
--- ---- Where statements stand
+-- ---- Where statements are
 
--- The place of statements in the body of a component, wherever it lies, and of those in an
+-- The place of statements in the body of a component, wherever it is, and of those in an
 -- activation of its routine k, whoever owns the activation.
 abbrev pub body_place : GlobalScope → List System → System → Location → Place
 body_place g before s at = record {

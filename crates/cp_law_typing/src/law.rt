@@ -34,7 +34,7 @@ pub fn results_are_assigned_alone()
     ensures { ResultsAreAssignedAlone }
 {}
 
-/// A variable lies where it is declared: in the activation, or else in the component. No variable
+/// A variable is where it is declared: in the activation, or else in the component. No variable
 /// hides a constant.
 pub fn names_mean_declarations()
     ensures variables { VariablesLieWhereDeclared }

@@ -1,4 +1,4 @@
--- What stands in a list of numbers.
+-- What is in a list of numbers.
 use Rattle.std.specs.Prelude.{Bool, List, false, if◌then◌else◌, nat_eq, refl, true, ℕ, ◌∷◌, ◌≡◌}
 use Rattle.std.proofs.lemmas.Bool.{eq-eqb}
 use Rattle.cp_model.specs.States.{is_in}

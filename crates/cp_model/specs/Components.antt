@@ -1,4 +1,4 @@
--- Components: which component a name means, where it lies, and what number it has.
+-- Components: which component a name means, where it is, and what number it has.
 use Rattle.std.specs.Prelude.{Bool, List, None, Option, Some, [], false, if◌then◌else◌, suc, true, ℕ, ◌+◌, ◌∷◌}
 use Rattle.std.specs.Option.{option_or}
 use Rattle.cp_model.specs.Abstract.{Class, Monitor, Name, Process, Sort, System}
@@ -36,7 +36,7 @@ component_named env x =
     option_or (as_component x true (lookup x (declarations env.globals env.system.parameters)))
     (as_component x false (lookup x (declarations env.globals env.system.variables)))
 
--- ---- Where it lies
+-- ---- Where it is
 
 -- The location of a component's name: its variable, or the parameter that holds a right to it.
 abbrev pub name_location : Environment → Component → Location
@@ -46,7 +46,7 @@ abbrev pub class_or_here : Location → Value → Location
 class_or_here l (ClassRight k) = k
 class_or_here l _ = l
 
--- A class lies at its variable, or where the right to it points.
+-- A class is at its variable, or where the right to it points.
 abbrev pub class_location : Environment → Store → Component → Location
 class_location env store n =
     let at = name_location env n in

@@ -47,7 +47,7 @@ pub record Context : Type 0 where
 
 -- What a step leaves to the kernel. `Own` leaves nothing. `Ends` and `Waits` concern only the
 -- process itself. With the others the process enters or leaves a monitor, is delayed in a monitor's
--- queue, continues (with the process that stood in the queue, if any), opens a monitor's body as
+-- queue, continues (with the process that was in the queue, if any), opens a monitor's body as
 -- the holder of its gate, or starts process `r`, which then has `continuation` left to do.
 pub data Effect : Type 0 where
   Own Ends Waits : Effect

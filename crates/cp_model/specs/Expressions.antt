@@ -1,7 +1,7 @@
 -- Expressions: the value of an expression in which no user call is left, and the place of a
 -- designator.
 --
--- Evaluation goes from left to right, operands before their operator, and indices where they stand.
+-- Evaluation goes from left to right, operands before their operator, and indices where they are.
 use Rattle.std.specs.Prelude.{[], codes, if◌then◌else◌, neg_ℤ, pos}
 use Rattle.cp_model.specs.Abstract.{At, Binary, Call, Char, Designator, Expression, Expressions, Integer, Known, Letter, Literal, MoreExpressions, Name, Negative, NoExpression, Not, Part, Plain, Positive, Use}
 use Rattle.std.specs.Str.{bytes_eq}

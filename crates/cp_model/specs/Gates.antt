@@ -33,7 +33,7 @@ abbrev pub enter : ℕ → ℕ → Holder → State → State
 enter p m (HeldBy q) s = set_status p (Asking m) (set_gate m (HeldBy q) ((s.gates m).askers ++ p ∷ []) s)
 enter p m h s = set_gate m (HeldBy p) (s.gates m).askers s
 
--- A process that stood in the queue holds the gate, ahead of all askers. If there was none, the
+-- A process that was in the queue holds the gate, ahead of all askers. If there was none, the
 -- gate is passed on.
 abbrev pub resume : ℕ → Option ℕ → State → State
 resume m None s = pass_on m s

@@ -6,7 +6,7 @@
 --   simple   = [ "+" | "-" ] term { ( "+" | "-" | "or" ) term }
 --   term     = factor { ( "*" | "div" | "mod" | "&" ) factor }
 --   factor   = NUMBER | CHAR | desig [ args ] | "(" expr ")" | "not" factor
--- All expressions are one type of tree, and conditions say what may stand to the left and to the
+-- All expressions are one type of tree, and conditions say what may be to the left and to the
 -- right of an operator.
 use Rattle.std.specs.Prelude.{◌≡◌, ℕ, Bool, true, false}
 use Rattle.cp_model.specs.Languages.{Language, empty, never, token, anywhere, symbol, symbol_at, identifier, ◌⋅◌, ◌▸◌, opens}

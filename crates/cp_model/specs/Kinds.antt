@@ -1,4 +1,4 @@
--- The bytes of a name, whether they lie within it or in an allocation, and the kinds of tokens.
+-- The bytes of a name, whether they are within it or in an allocation, and the kinds of tokens.
 use Rattle.std.specs.Prelude.{ℕ, List, [], take}
 use Rattle.cp_model.specs.Tokens as plain
 use Rattle.cp_model.specs.declared.token.Kind.{Kind}

@@ -2,7 +2,7 @@
 -- in the report's order.
 --
 -- Fields come in text order, elements by rising index. A class has a leaf for its mark, followed by
--- the leaves of its members. What a process or a monitor owns does not lie at its variable.
+-- the leaves of its members. What a process or a monitor owns does not be at its variable.
 use Rattle.std.specs.Prelude.{List, None, [], false, flat_map, map, negsuc, pos, suc, zero, ℕ, ℤ, ◌++◌, ◌∷◌}
 use Rattle.cp_model.specs.Abstract.{Class, Monitor, Process, Sort}
 use Rattle.cp_model.specs.Types.{ArrayOf, ComponentOf, Members, MoreMembers, NoMembers, NoType, Queue, RecordOf, ResolvedType, Simple}

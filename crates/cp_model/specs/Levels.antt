@@ -79,7 +79,7 @@ abbrev mutual
   selector_levels depth (s.Field at name) = 0 ∷ 0 ∷ []
   selector_levels depth (s.Indexed is) = indices_levels depth is ⊕ 0 ∷ []
 
-  -- the `[` opens the level that the indices stand in
+  -- the `[` opens the level that the indices are in
   pub indices_levels : ℕ → s.Indices → List ℕ
   indices_levels depth s.NoIndices = []
   indices_levels depth (s.MoreIndices at e is) = suc depth ∷ expression_levels (suc depth) e ⊕ more_indices_levels (suc depth) is

@@ -1,7 +1,7 @@
--- Owners and locations: where the variables of a running program lie.
+-- Owners and locations: where the variables of a running program are.
 --
--- An owner is a process, a monitor, or an activation of a routine by a process. A class lies where
--- its variable lies, so it belongs to the process or monitor that owns the variable. A location is
+-- An owner is a process, a monitor, or an activation of a routine by a process. A class is where
+-- its variable is, so it belongs to the process or monitor that owns the variable. A location is
 -- an owner and a path of names and indices.
 use Rattle.std.specs.Prelude.{Bool, List, [], false, nat_eq, true, ℕ, ℤ, ◌&&◌, ◌++◌, ◌∷◌}
 use Rattle.cp_model.specs.Abstract.{Name}

@@ -19,7 +19,7 @@ abbrev pub with_first_byte : ℕ → List (List ℕ) → List (List ℕ)
 with_first_byte b [] = (b ∷ []) ∷ []
 with_first_byte b (piece ∷ pieces) = (b ∷ piece) ∷ pieces
 
--- The pieces before, between and after the places where a byte stands.
+-- The pieces before, between and after the places where a byte is.
 abbrev pub split_at_byte : ℕ → List ℕ → List (List ℕ)
 split_at_byte b [] = [] ∷ []
 split_at_byte b (c ∷ text) = if nat_eq b c then [] ∷ split_at_byte b text else with_first_byte c (split_at_byte b text)

@@ -1,4 +1,4 @@
--- Places: where a variable or a part of one lies, what type it has, and what is read there.
+-- Places: where a variable or a part of one is, what type it has, and what is read there.
 use Rattle.std.specs.Prelude.{Bool, List, [], if◌then◌else◌, int_le, map, pos, ℤ, ◌&&◌, ◌∷◌}
 use Rattle.cp_model.specs.Abstract.{BaseType, Boolean, Name}
 use Rattle.std.specs.Str.{bytes_eq}

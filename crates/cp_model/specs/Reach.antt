@@ -2,7 +2,7 @@
 -- monitor that an end mark of its continuation names.
 --
 -- A process that is asking or delayed still has the monitor in its reach, although it doesn't hold
--- the gate: its activation may refer to the monitor's variables, and it goes on only when it holds
+-- the gate: its activation may refer to the monitor's variables, and it continues only when it holds
 -- the gate again.
 use Rattle.std.specs.Prelude.{Bool, List, nat_eq, ℕ}
 use Rattle.cp_model.specs.Locations.{Location, OfActivation, OfMonitor, OfProcess, Owner}

@@ -71,7 +71,7 @@ variable_lines store at ps = flat_map (λ leaf. leaf_line leaf.0 (store (under a
 abbrev pub hex_digit : ℕ → ℕ
 hex_digit n = if nat_lt n 10 then 48 + n else 87 + n
 
--- The bytes 32 to 126, except the apostrophe and the backslash, stand for themselves.
+-- The bytes 32 to 126, except the apostrophe and the backslash, represent themselves.
 abbrev pub escape : ℕ → Text
 escape b =
     if nat_le 32 b && nat_le b 126 && not (nat_eq b 39) && not (nat_eq b 92)

@@ -44,7 +44,7 @@ declare_each env (d ∷ ds) =
 abbrev pub declare_all : Environment → Entity → List Identifier → Declared
 declare_all env e xs = declare_each env (map (λ x. (x, e)) xs)
 
--- what names stand for while they are being declared, before their type is known: a variable isn't
+-- what names represent while they are being declared, before their type is known: a variable isn't
 -- a type
 abbrev pub unfinished_variable : Entity
 unfinished_variable = entity.Variable integer access.Own
@@ -169,7 +169,7 @@ parameter_access true = access.ByReference
 parameter_access false = access.Passive
 
 -- the heading so far: the environment with its names hidden, the violations, what the names will
--- stand for, their rows, and the words that they take in an activation
+-- represent, their rows, and the words that they take in an activation
 pub record Heading : Type 0 where
   pub env : Environment
   pub violations : Violations

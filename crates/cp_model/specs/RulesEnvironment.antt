@@ -1,4 +1,5 @@
--- The environment of a part of a text: what each visible name stands for, and the tables of types and routines.
+-- The environment of a part of a text: what each visible name represents, and the tables of types
+-- and routines.
 use Rattle.std.specs.Prelude.{ℕ, ℤ, pos, negsuc, Bool, true, false, ◌&&◌, not, List, [], ◌∷◌, ◌++◌, Option, None, Some, nat_eq, take, drop, get_or, codes, is_some}
 use Rattle.cp_model.specs.declared.rules.Rule.TheVariants.{C1, C4, C9}
 use Rattle.cp_model.specs.declared.rules.Entity.{Entity}
@@ -43,7 +44,7 @@ pub record Environment : Type 0 where
   -- the number of processes and monitors so far
   pub processes : ℕ
   pub monitors : ℕ
-  -- where the statements stand
+  -- where the statements are
   pub region : Region
 
 -- ---- types
@@ -179,7 +180,7 @@ abbrev pub c9_standard : Environment → Identifier → Entity → Violations
 c9_standard env x (entity.Standard s) = unless (is_allowed env.region s) C9 x.at
 c9_standard env x _ = []
 
--- what is judged of a name wherever it stands
+-- what is judged of a name wherever it is
 abbrev pub c4_c9_named : Environment → Identifier → Entity → Violations
 c4_c9_named env x e = c4_unfinished x e ++ c9_standard env x e
 
@@ -187,7 +188,7 @@ c4_c9_named env x e = c4_unfinished x e ++ c9_standard env x e
 
 abbrev pub declare_if_new : Identifier → Entity → Names → Option Entity → Names
 declare_if_new x e names None = names ++ (x.name, e) ∷ []
--- the first declaration stands
+-- the first declaration is
 declare_if_new x e names (Some old) = names
 
 abbrev pub with_names : Names → Environment → Environment
@@ -200,7 +201,7 @@ declare x e env = with_names (declare_if_new x e env.names (lookup x.name env.na
 abbrev pub c1_declared : Environment → Identifier → Violations
 c1_declared env x = unless (not (is_some (lookup x.name env.names))) C1 x.at
 
--- what a declared name stands for. If its declaration is broken, nothing more is reported of it
+-- what a declared name represents. If its declaration is broken, nothing more is reported of it
 abbrev pub entity_of : {A : Type 0} → (A → Entity) → Judged A → Entity
 entity_of f (Sound x) = f x
 entity_of f (Broken v vs) = entity.Broken v

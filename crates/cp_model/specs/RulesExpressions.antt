@@ -112,7 +112,7 @@ abbrev mutual
   judge env m (s.Signed sign at e) = then_judge (judge env mode.Value e) (c2_operand env integer at)
   judge env m (s.Binary a o at b) = both (judge env (first_operand m) a) (judge env mode.Value b) (c2_operands env o at)
 
-  -- what a designator stands for
+  -- what a designator represents
   pub designate : Environment → s.Designator → Judged Entity
   designate env (s.Designate x ss) = apply_selectors env (then_judge (c1_named env x) (before_selectors env x ss)) ss
 

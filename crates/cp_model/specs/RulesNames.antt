@@ -1,4 +1,4 @@
--- Designators: where their names stand, and how a name is judged by its sort.
+-- Designators: where their names are, and how a name is judged by its sort.
 use Rattle.std.specs.Prelude.{ℕ, suc, Bool, true, false, ◌&&◌, not, List, [], ◌∷◌, ◌++◌, Option, None, Some, nat_eq, if◌then◌else◌, length, map, is_some}
 use Rattle.std.specs.Option.{unwrap_or}
 use Rattle.cp_model.specs.Syntax as s
@@ -93,7 +93,7 @@ c2_array env at e = breaks C2 at
 abbrev pub c2_index : Environment → ℕ → ArrayPart → ℕ → Judged Entity
 c2_index env at part t = guard (agree env part.index t) C2 at (entity.Variable part.element part.access)
 
--- what a name stands for before its parts are selected. If no part is, the use of the name judges
+-- what a name represents before its parts are selected. If no part is, the use of the name judges
 -- it
 abbrev pub before_selectors : Environment → Identifier → s.Selectors → Entity → Judged Entity
 before_selectors env x s.NoSelectors e = Sound e

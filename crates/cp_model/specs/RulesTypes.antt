@@ -1,4 +1,4 @@
--- Constants and written types: what they stand for, their words, and the rules inside them.
+-- Constants and written types: what they represent, their words, and the rules inside them.
 use Rattle.std.specs.Prelude.{ℕ, suc, ◌+◌, ◌*◌, ℤ, pos, negsuc, neg_ℤ, Bool, true, false, ◌||◌, not, List, [], ◌∷◌, ◌++◌, nat_eq, nat_lt, min, length, map}
 use Rattle.std.specs.Str.{bytes_eq}
 use Rattle.cp_model.specs.Syntax as s
@@ -62,7 +62,7 @@ constant_at (written.Negative at n) = at
 constant_at (written.Character at n) = at
 constant_at (written.Named x) = x.at
 
--- ---- where a type may stand
+-- ---- where a type may be
 
 abbrev pub is_class : Sort → Bool
 is_class sort.Class = true

@@ -1,5 +1,5 @@
 -- Which tokens spell a text: the text is a sequence of pieces, each a separator or the spelling of
--- the next token. A word goes on as long as letters, digits or underscores follow, a number as long
+-- the next token. A word continues as long as letters, digits or underscores follow, a number as long
 -- as digits follow, and a mark is the longest that fits.
 use Rattle.std.specs.Prelude.{◌≡◌, ℕ, ◌+◌, ◌≤◌, Bool, true, false, not, ◌||◌, ◌==◌, if◌then◌else◌, List, [], ◌∷◌, ◌++◌, length, map, Option, Some, None, codes, ◌⊎◌}
 use Rattle.cp_model.specs.Characters.{is_blank, is_digit, is_letter, is_in_word, is_quote, is_apostrophe, is_printable, lower, decimal_value}
@@ -80,7 +80,7 @@ abbrev pub Each : (ℕ → Bool) → List ℕ → Type 0
 Each p [] = Unit {0}
 Each p (b ∷ bs) = (p b ≡ true) × Each p bs
 
--- the text doesn't go on with a byte that passes the test
+-- the text doesn't continue with a byte that passes the test
 abbrev pub Stops : (ℕ → Bool) → List ℕ → Type 0
 Stops p [] = Unit {0}
 Stops p (b ∷ bs) = p b ≡ false
@@ -148,7 +148,7 @@ abbrev pub SpelledUpTo : List ℕ → ℕ → List ℕ → Type 0
 SpelledUpTo text at rest =
     (pieces : List (Option Kind × List ℕ)) × (tokens : List Token) × Row 0 pieces text tokens rest × (length text ≡ at + length rest)
 
--- the text goes on with at least n bytes that pass the test
+-- the text continues with at least n bytes that pass the test
 abbrev pub Runs : (ℕ → Bool) → ℕ → List ℕ → Type 0
 Runs p n text = (run : List ℕ) × (rest : List ℕ) × (text ≡ run ++ rest) × Each p run × (n ≤ length run)
 

@@ -43,18 +43,18 @@ abbrev pub process_in_queue : Value → Option ℕ
 process_in_queue (QueueHolds p) = p
 process_in_queue _ = None
 
--- Enters a queue in which no process stands. A taken queue is fault 5.
+-- Enters a queue in which no process is. A taken queue is fault 5.
 abbrev pub enqueue : ℕ → Configuration → List Task → Location → ℕ → Option ℕ → StepResult
 enqueue p config k q m (Some r) = Fault 5
 enqueue p config k q m None = Gives (with_writes config ((q, QueueHolds (Some p)) ∷ []) k, Delays m q)
 
--- The process stands in the queue, and the kernel passes on the gate of the innermost monitor. The
+-- The process is in the queue, and the kernel passes on the gate of the innermost monitor. The
 -- outer gates stay held.
 abbrev pub delay : ℕ → Configuration → List Task → Location → List ℕ → StepResult
 delay p config k q [] = own_step config
 delay p config k q (m ∷ ms) = enqueue p config k q m (process_in_queue (config.store q))
 
--- The entry routine returns at once, and the queue becomes empty. A process that stood in it
+-- The entry routine returns at once, and the queue becomes empty. A process that was in it
 -- resumes.
 abbrev pub continue : Configuration → Location → Option (Environment × Option ℕ × List Task) → StepResult
 continue config q (Some (env, Some m, k)) =

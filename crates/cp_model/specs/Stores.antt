@@ -3,8 +3,8 @@ use Rattle.std.specs.Prelude.{Bool, List, Option, [], if◌then◌else◌, ℕ, 
 use Rattle.cp_model.specs.Locations.{Location, Owner, same_location, same_owner}
 
 -- What a location can hold: nothing (also the result of a function that has set none), the ordinal
--- of a simple value, a queue with the process that stands in it, if any, a right to a monitor (its
--- number) or to a class (where it lies), what a `var` parameter refers to, or the mark of a class,
+-- of a simple value, a queue with the process that is in it, if any, a right to a monitor (its
+-- number) or to a class (where it is), what a `var` parameter refers to, or the mark of a class,
 -- which says whether it has been initialised.
 pub data Value : Type 0 where
   Absent : Value

@@ -1,11 +1,11 @@
--- Types: what a written type stands for, given the definitions of a text.
+-- Types: what a written type represents, given the definitions of a text.
 use Rattle.std.specs.Prelude.{List, None, Option, Some, [], codes, neg_ℤ, negsuc, pos, ℤ, ◌∷◌}
 use Rattle.cp_model.specs.Abstract.{Array, BaseType, Boolean, Char, Character, Constant, Enumeration, Fields, Integer, Minus, MoreFields, Name, Named, NoFields, Number, Range, Record, System, TypeExpression, TypeName}
 use Rattle.cp_model.specs.Names.{lookup}
 
 -- ---- Resolved types
 
--- What a written type stands for. A simple type has its base type, its bounds and its start value.
+-- What a written type represents. A simple type has its base type, its bounds and its start value.
 -- A component has its system type and its own members: its parameters except rights to components,
 -- then its variables. A name without a meaning gives `NoType`, which no accepted text has.
 mutual
@@ -58,7 +58,7 @@ standard_scope = record {
       ∷ [];
 }
 
--- ---- What a written type stands for
+-- ---- What a written type represents
 
 -- The base type and ordinal of a written constant.
 abbrev pub constant_value : GlobalScope → Constant → Option (BaseType × ℤ)
@@ -97,6 +97,6 @@ abbrev mutual
   members_of g NoFields = NoMembers
   members_of g (MoreFields xs t rest) = with_members xs (resolved_type g t) (members_of g rest)
 
--- The type that a name stands for.
+-- The type that a name represents.
 abbrev pub named_type : GlobalScope → Name → ResolvedType
 named_type g x = resolved_type g (TypeName x)

@@ -1,4 +1,4 @@
-//! What the rules of the language refer to: the rules by number, what a name stands for, and the
+//! What the rules of the language refer to: the rules by number, what a name represents, and the
 //! tables of types and routines.
 //!
 //! A type, a routine, a system type or a parameter is identified by the number of its row in a
@@ -150,7 +150,7 @@ pub struct TypeRow {
     pub has_queues: bool,
 }
 
-/// What a name after a `.` stands for.
+/// What a name after a `.` represents.
 #[derive(Clone, Copy)]
 pub enum Member {
     /// A field of this type.
@@ -158,7 +158,7 @@ pub enum Member {
     Routine(usize),
 }
 
-/// What a name stands for.
+/// What a name represents.
 #[derive(Clone, Copy)]
 pub enum Entity {
     /// The base type and the ordinal.
@@ -191,7 +191,7 @@ pub enum Part {
     EntryRoutine,
 }
 
-/// Where a statement stands: the part of a component of this sort. The initial process is a
+/// Where a statement is: the part of a component of this sort. The initial process is a
 /// process.
 #[derive(Clone, Copy)]
 pub struct Region {
@@ -199,7 +199,7 @@ pub struct Region {
     pub part: Part,
 }
 
-/// Where a written type stands.
+/// Where a written type is.
 #[derive(Clone, Copy)]
 pub enum Position {
     Definition,
@@ -225,7 +225,7 @@ pub struct ArrayPart {
 /// A name of a designator, with the indices after it.
 #[derive(Clone, Copy)]
 pub struct NamedPart {
-    /// Whether the name stands for a variable, a field or a constant.
+    /// Whether the name represents a variable, a field or a constant.
     pub is_value: bool,
     /// Whether there are indices after the name.
     pub is_indexed: bool,

@@ -1,4 +1,4 @@
-//! The letters of short names, which lie within a name or a token.
+//! The letters of short names, which are within a name or a token.
 
 ghost use Rattle.std.specs.Prelude.{◌≡◌, ◌≤◌, length, map, take};
 ghost use Rattle.cp_model.specs.Characters.{lower};
@@ -33,7 +33,7 @@ impl ShortWord {
         }
     }
 
-    /// Returns the word of the first `length` of these letters.
+    /// The word of the first `length` of these letters.
     #[inline(always)]
     pub fn of_front(front: &[u8; FRONT], length: usize) -> ShortWord
         requires { length ≤ MAX_SHORT_BYTES }

@@ -12,7 +12,7 @@ pub enum Fault {
     Overflow,
     /// 4: a zero divisor.
     DivisionByZero,
-    /// 5: a delay in a queue in which a process already stands.
+    /// 5: a delay in a queue in which a process already is.
     QueueTaken,
     /// 6: a call of a component that isn't initialised.
     NotInitialised,

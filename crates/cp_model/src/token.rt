@@ -25,7 +25,7 @@ pub struct Name {
     letters: Letters,
 }
 
-// A derived one would make proofs slower (docs/GATE.md).
+// A derived one would make proofs slower (docs/CI.md).
 impl Drop for Name {
     fn drop(self) {
         let Name { letters: _ } = self;
@@ -42,7 +42,7 @@ impl Model for Name {
 }
 
 impl Name {
-    /// Returns a word of letters, digits and underscores in lower case. Fails only if memory runs
+    /// A word of letters, digits and underscores in lower case. Fails only if memory runs
     /// out.
     pub fn new(alloc: Global, word: &[u8]) -> Result<Name, AllocError>
         ensures { IfOk result (λ name. name ≡ map lower word.now) }
@@ -65,7 +65,7 @@ impl Name {
         }
     }
 
-    /// Returns the name of a short word.
+    /// The name of a short word.
     #[inline(always)]
     pub fn of_short(word: &ShortWord) -> Name
         ensures { result ≡ short_bytes word.now }
@@ -75,7 +75,7 @@ impl Name {
         }
     }
 
-    /// Returns a name of letters in lower case, in an allocation of its own. Fails only if memory
+    /// A name of letters in lower case, in an allocation of its own. Fails only if memory
     /// runs out.
     pub fn of_long(alloc: Global, letters: &[u8]) -> Result<Name, AllocError>
         ensures { IfOk result (λ name. name ≡ letters.now) }
@@ -168,7 +168,7 @@ pub enum Symbol {
     DotDot,
 }
 
-/// What a token is. The letters of a name lie beside the other kinds, and not in a [`Name`], so
+/// What a token is. The letters of a name are beside the other kinds, and not in a [`Name`], so
 /// that a token takes 24 bytes. Contracts see a kind of `specs/Tokens.antt`, where names are one.
 #[derive(Drop)]
 pub enum Kind {
@@ -210,7 +210,7 @@ impl Model for Token {
 }
 
 impl Token {
-    /// Returns a token of this kind, with these bytes of the text.
+    /// A token of this kind, with these bytes of the text.
     #[inline(always)]
     pub fn new(kind: Kind, span: Span) -> Token
         ensures kind { result.kind ≡ kind_of kind }

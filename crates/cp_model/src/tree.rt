@@ -3,7 +3,7 @@
 //! A place is the first byte of a token, counted from 0. What the grammar repeats is a `Vec`, so a
 //! tree is never deeper than the limit of nesting. `specs/Grammar*.antt` defines which tokens it is
 //! read from, over the plain data that `specs/View.antt` makes of it. Where a `Drop` is written
-//! out, a derived one would cost proofs more (docs/GATE.md).
+//! out, a derived one would cost proofs more (docs/CI.md).
 
 use crate::token::Name;
 
@@ -196,7 +196,7 @@ pub struct Assignment {
     pub value: Expression,
 }
 
-/// What stands between the words `for` and `do`.
+/// What is between the words `for` and `do`.
 #[derive(Drop)]
 pub struct ForHeader {
     pub variable: Identifier,
@@ -313,7 +313,7 @@ pub struct Body {
 /// Parameters of one type.
 #[derive(Drop)]
 pub struct Parameters {
-    /// The place of the word `var`, if it stands before them.
+    /// The place of the word `var`, if it is before them.
     pub by_reference: Option<usize>,
     pub names: Vec<Identifier>,
     pub of: Identifier,

@@ -1,5 +1,5 @@
--- What the definition says of a process that counts for ever, computed: `cycle x := x + 1 end`. In turns
--- of one step it is quiet after each, and two rounds ahead it has counted once.
+-- What the definition says of a process that counts forever, computed: `cycle x := x + 1 end`. In
+-- turns of one step it is quiet after each, and two rounds ahead it has counted once.
 use Rattle.std.specs.Prelude.{refl, ℕ, [], ◌∷◌, pos}
 use Rattle.cp_model.specs.Abstract.{Add}
 use Rattle.cp_model_program.specs.Programs as op

@@ -1,4 +1,4 @@
--- A round in which all processes are ahead changes nothing but how far they are: nobody has a kernel turn,
+-- A round in which all processes are ahead changes only how far they are: nobody has a kernel turn,
 -- nobody begins, and the next private turns are made.
 use Rattle.std.specs.Prelude.{◌≡◌, ◌≢◌, ◌≤◌, ◌<◌, ◌+◌, ◌-◌, refl, ℕ, zero, suc, List, [], ◌∷◌, Some, get_or, length, map, slice_get}
 use Rattle.std.proofs.Common.{sym, ◌∙◌, ap, subst, arith}

@@ -84,7 +84,7 @@ module _ {X : Type 0} where
 
 -- ---- All processes
 
--- Nothing begins anew for a process that has begun.
+-- Nothing begins again for a process that has begun.
 pub begins_not : (program : Program) (k : Kernel) (i : ℕ) (o : PrivateState) → o.number ≡ suc i → HasBegun i k → begin_one program k o ≡ o
 begins_not program k i o number begun =
     ap (begin_if program k o) (ap (stage_of k.stages) number ∙ (stage_is k.stages i ∙ begun.stage))

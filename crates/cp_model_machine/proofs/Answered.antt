@@ -1,6 +1,6 @@
 -- The value of a call takes the place of the call in the task that waits for it.
 --
--- The code at the call was shown to stand for its task whatever value the call has, if the call's
+-- The code at the call was shown to represent its task whatever value the call has, if the call's
 -- temp holds it (`Next`). That temp comes after those in use, so what is known of the others
 -- stays known.
 use Rattle.std.proofs.Common.{◌≡◌, ◌≢◌, inl, inr, ℕ, ◌+◌, ◌≤◌, ℤ, pos, List, [], ◌∷◌, length, Option, Some, None, refl, ap, sym, subst, ◌∙◌, arith}

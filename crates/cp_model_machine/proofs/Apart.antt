@@ -68,7 +68,7 @@ cell_has_word g (ArrayOf low high t) h = absurd h
 cell_has_word g (RecordOf ms) h = absurd h
 cell_has_word g NoType h = absurd h
 
--- Members lie at or after the place where the first one begins.
+-- Members are at or after the place where the first one begins.
 pub member_above : (g : GlobalScope) (at : ℕ) (ms : Members) (x : Name) (p : Path) (n : ℕ) (u : ResolvedType) → member_part g at ms x p ≡ Some (n, u) → at ≤ n
 member_above g at NoMembers x p n u h = absurd (some_is_not_none (n, u) (sym h))
 member_above g at (MoreMembers y t ms) x p n u h = by (bytes_eq x y) h (member_above g (at + words g t) ms x p n u)

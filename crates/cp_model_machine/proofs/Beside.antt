@@ -1,5 +1,5 @@
 -- What a process's words mean stays the same if another process is given its parameters. These are
--- stored at that process, and lie in shared words that belong to no monitor.
+-- stored at that process, and are in shared words that belong to no monitor.
 use Rattle.std.proofs.Common.{◌≡◌, ◌⊎◌, inl, inr, ℕ, ◌+◌, ◌≤◌, ◌<◌, ℤ, List, [], ◌∷◌, length, Some, refl, ap, sym, subst, ◌∙◌, arith}
 use Rattle.cp_model.specs.Abstract.{System}
 use Rattle.cp_model.specs.Continuations.{Task}
@@ -45,7 +45,7 @@ pub record Beside (G : Ground) (top r from count : ℕ) (store after : Store) (o
   pub same : (i : ℕ) → (i < top) ⊎ (G.own ≤ i) → (i < G.own + from) ⊎ (G.own + from + count ≤ i) → word new i ≡ word old i
 
 module _ (G : Ground) (xs : List Activation) (top : ℕ) (stack : Stacked G top xs) (r from count : ℕ) (store after : Store) (old new : List ℤ) (B : Beside G top r from count store after old new) where
-  -- Nothing that lies in reach belongs to the other process.
+  -- Nothing that is in reach belongs to the other process.
   not_other : (l : Location) (v : Part) → lies G xs l ≡ Some v → l.owner ≡ OfProcess r → ⊥
   not_other l v h e = by l.owner l.path h e
     where

@@ -1,8 +1,8 @@
 -- Whole private steps of calls: of functions, which any task can make, and of procedures.
 --
--- The callee's unit stands for its routine, so what is passed and then started opens an
+-- The callee's unit represents its routine, so what is passed and then started opens an
 -- activation (`Opening`), and `Invoking` has the rest. A function's caller keeps its task, a
--- procedure's goes on.
+-- procedure's continues.
 use Rattle.std.proofs.Common.{◌≡◌, inl, inr, ℕ, ◌+◌, List, [], ◌∷◌, length, Bool, true, false, Option, Some, None, refl, ap, sym, subst, ◌∙◌, arith}
 use Rattle.std.specs.Prelude.{◌++◌, if◌then◌else◌, slice_get}
 use Rattle.std.proofs.lemmas.Bool.{true≢false}
@@ -137,7 +137,7 @@ module _ (G : Ground) (s : State) (w : StepContext) (before : List ℕ) (o : Pri
       bound : Store
       bound = put_all ws (forget (owner_of_call G k) s.store)
 
-      -- What a parameter refers to lies where the caller sees it.
+      -- What a parameter refers to is where the caller sees it.
       converted : (d : declared.Variable) (x : Name) (at : ℕ) (b : Bool)
           → Has b (scope G) (lies_in_sight (in_sight G) G (activations o.base o.frames (i ∷ l))) d.type (parameter_at (owner_of_call G k) x) bound new at
           → Has b (scope G) (lies G (activations o.base o.frames k)) d.type (parameter_at (owner_of_call G k) x) bound new at
@@ -155,7 +155,7 @@ module _ (G : Ground) (s : State) (w : StepContext) (before : List ℕ) (o : Pri
 
 -- ---- steps
 
--- The units of the program stand for their texts.
+-- The units of the program represent their texts.
 abbrev pub UnitsRepresent : Ground → Type 0
 UnitsRepresent G =
     (n : ℕ) (u : CodeUnit) (t : UnitText) → slice_get G.program.units n ≡ Some u → slice_get G.texts n ≡ Some t → UnitRepresents G.program G.texts (scope G) u t

@@ -1,4 +1,4 @@
--- Code that stands for an expression still stands for it if as much is known of its temps.
+-- Code that represents an expression still represents it if as much is known of its temps.
 use Rattle.std.proofs.Common.{ℕ, ◌+◌, ◌≤◌, ◌<◌, ℤ, List, [], ◌∷◌, arith}
 use Rattle.cp_model.specs.Abstract as a
 use Rattle.cp_model.specs.Abstract.{BaseType, Name}

@@ -1,4 +1,4 @@
--- Code that stands for a statement still stands for it if as much is known of its temps.
+-- Code that represents a statement still represents it if as much is known of its temps.
 use Rattle.std.proofs.Common.{ℕ, List, [], ◌∷◌, arith}
 use Rattle.cp_model.specs.Abstract as a
 use Rattle.cp_model.specs.Abstract.{Char, Name, System}

@@ -48,7 +48,7 @@ use Rattle.cp_model_machine.proofs.StartLeaves.{IsSimple}
 use Rattle.cp_model_machine.proofs.Stepping.{Stepped, clock_of, faulted, went}
 use Rattle.cp_model_machine.proofs.Given.{all_kept}
 
--- A plain variable lies among the words in reach, if it has words.
+-- A plain variable is among the words in reach, if it has words.
 pub plain_below : (G : Ground) (store : Store) (o : PrivateState) (k : List Task) (R : RunsOn G store o k) (l : Location) (n : ℕ) (t : ResolvedType) → SoundType t → has_queues t ≡ false → in_sight G l.owner ≡ true
     → lies G (activations o.base o.frames k) l ≡ Some (n, t) → 1 ≤ words (scope G) t → n + words (scope G) t ≤ length o.words
 plain_below G store o k R l n t sound free own is some =

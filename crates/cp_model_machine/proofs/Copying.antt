@@ -1,7 +1,7 @@
 -- Values are stored leaf by leaf, and word by word.
 --
 -- Each word of the variable is that of one leaf, and each leaf is a simple part of one word, so a
--- copied word holds what is stored at its leaf; what lies outside keeps its word and its value.
+-- copied word holds what is stored at its leaf; what is outside keeps its word and its value.
 use Rattle.std.proofs.Common.{◌≡◌, ◌⊎◌, inl, inr, ℕ, zero, suc, ◌+◌, ◌-◌, ◌≤◌, ◌<◌, ℤ, pos, Bool, true, false, List, [], ◌∷◌, ◌++◌, length, map, Some, None, refl, ap, sym, subst, ◌∙◌, arith}
 use Rattle.std.specs.Prelude.{nat_le, nat_lt, slice_index_or, zip}
 use Rattle.cp_model.specs.Abstract.{System}

@@ -1,6 +1,6 @@
 -- Whole private steps of `for`: its first test and the next ones.
 --
--- The counter and the last value lie in two temps after those in use, so what else is left to do
+-- The counter and the last value are in two temps after those in use, so what else is left to do
 -- stays as it is. The variable is stored as by an assignment, and the same body is left on both
 -- sides.
 use Rattle.std.proofs.Common.{◌≡◌, ◌≢◌, ℕ, ◌+◌, ℤ, pos, List, ◌∷◌, length, Bool, true, false, Some, Result, Ok, Err, refl, ap, sym, subst, ◌∙◌, arith}

@@ -117,7 +117,7 @@ module _ (G : Ground) (s : State) (w : StepContext) (before : List ℕ) (o : Pri
 
   -- ---- what is left to the kernel
 
-  -- If queues lie only in monitors.
+  -- If queues are only in monitors.
   module _ (K : AroundAll G s w) (shared : QueuesShared G xs) where
     -- The queue has its word among the shared ones.
     queue_lies : (q : Location) (at : ℕ) → in_sight G q.owner ≡ true → lies G xs q ≡ Some (at, Queue) → lies (kernel_ground G.program G.texts G.setup) [] q ≡ Some (at - w.own, Queue)

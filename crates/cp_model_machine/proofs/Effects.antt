@@ -70,7 +70,7 @@ module _ (G : Ground) (own : ℕ) where
       by zero e = absurd (omega (arith, (monitor_below G.setup 0 is.0 e).0))
       by (suc j) e = (refl, monitor_below G.setup (suc j) is.0 e)
 
--- ---- steps that go on
+-- ---- steps that continue
 
 abbrev pub HasFaulted : Activity → Type 0
 HasFaulted (machine.Faulted f) = Unit {0}
@@ -191,7 +191,7 @@ reported G own s before ready (Fault n) e r P means (Stopped none off) = none
 
 -- ---- what is left if the step continues
 
--- Passing changes nothing but words.
+-- Passing changes only words.
 module _ (w : StepContext) (to home : ℕ) where
   abbrev OnlyWords : PrivateState → PrivateState → Type 0
   OnlyWords o after = after ≡ record o { words = after.words }

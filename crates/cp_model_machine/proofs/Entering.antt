@@ -34,7 +34,7 @@ use Rattle.cp_model_machine.proofs.Keeping.{keeps_given}
 
 -- ---- one activation more
 
--- What lies somewhere with one more activation lies in that activation, or lay there before.
+-- What is somewhere with one more activation is in that activation, or was there before.
 pub lies_with : (G : Ground) (z : Activation) (xs : List Activation) (l : Location) (v : Part) → lies G (z ∷ xs) l ≡ Some v
     → (l.owner ≡ OfActivation G.p (length xs)) ⊎ (lies G xs l ≡ Some v)
 lies_with G z xs l v h = by l.owner l.path h
@@ -89,7 +89,7 @@ pub record Waits (G : Ground) (o : PrivateState) (i k : List Task) (C : Running)
   pub left : Remaining G o.temps o.limit (kept_below kept live o.temps C.temp) C o.frames place kept k
   pub kept_fit : kept ≤ C.unit.temps
 
--- The routine that is entered runs in a component that lies there, and enters this gate.
+-- The routine that is entered runs in a component that is there, and enters this gate.
 pub record Entered (G : Ground) (C : Running) (call : Call) (kept : ℕ) (s : System) (r : Routine) (at : Location) (c : Called) (gate : Option ℕ) : Type 0 where
   pub runs : sites.Runs (site G C) (RoutineOf s r) kept call
   pub represents : UnitRepresents G.program G.texts (scope G) runs.unit (RoutineOf s r)

@@ -1,8 +1,8 @@
 -- Terms and spots over words have the values and places of expressions and designators.
 --
--- By induction on the expression, along the code that stands for it: operands are evaluated in
+-- By induction on the expression, along the code that represents it: operands are evaluated in
 -- the same order, so the first fault is the same, and a name is read where `Here` says that it
--- lies.
+-- is.
 use Rattle.std.proofs.Common.{◌≡◌, ℕ, zero, suc, ◌+◌, ◌*◌, ℤ, pos, negsuc, [], ◌∷◌, map, Bool, true, false, Option, Some, None, Result, Ok, Err, refl, ap, sym, subst, ◌∙◌, arith}
 use Rattle.std.specs.Prelude.{◌+ℤ◌, ◌-ℤ◌, ◌*ℤ◌, if◌then◌else◌, int_div, int_le, int_rem, neg_ℤ}
 use Rattle.cp_model.specs.Abstract as a

@@ -47,7 +47,7 @@ class_head G s sort = (subst IsClass (sym sort) tt, omega arith)
 
 module _ (G : Ground) (xs : List Activation) (top : ℕ) (stack : Stacked G top xs) (at : Location) (s : System) (n : ℕ)
     (own : in_sight G at.owner ≡ true) (sort : s.sort ≡ Class) (is : lies G [] at ≡ Some (n, component_type G s)) where
-  -- What lies there is in reach.
+  -- What is there is in reach.
   there_seen : (t : ResolvedType) → (o : Owner) (q : Path) → part_at G [] o q ≡ Some (n, t) → in_sight G o ≡ true
   there_seen t o [] h = absurd (some_is_not_none _ (sym h))
   there_seen t o (ByIndex i ∷ q) h = absurd (some_is_not_none _ (sym h))

@@ -132,13 +132,13 @@ lies_behind G y xs l v h = path l.owner l.path h
     path o (ByName x ∷ p) h = owner o x p h
     path o (ByIndex i ∷ p) h = h
 
--- What lies somewhere without activations lies there with them too. Components are never variables
+-- What is somewhere without activations is there with them too. Components are never variables
 -- of routines.
 pub lies_any : (G : Ground) (xs : List Activation) (l : Location) (v : Part) → lies G [] l ≡ Some v → lies G xs l ≡ Some v
 lies_any G [] l v h = h
 lies_any G (x ∷ xs) l v h = lies_behind G x xs l v (lies_any G xs l v h)
 
--- Where a parameter or variable of the running routine lies.
+-- Where a parameter or variable of the running routine is.
 pub local_lies : (G : Ground) (b : ℕ) (f : Frame) (rest : List Activation) (x : Name) (at : ℕ) (d : declared.Variable)
     → f.owner ≡ OfActivation G.p (length rest) → local (scope G) f.routine x ≡ Some (at, d) → d.by_reference ≡ false
     → lies G (record { base = b; routine = f.routine } ∷ rest) (local_location f x) ≡ Some (b + at, d.type)
@@ -153,7 +153,7 @@ local_lies G b f rest x at d owner is passive =
     ∙ (ap (λ z. farther b (farther at z)) (part_whole (scope G) d.type)
     ∙ ap (λ n. Some (n, d.type)) (omega arith))))))
 
--- Where a member of the running component lies.
+-- Where a member of the running component is.
 pub member_lies : (G : Ground) (xs : List Activation) (C : Location) (s : System) (n : ℕ) (x : Name) (at : ℕ) (t : ResolvedType)
     → ComponentLies G C s n → member_part (scope G) (head_words (scope G) s) (reported_members (scope G) s) x [] ≡ Some (at, t)
     → lies G xs (under C (ByName x ∷ [])) ≡ Some (n + at, t)

@@ -1,6 +1,6 @@
--- Where the parameters of a class lie in it: each has one of the words after its mark.
+-- Where the parameters of a class are in it: each has one of the words after its mark.
 --
--- The parameters that are rights and those that are variables each lie one after another, a word
+-- The parameters that are rights and those that are variables each are one after another, a word
 -- each, and together they are as many as the words. So each word is taken exactly once.
 use Rattle.std.proofs.Common.{◌≡◌, ◌⊎◌, inl, inr, ℕ, zero, suc, ◌+◌, ◌-◌, ◌≤◌, ◌<◌, Bool, true, false, List, [], ◌∷◌, ◌++◌, length, Option, Some, None, refl, ap, sym, ◌∙◌, arith}
 use Rattle.std.specs.Prelude.{filter, if◌then◌else◌, nat_lt, not}
@@ -125,7 +125,7 @@ right_same at (z ∷ vs) x y k v w h g = by (bytes_eq x z.0) (bytes_eq y z.0) re
 
 -- ---- members
 
--- Variables of one word lie one after another.
+-- Variables of one word are one after another.
 member_index : (g : GlobalScope) (at j : ℕ) (vs : List (Name × Variable)) (rest : Members) → Distinct vs → ((v : Name × Variable) → IsIn v vs → words g v.1.type ≡ 1) → j < length vs
     → (v : Name × Variable) × IsIn v vs × (member_part g at (members_from vs rest) v.0 [] ≡ Some (at + j, v.1.type))
 member_index g at j [] rest d one h = absurd (omega (arith, h))
@@ -144,7 +144,7 @@ member_index g at (suc j) (w ∷ vs) rest d one h =
           ∙ (r.2 ∙ ap (λ k. Some (k, r.0.1.type)) (omega (arith, size))),
     )
 
--- Variables of one word each lie among the first `length vs` words from `at` on.
+-- Variables of one word each are among the first `length vs` words from `at` on.
 member_below : (g : GlobalScope) (at : ℕ) (vs : List (Name × Variable)) (rest : Members) (v : Name × Variable) (k : ℕ) (t : ResolvedType) → ((w : Name × Variable) → IsIn w vs → words g w.1.type ≡ 1) → IsIn v vs
     → member_part g at (members_from vs rest) v.0 [] ≡ Some (k, t) → (at ≤ k) × (k < at + length vs)
 member_below g at [] rest v k t one i h = absurd i
@@ -206,7 +206,7 @@ module _ (g : GlobalScope) (s : System) (distinct : Distinct (declarations g s.p
           let value = not_true (is_component m.0.1.type) i.1 in
           (m.0, i.0, inr (value, m.2 ∙ ap (λ z. Some (z, m.0.1.type)) (omega (arith, above)), (one m.0 i.0 value).1))
 
-  -- Parameters lie in no other words.
+  -- Parameters are in no other words.
   pub offset_within : (p : Name × Variable) (k : ℕ) → IsIn p passed → Offset g s p k → (1 ≤ k) × (k ≤ length passed)
   offset_within p k i (inl h) = let r = right_is 1 (rights g s) p.0 k p.1 h.1 in (r.0, omega (arith, r.1, count))
   offset_within p k i (inr h) =

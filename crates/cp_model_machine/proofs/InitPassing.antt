@@ -52,7 +52,7 @@ use Rattle.cp_model_machine.proofs.Writing.{changed_other}
 
 module _ (G : Ground) (sys : System) (at : Location) (c from : ℕ) (distinct : Distinct (declarations (scope G) sys.parameters))
     (one : (p : Name × Variable) → IsIn p (declarations (scope G) sys.parameters) → is_component p.1.type ≡ false → (words (scope G) p.1.type ≡ 1) × IsCell p.1.type) where
-  -- The words that count from `from`, where the component's first word would lie, hold what is
+  -- The words that count from `from`, where the component's first word would be, hold what is
   -- bound in the store.
   pub record InitBound (ps : List (Name × Variable)) (ws : Writes) (old new : List ℤ) : Type 0 where
     pub length_is : length new ≡ length old

@@ -1,4 +1,4 @@
--- The `init` of a process, with all words in reach: its parameters are stored for it, and lie in
+-- The `init` of a process, with all words in reach: its parameters are stored for it, and are in
 -- the words where they wait for it.
 use Rattle.std.proofs.Common.{Bool, List, None, Option, Some, [], ap, arith, false, length, refl, subst, sym, true, ℕ, ℤ, ◌+◌, ◌∙◌, ◌∷◌, ◌≡◌, ◌≤◌}
 use Rattle.std.specs.Prelude.{if◌then◌else◌, not, slice_get}

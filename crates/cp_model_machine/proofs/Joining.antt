@@ -33,7 +33,7 @@ use Rattle.cp_model_program.specs.IsProgramFor.{system_of_process}
 use Rattle.cp_model.specs.CallSteps.{is_initialised}
 use Rattle.std.proofs.lemmas.List.{get_or_append_left, get_or-append-add, length-append}
 
--- ---- what lies in a monitor, after the own words
+-- ---- what is in a monitor, after the own words
 
 module _ (G : Ground) (lie : MonitorsLie G.program G.setup) where
   abbrev all : Ground
@@ -67,7 +67,7 @@ module _ (G : Ground) (lie : MonitorsLie G.program G.setup) where
           let f = farther_some (G.own + monitor_start G.program m) _ n t h in
           (0 + monitor_start G.program m + f.0, omega (arith, f.2), ap (farther (0 + monitor_start G.program m)) f.1)
 
-  -- A location in a monitor lies after the monitor's mark.
+  -- A location in a monitor is after the monitor's mark.
   pub not_first : (j : Location) (n : ℕ) (t : ResolvedType) → lies shared [] j ≡ Some (n, t) → (is_shared j.owner ≡ true) × (1 ≤ n)
   not_first j n t h = by j.owner j.path h
     where

@@ -32,7 +32,7 @@ use Rattle.cp_model_machine.proofs.Owned.{OwnRight}
 use Rattle.cp_model_machine.proofs.Writing.{is_cell}
 use Rattle.cp_model_machine.specs.Passing.{monitor_start}
 
--- ---- where rights lie
+-- ---- where rights are
 
 pub right_within : (k : ℕ) (vs : List (Name × declared.Variable)) (x : Name) (m : ℕ) (v : declared.Variable) → right_at k vs x ≡ Some (m, v) → (k ≤ m) × (m < k + length vs)
 right_within k [] x m v h = absurd (some_is_not_none (m, v) (sym h))

@@ -1,6 +1,6 @@
 -- The first kernel is the kernel's part of the start.
 --
--- Each location of a monitor lies in the block of that monitor, which starts by its plan, and the
+-- Each location of a monitor is in the block of that monitor, which starts by its plan, and the
 -- store of the start has the same value there. Gates are unset and stages unstarted on both
 -- sides.
 use Rattle.std.proofs.Common.{◌≡◌, inl, inr, ℕ, zero, suc, ◌+◌, ◌≤◌, ◌<◌, ℤ, pos, true, false, List, [], ◌∷◌, ◌++◌, length, map, Some, None, refl, ap, sym, subst, ◌∙◌, arith}
@@ -66,7 +66,7 @@ module _ (program : Program) (setup : Setup) (F : IsProgramFor program setup) wh
       subst (λ y. BlockStarts g y (monitor_start program m) shared) (system_is program setup F m s is M)
       (subst (λ n. BlockStarts g M.system n shared) (sym (start_is program setup F m M)) (shared_starts program setup F m below.0 below.1 M))
 
-  -- The monitor in which a location lies.
+  -- The monitor in which a location is.
   record Found (l : Location) (n : ℕ) (t : ResolvedType) : Type 0 where
     number : ℕ
     system : System
@@ -122,7 +122,7 @@ module _ (program : Program) (setup : Setup) (F : IsProgramFor program setup) wh
 
   -- ---- rights
 
-  -- The monitor in which a component lies.
+  -- The monitor in which a component is.
   record Within (at : Location) : Type 0 where
     number : ℕ
     system : System

@@ -1,4 +1,4 @@
--- Parts of parts, and where variables lie.
+-- Parts of parts, and where variables are.
 use Rattle.std.proofs.Common.{◌≡◌, ℕ, ◌+◌, ◌*◌, List, [], ◌∷◌, ◌++◌, Bool, true, false, Option, Some, None, ap, sym, ◌∙◌, arith}
 use Rattle.std.specs.Prelude.{if◌then◌else◌, nat_eq}
 use Rattle.cp_model.specs.Abstract.{Class, Name, Sort}
@@ -82,7 +82,7 @@ mutual
       by true first more = farther_leads at (part g t) g p q first
       by false first more = more
 
--- ---- where variables lie
+-- ---- where variables are
 
 component_leads : (g : GlobalScope) (s : Option System) (x : Name) (p q : Path) → LeadsOn (part_of_component g s x) g p q
 component_leads g None x p q = λ n m u w h e. absurd (some_is_not_none (n, u) (sym h))
@@ -110,11 +110,11 @@ path_leads G xs o [] q = λ n m u w h e. absurd (some_is_not_none (n, u) (sym h)
 path_leads G xs o (ByName x ∷ p) q = owner_leads G xs o x p q
 path_leads G xs o (ByIndex i ∷ p) q = λ n m u w h e. absurd (some_is_not_none (n, u) (sym h))
 
--- The parts of a variable lie in it.
+-- The parts of a variable are in it.
 abbrev pub PartsLie : GlobalScope → (Location → Option Part) → Type 0
 PartsLie g lies = (l : Location) (path : Path) (n m : ℕ) (t u : ResolvedType) → lies l ≡ Some (n, t) → part g t path ≡ Some (m, u) → lies (under l path) ≡ Some (n + m, u)
 
--- A part of a variable lies in that variable.
+-- A part of a variable is in that variable.
 pub lies_under : (G : Ground) (xs : List Activation) (l : Location) (q : Path) (n m : ℕ) (t u : ResolvedType) → lies G xs l ≡ Some (n, t) → part (scope G) t q ≡ Some (m, u)
     → lies G xs (under l q) ≡ Some (n + m, u)
 lies_under G xs l q n m t u h e = path_leads G xs l.owner l.path q n m t u h e

@@ -101,7 +101,7 @@ path_on G xs o [] q = λ n u h. absurd (some_is_not_none (n, u) (sym h))
 path_on G xs o (ByName x ∷ p) q = owner_on G xs o x p q
 path_on G xs o (ByIndex i ∷ p) q = λ n u h. absurd (some_is_not_none (n, u) (sym h))
 
--- What lies at a path below a variable is a part of it.
+-- What is at a path below a variable is a part of it.
 pub lies_on : (G : Ground) (xs : List Activation) (l : Location) (q : Path) (n : ℕ) (t : ResolvedType) → lies G xs l ≡ Some (n, t)
     → lies G xs (under l q) ≡ farther n (part (scope G) t q)
 lies_on G xs l q n t h = path_on G xs l.owner l.path q n t h

@@ -1,6 +1,6 @@
 -- The words of a plain variable are those of its leaves.
 --
--- By induction on the type: a word of an array lies in one of its rows, by division, a word of a
+-- By induction on the type: a word of an array is in one of its rows, by division, a word of a
 -- record in one of its members, and a simple variable is one word and its own leaf.
 use Rattle.std.proofs.Common.{◌≡◌, ◌⊎◌, inl, inr, ℕ, zero, suc, ◌+◌, ◌-◌, ◌*◌, ◌≤◌, ◌<◌, ℤ, pos, negsuc, Bool, true, false, [], ◌∷◌, Some, None, map, refl, ap, sym, subst, ◌∙◌, arith}
 use Rattle.std.specs.Prelude.{if◌then◌else◌, int_le, nat_lt, ◌||◌}
@@ -25,7 +25,7 @@ use Rattle.cp_model_machine.proofs.StartLeaves.{IsSimple}
 
 -- ---- indices
 
--- A word of `c` rows of `w` words lies in one of the rows.
+-- A word of `c` rows of `w` words is in one of the rows.
 row_of : (c w k : ℕ) → k < c * w → (d : ℕ) × (m : ℕ) × (d < c) × (m < w) × (d * w + m ≡ k)
 row_of zero w k h = absurd (omega (arith, h))
 row_of (suc c) w k h = by (nat_lt k w) refl (row_of c w (k - w))

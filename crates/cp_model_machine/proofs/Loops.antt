@@ -1,5 +1,5 @@
 -- The tests of `while` and `repeat` together. The two loops differ only in which outcome of the test
--- goes on. So each fact about their tasks is shown once, for either loop, over the equations here:
+-- continues. So each fact about their tasks is shown once, for either loop, over the equations here:
 -- what a task of one loop is, calls, does and leaves, written so that it holds of both.
 use Rattle.std.proofs.Common.{◌≡◌, ℕ, ◌≤◌, ℤ, List, ◌∷◌, false, None, Some, refl, ap, ◌∙◌}
 use Rattle.std.specs.Prelude.{if◌then◌else◌}
@@ -23,7 +23,7 @@ use Rattle.cp_model_machine.proofs.Stepping.{IfPlaced}
 
 -- ---- the rest of a test
 
--- The test begins anew.
+-- The test begins again.
 pub whole_loop : (loop : Loop) (s : Site) (K : Knowns) (now e : a.Expression) (body : a.Statement) (place next low : ℕ)
     → (W : LoopRemaining loop s K now e body place next low) → LoopRemaining loop s nothing_known e e body W.start next low
 whole_loop loop s K now e body place next low W = record {
@@ -98,7 +98,7 @@ module _ (now e : a.Expression) (s : a.Statement) (env : Environment) where
 
     -- ---- what the task does
 
-    -- What is left where the test goes on.
+    -- What is left where the test continues.
     abbrev pub body_again : Loop → List Task
     body_again loop = push s env (loop_task loop e e s env ∷ k)
 
@@ -108,7 +108,7 @@ module _ (now e : a.Expression) (s : a.Statement) (env : Environment) where
     runs_test While x config = refl
     runs_test Repeat x config = refl
 
--- What holds where the loop goes on and where it ends holds at a true test.
+-- What holds where the loop continues and where it ends holds at a true test.
 pub either_way : (loop : Loop) (P : ℕ → List Task → Type 0) (m n : ℕ) (j k : List Task) → P m j → P n k → P (at_true loop m n) (at_true loop j k)
 either_way While P m n j k on off = on
 either_way Repeat P m n j k on off = off

@@ -1,4 +1,4 @@
--- Where monitors lie: their words are among the shared ones, which follow a process's own words,
+-- Where monitors are: their words are among the shared ones, which follow a process's own words,
 -- and don't overlap.
 use Rattle.std.proofs.Common.{List, None, Some, [], ap, arith, inl, inr, length, suc, sym, zero, ℕ, ◌<◌, ◌∙◌, ◌∷◌, ◌≡◌, ◌≤◌}
 use Rattle.cp_model.specs.Abstract.{Monitor, Name, Process, System}

@@ -283,7 +283,7 @@ module _ (c : Context) (config : Configuration) (p : ℕ) where
   executed env k (a.While e s) I = nothing_changed store
   executed env k (a.Repeat s e) I = nothing_changed store
 
-  -- A call writes nothing but a new activation.
+  -- A call writes only a new activation.
   entered : (u : UserCall) (k : List Task) → SetStill store (call c config u k)
   entered u k =
       either_still store (target c store u.environment u.callee.of).is_callable _ _

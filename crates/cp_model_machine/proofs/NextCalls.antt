@@ -51,7 +51,7 @@ pub record Next {A : Type 0} (site : Site) (K : Knowns) (find : a.Expression →
   pub follows : Follows site temp after next
   pub answered : (n : ℤ) (L : Knowns) → Learns K L ready.low temp → L temp n → For L (fill (a.Known base n)) after
 
--- Either all calls have been made, and the code stands for the same whatever is known, or a call is
+-- Either all calls have been made, and the code represents the same whatever is known, or a call is
 -- next.
 pub data Advance {A : Type 0} (site : Site) (K : Knowns) (find : a.Expression → Found A) (For : Knowns → A → ℕ → Type 0) (Still : ℕ → Type 0) (place next low high : ℕ) : Type 1 where
   AllMade : place ≡ next → ((v : a.Expression) → find v ≡ None) → ((z : ℕ) → Still z) → Advance site K find For Still place next low high

@@ -35,7 +35,7 @@ other_ground G q own = record {
   monitors_lie = tt;
 }
 
--- A right that isn't to a class means the same for each process, wherever it lies.
+-- A right that isn't to a class means the same for each process, wherever it is.
 pub right_elsewhere : (G : Ground) (q own : ℕ) (t : ResolvedType) (v : Value) (at to : ℕ) (n : ℤ) → ((s : System) (inner : Members) → t ≡ ComponentOf s inner → s.sort ≡ Class → ⊥)
     → RightMeans G t v at n → RightMeans (other_ground G q own) t v to n
 right_elsewhere G q own (ComponentOf s inner) v at to n none h = by s.sort refl v h

@@ -1,7 +1,7 @@
 -- A step of one process keeps the private states of the others right.
 --
 -- What the meaning keeps for another process alone is the same after the step. What remains are the
--- rights of classes that lie in monitors, where the other process may be running. A right there
+-- rights of classes that are in monitors, where the other process may be running. A right there
 -- that has been given stays given, since what a monitor holds is never unset, and the store still
 -- holds rights where there were rights.
 use Rattle.std.proofs.Common.{◌≡◌, ℕ, ◌+◌, ℤ, Bool, true, false, List, [], ◌∷◌, Option, Some, None, refl, ap, sym, subst, ◌∙◌}
@@ -101,7 +101,7 @@ module _ (G : Ground) (store after : Store) (same : (l : Location) → is_own G.
   abbrev shared_ground : Ground
   shared_ground = kernel_ground G.program G.texts G.setup
 
-  -- A class lies in the process itself, or in a monitor.
+  -- A class is in the process itself, or in a monitor.
   pub given_beside : KeepsGiven G store after
   given_beside at s n sort is has = by at.owner at.path refl refl is
     where

@@ -33,7 +33,7 @@ use Rattle.cp_model_machine.proofs.Stacks.{Stacked, bottom_below}
 -- ---- the component of a process
 
 module _ (G : Ground) (xs : List Activation) (top : ℕ) (stack : Stacked G top xs) (s : System) (is : system_of_process G.setup G.p ≡ Some s) (own : in_sight G (OfProcess G.p) ≡ true) where
-  -- The component of the process lies in its first words.
+  -- The component of the process is in its first words.
   pub process_placed : Placed G xs top (root (OfProcess G.p)) 0 s
   process_placed = record {
     own = own;
@@ -60,7 +60,7 @@ module _ (G : Ground) (xs : List Activation) (top : ℕ) (stack : Stacked G top 
 
 -- ---- what it is given
 
--- Another process bound the parameters for `q`, and they lie among these shared words. The own
+-- Another process bound the parameters for `q`, and they are among these shared words. The own
 -- words of `q` had the start values.
 module _ (G : Ground) (q own : ℕ) (s : System) (is : system_of_process G.setup q ≡ Some s) (fits : component_words (scope G) s ≤ own) (distinct : Distinct (permanent_variables (scope G) s))
     (names : Distinct (declarations (scope G) s.parameters))

@@ -77,7 +77,7 @@ Has by_reference g lies t l st ws at =
 abbrev pub ParameterHas : GlobalScope → (Location → Option Part) → declared.Variable → Location → Store → List ℤ → ℕ → Type 0
 ParameterHas g lies d l st ws at = Has d.by_reference g lies d.type l st ws at
 
--- The words from `to` on hold what is bound in the store. The first of these parameters lies `at`
+-- The words from `to` on hold what is bound in the store. The first of these parameters is `at`
 -- words after `to`.
 pub record Bound (site : Site) (lies : Location → Option Part) (n : Owner) (to at : ℕ) (ps : List (Name × declared.Variable)) (ws : Writes) (old new : List ℤ) : Type 0 where
   pub length_is : length new ≡ length old

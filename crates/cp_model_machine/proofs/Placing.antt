@@ -1,4 +1,4 @@
--- Where the component of an `init` lies: a class, or a monitor.
+-- Where the component of an `init` is: a class, or a monitor.
 use Rattle.std.proofs.Common.{◌≡◌, ◌⊎◌, inl, inr, ℕ, suc, ◌+◌, ◌≤◌, ◌<◌, List, [], length, Bool, true, false, Some, refl, ap, sym, subst, ◌∙◌, arith}
 use Rattle.std.specs.Prelude.{nat_eq}
 use Rattle.std.proofs.lemmas.Bool.{eq-eqb, eqb-true, true≢false}
@@ -21,13 +21,13 @@ use Rattle.cp_model_machine.proofs.Owned.{OwnRight}
 use Rattle.cp_model_machine.proofs.Separate.{cell_inside, cell_no_own_right, own_right_inside, separate}
 use Rattle.cp_model_machine.proofs.Stacks.{Stacked, bottom_below, monitor_seen}
 
--- ---- where a component lies
+-- ---- where a component is
 
 -- The words of a component's rights, which come after its mark.
 abbrev pub IsRightWord : Ground → System → ℕ → Type 0
 IsRightWord G s k = (1 ≤ k) × (k < head_words (scope G) s)
 
--- Where a component lies. Its rights are separate from all other cells, from the rights of all
+-- Where a component is. Its rights are separate from all other cells, from the rights of all
 -- other components, and from the words of activations that aren't cells, which come after the
 -- component of the process.
 pub record Placed (G : Ground) (xs : List Activation) (top : ℕ) (at : Location) (c : ℕ) (s : System) : Type 0 where

@@ -64,7 +64,7 @@ module _ (G : Ground) (s : State) (w : StepContext) (before : List ℕ) (o : Pri
     abbrev P : ProcessRepresents G.program F.texts G.setup q
     P = F.processes q low high
 
-    -- No monitor lies in the words where the parameters wait.
+    -- No monitor is in the words where the parameters wait.
     waiting_spared : (i : ℕ) → P.row.parameters ≤ i → i < P.row.parameters + P.row.waiting → IsSpared G (G.own + i)
     waiting_spared i from below = (omega arith, λ m y is. by m y (waits_apart G F q P m y is))
       where

@@ -37,7 +37,7 @@ abbrev IfClass : Sort → Type 0 → Type 0
 IfClass Class A = A
 IfClass _ A = Unit {0}
 
--- Of all components, only classes lie in their variables.
+-- Of all components, only classes are in their variables.
 abbrev mutual
   pub NoQueues : ResolvedType → Type 0
   NoQueues (Simple b low high start) = Unit {0}
@@ -124,7 +124,7 @@ filtered f (v ∷ vs) h = by (f v) (filtered f vs h.1)
     by true go = (h.0, go)
     by false go = go
 
--- Queues lie only in monitors.
+-- Queues are only in monitors.
 abbrev IsNoMonitor : Sort → Type 0
 IsNoMonitor Monitor = ⊥
 IsNoMonitor _ = Unit {0}

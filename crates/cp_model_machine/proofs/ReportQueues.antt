@@ -97,7 +97,7 @@ module _ (g : GlobalScope) (target : ℕ) where
       rest (inl h) = inl (omega (arith, h))
       rest (inr h) = inr (Prim.grind (arith, h))
 
-  -- Only for a class do the members lie in the variable.
+  -- Only for a class do the members are in the variable.
   class_beside : (at : ℕ) (s : System) (ms : Members) (x : Text) → Beside at (words g (ComponentOf s ms)) → (Beside (at + head_words g s) (words_of_members g ms) → x ≡ []) → of_class_text s.sort x ≡ []
   class_beside at s ms x o inner = by s.sort o
     where

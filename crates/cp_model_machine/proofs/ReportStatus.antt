@@ -1,6 +1,6 @@
 -- The status of a process as the machine reports it, and the path of the queue in which it waits.
 --
--- Status, stage and activity agree case by case. The word of a queue lies in the block of one
+-- Status, stage and activity agree case by case. The word of a queue is in the block of one
 -- monitor, so the search through all monitors finds its path there and nothing in the others.
 use Rattle.std.proofs.Common.{◌≡◌, ◌⊎◌, inl, inr, ℕ, zero, suc, ◌+◌, ◌≤◌, ◌<◌, Bool, true, false, List, [], ◌∷◌, ◌++◌, Option, Some, None, refl, ap, sym, ◌∙◌, arith}
 use Rattle.std.specs.Prelude.{codes, if◌then◌else◌, nat_eq, slice_get}

@@ -1,4 +1,4 @@
--- When a machine is in a state, part by part, given the program, what it stands for and the numbers
+-- When a machine is in a state, part by part, given the program, what it represents and the numbers
 -- of words, which rounds don't change.
 use Rattle.std.specs.Prelude.{◌≡◌, ◌≤◌, ◌-◌, ℕ, List, Some, length, slice_get}
 use Rattle.cp_model.specs.Invariant.{Invariant}

@@ -50,7 +50,7 @@ runs_here G store w o k clock clock_is R sees =
     view_is : view ≡ view_of w o
     view_is = λ i. record { words = o.words; temps = o.temps; base = sym R.base i; temp = sym R.temp i; component = sym R.component i; clock = sym clock_is i }
 
--- The words of the activations lie one after another, and are the process's own.
+-- The words of the activations are one after another, and are the process's own.
 pub runs_stacked : (G : Ground) (store : Store) (o : PrivateState) (k : List Task) (R : RunsOn G store o k)
     → Stacked G (o.base + (site G R.running).words) (activations o.base o.frames k)
 runs_stacked G store o k R = record {

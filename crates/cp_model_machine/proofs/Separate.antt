@@ -1,6 +1,6 @@
--- No two cells of a process share a word: its component and its activations lie one after another.
+-- No two cells of a process share a word: its component and its activations are one after another.
 --
--- Activations lie one after another after the component, and monitors after them, so one address
+-- Activations are one after another after the component, and monitors after them, so one address
 -- has one owner; parts of one owner that share a word are the same part (`Apart`).
 use Rattle.std.proofs.Common.{◌≡◌, ◌⊎◌, inl, inr, ℕ, ◌+◌, ◌≤◌, ◌<◌, List, [], ◌∷◌, Bool, true, false, Some, refl, ap, sym, subst, ◌∙◌, arith}
 use Rattle.std.specs.Prelude.{if◌then◌else◌, nat_eq}
@@ -24,7 +24,7 @@ use Rattle.cp_model_machine.proofs.Owned.{FoundActivation, FoundLocal, FoundMoni
 use Rattle.cp_model_machine.specs.KernelOf.{is_shared}
 
 module _ (G : Ground) (xs : List Activation) (top : ℕ) (stack : Stacked G top xs) where
-  -- A word of the process lies below the top.
+  -- A word of the process is below the top.
   own_cell : (o : Owner) (x : Name) (p : Path) (n : ℕ) (u : ResolvedType) (a : ℕ) → is_shared o ≡ false → InHead (scope G) u a → part_of_owner G xs o x p ≡ Some (n, u) → n + a < top
   own_cell (OfProcess q) x p n u a m c h =
       let C = component_cell G xs top q x p n u a c h in
@@ -116,7 +116,7 @@ module _ (G : Ground) (xs : List Activation) (top : ℕ) (stack : Stacked G top 
           let s = same_owner_cells o r x y p q n m u w a b c d m1 m2 h k e in
           λ i. record { owner = s.0 i; path = s.1 i }
 
-  -- A word of the process lies below the top, and one of a monitor after the process's own words.
+  -- A word of the process is below the top, and one of a monitor after the process's own words.
   pub cell_below : (l : Location) (n : ℕ) (u : ResolvedType) (a : ℕ) → in_sight G l.owner ≡ true → InHead (scope G) u a → lies G xs l ≡ Some (n, u) → (n + a < top) ⊎ (G.own ≤ n + a)
   cell_below l n u a mine c h = by l.owner l.path h
     where
@@ -149,7 +149,7 @@ module _ (G : Ground) (xs : List Activation) (top : ℕ) (stack : Stacked G top 
           let S = monitor_seen G z m in
           omega (arith, M.place, M.fits, head_inside (scope G) u a c, S.0.inside z M.system M.is, S.1)
 
-  -- A part of any type is also among them, or it has no words and lies after them.
+  -- A part of any type is also among them, or it has no words and is after them.
   pub part_below : (l : Location) (n : ℕ) (u : ResolvedType) → in_sight G l.owner ≡ true → lies G xs l ≡ Some (n, u) → n ≤ whole G
   part_below l n u mine h = by l.owner l.path mine h
     where

@@ -117,7 +117,7 @@ module _ (G : Ground) (xs : List Activation) (top : ℕ) (stack : Stacked G top 
       by (inl q) w = omega (arith, q, e, w.0)
       by (inr q) w = omega (arith, q, e, w.1)
 
-  -- What lies outside is not stored.
+  -- What is outside is not stored.
   cell_unwritten : (l : Location) (i : ℕ) (t : ResolvedType) → lies G xs l ≡ Some (i, t) → (i < c + 1) ⊎ (c + 1 + length (declarations (scope G) s.parameters) ≤ i) → after l ≡ store l
   cell_unwritten l i t lying apart = S.unwritten l (λ p there' e. by p there' e (offsets p there'))
     where

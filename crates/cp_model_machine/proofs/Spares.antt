@@ -56,7 +56,7 @@ module _ (G : Ground) (o : PrivateState) where
       by None = spares_trans G o.words P.own.words (go P.own).0.words first rest
       by (Some e) = first
 
--- ---- what lies somewhere
+-- ---- what is somewhere
 
 module _ (G : Ground) (xs : List Activation) (top : ℕ) (stack : Stacked G top xs) where
   -- A spared word belongs to no variable in reach.
@@ -87,7 +87,7 @@ module _ (G : Ground) (xs : List Activation) (top : ℕ) (stack : Stacked G top 
   pub copy_spares : (ws us : List ℤ) (l : Location) (n from : ℕ) (u : ResolvedType) → lies G xs l ≡ Some (n, u) → Spares G ws (paste n (block us from (words (scope G) u)) ws)
   copy_spares ws us l n from u h i spared = copied_outside ws us n from (words (scope G) u) i (part_spared l n u h i spared)
 
--- The machine's place lies where the meaning's does.
+-- The machine's place is where the meaning's does.
 pub place_lies : (G : Ground) (xs : List Activation) (t : ResolvedType) (P : Outcome Place) (r : Result ℕ faults.Fault) (n : ℕ) → PlaceAgrees (lies_in_sight (in_sight G) G xs) t P r → r ≡ Ok n
     → (l : Location) × (lies G xs l ≡ Some (n, t))
 place_lies G xs t (Gives p) (Ok k) n h e =

@@ -2,8 +2,8 @@
 -- process.
 --
 -- This goes through all tasks and statements once more, as in `Deciding`, but looks only at where
--- each operation writes. Each place that is written is one where the meaning's variable lies, and
--- what is passed lies after the running activation.
+-- each operation writes. Each place that is written is one where the meaning's variable is, and
+-- what is passed is after the running activation.
 use Rattle.std.proofs.Common.{◌≡◌, ℕ, ◌+◌, ℤ, List, [], ◌∷◌, Bool, true, false, Option, Some, None, refl, ap, subst, ◌∙◌, arith}
 use Rattle.std.specs.Prelude.{if◌then◌else◌}
 use Rattle.cp_model.specs.Integers.{same_integer}

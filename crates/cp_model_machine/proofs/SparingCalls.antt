@@ -33,7 +33,7 @@ use Rattle.cp_model_machine.proofs.Stacks.{Stacked, bottom_below}
 
 -- ---- what is passed
 
--- What is passed lies among the process's own words.
+-- What is passed is among the process's own words.
 pub passing_spares : (G : Ground) (w : StepContext) (to home n : ℕ) (xs : List Argument) (o : PrivateState) → to + n ≤ G.own → LieBelow n xs → Spares G o.words (pass_all w to home xs o).own.words
 passing_spares G w to home n xs o room below i spared = (passes_below w to home n xs o below).1 i (inr (omega (arith, room, spared.0)))
 

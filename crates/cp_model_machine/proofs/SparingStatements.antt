@@ -101,7 +101,7 @@ module _ (G : Ground) (s : State) (w : StepContext) (before : List ℕ) (o : Pri
       R : RunsOn G s.store o (Do (a.Assign (a.Plain x) e) env ∷ k)
       R = Y.now.on
 
-      -- The result lies in the activation of the routine.
+      -- The result is in the activation of the routine.
       below : o.base < G.own
       below = omega (
         arith,

@@ -1,4 +1,4 @@
--- Activations lie one after another, and all after the component of the process.
+-- Activations are one after another, and all after the component of the process.
 use Rattle.std.proofs.Common.{◌≡◌, ◌⊎◌, inl, inr, ℕ, ◌+◌, ◌≤◌, ℤ, List, [], ◌∷◌, length, Bool, true, false, Option, Some, None, refl, ap, sym, subst, ◌∙◌, arith}
 use Rattle.std.specs.Prelude.{if◌then◌else◌, nat_eq}
 use Rattle.std.proofs.lemmas.Bool.{eqb-true, true≢false}
@@ -17,7 +17,7 @@ use Rattle.cp_model_machine.proofs.Finding.{some_is_not_none}
 use Rattle.cp_model.specs.Locations.{OfMonitor}
 use Rattle.cp_model.proofs.Options.{same_some}
 
--- The activations lie below `top`, each after the next one in the list, and all after the
+-- The activations are below `top`, each after the next one in the list, and all after the
 -- component.
 abbrev pub Stack : Ground → ℕ → List Activation → Type 0
 Stack G top [] = (s : System) × (system_of_process G.setup G.p ≡ Some s) × (component_words (scope G) s ≤ top)
@@ -28,7 +28,7 @@ pub process_of_stack : (G : Ground) (top : ℕ) (xs : List Activation) → Stack
 process_of_stack G top [] h = (h.0, h.1)
 process_of_stack G top (x ∷ xs) h = process_of_stack G x.base xs h.1
 
--- The activations lie among the process's own words.
+-- The activations are among the process's own words.
 pub record Stacked (G : Ground) (top : ℕ) (xs : List Activation) : Type 0 where
   pub stack : Stack G top xs
   pub fits : top ≤ G.own
@@ -81,12 +81,12 @@ stacked G temps limit K R [] place low (EndBody gate ∷ k) gl w h = absurd h
 
 -- ---- look-ups of activations
 
--- The activations lie after the component of the process.
+-- The activations are after the component of the process.
 pub bottom_below : (G : Ground) (n : ℕ) (zs : List Activation) → Stack G n zs → (s : System) → system_of_process G.setup G.p ≡ Some s → component_words (scope G) s ≤ n
 bottom_below G n [] h s i = omega (arith, h.2, ap (component_words (scope G)) (same_some s h.0 (sym i ∙ h.1)))
 bottom_below G n (z ∷ zs) h s i = omega (arith, h.0, bottom_below G z.base zs h.1 s i)
 
--- An activation that is found lies below the top and after the component.
+-- An activation that is found is below the top and after the component.
 pub found_inside : (G : Ground) (top d : ℕ) (xs : List Activation) (x : Activation) → Stack G top xs → activation_at d xs ≡ Some x
     → (x.base + activation_words (scope G) x.routine ≤ top) × ((s : System) → system_of_process G.setup G.p ≡ Some s → component_words (scope G) s ≤ x.base)
 found_inside G top d [] x h e = absurd (some_is_not_none x (sym e))
@@ -101,7 +101,7 @@ found_inside G top d (y ∷ xs) x h e = by (nat_eq d (length xs)) e (found_insid
         (h.0, bottom_below G y.base xs h.1)
     by false e go = (omega (arith, (go e).0, h.0), (go e).1)
 
--- Two activations are the same, or one lies after the other.
+-- Two activations are the same, or one is after the other.
 pub found_apart : (G : Ground) (top d c : ℕ) (xs : List Activation) (x y : Activation) → Stack G top xs → activation_at d xs ≡ Some x → activation_at c xs ≡ Some y
     → (d ≡ c) ⊎ ((x.base + activation_words (scope G) x.routine ≤ y.base) ⊎ (y.base + activation_words (scope G) y.routine ≤ x.base))
 found_apart G top d c [] x y h e f = absurd (some_is_not_none x (sym e))

@@ -1,6 +1,6 @@
 -- The first private state of a process is that of the process in the start.
 --
--- Before there is an activation, only members lie anywhere. Their words start by the plan, which
+-- Before there is an activation, only members are anywhere. Their words start by the plan, which
 -- has the start value of each leaf, as the store has; no right is set on either side.
 use Rattle.std.proofs.Common.{◌≡◌, ◌⊎◌, inl, inr, ℕ, zero, suc, ◌+◌, ◌≤◌, ◌<◌, ℤ, pos, Bool, true, false, List, [], ◌∷◌, ◌++◌, length, Option, Some, None, refl, ap, sym, subst, ◌∙◌, arith}
 use Rattle.std.specs.Prelude.{if◌then◌else◌, nat_eq, not, replicate}
@@ -97,7 +97,7 @@ module _ (program : Program) (setup : Setup) (F : IsProgramFor program setup) (p
       same : (n : ℕ) → 0 + n ≡ n
       same n = omega arith
 
-  -- What lies in the process before there is an activation.
+  -- What is in the process before there is an activation.
   record Found (l : Location) (n : ℕ) (t : ResolvedType) : Type 0 where
     name : Name
     path : Path

@@ -1,6 +1,6 @@
 -- What every private step has in common, in the meaning and in the machine.
 --
--- A step goes on, faults or ends on both sides alike, and each time changes few parts of the
+-- A step continues, faults or ends on both sides alike, and each time changes few parts of the
 -- state. So a lemma on a step needs only show that the process runs on, and the rest follows
 -- here.
 use Rattle.std.proofs.Common.{refl, List, Some, [], ap, arith, false, inl, inr, length, subst, sym, true, ℕ, ℤ, ◌++◌, ◌<◌, ◌∙◌, ◌∷◌, ◌≡◌, ◌≤◌, ◌⊎◌}

@@ -57,12 +57,12 @@ module _ (G : Ground) (s : State) (w : StepContext) (before : List ℕ) (o : Pri
   abbrev here : Environment
   here = N.on.running.env
 
-  -- The machine's class is where the meaning's lies.
+  -- The machine's class is where the meaning's is.
   abbrev ClassTarget : Component → Location → Called → Type 0
   ClassTarget n at c =
       TargetIs G s.store (record { component = at; system = n.system; is_callable = is_initialised (s.store at); gate = None }) c n.system
 
-  -- A class that is a variable of the running component lies there.
+  -- A class that is a variable of the running component is there.
   pub class_lies : (n : Component) (at : ℕ) → member here.globals here.system n.name ≡ Some (at, ComponentOf n.system (reported_members here.globals n.system))
       → lies G [] (name_location here n) ≡ Some (o.component + at, component_type G n.system)
   class_lies n at h =
@@ -80,7 +80,7 @@ module _ (G : Ground) (s : State) (w : StepContext) (before : List ℕ) (o : Pri
       right_place G (activations o.base o.frames (i ∷ l)) here.component here.system N.on.running.component off n.name r.variable sees.component N.on.runs.component
       (ap (λ g. right g here.system n.name) (sym N.on.runs.globals) ∙ r.lies)
 
-  -- The word of a right of the running component lies below what is passed, or in a monitor.
+  -- The word of a right of the running component is below what is passed, or in a monitor.
   pub right_below : (n : Component) (off : ℕ) → RightTo here n off → (o.component + off < o.base + (site G N.on.running).words) ⊎ (G.own ≤ o.component + off)
   right_below n off r =
       subst (λ z. (z + off < o.base + (site G N.on.running).words) ⊎ (G.own ≤ z + off)) (sym N.on.component) (by (right_is_there n off r))
@@ -102,7 +102,7 @@ module _ (G : Ground) (s : State) (w : StepContext) (before : List ℕ) (o : Pri
             cell_inside G (activations o.base o.frames (i ∷ l)) _ (runs_stacked G s.store o (i ∷ l) N.on) here.component N.on.running.component (component_type G here.system) off sees.component q.1 q.0,
           )
 
-  -- What lies outside the activations lies among the words in reach.
+  -- What is outside the activations is among the words in reach.
   pub lies_below : (j : Location) (n : ℕ) (u : ResolvedType) → in_sight G j.owner ≡ true → lies G [] j ≡ Some (n, u) → n ≤ whole G
   lies_below j n u own is =
       part_below G (activations o.base o.frames (i ∷ l)) (o.base + (site G N.on.running).words) (runs_stacked G s.store o (i ∷ l) N.on) j n u own (lies_any G (activations o.base o.frames (i ∷ l)) j _ is)
@@ -222,7 +222,7 @@ module _ (G : Ground) (s : State) (w : StepContext) (before : List ℕ) (o : Pri
         by (OfActivation r d) (ByName x ∷ path) h = absurd (nowhere (nat_eq G.p r) None refl h)
         by (OfMonitor m) (ByName x ∷ path) h = refl
 
-    -- No class lies where a monitor begins.
+    -- No class is where a monitor begins.
     pub no_class_begins : (store : Store) (m : ℕ) (y : System) → system_of_monitor G.setup m ≡ Some y → ClassHasRights G store (w.own + monitor_start G.program m)
     no_class_begins store m y is at r class' h =
         absurd (cell_no_own_right G (activations o.base o.frames (i ∷ l)) _ (runs_stacked G s.store o (i ∷ l) N.on) at (w.own + monitor_start G.program m) (G.own + monitor_start G.program m + 0)

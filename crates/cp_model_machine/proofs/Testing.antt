@@ -66,7 +66,7 @@ if_steps G s w before o e t u env k Y =
     (in_context_none (λ y. a.If y t u) (first_call N.on.running.env (a.Literal 0) e) Y.none)))
     (quietly G s w before o (a.If e t u) env k Y (op.Test h.1 h.3 h.4) tt tt)
 
--- The test of a loop. Where it goes on, the body and the whole test anew are left before the rest.
+-- The test of a loop. Where it continues, the body and the whole test again are left before the rest.
 pub loop_steps : (G : Ground) (s : State) (w : StepContext) (before : List ℕ) (o : PrivateState) (loop : Loop) (now e : a.Expression) (st : a.Statement) (env : Environment) (k : List Task)
     → (N : Now G s w before o (loop_task loop now e st env) k) (h : AtTest loop G o.temps o.limit (known G s w before o (loop_task loop now e st env) k N) N.on.running o.frames o.counter N.on.running.unit.temps now e st env k)
     → o.counter ≡ h.1.3.last → first_call N.on.running.env (a.Literal 0) now ≡ None → Stepped G s w before o

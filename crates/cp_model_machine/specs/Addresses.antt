@@ -1,4 +1,4 @@
--- Where the variables of a process lie: the addresses of locations among its own words and the
+-- Where the variables of a process are: the addresses of locations among its own words and the
 -- shared words after them.
 use Rattle.std.specs.Prelude.{◌≡◌, ◌≤◌, ◌⊎◌, ℕ, ◌+◌, ℤ, Bool, true, pos, ◌+ℤ◌, if◌then◌else◌, List, [], ◌∷◌, Option, Some, None, length, nat_eq}
 use Rattle.cp_model.specs.Abstract.{Class, Monitor, Name, Process, Routine, Sort, System}
@@ -34,7 +34,7 @@ abbrev pub words_seen : Sight → Program → ℕ → ℕ
 words_seen OwnWords program own = own
 words_seen AllWords program own = own + program.shared
 
--- The words of each monitor lie among the shared ones, and those of two monitors never overlap.
+-- The words of each monitor are among the shared ones, and those of two monitors never overlap.
 pub record MonitorsLie (program : Program) (setup : Setup) : Type 0 where
   pub inside : (m : ℕ) (s : System) → system_of_monitor setup m ≡ Some s
       → monitor_start program m + component_words (globals setup.tree) s ≤ program.shared
@@ -95,7 +95,7 @@ activation_at d (x ∷ xs) = if nat_eq d (length xs) then Some x else activation
 
 -- ---- Addresses
 
--- Where a part of a parameter or variable lies. A `var` parameter has none, since it refers to a
+-- Where a part of a parameter or variable is. A `var` parameter has none, since it refers to a
 -- variable elsewhere.
 abbrev pub part_of_local : GlobalScope → Option (ℕ × Variable) → Path → Option Part
 part_of_local g None path = None
@@ -132,7 +132,7 @@ lies G xs l = part_at G xs l.owner l.path
 abbrev pub component_type : Ground → System → ResolvedType
 component_type G s = ComponentOf s (reported_members (scope G) s)
 
--- The component of type `s` at the location `at` begins at the word `n`. No component lies in an
+-- The component of type `s` at the location `at` begins at the word `n`. No component is in an
 -- activation.
 pub data ComponentLies (G : Ground) (at : Location) (s : System) (n : ℕ) : Type 0 where
   ProcessLies : at ≡ root (OfProcess G.p) → system_of_process G.setup G.p ≡ Some s → n ≡ 0 → ComponentLies G at s n
@@ -187,6 +187,6 @@ AllHaveRights G store (n ∷ ns) = ClassHasRights G store n × AllHaveRights G s
 
 -- ---- What is in sight
 
--- Where a location lies, if its owner passes the test `mine`.
+-- Where a location is, if its owner passes the test `mine`.
 abbrev pub lies_in_sight : (Owner → Bool) → Ground → List Activation → Location → Option Part
 lies_in_sight mine G xs l = if mine l.owner then lies G xs l else None

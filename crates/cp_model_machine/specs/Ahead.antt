@@ -1,8 +1,9 @@
 -- Private turns that are made ahead of their rounds.
 --
--- A process that has written nothing and whose next step isn't the kernel's, if it has one, has no kernel
--- turn to make, whatever the kernel is. So its private turns of the next rounds can be made one after another,
--- before the other processes have made their kernel turns: no kernel turn of another process can tell.
+-- A process that has written nothing and whose next step isn't the kernel's, if it has one, has no
+-- kernel turn to make, whatever the kernel is. So its private turns of the next rounds can be made
+-- one after another, before the other processes have made their kernel turns: no kernel turn of
+-- another process can report.
 use Rattle.std.specs.Prelude.{◌≡◌, ◌≢◌, ◌%◌, ◌/◌, ℕ, zero, suc, true, false, List, [], Some, length, if◌then◌else◌, get_or, map, nat_eq, slice_get}
 use Rattle.cp_model_program.specs.Programs.{Program}
 use Rattle.cp_model_machine.specs.KernelSteps.{Begun, Kernel, needs_kernel}

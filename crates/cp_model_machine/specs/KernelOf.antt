@@ -39,7 +39,7 @@ StageMeans G status.Waiting Begun = Unit {0}
 StageMeans G (status.Faulted n) Begun = Unit {0}
 StageMeans G _ _ = ⊥
 
--- All are numbers of processes, from 1 to `n`. The number 0 stands for nobody.
+-- All are numbers of processes, from 1 to `n`. The number 0 represents nobody.
 abbrev pub AreProcesses : ℕ → List ℕ → Type 0
 AreProcesses n [] = Unit {0}
 AreProcesses n (p ∷ ps) = (1 ≤ p) × (p ≤ n) × AreProcesses n ps

@@ -62,7 +62,7 @@ abbrev pub enter_gate : ℕ → ℕ → Holder → Kernel → Kernel
 enter_gate p m (HeldBy q) k = set_stage p (Asking m) (set_gate m (HeldBy q) ((gate_of k.gates m).askers ++ p ∷ []) k)
 enter_gate p m h k = set_gate m (HeldBy p) (gate_of k.gates m).askers k
 
--- The number 0 stands for nobody.
+-- The number 0 represents nobody.
 abbrev pub resume : ℕ → ℕ → Kernel → Kernel
 resume m zero k = pass_on m k
 resume m (suc r) k = make_ready (suc r) (set_gate m (HeldBy (suc r)) (gate_of k.gates m).askers k)

@@ -20,7 +20,7 @@ use Rattle.cp_model_machine.specs.Values.{View}
 
 -- ---- Cells
 
--- The process in a queue. The number 0 stands for nobody.
+-- The process in a queue. The number 0 represents nobody.
 abbrev pub process_of_word : ℤ → Option ℕ
 process_of_word (pos (suc n)) = Some (suc n)
 process_of_word _ = None
@@ -29,7 +29,7 @@ abbrev pub MarkMeans : Sort → Value → ℤ → Type 0
 MarkMeans Class v n = v ≡ Initialised (not (same_integer n (pos 0)))
 MarkMeans _ v n = Unit {0}
 
--- What a value of this type means for the word in which it lies.
+-- What a value of this type means for the word in which it is.
 abbrev pub CellMeans : ResolvedType → Value → ℤ → Type 0
 CellMeans (Simple b low high start) v n = v ≡ Ordinal n
 CellMeans Queue v n = v ≡ QueueHolds (process_of_word n)
@@ -38,7 +38,7 @@ CellMeans _ v n = Unit {0}
 
 -- ---- Places
 
--- Where variables and their parts lie.
+-- Where variables and their parts are.
 abbrev pub Lying : Type 0
 Lying = Location → Option Part
 

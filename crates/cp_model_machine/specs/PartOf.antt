@@ -98,8 +98,8 @@ control o = record {
   limit = o.limit;
 }
 
--- Where a process runs: its registers are those of the running unit, and what its counter, temps and
--- frames stand for is what is left to do.
+-- Where a process runs: its registers are those of the running unit, and what its counter, temps
+-- and frames represent is what is left to do.
 pub record RunsAt (G : Ground) (c : Control) (k : List Task) : Type 0 where
   pub running : left.Running
   pub runs : Runs G (length c.temps) c.limit running c.frames

@@ -76,7 +76,7 @@ private_outcome o = (o, NoEffect)
 abbrev pub fault_in : PrivateState → Fault → Acting
 fault_in o f = (record o { activity = Faulted f }, NoEffect)
 
--- Continues with a value. A fault changes nothing but the activity.
+-- Continues with a value. A fault changes only the activity.
 abbrev pub with_result : {A : Type 0} → PrivateState → Result A Fault → (A → Acting) → Acting
 with_result o (Ok x) go = go x
 with_result o (Err f) go = fault_in o f

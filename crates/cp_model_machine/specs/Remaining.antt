@@ -44,7 +44,7 @@ FrameFor (BodyOf s) None = Unit {0}
 FrameFor _ _ = ⊥
 
 -- There are `temps` temps and `limit` frames, and the frames `fs` are in use. The running unit is
--- that of its number, and it has room for all that it calls.
+-- that of its number, and it has room whatever it calls.
 pub record Runs (G : Ground) (temps limit : ℕ) (R : Running) (fs : List machine.Frame) : Type 0 where
   pub unit : slice_get G.program.units R.number ≡ Some R.unit
   pub text : slice_get G.texts R.number ≡ Some R.text
@@ -81,11 +81,11 @@ IsTask (a.While e s) = ⊥
 IsTask (a.Repeat s e) = ⊥
 IsTask _ = Unit {0}
 
--- The loops with a test. A `while` goes on where the test is true, and a `repeat` where it is false.
+-- The loops with a test. A `while` continues where the test is true, and a `repeat` where it is false.
 pub data Loop : Type 0 where
   While Repeat : Loop
 
--- What comes at a true test, where `on` goes on with the loop and `off` ends it. At a false test it
+-- What comes at a true test, where `on` continues with the loop and `off` ends it. At a false test it
 -- is the other one.
 abbrev pub at_true : {A : Type 0} → Loop → (on off : A) → A
 at_true While on off = on
@@ -162,7 +162,7 @@ pub record ReturnsAt (G : Ground) (R : Running) (place depth_is : ℕ) : Type 0 
 
 -- ---- All tasks
 
--- What is left to do from the operation `place` on, in the running unit, whose temps in use lie
+-- What is left to do from the operation `place` on, in the running unit, whose temps in use are
 -- below `low`. `K` is what they are known to hold for the first task.
 abbrev pub Remaining : Ground → List ℤ → ℕ → Knowns → Running → List machine.Frame → ℕ → ℕ → List Task → Type 0
 Remaining G temps limit K R fs place low [] = ⊥

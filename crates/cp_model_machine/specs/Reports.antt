@@ -42,7 +42,7 @@ of_class_text Class t = t
 of_class_text Monitor t = []
 of_class_text Process t = []
 
--- Visits a variable of this type that lies at a place, and the members of a record or component.
+-- Visits a variable of this type that is at a place, and the members of a record or component.
 abbrev mutual
   pub visit_type : GlobalScope → Visit → Path → ℕ → ResolvedType → Text
   visit_type g v path at (Simple b low high start) = v.simple path at

@@ -2,7 +2,7 @@
 --
 -- In a private step, the words are the process's own. In a kernel step, the shared words of all
 -- monitors follow them. One function thus serves both kinds of step: an address at or above the
--- number of own words lies in a monitor.
+-- number of own words is in a monitor.
 use Rattle.std.specs.Prelude.{Bool, true, false, not, ℕ, zero, suc, ◌+◌, ℤ, pos, [], ◌∷◌, ◌++◌, Option, None, Some, if◌then◌else◌, int_le, length, nat_lt, slice_get}
 use Rattle.cp_model.specs.Decimal.{decimal}
 use Rattle.cp_model.specs.Integers.{same_integer}

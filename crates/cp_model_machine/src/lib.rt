@@ -8,7 +8,7 @@
 //!   adds gates and stages, `Machines` whole rounds, and `Replays` rounds in any order of events.
 //!   `Ahead` says which private turns of later rounds may be made ahead of them.
 //! - **The relation.** `PartOf` says when a private state is that of its process in a state of the
-//!   system. `Addresses` says where variables lie and which words are in reach, `Means` what words
+//!   system. `Addresses` says where variables are and which words are in reach, `Means` what words
 //!   mean, and `Remaining` when a counter and frames are what is left to do. `Beginning` is about
 //!   processes that haven't begun, `EffectOf` about effects on the kernel, `KernelOf` about the
 //!   kernel, and `InState` about a whole machine.

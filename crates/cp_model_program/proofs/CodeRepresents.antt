@@ -1,4 +1,4 @@
--- The emitted operations stand for the typed statement, whatever its kind.
+-- The emitted operations represent the typed statement, whatever its kind.
 use Rattle.std.proofs.Common.{◌≡◌, ◌≤◌, ℕ, suc, ◌+◌, ℤ, List, [], ◌++◌, Option, Some, refl, ap, sym, subst, ◌∙◌, Bool, true, false, arith, length, if◌then◌else◌}
 use Rattle.cp_model.specs.Abstract as a
 use Rattle.cp_model.specs.Abstract.{BaseType, Boolean, Constant, Name, Plain, Sort, System}

@@ -1,4 +1,4 @@
--- The units of all system types of a text stand for them, and each type's name has the first of its
+-- The units of all system types of a text represent them, and each type's name has the first of its
 -- own units.
 use Rattle.std.proofs.Common.{◌≡◌, ℕ, ℤ, zero, suc, ◌+◌, ◌-◌, List, [], ◌∷◌, ◌++◌, Option, Some, None, refl, ap, sym, subst, ◌∙◌, Bool, true, false, if◌then◌else◌, slice_get, length, map, arith, append_assoc, bytes_eq}
 use Rattle.std.proofs.lemmas.List.{length-append}
@@ -50,7 +50,7 @@ no_array Queue t q inner h = cc
 no_array (ComponentOf s ms) t q inner h = cc
 no_array NoType t q inner h = cc
 
--- a type that stands for a component is a name
+-- a type that represents a component is a name
 pub component_name : (h : GlobalScope) (t : TypeExpression) (q : System) (inner : Members) → resolved_type h t ≡ ComponentOf q inner
     → (z : Name) × (t ≡ a.TypeName z) × (lookup z h.types ≡ Some (ComponentOf q inner))
 component_name h (a.TypeName z) q inner is = (z, refl, go (lookup z h.types) is)

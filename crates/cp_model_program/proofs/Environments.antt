@@ -1,4 +1,4 @@
--- What names and designators mean doesn't depend on where a component lies or who owns an
+-- What names and designators mean doesn't depend on where a component is or who owns an
 -- activation.
 use Rattle.std.proofs.Common.{◌≡◌, Option, Some, None, refl, ap, ◌∙◌, if◌then◌else◌}
 use Rattle.cp_model.specs.Abstract as a

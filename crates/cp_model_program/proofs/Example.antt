@@ -1,4 +1,4 @@
--- The program of the example stands for its text.
+-- The program of the example represents its text.
 use Rattle.std.proofs.Common.{◌≡◌, ℕ, zero, suc, ◌<◌, ◌≤◌, ◌+◌, pos, negsuc, List, [], ◌∷◌, length, Bool, true, false, Option, None, Some, refl, ap, sym, subst, ◌∙◌, arith}
 use Rattle.std.specs.Prelude.{codes, slice_get, slice_set, nat_le}
 use Rattle.std.proofs.lemmas.List.{get_or-set_same, get_or-set_other, length-set}

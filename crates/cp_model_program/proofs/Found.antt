@@ -1,4 +1,4 @@
--- A variable that is found by its name lies in the activation or component that declares it.
+-- A variable that is found by its name is in the activation or component that declares it.
 use Rattle.std.proofs.Common.{◌≡◌, ℕ, suc, ◌+◌, List, [], ◌∷◌, ◌++◌, Option, Some, None, refl, ap, sym, ◌∙◌, if◌then◌else◌, Bool, true, false, not, filter, bytes_eq, arith}
 use Rattle.cp_model.specs.Abstract.{Name, System}
 use Rattle.cp_model.specs.Names.{lookup}

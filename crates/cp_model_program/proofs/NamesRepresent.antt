@@ -1,4 +1,4 @@
--- The root that a variable's name is compiled to is where the variable lies.
+-- The root that a variable's name is compiled to is where the variable is.
 use Rattle.std.proofs.Common.{◌≡◌, ◌⊎◌, inl, inr, ℕ, ℤ, List, [], ◌∷◌, ◌++◌, Option, Some, None, refl, ap, sym, subst, ◌∙◌, Bool, true, false, if◌then◌else◌, bytes_eq, append_assoc, is_some}
 use Rattle.std.proofs.lemmas.Bool.{true≢false}
 use Rattle.cp_model.specs.Abstract as a

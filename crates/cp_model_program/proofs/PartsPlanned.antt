@@ -1,4 +1,5 @@
--- The plan of parts that lie one after another writes their start values, whichever of them is planned last.
+-- The plan of parts that are one after another writes their start values, whichever of them is
+-- planned last.
 use Rattle.std.proofs.Common.{◌≡◌, ◌≤◌, inl, inr, ℕ, ◌+◌, ℤ, List, [], ◌∷◌, ◌++◌, refl, ap, sym, subst, ◌∙◌, Bool, true, false, if◌then◌else◌, length, arith}
 use Rattle.std.specs.Prelude.{nat_lt}
 use Rattle.std.proofs.lemmas.List.{length-append}
@@ -22,7 +23,7 @@ abbrev Behind : ℕ → List Placed → Type 0
 Behind n [] = Unit {0}
 Behind n (p ∷ ps) = (n ≤ p.at) × Behind n ps
 
--- Each part lies before those that follow it.
+-- Each part is before those that follow it.
 abbrev Ascend : List Placed → Type 0
 Ascend [] = Unit {0}
 Ascend (p ∷ ps) = Behind (p.at + p.size) ps × Ascend ps
@@ -46,7 +47,7 @@ ready_behind zeros base at n xs ws is (p ∷ ps) behind ready = (
   ready_behind zeros base at n xs ws is ps behind.1 ready.2,
 )
 
--- Parts that lie beside one another can be written in either order.
+-- Parts that are beside one another can be written in either order.
 module _ (zeros : Bool) (base : ℕ) (p q : Placed) (qs : List Placed) (w : WritesPart zeros p) (v : WritesPart zeros q)
     (behind : Behind (p.at + p.size) (q ∷ qs)) (ascend : Ascend (q ∷ qs)) (ws : List ℤ) (ready : Ready zeros base ws (p ∷ q ∷ qs)) where
   abbrev after_p : List ℤ
@@ -110,7 +111,7 @@ arranged_is : (zeros : Bool) (base : ℕ) (ps : List Placed) → WriteParts zero
 arranged_is zeros base [] all ascend ws ready = refl
 arranged_is zeros base (p ∷ ps) all ascend ws ready = heaviest_last_is zeros base p ps all.0 all.1 ascend.0 ascend.1 ws ready
 
--- The parts lie one after the other from a word on, and write these values.
+-- The parts are one after the other from a word on, and write these values.
 abbrev pub Follow : Bool → ℕ → List Placed → List ℤ → Type 0
 Follow zeros at [] values = values ≡ []
 Follow zeros at (p ∷ ps) values =

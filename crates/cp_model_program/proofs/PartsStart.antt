@@ -45,7 +45,7 @@ index_within (negsuc a) (pos b) (negsuc i) h = grind (arith, h)
 index_within (negsuc a) (negsuc b) (pos i) h = grind (arith, h)
 index_within (negsuc a) (negsuc b) (negsuc i) h = grind (arith, h)
 
--- A part has its own start values, and lies within the whole.
+-- A part has its own start values, and is within the whole.
 pub record PartOf (g : GlobalScope) (xs : List ℤ) (size m : ℕ) (u : ResolvedType) : Type 0 where
   pub inside : m + words g u ≤ size
   pub values : (k : ℕ) → k < words g u → slice_index_or xs (m + k) (pos 0) ≡ slice_index_or (image g u) k (pos 0)
@@ -109,7 +109,7 @@ element_part g low high i t path inner m u h = go (within low high i) refl h
             rest : (a b : ℕ) → a < b → suc a + (b - suc a) ≡ b
             rest a b h = omega (arith, h)
 
--- A member lies after those before it.
+-- A member is after those before it.
 abbrev pub MembersStart : GlobalScope → Members → Name → Path → Type 0
 MembersStart g ms x path = (at m : ℕ) (u : ResolvedType) → member_part g at ms x path ≡ Some (m, u)
     → (k : ℕ) × (m ≡ at + k) × PartOf g (images g ms) (words_of_members g ms) k u

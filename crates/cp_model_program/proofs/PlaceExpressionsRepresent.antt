@@ -1,4 +1,4 @@
--- The cases of names, parts and variables: what they are compiled to stands for them, if this holds
+-- The cases of names, parts and variables: what they are compiled to represents them, if this holds
 -- for what they contain.
 use Rattle.std.proofs.Common.{◌≡◌, ◌≤◌, inl, inr, ℕ, ◌+◌, ℤ, List, [], ◌∷◌, Option, Some, None, refl, ap, sym, subst, ◌∙◌, Bool, true, false, if◌then◌else◌, arith, bytes_eq}
 use Rattle.cp_model.specs.Abstract as a

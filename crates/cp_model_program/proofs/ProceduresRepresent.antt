@@ -1,4 +1,4 @@
--- The operations of calls and of standard procedures stand for them.
+-- The operations of calls and of standard procedures represent them.
 use Rattle.std.proofs.Common.{◌≡◌, ◌≤◌, inl, inr, ℕ, ℤ, List, [], Option, Some, None, refl, ap, sym, subst, ◌∙◌, false, arith, codes, if◌then◌else◌}
 use Rattle.cp_model.specs.Abstract as a
 use Rattle.cp_model.specs.Abstract.{BaseType, Boolean, Char, Integer, Enumeration, Constant, Name, Plain, Routine, Sort, System}

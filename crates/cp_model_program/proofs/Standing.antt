@@ -67,7 +67,7 @@ pub record Standing (scope : Scope) (program : Program) (texts : List UnitText) 
   pub no_process : (at : Location) (o : Owner) (r : Routine) (n : Component) → MayBeCalled (place_at scope systems routines at o) r (Some n)
       → n.system.sort ≡ a.Process → ⊥
 
--- ---- Calls that stand
+-- ---- Calls that are
 
 module _ (scope : Scope) (program : Program) (texts : List UnitText) (before : List CodeUnit) (unit : CodeUnit) where
   -- The called unit needs no more than there is after the activation.

@@ -145,7 +145,7 @@ variables_planned g vs h at base ws room =
     parts_planned false base at (placed_variables g vs at) (images_of g vs) ws (variables_follow g vs h at) (omega (arith, room, images_of_length g vs h))
     (λ is. absurd (true≢false (sym is)))
 
--- a part of a variable lies after those before it
+-- a part of a variable is after those before it
 variable_part : (g : GlobalScope) (vs : List (Name × Variable)) → Each ByValue vs → (at k : ℕ) (x : Name) (v : Variable) (path : Path) (m : ℕ) (u : ResolvedType)
     → local_at g at vs x ≡ Some (k, v) → part g v.type path ≡ Some (m, u)
     → (d : ℕ) × (k ≡ at + d) × PartOf g (images_of g vs) (locals_words g vs) (d + m) u

@@ -1,4 +1,4 @@
--- The units of a typed system type stand, one after another.
+-- The units of a typed system type are, one after another.
 use Rattle.std.proofs.Common.{◌≡◌, ◌<◌, ◌⊎◌, inl, inr, ℕ, zero, suc, ◌+◌, List, [], ◌∷◌, ◌++◌, Option, Some, None, refl, ap, sym, subst, ◌∙◌, Bool, false, slice_get, length, arith, append_assoc, append-nil}
 use Rattle.std.proofs.lemmas.List.{length-append}
 use Rattle.cp_model.specs.Abstract.{Name, Routine, Statement, System}
@@ -94,7 +94,7 @@ variables_by_value g (v ∷ vs) h = ((h.0.2, sound_plannable false v.1.type h.0.
 -- ---- Units
 
 module _ (g : GlobalScope) (program : Program) (texts : List UnitText) where
-  -- Each unit so far stands for its text.
+  -- Each unit so far represents its text.
   abbrev pub Good : Compiled → Type 0
   Good c = (n : ℕ) (u : CodeUnit) (t : UnitText) → slice_get c.units n ≡ Some u → slice_get texts n ≡ Some t → UnitRepresents program texts g u t
 
@@ -256,7 +256,7 @@ module _ (g : GlobalScope) (program : Program) (texts : List UnitText) where
       pub system_grows : Within (with_system g firsts s start) → Within start
       system_grows h = routines_grow s.routines start (body_grows (with_routines g s firsts first s.routines start) h)
 
-      -- All its units stand for their texts.
+      -- All its units represent their texts.
       pub system_represents : Good start → Within (with_system g firsts s start) → After (suc (length s.routines)) (with_system g firsts s start)
       system_represents good within =
           body_represents (with_routines g s firsts first s.routines start)

@@ -1,4 +1,4 @@
--- The compiled terms, spots and arguments stand for the typed expressions, designators and
+-- The compiled terms, spots and arguments represent the typed expressions, designators and
 -- arguments.
 --
 -- The proof is a single induction over expressions. Whether something is a call is decided by the

@@ -1,4 +1,4 @@
--- A compiled unit stands for its routine or body.
+-- A compiled unit represents its routine or body.
 --
 -- What a unit needs is the greatest of what its operations need, so there is enough for each of
 -- them.
@@ -96,8 +96,8 @@ module _ (scope : Scope) (program : Program) (texts : List UnitText) (before : L
   abbrev unit : CodeUnit
   unit = code_unit (unit_code scope last s at).entry starts (need_of_all before scope.words (unit_code scope last s at).operations)
 
-  -- Its code stands for the statement and ends with the last operation, wherever the component
-  -- lies.
+  -- Its code represents the statement and ends with the last operation, wherever the component
+  -- is.
   pub unit_represents : AllThere scope program texts before unit (unit_code scope last s at).operations at
       → ((l : Location) (o : Owner) → TypedStatement (place_at scope systems routines l o) s)
       → (l : Location) (o : Owner) → (end : ℕ) × (operation_at program end ≡ Some last)

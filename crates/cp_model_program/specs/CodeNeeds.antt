@@ -21,7 +21,7 @@ need_of_call units c = elim (slice_get units c.routine) [
   | Some u ↦ record { words = c.words + u.words; temps = c.temps + u.temps; frames = 1 + u.frames }
 ]
 
--- At first the arguments of an `init` lie after the activation, as the component's own words will:
+-- At first the arguments of an `init` are after the activation, as the component's own words will:
 -- after its mark.
 abbrev pub with_room : ℕ → ℕ → Need → Need
 with_room words count need = record need { words = max need.words (words + suc count) }

@@ -190,7 +190,7 @@ abbrev mutual
   coded_standard scope x (a.MoreExpressions e es) low =
       standard_term x (base_of_type (expression_type (environment scope) e)) (coded_term scope e low) (coded_variable scope e low)
 
-  -- The first parameter lies at `at` in the new activation.
+  -- The first parameter is at `at` in the new activation.
   pub coded_arguments : Scope → a.Expressions → List (Name × Variable) → ℕ → ℕ → CodedArguments
   coded_arguments scope a.NoExpression ps at low = no_arguments low
   coded_arguments scope (a.MoreExpressions e es) ps at low = elim ps [

@@ -1,4 +1,4 @@
--- When a program stands for a text.
+-- When a program represents a text.
 use Rattle.std.specs.Prelude.{◌≡◌, ℤ, true, ◌≤◌, ◌⊎◌, ℕ, zero, suc, ◌+◌, ◌-◌, List, [], ◌∷◌, ◌++◌, Option, Some, None, length, slice_get}
 use Rattle.cp_model.specs.Abstract.{BaseType, Monitor, Name, Process, Routine, Sort, System}
 use Rattle.cp_model.specs.Types.{ComponentOf, GlobalScope, Members, ResolvedType, Simple, named_type}
@@ -47,7 +47,7 @@ abbrev pub end_of : Sort → Operation
 end_of Process = End
 end_of _ = EndBody
 
--- The unit's code stands for the text, wherever the component lies and whoever owns the activation.
+-- The unit's code represents the text, wherever the component is and whoever owns the activation.
 -- The names of its variables are distinct, and its parameters and variables are of types that those
 -- of a routine may have.
 abbrev pub UnitRepresents : Program → List UnitText → GlobalScope → CodeUnit → UnitText → Type 0
@@ -112,7 +112,7 @@ Apart a n b m = (a + n ≤ b) ⊎ (b + m ≤ a)
 
 -- ---- The whole
 
--- A program stands for a text. The text is well typed, and no value of a type that a name means is
+-- A program represents a text. The text is well typed, and no value of a type that a name means is
 -- the mark of an unset result. `texts` says what each unit is the code of. There are as many
 -- processes and monitors as in the text. The blocks of shared words don't overlap, and the members
 -- of a component are the same wherever its type is named.

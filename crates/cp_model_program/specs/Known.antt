@@ -128,7 +128,7 @@ pub record TextFacts (setup : Setup) : Type 0 where
 
 -- ---- The law
 
--- The program that the compiler makes of a text stands for it, whatever its input and its clock.
+-- The program that the compiler makes of a text represents it, whatever its input and its clock.
 abbrev pub HasProgram : s.Tree → Type 0
 HasProgram t = (setup : Setup) → setup.tree ≡ erase.abstract t → IsProgramFor (compile setup.tree) setup
 

@@ -1,4 +1,4 @@
--- Where variables lie: the words of components and activations, and the words of their parts.
+-- Where variables are: the words of components and activations, and the words of their parts.
 --
 -- A class, or a process or monitor itself, has a mark, a word for each right, and then its own
 -- members. A variable that is a process or a monitor takes no word of the component that declares
@@ -59,7 +59,7 @@ abbrev mutual
   member_part g at (MoreMembers y t ms) x path =
       if bytes_eq x y then farther at (part g t path) else member_part g (at + words g t) ms x path
 
--- Where a member of a component of this system type lies.
+-- Where a member of a component of this system type is.
 abbrev pub member : GlobalScope → System → Name → Option Part
 member g s x = member_part g (head_words g s) (reported_members g s) x []
 
@@ -83,7 +83,7 @@ abbrev pub local_at : GlobalScope → ℕ → List (Name × Variable) → Name �
 local_at g at [] x = None
 local_at g at (v ∷ vs) x = if bytes_eq x v.0 then Some (at, v.1) else local_at g (at + local_words g v.1) vs x
 
--- Where a parameter or variable of a routine lies in its activation.
+-- Where a parameter or variable of a routine is in its activation.
 abbrev pub local : GlobalScope → Routine → Name → Option (ℕ × Variable)
 local g r x = local_at g (result_words r.result) (locals g r) x
 
@@ -96,6 +96,6 @@ abbrev pub right_at : ℕ → List (Name × Variable) → Name → Option (ℕ �
 right_at at [] x = None
 right_at at (v ∷ vs) x = if bytes_eq x v.0 then Some (at, v.1) else right_at (suc at) vs x
 
--- Where a right lies in its component.
+-- Where a right is in its component.
 abbrev pub right : GlobalScope → System → Name → Option (ℕ × Variable)
 right g s x = right_at 1 (rights g s) x

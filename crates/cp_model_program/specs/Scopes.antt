@@ -31,7 +31,7 @@ pub record Scope : Type 0 where
   pub first : ℕ
   pub words : ℕ
 
--- Names mean the same wherever a component and its activation lie.
+-- Names mean the same wherever a component and its activation are.
 abbrev pub environment : Scope → Environment
 environment scope = some_environment scope.globals scope.system scope.routine
 

@@ -39,7 +39,7 @@ operation_at program place = slice_get program.operations place
 abbrev pub local_location : Frame → Name → Location
 local_location f x = record { owner = f.owner; path = ByName x ∷ [] }
 
--- A name means the parameter or variable of the running routine that lies at `at` in its
+-- A name means the parameter or variable of the running routine that is at `at` in its
 -- activation.
 pub record NamesLocal (env : Environment) (x : Name) (at : ℕ) (by_reference : Bool) (t : ResolvedType) : Type 0 where
   pub frame : Frame
@@ -50,7 +50,7 @@ pub record NamesLocal (env : Environment) (x : Name) (at : ℕ) (by_reference : 
   pub reference : variable.by_reference ≡ by_reference
   pub type : variable.type ≡ t
 
--- A name means the parameter or variable of the running component that lies at `at` in it.
+-- A name means the parameter or variable of the running component that is at `at` in it.
 pub record NamesMember (env : Environment) (x : Name) (at : ℕ) (t : ResolvedType) : Type 0 where
   pub variable : Variable
   pub means : meaning env x ≡ IsVariable (under env.component (ByName x ∷ [])) variable
@@ -122,7 +122,7 @@ pub record Calls (site : Site) (d : a.Designator) (c : Callee) (kept : ℕ) (cal
 abbrev pub parameters : Site → Callee → List (Name × Variable)
 parameters site c = declarations site.env.globals c.routine.parameters
 
--- Where the first parameter lies in the new activation.
+-- Where the first parameter is in the new activation.
 abbrev pub first_parameter : Callee → ℕ
 first_parameter c = result_words c.routine.result
 

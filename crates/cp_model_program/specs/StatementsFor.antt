@@ -1,4 +1,4 @@
--- When operations stand for statements.
+-- When operations represent statements.
 --
 -- The code of a statement is entered at a place and leads to `next`. `low` is the first temp that
 -- it may use: the counters of the enclosing `for` statements are below it.
@@ -120,7 +120,7 @@ InitArgumentsFor site K s (p ∷ ps) (a.MoreExpressions (a.Use (a.Plain x)) es) 
     × InitArgumentsFor site K s ps es xs place next low high
 InitArgumentsFor site K s _ _ _ place next low high = ⊥
 
--- At first the arguments of an `init` lie after the running activation, as the component's own
+-- At first the arguments of an `init` are after the running activation, as the component's own
 -- words will: after its mark.
 abbrev pub HasRoom : Site → List Argument → Type 0
 HasRoom site xs = site.words + suc (length xs) ≤ site.unit.words

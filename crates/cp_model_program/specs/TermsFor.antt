@@ -1,9 +1,9 @@
--- When terms, spots and passed arguments stand for expressions, designators and arguments.
+-- When terms, spots and passed arguments represent expressions, designators and arguments.
 --
 -- The user calls of an expression are operations before the statement's own, in the order in which
 -- they are made. `place` is the place of the first call that is still to be made, and `next` is
 -- where the last one leads. The values of calls are in the temps from `low` up to `high`. `Known`
--- stands for a call that has been made: its value is in a temp, and `K` says what the temps are
+-- represents a call that has been made: its value is in a temp, and `K` says what the temps are
 -- known to hold. In a text nothing is known, and a value that is `Known` there is a number.
 use Rattle.std.specs.Prelude.{◌≡◌, ◌≤◌, ◌<◌, ℕ, ◌+◌, ℤ, pos, false, true, List, [], ◌∷◌, Some, None, Result, Ok, Err}
 use Rattle.cp_model.specs.Abstract as a
@@ -134,7 +134,7 @@ abbrev mutual
       × PlaceExpressionFor site K d of (ArrayOf lower upper t) place between low middle × TermFor site K e i b between next middle high
   PlaceExpressionFor site K _ _ t place next low high = ⊥
 
-  -- The arguments of a call are passed to its parameters, the first of which lies at `at` in the
+  -- The arguments of a call are passed to its parameters, the first of which is at `at` in the
   -- new activation.
   pub ArgumentsFor : Site → Knowns → List (Name × Variable) → a.Expressions → List Argument → ℕ → ℕ → ℕ → ℕ → ℕ → Type 0
   ArgumentsFor site K [] a.NoExpression [] at place next low high = place ≡ next

@@ -7,14 +7,14 @@ ghost use Rattle.cp_model_program.specs.Known.{AcceptedTextsHavePrograms, HasPro
 use crate::numbers::read_numbers;
 use cp_model::tree::Tree;
 
-/// The program that the compiler makes of an accepted text stands for it (`specs/IsProgramFor.antt`),
-/// provided that the numbers after a minus in its definitions are at most 65,535. This function has
-/// an empty body: a caller obtains the law as a fact by calling it.
+/// The program that the compiler makes of an accepted text represents it
+/// (`specs/IsProgramFor.antt`), provided that the numbers after a minus in its definitions are at
+/// most 65,535. This function has an empty body: a caller obtains the law as a fact by calling it.
 pub fn accepted_texts_have_programs()
     ensures { AcceptedTextsHavePrograms }
 {}
 
-/// The program that the compiler makes of the text of an accepted tree stands for it, since the
+/// The program that the compiler makes of the text of an accepted tree represents it, since the
 /// tree's numbers have 16 bits.
 pub fn accepted_tree_has_program(tree: &Tree)
     requires { Accepted (view.tree tree.now) }

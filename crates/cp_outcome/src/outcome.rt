@@ -8,7 +8,7 @@ use cp_base_digits::decimal::push_natural;
 use cp_rounds::machine::Machine;
 use std::alloc::{AllocError, Global};
 
-/// Returns the word for a verdict.
+/// The word for a verdict.
 pub fn word_of(verdict: Verdict) -> &'static [u8]
     ensures { result.now ≡ verdict_word verdict }
 {
@@ -29,7 +29,7 @@ fn push_verdict(out: &mut Vec<u8>, verdict: Verdict, rounds: u64) -> Result<(), 
     out.extend_from_slice(b"\n")
 }
 
-/// Returns the outcome of a machine, as bytes: the verdict on it, and then the reasons, which say
+/// The outcome of a machine, as bytes: the verdict on it, and then the reasons, which say
 /// why each process that hasn't ended is where it is.
 ///
 /// # Errors

@@ -5,7 +5,7 @@ ghost use Rattle.cp_outcome.specs.Statuses.{status};
 
 use crate::verdict::Verdict;
 
-/// Returns the exit status of a verdict: 0 if all processes have ended, 5 if they are stuck, 6 if
+/// The exit status of a verdict: 0 if all processes have ended, 5 if they are stuck, 6 if
 /// one has faulted, 7 if they still move.
 pub fn status_of(verdict: Verdict) -> u8
     ensures { result ≡ status verdict }

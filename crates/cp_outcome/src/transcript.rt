@@ -6,7 +6,7 @@ ghost use Rattle.cp_outcome.specs.Transcripts.{IsTranscriptOf};
 use cp_rounds::machine::Machine;
 use std::alloc::{AllocError, Global};
 
-/// Returns the transcript of the process with this number.
+/// The transcript of the process with this number.
 ///
 /// # Errors
 ///

@@ -54,7 +54,7 @@ fn all_have_ended(machine: &Machine) -> bool
     true
 }
 
-/// Returns the verdict on a machine: whether its processes can move, and if none can, whether one
+/// The verdict on a machine: whether its processes can move, and if none can, whether one
 /// has faulted or all have ended.
 pub fn verdict_on(machine: &Machine) -> Verdict
     ensures { IsVerdictOn machine.now result }

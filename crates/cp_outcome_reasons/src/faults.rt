@@ -7,7 +7,7 @@ use cp_inspect::status::fault_number;
 use cp_model::state::Fault;
 use cp_output::page::Page;
 
-// What a fault means. The piece of the text stands after these words.
+// What a fault means. The piece of the text is after these words.
 fn words_of(fault: Fault) -> &'static str {
     match fault {
         Fault::Range => "a value out of the range of its type in ",

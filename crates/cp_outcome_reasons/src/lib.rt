@@ -2,7 +2,7 @@
 //! an outcome after its verdict, the graph of who waits for whom, and the outcome as an object.
 //!
 //! - `reasons`: the lines. `waits`: the graph. `object`: the object.
-//! - `snapshot`: where all stand, as plain data. `states`: the word of a state.
+//! - `snapshot`: where all are, as plain data. `states`: the word of a state.
 //! - `names`: components, queues and places of the text.
 //! - `faults`, `piece`: what a fault means, and the piece of the text that it stopped.
 //! - `queues`: which entries continue a queue. `rights`: who can call them. `starts`: which `init`

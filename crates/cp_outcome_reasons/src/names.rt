@@ -1,4 +1,4 @@
-//! What reasons are told of, and its names: components, queues and places of the text.
+//! What reasons are reported of, and its names: components, queues and places of the text.
 
 use crate::parts::Parts;
 use crate::rights::Rights;
@@ -12,13 +12,13 @@ use cp_output::position::Position;
 use cp_scan::scan;
 use std::alloc::{AllocError, Global};
 
-/// A machine that has made its rounds: its text, and where all stand in it.
+/// A machine that has made its rounds: its text, and where all are in it.
 #[derive(Clone, Copy)]
 pub struct Source<'r, 't> {
     pub bytes: &'r [u8],
     pub tree: &'t Tree,
     pub tables: &'r Tables<'t>,
-    /// Where all stand in the machine.
+    /// Where all are in the machine.
     pub snapshot: &'r StatusSnapshot,
 }
 
@@ -75,7 +75,8 @@ fn tokens_of(
 }
 
 impl<'r, 't> Subject<'r, 't> {
-    /// Collects what the reasons are told of: the text of a machine. Fails only if memory runs out.
+    /// Collects what the reasons are reported of: the text of a machine. Fails only if memory runs
+    /// out.
     pub(crate) fn of(alloc: Global, source: Source<'r, 't>) -> Result<Subject<'r, 't>, AllocError> {
         let Source {
             bytes,

@@ -69,7 +69,7 @@ impl<'t> Subject<'_, 't> {
     }
 }
 
-/// Returns the outcome of a machine as a line with a JSON object: the word for its verdict, the
+/// The outcome of a machine as a line with a JSON object: the word for its verdict, the
 /// number of rounds, and each process with its state, its place, and why it is there.
 ///
 /// # Errors

@@ -109,7 +109,7 @@ fn spelling<'t>(text: &'t [u8], token: &Token) -> &'t [u8] {
     &text[token.place().min(to)..to]
 }
 
-// Adds a piece. One blank stands where something is between two tokens.
+// Adds a piece. One blank is where something is between two tokens.
 fn push_tokens(page: &mut Page, text: &[u8], tokens: &[Token]) {
     let mut shown: usize = 0;
     let mut end = match tokens.first() {

@@ -10,7 +10,7 @@ use cp_output::page::Page;
 use cp_private::kernel_view::Holder;
 use std::alloc::{AllocError, Global};
 
-// What stands before an item of a list with so many items, such as `a, b and c`.
+// What is before an item of a list with so many items, such as `a, b and c`.
 fn separator(index: usize, count: usize) -> &'static str {
     if index == 0 {
         ""
@@ -224,7 +224,7 @@ impl<'t> Subject<'_, 't> {
     }
 }
 
-/// Returns a line for each process of a machine that hasn't ended, by number: where it is, why, and
+/// A line for each process of a machine that hasn't ended, by number: where it is, why, and
 /// where in the text that is.
 ///
 /// # Errors

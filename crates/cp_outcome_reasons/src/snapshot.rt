@@ -1,5 +1,5 @@
-//! Where the processes of a machine stand, and who is at its monitors: plain data, which whoever
-//! has the machine makes of it, so that reasons stand beside rounds and not above them.
+//! Where the processes of a machine are, and who is at its monitors: plain data, which whoever
+//! has the machine makes of it, so that reasons are beside rounds and not above them.
 
 use cp_inspect::state::ProcState;
 use cp_private::kernel_view::Holder;
@@ -42,7 +42,7 @@ pub struct MonitorSnapshot {
     pub is_asked: bool,
 }
 
-/// Where the processes of a machine stand after its rounds, and who is at its monitors.
+/// Where the processes of a machine are after its rounds, and who is at its monitors.
 #[derive(Drop)]
 pub struct StatusSnapshot {
     pub rounds: u64,
@@ -65,12 +65,12 @@ impl ProcessSnapshot {
 }
 
 impl StatusSnapshot {
-    /// Returns the process with a number, if there is one. The number 0 is read as 1.
+    /// The process with a number, if there is one. The number 0 is read as 1.
     pub(crate) fn process(&self, number: u32) -> Option<&ProcessSnapshot> {
         self.processes.get((number as usize).saturating_sub(1))
     }
 
-    /// Returns the holder of the gate of the monitor with a number. That of a missing one is unset.
+    /// The holder of the gate of the monitor with a number. That of a missing one is unset.
     pub(crate) fn holder_of(&self, number: u32) -> Holder {
         match self.monitors.get((number as usize).saturating_sub(1)) {
             Some(monitor) => monitor.holder,

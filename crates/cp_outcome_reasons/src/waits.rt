@@ -128,7 +128,7 @@ fn graph_of(alloc: Global, body: &[u8]) -> Result<Vec<u8>, AllocError>
     Ok(bytes)
 }
 
-/// Returns who waits for whom in a machine, as a graph for Graphviz: its processes that haven't
+/// Who waits for whom in a machine, as a graph for Graphviz: its processes that haven't
 /// ended, and its monitors that are held, asked for or waited in.
 ///
 /// # Errors

@@ -14,7 +14,7 @@ const WIDTH: usize = 100;
 /// How many bytes before the place are shown if the start of its line is cut off.
 const BEFORE: usize = 60;
 
-/// What stands where a line is cut.
+/// What is where a line is cut.
 const CUT: &[u8] = b"...";
 
 // Adds what begins these bytes, which is shown like this.
@@ -103,7 +103,7 @@ fn cut(page: &mut Page, is_cut: bool) {
 }
 
 /// Adds the line of the byte `at`, which has this position, and a line with a caret under that
-/// byte. `...` stands where the line is cut.
+/// byte. `...` is where the line is cut.
 pub fn excerpt(page: &mut Page, text: &[u8], at: usize, position: Position) {
     let at = at.min(text.len());
     let before = position.column.saturating_sub(1).min(at);

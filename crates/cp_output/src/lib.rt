@@ -1,7 +1,7 @@
 //! What cpm shows: pages of text, and forms that programs read.
 //!
-//! - `page`: text that grows. `message`: the messages that it tells. `excerpt`: the line of a place
-//!   with a caret under it. `position`: the line and the column of a place.
+//! - `page`: text that grows. `message`: the messages that it reports. `excerpt`: the line of a
+//!   place with a caret under it. `position`: the line and the column of a place.
 //! - `object`: the line of an object of JSON. `specs/Json.antt` says of which form it is.
 //! - `graphviz`: graphs for Graphviz: the names of nodes, and arrows.
 //!

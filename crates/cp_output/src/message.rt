@@ -1,17 +1,17 @@
-//! Messages: what is wrong and how to mend it, and the names that they tell of.
+//! Messages: what is wrong and how to fix it, and the names that they report of.
 
 use crate::excerpt::excerpt;
 use crate::page::Page;
 use crate::position::Position;
 
-/// What is wrong, and how to fix it. `$` and `%` stand for the names that it tells of.
+/// What is wrong, and how to fix it. `$` and `%` represent the names that it reports of.
 #[derive(Clone, Copy)]
 pub struct Message {
     pub head: &'static str,
     pub advice: &'static str,
 }
 
-/// The names that a message tells of: `$` stands for the first, and `%` for the second.
+/// The names that a message reports of: `$` represents the first, and `%` for the second.
 #[derive(Clone, Copy)]
 pub struct About<'a> {
     pub name: Option<&'a [u8]>,
@@ -36,7 +36,7 @@ impl Page {
         }
     }
 
-    /// Adds a text, with its `$` and `%` replaced by the names that they stand for.
+    /// Adds a text, with its `$` and `%` replaced by the names that they represent.
     pub fn template(&mut self, text: &str, about: About<'_>) {
         for byte in text.as_bytes() {
             self.message_byte(*byte, about);

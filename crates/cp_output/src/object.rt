@@ -6,7 +6,7 @@ ghost use Rattle.cp_output.specs.Json.{IsJsonLine};
 use serde::Serialize;
 use std::alloc::{AllocError, Global};
 
-/// Returns a value as JSON on one line, with the line feed at its end.
+/// A value as JSON on one line, with the line feed at its end.
 ///
 /// # Errors
 ///

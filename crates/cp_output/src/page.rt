@@ -27,7 +27,7 @@ impl Model for Page {
 }
 
 impl Page {
-    /// Returns an empty page.
+    /// An empty page.
     pub fn new(alloc: Global) -> Page
         ensures { result ≡ Some Rattle.std.specs.Prelude.[] }
     {
@@ -37,7 +37,7 @@ impl Page {
         }
     }
 
-    /// Returns the bytes of the page.
+    /// The bytes of the page.
     ///
     /// # Errors
     ///

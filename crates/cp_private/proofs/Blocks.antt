@@ -49,7 +49,7 @@ pub fill_beyond : (k at : ℕ) (n : ℤ) (ws : List ℤ) → length ws ≤ at �
 fill_beyond zero at n ws h = refl
 fill_beyond (suc k) at n ws h = ap (fill (suc at) k n) (set_past ws at n h) ∙ fill_beyond k (suc at) n ws (omega arith)
 
--- What is left of a fill is empty, or lies beyond all words.
+-- What is left of a fill is empty, or is beyond all words.
 pub fill_ends : (ws : List ℤ) (at i count : ℕ) (n : ℤ) → (i < min count (length ws - at) → ⊥) → fill (at + i) (count - i) n ws ≡ ws
 fill_ends ws at i count n h = by (leb_reports count i)
   where

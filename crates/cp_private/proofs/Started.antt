@@ -1,4 +1,4 @@
--- A process at its start, in every text that its program stands for.
+-- A process at its start, in every text that its program represents.
 use Rattle.std.proofs.Common.{◌≡◌, ◌≤◌, ◌-◌, ℕ, List, [], Result, Ok, Err, IfOk, length, subst, sym, arith}
 use Rattle.std.specs.Prelude.{slice_get, Some}
 use Rattle.cp_model.specs.States.{process_count}

@@ -38,7 +38,7 @@ stepped program clock o x there running private =
     ∙ ap (λ b. if b then (if is_private o (Some x) then after (Some x) else o) else o) running
     ∙ ap (λ b. if b then after (Some x) else o) private
 
--- The same, of what the code's private states stand for.
+-- The same, of what the code's private states represent.
 pub private_acted : (program : Program) (w : StepContext) (old new : Private) (input : List ℕ) (x : Operation) → IsAlone w
     → operation_of program (private_of old input) ≡ Some x → is_running (private_of old input).activity ≡ true
     → is_private (private_of old input) (Some x) ≡ true

@@ -37,7 +37,7 @@ abbrev pub returning : PrivateState → states.Frame → Option ℤ → PrivateS
 returning o f None = o
 returning o f (Some n) = set_temp o (f.temp + f.into) n
 
--- Above the frames in use lies that of a call which is about to be entered.
+-- Above the frames in use is that of a call which is about to be entered.
 abbrev pub HasKept : Private → passing.Called → calling.Back → Type 0
 HasKept x callee back = frame_or_none (slice_get x.frames.items x.depth) ≡ calling.frame_of (join x [] []) callee back
 

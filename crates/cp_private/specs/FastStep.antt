@@ -8,7 +8,7 @@ use Rattle.cp_private.specs.declared.turns.FastKernelPath.{FastKernelPath}
 use Rattle.cp_private.specs.declared.turns.FastKernelPath.TheVariants as fast_kernel_path_case
 
 -- The function `go` of the outside and the state leads from one private state and its shared words
--- to the other, and leaves this to the kernel, whatever lies outside.
+-- to the other, and leaves this to the kernel, whatever is outside.
 abbrev pub Makes : (StepContext → PrivateState → Acting) → Private → List ℤ → Private → List ℤ → Effect → Type 0
 Makes go old before new after e = (w : StepContext) (input : List ℕ) → (join new input after, e) ≡ go w (join old input before)
 

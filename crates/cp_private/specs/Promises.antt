@@ -58,7 +58,7 @@ MakesKernelStep program w x shared y after e =
     (beside (apply_effect (length x.memory.words.items) x.number (effect e) (record k { shared = after })) y w.input.now)
     × Invariant (meaning.kernel_step setup s p)
 
--- Whatever text the program stands for, x is the private state of process p at its start. It is
+-- Whatever text the program represents, x is the private state of process p at its start. It is
 -- ready to begin if p isn't the initial process.
 abbrev pub IsAtStart : Program → ℕ → Private → Type 0
 IsAtStart program p x =
@@ -84,7 +84,7 @@ meaning_kind kind.None = meaning.NoStep
 
 -- In each state of which x is the part, k is the kind of the process's next step. Of a process that
 -- asks or is delayed, which only the kernel knows, k is the kind of the step that it makes when it
--- goes on.
+-- continues.
 abbrev pub ReportsKind : Program → Private → List ℕ → Kind → Type 0
 ReportsKind program x input k =
     (setup : Setup) (F : IsProgramFor (view.program program) setup) (p own : ℕ) (s : State) (before : List ℕ)

@@ -12,6 +12,6 @@ rests_while wakes gate activity_case.Ended = true
 rests_while wakes gate (activity_case.Faulted f) = true
 
 -- The process has no private step to make in a round, in which the processes that wait for the clock
--- go on if it wakes them.
+-- continue if it wakes them.
 abbrev pub rests : Bool → Private → Bool
 rests wakes x = rests_while wakes x.gate x.activity

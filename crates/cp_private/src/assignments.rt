@@ -167,7 +167,7 @@ impl Private {
         }
     }
 
-    /// Goes on with the operation `next`.
+    /// Continues with the operation `next`.
     #[inline(always)]
     pub(crate) fn go_to(
         &mut self,

@@ -60,7 +60,7 @@ impl Private {
         component <= self.memory.words.len() + shared.len()
     }
 
-    /// Returns the unit of a call, if it exists and there is room for it.
+    /// The unit of a call, if it exists and there is room for it.
     pub(crate) fn unit_with_room<'a>(
         &self,
         program: &'a Program,

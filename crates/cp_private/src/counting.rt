@@ -79,7 +79,7 @@ impl Private {
         self.count_to(shared, outside, counting, n, last)
     }
 
-    /// Goes on to the next counter, or passes the `for` after its last value.
+    /// Goes to the next counter, or passes the `for` after its last value.
     pub(crate) fn count_on(
         &mut self,
         shared: &mut [i32],

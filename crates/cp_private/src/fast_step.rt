@@ -211,7 +211,7 @@ impl Private {
         true
     }
 
-    // Goes on to the next counter, if its variable is found.
+    // Goes to the next counter, if its variable is found.
     #[inline(always)]
     fn count_fast<W: Words>(&mut self, shared: &mut [i32], counting: &Counting) -> bool
         requires { IsAddressable shared.old }

@@ -21,7 +21,7 @@ use cp_program::program::CodeUnit;
 /// The word of a result that has not been set.
 const UNSET: i32 = i32::MIN;
 
-/// Returns the effect of entering a monitor. The number 0 stands for no monitor.
+/// The effect of entering a monitor. The number 0 represents no monitor.
 pub(crate) fn enters(gate: u32) -> Effect
     ensures { effect result ≡ plain.gate_effect gate Enters }
 {
@@ -43,7 +43,7 @@ pub(crate) fn leaves(gate: u32) -> Effect
 }
 
 impl Private {
-    /// Returns the frame of the innermost call, if there is one.
+    /// The frame of the innermost call, if there is one.
     pub(crate) fn innermost(&self) -> Option<Frame>
         ensures { MatchOption result (self.now.depth ≡ 0) (λ f. (depth : ℕ)
             × (self.now.depth ≡ suc depth)
@@ -140,7 +140,7 @@ impl Private {
         self.enter_kept(callee, unit, call);
     }
 
-    /// Returns the value that the running routine returns, if it is a function.
+    /// The value that the running routine returns, if it is a function.
     pub(crate) fn value_to_return(
         &self,
         shared: &[i32],

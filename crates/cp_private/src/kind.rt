@@ -37,7 +37,7 @@ fn kind_at_counter(program: &Program, private: &Private) -> Kind
     }
 }
 
-/// Returns the kind of the next step. It is the kernel's inside a monitor, and if it calls a
+/// The kind of the next step. It is the kernel's inside a monitor, and if it calls a
 /// monitor or initialises a monitor or a process.
 #[inline(always)]
 pub fn next_kind(program: &Program, private: &Private) -> Kind

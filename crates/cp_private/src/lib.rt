@@ -1,17 +1,17 @@
-//! The private state of a process, and its steps: private steps, which no other process can tell,
+//! The private state of a process, and its steps: private steps, which no other process can report,
 //! and what the process itself does in a step of the kernel.
 //!
 //! For any program and any private state, a step is the function on plain data that
-//! cp_model_machine defines; `specs/States.antt` says for which plain data a private state stands.
+//! cp_model_machine defines; `specs/States.antt` says for which plain data a private state is.
 //! It works on the process's own words and the shared words after them, so that private and kernel
-//! steps are one function. What a step leaves as it was, besides what its clause says, stands in
+//! steps are one function. What a step leaves as it was, besides what its clause says, is in
 //! `specs/Keeping.antt`. By the law of cp_model_machine, private steps and turns are those of the
 //! meaning (`specs/Promises.antt`).
 //!
-//! - `private`, `making`, `private_box`: the private state, how it is made, copied and read, and its
-//!   place in memory.
-//! - `kernel_view`, `outside`, `alone`, `effect`: what the kernel knows, what else a step reads, and
-//!   what it leaves to the kernel.
+//! - `private`, `making`, `private_box`: the private state, how it is made, copied and read, and
+//!   its place in memory.
+//! - `kernel_view`, `outside`, `alone`, `effect`: what the kernel knows, what else a step reads,
+//!   and what it leaves to the kernel.
 //! - `words`, `changing`, `reading`, `frames`: words, temps and frames.
 //! - `plans`, `starting`: how words start.
 //! - `assignments`, `counting`, `standards`, `targets`, `passing`, `called`, `calls`, `returns`,

@@ -119,7 +119,7 @@ impl Private {
         })
     }
 
-    /// Returns the private state of process p at the start.
+    /// The private state of process p at the start.
     ///
     /// # Errors
     ///
@@ -137,7 +137,7 @@ impl Private {
         Private::first(alloc, program, p)
     }
 
-    /// Returns a private state with the same content.
+    /// A private state with the same content.
     ///
     /// # Errors
     ///
@@ -195,7 +195,7 @@ impl Private {
         self.output.reserve(22 * turn.steps() as usize)
     }
 
-    /// Returns the number of the process, from 1.
+    /// The number of the process, from 1.
     pub fn number(&self) -> usize
         ensures number { (input : List ℕ) → result ≡ (private_of self.now input).number }
         ensures small { result < 2 ^ 31 }
@@ -203,7 +203,7 @@ impl Private {
         self.number
     }
 
-    /// Returns whether the process holds a gate.
+    /// Whether the process holds a gate.
     #[inline(always)]
     pub fn holds_gate(&self) -> bool
         ensures yes { result ≡ true → self.now.gate ≢ 0 }
@@ -212,7 +212,7 @@ impl Private {
         self.gate != 0
     }
 
-    /// Returns how many words of its own the process has.
+    /// How many words of its own the process has.
     pub fn words(&self) -> usize
         ensures words { (input : List ℕ) → result ≡ length (private_of self.now input).words }
         ensures few { result < 2 ^ 30 }
@@ -220,42 +220,42 @@ impl Private {
         self.memory.words.len()
     }
 
-    /// Returns whether the process runs, waits, has ended or has faulted.
+    /// Whether the process runs, waits, has ended or has faulted.
     pub fn activity(&self) -> Activity
         ensures { (input : List ℕ) → activity result ≡ (private_of self.now input).activity }
     {
         self.activity
     }
 
-    /// Returns the number of the next operation, which is also the one that faulted.
+    /// The number of the next operation, which is also the one that faulted.
     pub fn counter(&self) -> u32
         ensures { (input : List ℕ) → result ≡ (private_of self.now input).counter }
     {
         self.counter
     }
 
-    /// Returns the number of the operation of the last call, `delay` or `wait`.
+    /// The number of the operation of the last call, `delay` or `wait`.
     pub fn pause(&self) -> u32
         ensures { result ≡ self.now.pause }
     {
         self.pause
     }
 
-    /// Returns the word at an address. A missing word reads as 0.
+    /// The word at an address. A missing word reads as 0.
     pub fn value(&self, at: usize) -> i32
         ensures { (input : List ℕ) → result ≡ word (private_of self.now input).words at }
     {
         words::read(&self.memory.words, &[], at)
     }
 
-    /// Returns all words.
+    /// All words.
     pub fn all_words(&self) -> &[i32]
         ensures { (input : List ℕ) → result.now ≡ (private_of self.now input).words }
     {
         &self.memory.words
     }
 
-    /// Returns the output that isn't in the transcript yet.
+    /// The output that isn't in the transcript yet.
     pub fn output(&self) -> &[u8]
         ensures { (input : List ℕ) → result.now ≡ (private_of self.now input).output }
     {

@@ -23,7 +23,7 @@ pub(crate) struct Rest<'p> {
     pub(crate) pieces: &'p [StartPiece],
 }
 
-// The pieces of the part at address `at`, unless its plan isn't below `below`, or its words lie
+// The pieces of the part at address `at`, unless its plan isn't below `below`, or its words are
 // behind all `count` words.
 fn rest_of(program: &Program, below: usize, at: usize, plan: u32, count: usize) -> Option<Rest<'_>>
     ensures words { (ws : List ℤ) → length ws ≡ count → carried_or_same program.now result ws

@@ -18,7 +18,7 @@ pub enum Activity {
     Faulted(Fault),
 }
 
-/// So many frames lie within a private state, and take no memory of their own.
+/// So many frames are within a private state, and take no memory of their own.
 pub(crate) const FRAMES_WITHIN: usize = 1;
 
 /// What a call keeps for its caller.
@@ -72,7 +72,7 @@ pub struct Private {
     /// Room for all frames. The first `depth` frames are in use.
     pub(crate) frames: SmallVec<Frame, FRAMES_WITHIN>,
     pub(crate) depth: usize,
-    /// The number of frames, so that a call needn't test where they lie to find it.
+    /// The number of frames, so that a call needn't test where they are to find it.
     pub(crate) limit: usize,
     /// The output that isn't in the transcript yet.
     pub(crate) output: Vec<u8>,

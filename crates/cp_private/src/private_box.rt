@@ -36,7 +36,7 @@ impl PrivateBox {
         Ok(PrivateBox { private })
     }
 
-    /// Returns the private state.
+    /// The private state.
     #[inline(always)]
     pub fn private(&self) -> &Private
         ensures { result.now ≡ self.now }
@@ -44,7 +44,7 @@ impl PrivateBox {
         &self.private
     }
 
-    /// Returns the private state, which may be changed.
+    /// The private state, which may be changed.
     #[inline(always)]
     pub fn private_mut(&mut self) -> &mut Private
         ensures* writes_back { sem 𝓛 (LendsPrivate self.entry result) }

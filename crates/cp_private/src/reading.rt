@@ -17,7 +17,7 @@ use cp_program::reach::{OwnWords, Reach};
 use cp_program::term::{PlaceExpression, Term};
 
 impl Private {
-    /// Returns what evaluation reads.
+    /// What evaluation reads.
     #[inline(always)]
     pub(crate) fn reach<'a>(&'a self, shared: &'a [i32], outside: &StepContext) -> Reach<'a>
         requires { IsAddressable shared.now }
@@ -31,7 +31,7 @@ impl Private {
         }
     }
 
-    /// Returns the word at an address, which may be capped to the largest `usize`.
+    /// The word at an address, which may be capped to the largest `usize`.
     #[inline(always)]
     pub(crate) fn word(&self, shared: &[i32], at: usize) -> i32
         requires { IsAddressable shared.now }
@@ -67,7 +67,7 @@ impl Private {
         place_expression.place(&self.reach(shared, outside))
     }
 
-    /// Returns the value of a term.
+    /// The value of a term.
     #[inline(always)]
     pub(crate) fn evaluate(
         &self,
@@ -91,7 +91,7 @@ impl Private {
         }
     }
 
-    /// Returns the address of a spot. An address beyond all words may be capped to the largest
+    /// The address of a spot. An address beyond all words may be capped to the largest
     /// `usize`.
     #[inline(always)]
     pub(crate) fn place(

@@ -1,4 +1,4 @@
-//! Processes that have no private step to make, and what stands in the place of a private state
+//! Processes that have no private step to make, and what is in the place of a private state
 //! that is elsewhere.
 
 ghost use Rattle.std.specs.Prelude.{◌≡◌, ℕ, Bool, List, false, true};
@@ -25,8 +25,8 @@ fn has_no_step(activity: Activity, gate: u32, wakes: bool) -> bool
 }
 
 impl Private {
-    /// Returns whether the process has no private step to make in a round, in which the processes
-    /// that wait for the clock go on if it wakes them. Its private turn then leaves it as it is.
+    /// Whether the process has no private step to make in a round, in which the processes
+    /// that wait for the clock continue if it wakes them. Its private turn then leaves it as it is.
     #[inline(always)]
     pub fn rests(&self, wakes: bool) -> bool
         ensures rests { result ≡ rests wakes self.now }
@@ -39,7 +39,7 @@ impl Private {
         has_no_step(self.activity, self.gate, wakes)
     }
 
-    /// Returns a private state of no process, for the place of one that is elsewhere. It takes no
+    /// A private state of no process, for the place of one that is elsewhere. It takes no
     /// memory, and never rests.
     pub fn absent(alloc: Global) -> Private
         ensures { (wakes : Bool) → rests wakes result ≡ false }

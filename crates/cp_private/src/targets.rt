@@ -111,7 +111,7 @@ impl Private {
         }
     }
 
-    /// Returns the component that a target refers to.
+    /// The component that a target refers to.
     #[inline(always)]
     pub(crate) fn callee(
         &self,
@@ -156,7 +156,7 @@ impl Private {
         }
     }
 
-    /// Returns a right as it is passed on, to be stored in the word at `to`.
+    /// A right as it is passed on, to be stored in the word at `to`.
     pub(crate) fn right_word(&self, shared: &[i32], to: usize, target: Target) -> i32
         requires { IsAddressable shared.now }
         ensures { (input : List ℕ) → result ≡ plain.right_word (join self.now input shared.now) to

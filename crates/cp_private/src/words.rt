@@ -17,7 +17,7 @@ fn word(words: &[i32], at: usize) -> i32
     }
 }
 
-/// Returns the word at an address.
+/// The word at an address.
 #[inline(always)]
 pub(crate) fn read(own: &[i32], shared: &[i32], at: usize) -> i32
     requires { length own.now + length shared.now < 2 ^ 32 }

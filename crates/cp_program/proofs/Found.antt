@@ -109,7 +109,7 @@ pub after_known : (v : View) (x y : ℤ) (o : operator.Operator) (right : plain.
 after_known v x y o right p is known rx ry =
     ap (apply_operation v x) is ∙ (ap (λ r. bind r (λ z. apply o x z)) known ∙ (λ i. apply o (sym rx i) (sym ry i)))
 
--- The same of a word before the chain.
+-- The same for a word before the chain.
 pub before_known : (v : View) (x y : ℤ) (o : operator.Operator) (left : plain.Root) (p : PlainApplication)
     → p ≡ Before o left → value_of v (plain.Item (plain.Rooted left)) ≡ Ok y → kept x ≡ x → kept y ≡ y → apply_operation v x p ≡ apply o (kept y) (kept x)
 before_known v x y o left p is known rx ry =

@@ -1,4 +1,4 @@
-//! The labels of a `case` that lie far apart.
+//! The labels of a `case` that are far apart.
 
 ghost use Rattle.std.specs.Prelude.{◌≡◌, ℤ};
 ghost use Rattle.std.specs.BTreeMap as tree;

@@ -11,8 +11,8 @@ pub struct Bounds {
 }
 
 impl Bounds {
-    /// Whether a number lies within the bounds, which are themselves within.
-    // Bounds stand in operations: by value, each step would copy them before it compares.
+    /// Whether a number is within the bounds, which are themselves within.
+    // Bounds are in operations: by value, each step would copy them before it compares.
     #[inline(always)]
     pub fn contain(&self, n: i32) -> bool
         ensures { result ≡ within self.now.low self.now.high n }

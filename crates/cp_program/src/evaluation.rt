@@ -1,7 +1,7 @@
 //! Evaluates terms and computes the places of spots, over words.
 //!
 //! Words have 32 bits, which the ordinals of long enumerations and addresses need. The results of
-//! arithmetic lie within -32768..32767.
+//! arithmetic are within -32768..32767.
 
 ghost use Rattle.std.specs.Prelude.{◌≡◌, ℕ, ◌+◌, ◌*◌, ◌<◌, ◌^◌, ◌++◌, Ok, length, map};
 ghost use Rattle.cp_model_program.specs.Layout as layout;
@@ -246,7 +246,7 @@ impl Term {
         self.value_here(reach)
     }
 
-    /// Returns the same as `value`. It is inlined, so operands that are numbers or words need no
+    /// The same as `value`. It is inlined, so operands that are numbers or words need no
     /// call. Use it for the most common operations.
     ///
     /// # Errors

@@ -61,7 +61,7 @@ impl Operand {
         }
     }
 
-    // The same of the rarer ones. It isn't inlined, so that `fast_value` of terms is small enough
+    // The same for the rarer ones. It isn't inlined, so that `fast_value` of terms is small enough
     // to be.
     #[inline(never)]
     fn rarer_value<W: Words>(&self, memory: &Memory, shared: &[i32]) -> Option<i32>

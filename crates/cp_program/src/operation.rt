@@ -24,10 +24,10 @@ pub enum Target {
     MonitorRight(u32),
 }
 
-/// What is passed to the parameter that lies `at` words from the first word of the new activation.
+/// What is passed to the parameter that is `at` words from the first word of the new activation.
 #[derive(Drop)]
 pub enum Argument {
-    /// A value, which must lie within the bounds.
+    /// A value, which must be within the bounds.
     Value {
         at: u32,
         bounds: Bounds,
@@ -81,7 +81,7 @@ pub struct Counting {
     pub next: u32,
 }
 
-/// What an assignment writes, which must lie within the bounds, and where it leads.
+/// What an assignment writes, which must be within the bounds, and where it leads.
 #[derive(Drop)]
 pub struct Assignment {
     pub value: Term,

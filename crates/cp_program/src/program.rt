@@ -28,7 +28,7 @@ pub struct CodeUnit {
     pub frames: u32,
 }
 
-/// A monitor. Its words lie among the shared words, from `start` on. They start by the plan with
+/// A monitor. Its words are among the shared words, from `start` on. They start by the plan with
 /// the number `plan` in the program.
 #[derive(Clone, Copy)]
 pub struct Monitor {
@@ -71,7 +71,7 @@ pub struct Program {
     shared: u32,
 }
 
-// A derived one would make proofs slower (docs/GATE.md).
+// A derived one would make proofs slower (docs/CI.md).
 impl Drop for Program {
     fn drop(self) {
         let Program {

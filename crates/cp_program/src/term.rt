@@ -26,7 +26,7 @@ pub enum Root {
     Through { parameter: u32, plus: u32 },
 }
 
-/// A standard function of one simple value. `Shift` stands for `succ` and `pred`, within the bounds
+/// A standard function of one simple value. `Shift` represents `succ` and `pred`, within the bounds
 /// of a base type.
 #[derive(Clone, Copy)]
 pub enum Function {
@@ -63,7 +63,7 @@ pub enum Operand {
 
 /// An operator with one of its operands, which is the right one but for the last two cases; the
 /// other operand is the chain before it. The commonest have cases of their own, so that one match
-/// tells operator and operand.
+/// reports operator and operand.
 #[cycle(terms)]
 #[derive(Drop)]
 pub enum Application {
@@ -119,7 +119,7 @@ pub struct Term {
     pub rest: Vec<Application>,
 }
 
-// A derived one would make proofs slower (docs/GATE.md).
+// A derived one would make proofs slower (docs/CI.md).
 impl Drop for Term {
     #[cycle(terms)]
     fn drop(self) {

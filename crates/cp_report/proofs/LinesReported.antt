@@ -11,7 +11,7 @@ use Rattle.cp_inspect.specs.Lists.{AreListed}
 abbrev pub Lines : Type 0
 Lines = ℕ → List (Name × Variable) → Text
 
--- These entries stand for the components that are left, and with the lines of those components the
+-- These entries represent the components that are left, and with the lines of those components the
 -- text is whole.
 pub record LinesToReport (types : Types) (all : Lines) (n : ℕ) (es : List (Name × ℕ)) (out text : Text) : Type 0 where
   pub left : List (Name × Variable)

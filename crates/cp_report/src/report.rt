@@ -33,7 +33,7 @@ impl<'r, 'm, 't> Subject<'r, 'm, 't> {
     }
 }
 
-/// Returns the report of a machine, as bytes.
+/// The report of a machine, as bytes.
 ///
 /// # Errors
 ///
@@ -55,7 +55,7 @@ pub fn report(alloc: Global, machine: &Machine) -> Result<Vec<u8>, AllocError>
     Ok(bytes)
 }
 
-/// Returns the report and after it the chains: a line for each process that asks for a gate.
+/// The report and after it the chains: a line for each process that asks for a gate.
 ///
 /// # Errors
 ///

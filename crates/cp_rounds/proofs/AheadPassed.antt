@@ -25,7 +25,7 @@ use Rattle.cp_rounds.proofs.Rooms.{fewer_askers}
 use Rattle.cp_rounds.proofs.Rounds.{turned_count}
 
 module _ (t p : ℕ) (k : plain.Kernel) (ts : List (List ℕ)) (ys : List PrivateState) (stages : length k.stages ≤ p) where
-  -- The next round of a machine, of whose private turns as many are made as f tells.
+  -- The next round of a machine, of whose private turns as many are made as f reports.
   next_passed : (m : Machine) (f : ℕ → ℕ) → p ≡ length m.parts → ((i : ℕ) → i < p → 1 ≤ f i) → AreRunAhead t (m.rounds + 1) (with_turn_taken t m) f k ts ys
       → let next = phased_round t (numbers_from 1 p) m in AreRunAhead t (next.rounds + 1) (with_turn_taken t next) (λ i. f i - 1) k ts ys
   next_passed m f parts all was =

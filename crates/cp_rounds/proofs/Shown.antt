@@ -1,4 +1,4 @@
--- What the reading calls of a machine tell is that part of each state in which the machine is.
+-- What the reading calls of a machine report is that part of each state in which the machine is.
 use Rattle.std.proofs.Common.{◌≡◌, ◌≤◌, ◌<◌, ◌+◌, ◌-◌, ◌^◌, lit<, ℕ, ℤ, true, List, [], ◌∷◌, None, Some, length, refl, ap, sym, subst, arith}
 use Rattle.std.specs.Prelude.{slice_get}
 use Rattle.std.proofs.lemmas.Bool.{eq-eqb}
@@ -124,7 +124,7 @@ askers_shown m k setup s I = sym (ap (λ (g : Gate). g.askers) (I.kernel.gates_r
 
 -- ---- Values
 
--- No variable of a process lies in an activation, so it lies alike whatever the process runs.
+-- No variable of a process is in an activation, so it is alike whatever the process runs.
 lies_alike : (program : Program) (setup : Setup) (F : IsProgramFor program setup) (p own : ℕ) (xs : List Activation) (path : Path) (at : ℕ) (t : ResolvedType)
     → lies (ground_of program setup F p 0) [] (location_of (owner.Process p) path) ≡ Some (at, t)
     → lies (ground_of program setup F p own) xs (location_of (owner.Process p) path) ≡ Some (at, t)

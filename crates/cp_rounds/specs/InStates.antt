@@ -16,7 +16,7 @@ use Rattle.cp_rounds.specs.declared.machine.Machine.{Machine}
 abbrev pub HaveInputs : Program → List Bytes → Setup → Type 0
 HaveInputs program inputs setup = (p : ℕ) → 1 ≤ p → p ≤ length program.processes → input_of inputs p ≡ setup.inputs p
 
--- It is in the start state of each text that the program stands for.
+-- It is in the start state of each text that the program represents.
 abbrev pub IsStarted : Program → ℕ → List Bytes → Machine → Type 0
 IsStarted program tick inputs m =
     (setup : Setup) → IsProgramFor program setup → setup.tick ≡ tick → HaveInputs program inputs setup → IsIn (machine_of m) setup (start setup)

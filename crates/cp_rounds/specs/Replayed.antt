@@ -16,7 +16,7 @@ use Rattle.cp_rounds_handoff.specs.declared.config.MachineConfig.{MachineConfig}
 use Rattle.cp_rounds.specs.MachineOf.{machine_with}
 
 -- Each private state of ys is the one of xs at its index, woken in a round in which the processes
--- that wait go on.
+-- that wait continue.
 abbrev pub EachWoken : Bool → List Private → List Private → Type 0
 EachWoken wakes xs ys =
     (i : ℕ) (y : Private) → slice_get ys i ≡ Some y

@@ -51,7 +51,7 @@ abbrev pub location_of : Owner → Path → Location
 location_of (owner.Process p) path = record { owner = OfProcess p; path = path }
 location_of (owner.Monitor k) path = record { owner = OfMonitor k; path = path }
 
--- The variable of the owner with this path and this type lies at an address among its words.
+-- The variable of the owner with this path and this type is at an address among its words.
 abbrev pub LiesAt : (program : Program) (setup : Setup) → IsProgramFor program setup → Owner → ℕ → Path → ResolvedType → Type 0
 LiesAt program setup F (owner.Process p) at path t = lies (ground_of program setup F p 0) [] (location_of (owner.Process p) path) ≡ Some (at, t)
 LiesAt program setup F (owner.Monitor k) at path t =
@@ -63,7 +63,7 @@ abbrev pub IsOwner : Setup → State → Owner → Type 0
 IsOwner setup s (owner.Process p) = (1 ≤ p) × (p ≤ process_count setup) × (s.status p ≡ Fresh → ⊥)
 IsOwner setup s (owner.Monitor k) = Unit {0}
 
--- In each state that the machine is in, each variable that lies at the place has this value.
+-- In each state that the machine is in, each variable that is at the place has this value.
 pub record ShowsValue (m : Machine) (place : Place) (v : Value) : Type 0 where
   pub shows : (setup : Setup) (s : State) (I : IsIn (machine_of m) setup s) (path : Path) (t : ResolvedType) → IsOwner setup s place.owner → IsKindOf place.kind t
       → LiesAt (machine_of m).program setup I.represents place.owner place.at path t → IsValue t v (s.store (location_of place.owner path))

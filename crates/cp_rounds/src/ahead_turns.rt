@@ -31,7 +31,7 @@ pub(crate) struct RunAheadTurns {
 }
 
 impl RunAheadTurns {
-    /// Returns that none of so many processes is ahead, in the first of several rounds.
+    /// That none of so many processes is ahead, in the first of several rounds.
     ///
     /// # Errors
     ///
@@ -64,7 +64,7 @@ impl RunAheadTurns {
         least
     }
 
-    // Goes on to the round that comes so many rounds later.
+    // Goes to the round that comes so many rounds later.
     fn pass(&mut self, rounds: u32)
         requires later { rounds ≤ self.old.later }
         ensures later { self.new.later ≡ self.old.later - rounds }

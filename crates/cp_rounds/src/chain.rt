@@ -11,7 +11,7 @@ use cp_kernel::chain::Chain;
 use cp_model_machine::law;
 
 impl<'r, 't> Machine<'r, 't> {
-    /// Returns the asking chain of process p: p, and then, as long as the last process asks for a
+    /// The asking chain of process p: p, and then, as long as the last process asks for a
     /// gate, the holder of that gate.
     ///
     /// In each state that a machine is in, the chain has no process twice and at most one more than

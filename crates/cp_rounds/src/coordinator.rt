@@ -47,7 +47,7 @@ fn finish_wave<'a, C: Course, R: Wait, G: TurnGate>(
 }
 
 impl<'a, C: Course> Coordinator<'a, C> {
-    /// Returns a hand with room for the tasks of a chunk of this many processes, for rounds that
+    /// A hand with room for the tasks of a chunk of this many processes, for rounds that
     /// begin at a pace.
     ///
     /// # Errors
@@ -123,7 +123,7 @@ impl<'a, C: Course> Coordinator<'a, C> {
         }
     }
 
-    // Goes on to the next chunk. Where it is the first one of a wave, the threads may draw from the
+    // Goes to the next chunk. Where it is the first one of a wave, the threads may draw from the
     // wave after that one too.
     fn next_chunk<R: Wait, G: TurnGate>(&mut self, rt: &R, run: &Run<'a, C, G>) {
         if self.place.begins_wave() {

@@ -11,7 +11,7 @@ use cp_private::private::Private;
 use cp_private::private_box::PrivateBox;
 use std::alloc::{AllocError, Global};
 
-// Returns a copy of a private state. If `wakes`, a process that waits goes on in it.
+// Returns a copy of a private state. If `wakes`, a process that waits continues in it.
 fn woken_copy(alloc: Global, private: &Private, wakes: bool) -> Result<Private, AllocError>
     ensures { IfOk result
         (λ x. (input : List ℕ) → private_of x input ≡ woken wakes (private_of private.now input)) }
@@ -23,7 +23,7 @@ fn woken_copy(alloc: Global, private: &Private, wakes: bool) -> Result<Private, 
     Ok(copy)
 }
 
-/// Returns copies of private states. If `wakes`, the processes that wait go on in them.
+/// Returns copies of private states. If `wakes`, the processes that wait continue in them.
 ///
 /// # Errors
 ///
@@ -44,7 +44,7 @@ pub fn woken_copies(
 }
 
 impl Parts {
-    /// Returns a copy.
+    /// A copy.
     ///
     /// # Errors
     ///

@@ -13,7 +13,7 @@ pub struct FinishedMachine {
     pub(crate) rounds: u64,
 }
 
-// A derived one would make proofs slower (docs/GATE.md).
+// A derived one would make proofs slower (docs/CI.md).
 impl Drop for FinishedMachine {
     fn drop(self) {
         let FinishedMachine {
@@ -25,7 +25,7 @@ impl Drop for FinishedMachine {
 }
 
 impl FinishedMachine {
-    /// Returns the number of rounds made.
+    /// The number of rounds made.
     pub fn rounds(&self) -> u64
         ensures { result ≡ (finished_machine_of self.now).rounds }
     {

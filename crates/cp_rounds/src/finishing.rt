@@ -28,8 +28,8 @@ use cp_rounds_handoff::task::Course;
 use cp_rounds_handoff::turns::turn_in_place;
 use std::sync::Wait;
 
-// Takes the private state of a process from the desk, after its private turn. It is kept out of the
-// loop over all processes.
+// Takes the private state of a process from the handoff queue, after its private turn. It is kept
+// out of the loop over all processes.
 #[inline(never)]
 fn take_from_handoff<'a, C: Course, R: Wait, G: TurnGate>(
     rt: &R,
@@ -197,7 +197,7 @@ fn makes_no_step<'a, C: Course, G: TurnGate>(
         && has_no_kernel_turn(&run.turns.config.program, kernel, private)
 }
 
-// Finishes the turns of the process at an index: of one that stands still with a few comparisons.
+// Finishes the turns of the process at an index: of one that is still with a few comparisons.
 #[inline(always)]
 fn finish_next<'a, C: Course, R: Wait, G: TurnGate>(
     rt: &R,
@@ -238,9 +238,9 @@ fn finish_next<'a, C: Course, R: Wait, G: TurnGate>(
     finish_moving(rt, run, coordinator, round, index, privates, kernel);
 }
 
-// Makes all turns of a round: kernel turns alongside the private turns that are left at the desk,
-// or each after the private turn of its process, if the calling thread is alone. It isn't inlined,
-// so that its loop keeps in registers what a process costs that can't move.
+// Makes all turns of a round: kernel turns alongside the private turns that are left at the handoff
+// queue, or each after the private turn of its process, if the calling thread is alone. It isn't
+// inlined, so that its loop keeps in registers what a process costs that can't move.
 #[inline(never)]
 pub(crate) fn finish_all<'a, C: Course, R: Wait, G: TurnGate>(
     rt: &R,

@@ -50,7 +50,7 @@ pub struct Machine<'r, 't> {
     pub(crate) rounds: u64,
 }
 
-// A derived one would make proofs slower (docs/GATE.md).
+// A derived one would make proofs slower (docs/CI.md).
 impl Drop for Machine<'_, '_> {
     fn drop(self) {
         let Machine {
@@ -69,7 +69,7 @@ impl Drop for Machine<'_, '_> {
 pub struct MemoryAt(pub u32);
 
 impl<'r, 't> Machine<'r, 't> {
-    /// Returns the machine of a program at its start, with the tables of its text and an input for
+    /// The machine of a program at its start, with the tables of its text and an input for
     /// each process by number.
     ///
     /// # Errors

@@ -17,7 +17,7 @@ pub struct Parts {
 }
 
 impl Parts {
-    /// Returns the parts of a machine without processes. It takes no memory.
+    /// The parts of a machine without processes. It takes no memory.
     pub(crate) fn none(alloc: Global) -> Parts {
         Parts {
             privates: Vec::new(alloc),

@@ -48,7 +48,7 @@ fn replayed(
 
 impl<'r, 't> Machine<'r, 't> {
     /// Makes one round of these events, in their order, whether it is lawful or not: at first the
-    /// processes that wait go on if it is time, and at the end those that were started begin. No
+    /// processes that wait continue if it is time, and at the end those that were started begin. No
     /// gate is called.
     ///
     /// # Errors

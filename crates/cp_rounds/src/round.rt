@@ -3,7 +3,8 @@
 //! Everything that can fail comes before the first turn of a round: reserving room for all output
 //! and for all askers, and the boards of all waves. The turns are then made in place, so the cost
 //! of a round is that of what happens in it, and no state is copied. A private state whose private
-//! turn has no step to make isn't even put at the desk, unless the gate has to be called for it.
+//! turn has no step to make isn't even put at the handoff queue, unless the gate has to be called
+//! for it.
 
 ghost use Rattle.std.specs.Prelude.{◌≡◌, ◌≢◌, ◌≤◌, ◌<◌, ◌+◌, ◌-◌, ◌*◌, ℕ, false, IfErr, IfOk, IfSome, length, vec_len};
 ghost use Rattle.cp_kernel.specs.KernelOf.{HasRoomForBytes, kernel_of, transcripts_of};
@@ -92,7 +93,7 @@ fn reserve_room(
 
 // Returns how many private turns of a round are worth sharing: those of all processes if the gate
 // has to be called for them, and otherwise of those that don't rest, if there are threads to help.
-// If that is told wrongly, the calling thread makes the turns alone.
+// If that is reported wrongly, the calling thread makes the turns alone.
 fn turns_to_share<'a, C: Course, G: TurnGate>(
     run: &Run<'a, C, G>,
     coordinator: &Coordinator<'a, C>,
@@ -168,7 +169,8 @@ fn waves_of<'a, C: Course, R: Wait, G: TurnGate>(
     Ok(waves)
 }
 
-// Lays the private turns of a round at the desk, unless the calling thread makes them alone.
+// Lays the private turns of a round at the handoff queue, unless the calling thread makes them
+// alone.
 fn publish_turns<'a, C: Course, R: Wait, G: TurnGate>(
     rt: &R,
     run: &Run<'a, C, G>,
@@ -238,7 +240,7 @@ fn rounds_of_room(run_ahead_size: &RunAheadSize, rounds: u32) -> u32
 ///
 /// # Errors
 ///
-/// `AllocError` if memory runs out. Nothing but reserved room has then changed.
+/// `AllocError` if memory runs out. Only reserved room has then changed.
 pub(crate) fn open_round<'a, C: Course, R: Wait, G: TurnGate>(
     rt: &R,
     run: &Run<'a, C, G>,
@@ -284,7 +286,7 @@ pub(crate) fn open_round<'a, C: Course, R: Wait, G: TurnGate>(
 ///
 /// # Errors
 ///
-/// `AllocError` if memory runs out. Nothing but reserved room has then changed.
+/// `AllocError` if memory runs out. Only reserved room has then changed.
 pub fn make_round<'a, C: Course, R: Wait, G: TurnGate>(
     rt: &R,
     run: &Run<'a, C, G>,

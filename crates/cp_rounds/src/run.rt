@@ -26,7 +26,7 @@ use std::sync::{OnceLock, Wait};
 use std::thread;
 use std::thread::{Scope, Threads};
 
-/// Returns the cell at an index.
+/// The cell at an index.
 pub(crate) fn cell_at<'a, T>(cells: &'a [OnceLock<T>], index: usize) -> &'a OnceLock<T>
     requires { index < length cells.now }
     ensures { result.now.id ≡ name_of (slice_get cells.now index) }
@@ -52,7 +52,7 @@ pub struct Run<'a, C: Course, G: TurnGate> {
 }
 
 impl<'a, C: Course, G: TurnGate> Run<'a, C, G> {
-    /// Returns the number of a wave of a round, among all waves of the run.
+    /// The number of a wave of a round, among all waves of the run.
     pub(crate) fn number_of(&self, round: usize, wave: usize) -> usize
         requires round { round < length self.now.cells.now }
         requires wave { wave < self.now.turns.waves }
@@ -241,7 +241,7 @@ pub struct Rounds<'a, G> {
     pub gate: &'a G,
 }
 
-// Makes a round for each cell, with a desk and a pool of workers for these rounds.
+// Makes a round for each cell, with a handoff queue and a pool of workers for these rounds.
 fn with_worker_pool<C: Course + Send + Sync, R: Threads + Wait + Sync, G: TurnGate>(
     rt: &R,
     alloc: Global,

@@ -182,7 +182,7 @@ fn finish_rounds<'a, C: Course, G: TurnGate>(
 }
 
 /// Makes `count` rounds of a run at once, from the one at this index on, if the gate does nothing
-/// and there are threads to help. Returns whether it did. Otherwise nothing but reserved room has
+/// and there are threads to help. Returns whether it did. Otherwise only reserved room has
 /// changed.
 pub(crate) fn run_ahead<'a, C: Course, R: Wait, G: TurnGate>(
     rt: &R,

@@ -27,7 +27,7 @@ fn first_privates(alloc: Global, program: &Program) -> Result<Vec<PrivateBox>, A
     Ok(privates)
 }
 
-/// Returns the private states of all processes and the kernel at the start.
+/// The private states of all processes and the kernel at the start.
 ///
 /// # Errors
 ///

@@ -8,7 +8,7 @@ use cp_inspect::state::ProcState;
 use cp_private::kernel_view::SchedulingState;
 use cp_private::private::Activity;
 
-/// Returns the state of a process with this stage and this activity.
+/// The state of a process with this stage and this activity.
 pub(crate) fn state_of(stage: SchedulingState, activity: Activity) -> ProcState
     ensures { result ≡ state_view (stage_view stage) (activity_view activity) }
 {

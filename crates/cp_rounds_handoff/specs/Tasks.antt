@@ -69,11 +69,11 @@ ComesOf leads input xs i y = (x : Private) → slice_get xs i ≡ Some x → lea
 abbrev pub IsShort : ℕ → List Private → ℕ → Bool → Private → Type 0
 IsShort most xs i made y = (x : Private) → slice_get xs i ≡ Some x → vec_len y.output ≤ vec_len x.output + bytes_written most made
 
--- There is room for all that it may still write.
+-- There is room whatever it may still write.
 abbrev pub HasRoom : ℕ → Bool → Private → Type 0
 HasRoom most made y = vec_len y.output + bytes_to_write most made ≤ vec_capacity y.output
 
--- There is room for all that a process may write in later rounds, once it has written nothing.
+-- There is room whatever a process may write in later rounds, once it has written nothing.
 abbrev pub IsWide : ℕ → Private → Type 0
 IsWide most y = most + most ≤ vec_capacity y.output
 
@@ -93,8 +93,8 @@ pub record AreTaken (leads : PrivateState → PrivateState → Type 0) (input : 
   pub short : IsShort most xs (process - 1) true y
   pub wide : IsWide most y
 
--- `quiet` tells whether a process is quiet, `turned` is the turn of t steps in this setting, which writes
--- at most `most` bytes, and `input` is the input at each index.
+-- `quiet` reports whether a process is quiet, `turned` is the turn of t steps in this setting,
+-- which writes at most `most` bytes, and `input` is the input at each index.
 pub record IsCourseOf (quiet : PrivateState → Bool) (turned : RoundTime → PrivateState → PrivateState) (input : ℕ → List ℕ)
     (most : ℕ) (g : MachineConfig) (t : ℕ) : Type 0 where
   pub reports : (o : PrivateState) → quiet o ≡ needs_no_kernel (view.program g.program) o
@@ -107,7 +107,7 @@ abbrev pub AllFree : ℕ → List Private → Type 0
 AllFree most xs = (i : ℕ) (x : Private) → slice_get xs i ≡ Some x → HasRoom most false x
 
 -- From index `from` on, each private state that rests is the one at the start of the round. The
--- others may be at the desk.
+-- others may be at the handoff queue.
 abbrev pub AreInPlace : Bool → ℕ → List Private → List Private → Type 0
 AreInPlace wakes from xs ys = (i : ℕ) (y : Private) → from ≤ i → slice_get ys i ≡ Some y → rests wakes y ≡ true → slice_get xs i ≡ Some y
 

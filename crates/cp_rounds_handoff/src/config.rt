@@ -15,7 +15,7 @@ pub struct MachineConfig {
     pub tick: Tick,
 }
 
-// A derived one would make proofs slower (docs/GATE.md).
+// A derived one would make proofs slower (docs/CI.md).
 impl Drop for MachineConfig {
     fn drop(self) {
         let MachineConfig {
@@ -27,7 +27,7 @@ impl Drop for MachineConfig {
 }
 
 impl MachineConfig {
-    /// Returns the input of process p, from 1, or nothing if it has none.
+    /// The input of process p, from 1, or nothing if it has none.
     pub fn input(&self, p: usize) -> &[u8]
         ensures { result.now ≡ input_at self.now.inputs.items (p - 1) }
     {
@@ -37,7 +37,7 @@ impl MachineConfig {
         }
     }
 
-    /// Returns the time of the round after the first `rounds` rounds.
+    /// The time of the round after the first `rounds` rounds.
     pub fn round_time(&self, rounds: u64) -> RoundTime
         requires { rounds < 2 ^ 64 - 1 }
         ensures { result ≡ round_time_of self.now.tick.rounds rounds }
@@ -49,7 +49,7 @@ impl MachineConfig {
         }
     }
 
-    /// Returns the time of a round of a run that began after `done` rounds: of the one that comes
+    /// The time of a round of a run that began after `done` rounds: of the one that comes
     /// `later` rounds after the one at an index. `None` if no machine makes so many rounds.
     pub(crate) fn round_time_of(&self, done: u64, index: usize, later: u32) -> Option<RoundTime>
         ensures { IfSome result

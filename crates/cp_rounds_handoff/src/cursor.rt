@@ -1,8 +1,8 @@
-//! The places of a round's turns at the desk, one after another.
+//! The places of a round's turns at the handoff queue, one after another.
 
 use cp_base_config::plan::Plan;
 
-/// A place at the desk: a slot in a chunk. Chunks are numbered through all waves.
+/// A place at the handoff queue: a slot in a chunk. Chunks are numbered through all waves.
 #[derive(Clone, Copy)]
 pub struct Cursor {
     pub chunk: usize,
@@ -12,7 +12,7 @@ pub struct Cursor {
 }
 
 impl Cursor {
-    /// Returns the first place.
+    /// The first place.
     pub fn first() -> Cursor {
         Cursor {
             chunk: 0,
@@ -21,12 +21,12 @@ impl Cursor {
         }
     }
 
-    /// Returns whether it is the first place of a wave.
+    /// Whether it is the first place of a wave.
     pub fn begins_wave(&self) -> bool {
         self.in_wave == 0
     }
 
-    /// Returns the next place.
+    /// The next place.
     #[inline(always)]
     pub fn next(self, plan: &Plan) -> Cursor {
         let in_wave = self.in_wave.wrapping_add(1);

@@ -1,4 +1,4 @@
-//! What the threads of a run share: trays for the turns of a round.
+//! What the threads of a run share: batches for the turns of a round.
 
 ghost use Rattle.std.specs.Prelude.{◌≡◌, ◌-◌, false, true, Some, length, slice_get};
 ghost use Rattle.cp_private.specs.Resting.{rests};
@@ -32,7 +32,7 @@ fn unheard(processes: usize) -> usize {
 /// The tasks of a chunk in order of process.
 pub type Tasks<'a, C> = Vec<Slot<'a, C>>;
 
-/// Returns room for the tasks of a chunk of this many processes. Behind the last slot stays room
+/// Room for the tasks of a chunk of this many processes. Behind the last slot stays room
 /// for one more, so that no cache line holds words of two chunks, whose turns may be made at the
 /// same time.
 ///
@@ -50,7 +50,7 @@ pub fn room_for_tasks<'a, C: Course>(
     Ok(tasks)
 }
 
-/// What lies in a tray.
+/// What is in a batch.
 #[derive(Clone, Copy)]
 pub(crate) enum Content {
     /// Room for the tasks of a later round.
@@ -78,7 +78,7 @@ pub struct HandoffQueue<'a, C: Course> {
 }
 
 impl<'a, C: Course> HandoffQueue<'a, C> {
-    /// Returns a desk with trays for so many chunks of so many processes, and no task.
+    /// A handoff queue with batches for so many chunks of so many processes, and no task.
     ///
     /// # Errors
     ///
@@ -200,7 +200,7 @@ impl<'a, C: Course> HandoffQueue<'a, C> {
         unreachable!()
     }
 
-    /// Returns the tray of a chunk, once its tasks are laid.
+    /// The batch of a chunk, once its tasks are laid.
     pub(crate) fn published_batch<R: Wait>(
         &self,
         rt: &R,
@@ -212,7 +212,7 @@ impl<'a, C: Course> HandoffQueue<'a, C> {
     }
 
     /// Takes the tasks of a chunk in exchange for room for as many, if their turns are made.
-    /// Returns whether they are.
+    /// Whether they are.
     pub fn exchange(&self, chunk: usize, tasks: &mut Tasks<'a, C>) -> bool {
         let Some(batch) = self.batches.get(chunk) else {
             return false;

@@ -1,4 +1,4 @@
-//! The private turns at a desk, which a crew makes chunk by chunk.
+//! The private turns at a handoff queue, which a worker pool makes chunk by chunk.
 
 ghost use Rattle.std.specs.Prelude.{⊤};
 ghost use Rattle.cp_rounds_handoff.specs.Turned.{AreTimes};
@@ -12,7 +12,7 @@ use cp_base_config::plan::Plan;
 use cp_rounds_workers::Work;
 use std::sync::Wait;
 
-/// How the private turns at a desk are made.
+/// How the private turns at a handoff queue are made.
 #[derive(Drop)]
 pub struct HandoffTurns<'a, C: Course, G: TurnGate> {
     pub handoff: HandoffQueue<'a, C>,

@@ -11,7 +11,7 @@ use cp_private::kind::{Kind, next_kind};
 use cp_private::private::Private;
 use cp_program::program::Program;
 
-/// Returns whether no step of the kernel is next and nothing that was written is left. If so, the
+/// Whether no step of the kernel is next and nothing that was written is left. If so, the
 /// process has no kernel turn to make, whatever the kernel is.
 pub(crate) fn needs_no_kernel(program: &Program, private: &Private) -> bool
     ensures { result ≡ true → (input : List ℕ)
@@ -27,7 +27,7 @@ pub(crate) fn needs_no_kernel(program: &Program, private: &Private) -> bool
     }
 }
 
-/// Returns whether a process is quiet and none of its private turns, whatever the time, has a step:
+/// Whether a process is quiet and none of its private turns, whatever the time, has a step:
 /// it has ended, or hasn't begun.
 pub fn is_idle_forever(program: &Program, private: &Private) -> bool
     ensures quiet { result ≡ true → (input : List ℕ)

@@ -34,7 +34,7 @@ pub struct OpenRound<'a, C: Course> {
 }
 
 impl<'a, C: Course> OpenRound<'a, C> {
-    /// Returns whether the calling thread makes all private turns.
+    /// Whether the calling thread makes all private turns.
     #[inline(always)]
     pub fn is_alone(&self) -> bool
         ensures { result ≡ is_none self.now.token }

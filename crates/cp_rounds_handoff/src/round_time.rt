@@ -5,6 +5,6 @@
 pub struct RoundTime {
     /// The ticks since the start.
     pub clock: u64,
-    /// Whether the processes that wait for the clock go on.
+    /// Whether the processes that wait for the clock continue.
     pub wakes: bool,
 }

@@ -40,7 +40,7 @@ pub struct RunAheadSize {
 }
 
 impl RunAheadSize {
-    /// Returns the pace of the first round of a program.
+    /// The pace of the first round of a program.
     pub fn first(program: &Program, turn: Turn) -> RunAheadSize {
         let worth = STEPS_AT_ONCE / u64::from(turn.steps());
         let room = MAX_BYTES_AHEAD / bytes_a_round(program, turn).max(1);
@@ -52,12 +52,12 @@ impl RunAheadSize {
         }
     }
 
-    /// Returns the largest number of rounds that are ever made at once.
+    /// The largest number of rounds that are ever made at once.
     pub fn most(&self) -> u32 {
         self.most
     }
 
-    /// Returns how many rounds are worth making at once.
+    /// How many rounds are worth making at once.
     pub fn rounds(&mut self) -> u32 {
         if self.alone > 0 {
             self.alone -= 1;
@@ -66,7 +66,7 @@ impl RunAheadSize {
         self.rounds.min(self.most)
     }
 
-    /// Learns of rounds that were made at once: whether all processes did nothing but compute.
+    /// Learns of rounds that were made at once: whether all processes did only compute.
     pub fn adapt(&mut self, all_computed: bool) {
         if all_computed {
             self.rounds = self.rounds.saturating_mul(2).min(self.most);

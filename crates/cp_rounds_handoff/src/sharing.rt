@@ -17,7 +17,7 @@ const STEPS_A_DRAW: usize = 800;
 // How often each worker draws in a round, at least, so that all end at about the same time.
 const DRAWS_A_WORKER: usize = 8;
 
-/// Returns how many threads, besides the calling one, are worth waking for so many private turns in
+/// How many threads, besides the calling one, are worth waking for so many private turns in
 /// each of so many rounds: all of them if the gate has to be called for each process, none if there
 /// is one turn at most, and otherwise at least one.
 pub fn helpers(turns: usize, of_all: bool, turn: Turn, rounds: u32) -> usize {
@@ -36,7 +36,7 @@ pub fn helpers(turns: usize, of_all: bool, turn: Turn, rounds: u32) -> usize {
 pub struct Shares {
     /// Of how many rounds, at most, turns are made at once.
     pub rounds: u32,
-    /// How many turns lie at the desk.
+    /// How many turns are at the handoff queue.
     pub turns: usize,
     /// How many threads are worth waking besides the calling one.
     pub helpers: usize,
@@ -54,8 +54,8 @@ fn chunks_at_once(plan: &Plan, processes: usize) -> usize {
     worth.min(most).max(1)
 }
 
-/// Returns the plan by which threads draw in rounds of so many processes. Where the gate does
-/// nothing, nobody can tell which thread makes a turn: chunks of few steps are then drawn several
+/// The plan by which threads draw in rounds of so many processes. Where the gate does
+/// nothing, nobody can report which thread makes a turn: chunks of few steps are then drawn several
 /// at once, as larger ones.
 pub fn drawn_plan(plan: &Plan, processes: usize, allows_batching: bool) -> Plan
     ensures turn { result.turn ≡ plan.now.turn }

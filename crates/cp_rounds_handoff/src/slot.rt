@@ -11,8 +11,8 @@ use cp_private::private_box::PrivateBox;
 use std::alloc::{AllocError, Global};
 use std::mem;
 
-/// A slot of the desk. It holds the task of a process, or else a spare private state, which takes
-/// the place of the process's own while that is here.
+/// A slot of the handoff queue. It holds the task of a process, or else a spare private state,
+/// which takes the place of the process's own while that is here.
 #[derive(Drop)]
 pub struct Slot<'a, C: Course> {
     spare: Option<PrivateBox>,
@@ -20,7 +20,7 @@ pub struct Slot<'a, C: Course> {
 }
 
 impl<'a, C: Course> Slot<'a, C> {
-    /// Returns a slot without a task.
+    /// A slot without a task.
     ///
     /// # Errors
     ///

@@ -89,7 +89,7 @@ pub struct Task<'a, C: Course> {
 }
 
 impl<'a, C: Course> Task<'a, C> {
-    /// Returns the turn of a process in a round, which is still to be made, with those of the
+    /// The turn of a process in a round, which is still to be made, with those of the
     /// rounds that are made at once. `start` shows that this is the start of the round.
     pub fn new(
         round: &OpenRound<'a, C>,
@@ -114,14 +114,14 @@ impl<'a, C: Course> Task<'a, C> {
         }
     }
 
-    /// Returns the number of the process.
+    /// The number of the process.
     pub fn process(&self) -> usize
         ensures { result ≡ self.now.process }
     {
         self.process
     }
 
-    /// Returns whether the turn of the round has been made.
+    /// Whether the turn of the round has been made.
     pub fn is_made(&self) -> bool
         ensures { result ≡ is_some self.now.made }
     {
@@ -177,7 +177,7 @@ impl<'a, C: Course> Task<'a, C> {
         }
     }
 
-    /// Returns the private state and the number of turns made, if that is at least 1 and at most
+    /// The private state and the number of turns made, if that is at least 1 and at most
     /// `most`, and they are the turns of this process from this round on.
     pub fn finish(
         self,

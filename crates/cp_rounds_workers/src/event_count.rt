@@ -17,7 +17,7 @@ pub struct EventCount {
 }
 
 impl EventCount {
-    /// Returns the signal of what hasn't happened yet.
+    /// The signal of what hasn't happened yet.
     pub fn new() -> EventCount {
         EventCount {
             count: AtomicU64::new(0),
@@ -25,7 +25,7 @@ impl EventCount {
         }
     }
 
-    /// Returns how often it has happened.
+    /// How often it has happened.
     pub fn count(&self) -> u64 {
         self.count.load(Ordering::SeqCst)
     }

@@ -42,7 +42,7 @@ pub struct SeatLease<'a, C: Sheets> {
 }
 
 impl<'a, C: Sheets> SeatLease<'a, C> {
-    /// Returns the shift of a seat in a wave.
+    /// The shift of a seat in a wave.
     pub(crate) fn new(
         sheet: &OnceToken<'a, Sheet>,
         wave: usize,
@@ -62,7 +62,7 @@ impl<'a, C: Sheets> SeatLease<'a, C> {
         }
     }
 
-    /// Returns the number of the wave.
+    /// The number of the wave.
     pub(crate) fn wave(&self) -> usize {
         self.wave
     }
@@ -74,7 +74,7 @@ impl<'a, C: Sheets> SeatLease<'a, C> {
         draw_until_stop(rt, &self.board, &mut self.seat, self.wave, work)
     }
 
-    /// Returns the seat, if it is one of this wave.
+    /// The seat, if it is one of this wave.
     pub(crate) fn finish(self, sheet: &OnceToken<'a, Sheet>, wave: usize) -> Option<Seat>
         requires cell { sheet.now.of ≡ C.sheet wave }
         ensures { IfSome result (IsSeatOf sheet.now.value.value) }

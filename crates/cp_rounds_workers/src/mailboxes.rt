@@ -19,7 +19,7 @@ struct Place<'a, C: Sheets> {
 }
 
 impl<'a, C: Sheets> Place<'a, C> {
-    // Returns where the shift of a wave lies.
+    // Returns where the shift of a wave is.
     fn of(&self, wave: usize) -> &Mutex<Option<SeatLease<'a, C>>> {
         if wave % 2 == 0 { &self.even } else { &self.odd }
     }
@@ -41,7 +41,7 @@ pub(crate) struct Sweep {
 }
 
 impl<'a, C: Sheets> Mailboxes<'a, C> {
-    /// Returns a rack with this many places, all of them empty.
+    /// A mailboxes with this many places, all of them empty.
     ///
     /// # Errors
     ///
@@ -63,14 +63,14 @@ impl<'a, C: Sheets> Mailboxes<'a, C> {
         })
     }
 
-    /// Returns the number of places.
+    /// The number of places.
     pub fn places(&self) -> usize
         ensures { result ≡ length self.now.places.items }
     {
         self.places.len()
     }
 
-    /// Returns the signal that a shift has come back.
+    /// The signal that a shift has come back.
     pub fn back(&self) -> &EventCount {
         &self.back
     }
@@ -85,7 +85,7 @@ impl<'a, C: Sheets> Mailboxes<'a, C> {
         place.published.advance();
     }
 
-    /// Returns the place and the count with which a sweep begins.
+    /// The place and the count with which a sweep begins.
     pub(crate) fn sweep(&self) -> Sweep {
         Sweep {
             place: 0,
@@ -93,7 +93,7 @@ impl<'a, C: Sheets> Mailboxes<'a, C> {
         }
     }
 
-    /// Returns the next shift of a wave that lies in its place, whether it has come back or was
+    /// The next shift of a wave that is in its place, whether it has come back or was
     /// never taken. Waits until there is one.
     pub(crate) fn take_back<R: Wait>(
         &self,

@@ -1,4 +1,4 @@
-//! How the threads of a crew start.
+//! How the threads of a worker pool start.
 
 use crate::lease::Sheets;
 use crate::mailboxes::Mailboxes;
@@ -7,7 +7,7 @@ use std::alloc::AllocError;
 use std::sync::Wait;
 use std::thread::{Scope, Threads};
 
-/// Starts a thread for each place of the rack. Each of them ends when it sees a stop.
+/// Starts a thread for each place of the mailboxes. Each of them ends when it sees a stop.
 ///
 /// # Errors
 ///

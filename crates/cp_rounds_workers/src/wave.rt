@@ -122,7 +122,7 @@ fn publish_all<'a, C: Sheets, R: Wait>(
 }
 
 impl<'a, C: Sheets> Wave<'a, C> {
-    /// Returns a wave of `chunks` chunks, for this many workers, of which the calling thread is
+    /// A wave of `chunks` chunks, for this many workers, of which the calling thread is
     /// one. The cell has to be empty: the sheet of the wave is written there.
     ///
     /// # Errors
@@ -162,7 +162,7 @@ impl<'a, C: Sheets> Wave<'a, C> {
         })
     }
 
-    /// Lays the shifts in the first places of the rack, and wakes their threads.
+    /// Lays the shifts in the first places of the mailboxes, and wakes their threads.
     pub fn begin<R: Wait>(&mut self, rt: &R, mailboxes: &Mailboxes<'a, C>)
         ensures number { self.new.number ≡ self.old.number }
         ensures chunks { self.new.chunks ≡ self.old.chunks }

@@ -7,7 +7,7 @@ ghost use Rattle.cp_board.specs.Views.{IsDone};
 use cp_board::{Board, Seat};
 use std::sync::Wait;
 
-/// What a crew does at each chunk of each wave.
+/// What a worker pool does at each chunk of each wave.
 pub trait Work {
     /// What has to hold of the work for it to be done.
     ghost can: { Self → Type 0 };

@@ -1,4 +1,5 @@
--- Definitions: a name is visible while it is being defined. Then it stands for what it was judged to be.
+-- Definitions: a name is visible while it is being defined. Then it represents what it was judged
+-- to be.
 use Rattle.std.proofs.Common.{◌≡◌, ◌∷◌, ◌++◌, ◌-◌, ℕ, ℤ, pos, List, [], Result, length, subst, refl, ap, ◌∙◌}
 use Rattle.cp_model.specs.Syntax as s
 use Rattle.cp_model.specs.declared.tree.Constant.{Constant}
@@ -28,7 +29,7 @@ type_is (Sound t) = refl
 type_is (Broken v vs) = refl
 
 module _ (old s1 s2 s3 : State) (x : Identifier) (e : Entity) (mark : ℕ) (at : mark ≡ length old.env.names) (set : s3 ≡ with_set s2 mark e) where
-  -- the name stands for what was judged
+  -- the name represents what was judged
   represents : (now : Environment) (u f : Entity) (vs : Violations) → s2 ≡ reported_in now old.diagnostics vs → now.names ≡ (declare x u old.env).names → e ≡ f
       → s3 ≡ reported_in (declare x f (with_names old.env.names now)) old.diagnostics vs
   represents now u f vs diagnostics names is =

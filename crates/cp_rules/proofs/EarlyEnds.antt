@@ -26,7 +26,7 @@ names_from w names n found e got is =
     at_drop_more (names_later w) names n (entry_view e) (slice_get_within names n (entry_view e) at)
     ∙ ap (λ (x : Text × Entity). names_later w (x ∷ drop (n + 1) names)) (get_or_from_slice_get names n (entry_view e) (entry_view e) at)
 
--- a name stands at each number below their count
+-- a name is at each number below their count
 pub no_name : (names : Names) (n : ℕ) (found : Option (Bor Text × Entity)) → n < length names
     → option_map entry_view found ≡ slice_get names n → found ≡ None → ⊥
 no_name names n found within got is =

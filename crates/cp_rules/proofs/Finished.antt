@@ -1,4 +1,4 @@
--- Names that were declared as one entity and then stand for another are visible as if they had been
+-- Names that were declared as one entity and then represent another are visible as if they had been
 -- declared as that one.
 use Rattle.std.proofs.Common.{◌≡◌, ◌≤◌, ◌++◌, ◌∷◌, [], ℕ, zero, suc, List, Option, None, Some, length, refl, ap, sym, ◌∙◌, arith}
 use Rattle.std.proofs.lemmas.List.{length-append}

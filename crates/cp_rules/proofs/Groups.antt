@@ -1,5 +1,5 @@
--- A group of variables: its names are visible while its type is judged. Then they stand for variables
--- of that type.
+-- A group of variables: its names are visible while its type is judged. Then they represent
+-- variables of that type.
 use Rattle.std.proofs.Common.{◌≡◌, ◌*◌, ◌+◌, ◌∷◌, ◌++◌, ℕ, List, Result, length, subst, refl, ap, sym, ◌∙◌}
 use Rattle.cp_model.specs.Syntax as s
 use Rattle.cp_model.specs.declared.tree.Identifier.{Identifier}

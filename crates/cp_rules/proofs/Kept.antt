@@ -59,7 +59,7 @@ declare_each_begins env (e ∷ es) =
 declare_all_begins : (env : Environment) (e : Entity) (xs : List Identifier) → Begins env.names (d.declare_all env e xs).env.names
 declare_all_begins env e xs = declare_each_begins env (map (λ x. (x, e)) xs)
 
--- they change nothing but names
+-- they change only names
 declare_each_is : (env : Environment) (ds : List (Identifier × Entity))
     → (d.declare_each env ds).env ≡ with_names (d.declare_each env ds).env.names env
 declare_each_is env [] = refl
@@ -131,7 +131,7 @@ parameter_group_is : (env : Environment) (of : Option Sort) (is_function : Bool)
     → (d.parameter_group env of is_function g).env ≡ with_names (d.parameter_group env of is_function g).env.names env
 parameter_group_is env of is_function g = declare_all_is env entity.Hidden g.names
 
--- they change nothing but names
+-- they change only names
 heading_is : (env : Environment) (of : Option Sort) (is_function : Bool) (gs : List s.Parameters)
     → (d.heading env of is_function gs).env ≡ with_names (d.heading env of is_function gs).env.names env
 heading_is env of is_function [] = refl

@@ -1,5 +1,5 @@
 -- A routine: its heading is judged and left. Then its variables and its body are judged inside, and
--- left. Its name keeps its place, and stands for what is known of the routine.
+-- left. Its name keeps its place, and represents what is known of the routine.
 use Rattle.std.proofs.Common.{◌≡◌, ◌+◌, ◌∷◌, ◌++◌, ℕ, List, [], Option, None, Some, Result, is_some, length, take, subst, refl, ap, sym, ◌∙◌, append_assoc, arith}
 use Rattle.cp_model.specs.Syntax as s
 use Rattle.cp_model.specs.declared.tree.Sort.{Sort}
@@ -121,7 +121,7 @@ module _ (old : State) (y : Sort) (r : s.Routine) where
       })
       ∙ ap (λ returned. let one : RoutineRow = record row_is { returns = returned } in one) (returns_is (answer_of old.env r))
 
-  -- the environment in which the name stands for the routine as far as it is known
+  -- the environment in which the name represents the routine as far as it is known
   abbrev started : Environment
   started = declare r.name (entity.UnfinishedRoutine row_is) old.env
 

@@ -1,5 +1,5 @@
 -- A system type: its heading is judged and left. Then its variables, routines and body are judged
--- inside, and left. Its name keeps its place, and stands for the type.
+-- inside, and left. Its name keeps its place, and represents the type.
 use Rattle.std.proofs.Common.{◌≡◌, ◌+◌, ◌∷◌, ◌++◌, [], ℕ, false, Some, if◌then◌else◌, drop, length, take, subst, refl, ap, sym, ◌∙◌, append_assoc, arith}
 use Rattle.cp_model.specs.Syntax as s
 use Rattle.cp_model.specs.declared.tree.Identifier.{Identifier}

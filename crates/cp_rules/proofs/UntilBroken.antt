@@ -1,4 +1,4 @@
--- Definitions that are judged until something is told.
+-- Definitions that are judged until something is reported.
 use Rattle.std.proofs.Common.{◌≡◌, ◌<◌, ◌+◌, ◌++◌, ◌∷◌, ◌∙◌, [], ℕ, List, None, Option, Some, ap, append_assoc, drop, false, get_or, is_some, length, map, refl, sym}
 use Rattle.std.proofs.lemmas.List.{at_drop_more}
 use Rattle.cp_model.specs.Syntax as s
@@ -45,7 +45,7 @@ spread t a b c d e f =
     ap (least t) grouped ∙ least_append t a (b ++ c ++ d ++ e ++ f)
 
 module _ (t : s.Tree) where
-  -- the violations of one part are told before those of the sections and of the initial process
+  -- the violations of one part are reported before those of the sections and of the initial process
   part_reported : (old : State) (one : Declared) (xs : List s.Section)
       → let defined = define_sections one.env xs in
       let own = variables defined.env position.InitialVariable t.variables in

@@ -1,5 +1,5 @@
--- Which names are visible, and so what is told of names that are declared, doesn't depend on what the
--- names stand for.
+-- Which names are visible, and so what is reported of names that are declared, doesn't depend on
+-- what the names represent.
 use Rattle.std.proofs.Common.{◌≡◌, ◌∷◌, ◌++◌, Bool, true, false, not, if◌then◌else◌, List, [], Option, None, Some, map, refl, ap, sym, ◌∙◌}
 use Rattle.std.specs.Option.{is_some}
 use Rattle.std.specs.Str.{bytes_eq}
@@ -56,7 +56,7 @@ reported_is env (e ∷ es) =
     ∙ ap (λ (vs : Violations). first ++ vs) (reported_is (declare e.0 e.1 env) es)
     ∙ ap (λ (ks : List Text). first ++ reported_of ks es) (keys_declared e.0 e.1 env)
 
--- what is told of names after another name was declared, whatever that one stands for
+-- what is reported of names after another name was declared, whatever that one represents
 pub reported_alike : (x : Identifier) (e f : Entity) (env : Environment) (es : List (Identifier × Entity))
     → (d.declare_each (declare x e env) es).violations ≡ (d.declare_each (declare x f env) es).violations
 reported_alike x e f env es =

@@ -10,7 +10,7 @@ use Rattle.cp_model.specs.RulesDeclarations.{Declared}
 use Rattle.cp_base_names.specs.Tables.{with_values_from}
 pub use Rattle.cp_rules_body.specs.Reports.{first_of}
 
--- The environment so far, and the earliest violation that was told.
+-- The environment so far, and the earliest violation that was reported.
 pub record State : Type 0 where
   pub env : Environment
   pub diagnostics : Option Violation
@@ -29,7 +29,7 @@ after s d = record { env = d.env; diagnostics = least s.diagnostics d.violations
 abbrev pub declared_name : Environment → Identifier → Entity → Declared
 declared_name env x e = record { env = declare x e env; violations = c1_declared env x }
 
--- The state in which the names from a number on stand for this entity.
+-- The state in which the names from a number on represent this entity.
 abbrev pub with_set : State → ℕ → Entity → State
 with_set s mark e = record s { env = with_names (with_values_from mark e s.env.names) s.env }
 

@@ -1,4 +1,4 @@
--- Definitions: what their names stand for, and lists of them.
+-- Definitions: what their names represent, and lists of them.
 use Rattle.std.specs.Prelude.{ℕ, ℤ, List, Result, Ok, Err}
 use Rattle.cp_model.specs.Syntax as s
 use Rattle.cp_model.specs.declared.tree.ConstantDefinition.{ConstantDefinition}

@@ -1,4 +1,4 @@
--- What is left of a text while its definitions are judged, and what is told with it.
+-- What is left of a text while its definitions are judged, and what is reported with it.
 use Rattle.std.specs.Prelude.{[], List, Option, map}
 use Rattle.cp_model.specs.Syntax as s
 use Rattle.cp_model.specs.View as view
@@ -18,6 +18,6 @@ rest_of l = rest_from (view.tree l.tree.now) (map view.type_definition l.definit
 abbrev pub whole : s.Tree → Rest
 whole t = rest_from t [] t.sections
 
--- The earliest violation of what was told and of the rest.
+-- The earliest violation of what was reported and of the rest.
 abbrev pub reported_with : State → Rest → Option Violation
 reported_with s r = least s.diagnostics (rest_violations s.env r)

@@ -92,7 +92,7 @@ JudgesBody old new n v b =
     (new ≡ record { env = v.env; diagnostics = least old.diagnostics (v.violations ++ statements v.env b.list) })
     × (n ≡ cap_words (v.words + need_statements v.env b.list))
 
--- The state after the row of a routine was added, for which the names from a number on stand.
+-- The state after the row of a routine was added, for which the names from a number on are.
 abbrev pub with_finished : State → ℕ → Region → RoutineRow → State
 with_finished s outside region row =
     with_set (record s { env = record s.env { routines = s.env.routines ++ row ∷ []; region = region } }) outside

@@ -57,7 +57,7 @@ added_system env row ms = record env {
   systems = env.systems ++ row ∷ [];
 }
 
--- The state after a system type was added, for which the names from a number on stand.
+-- The state after a system type was added, for which the names from a number on are.
 abbrev pub with_finished : State → ℕ → Region → SystemRow → Members → State
 with_finished s outside region row ms =
     with_set (record s { env = record (added_system s.env row ms) { region = region } }) outside (entity.Type (length s.env.types))

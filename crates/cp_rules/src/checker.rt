@@ -1,4 +1,4 @@
-//! The checker of a text: the environment so far, and what was told.
+//! The checker of a text: the environment so far, and what was reported.
 
 ghost use Rattle.std.specs.Prelude.{◌≡◌, [], None, IfOk, OnOk, length, take};
 ghost use Rattle.cp_model.specs.RulesEnvironment as r;
@@ -17,7 +17,7 @@ use std::marker::Model;
 /// The judgement of a part of a text: its meaning, or the first violation in it.
 pub type Judged<A> = Result<A, Violation>;
 
-/// Judges a text. It holds the environment of the part that is being judged, and what was told.
+/// Judges a text. It holds the environment of the part that is being judged, and what was reported.
 /// Contracts see both.
 #[derive(Drop)]
 pub struct Checker<'t> {
@@ -34,7 +34,7 @@ impl<'t> Model for Checker<'t> {
 }
 
 impl<'t> Checker<'t> {
-    /// Returns a checker at the beginning of a text, which goes on telling from `diagnostics`. Fails only
+    /// A checker at the beginning of a text, which continues reporting from `diagnostics`. Fails only
     /// if memory runs out.
     pub fn new(alloc: Global, key: Key, diagnostics: Diagnostics) -> Result<Checker<'t>, AllocError>
         ensures { IfOk result
@@ -89,7 +89,7 @@ impl<'t> Checker<'t> {
         self.environment.name_count()
     }
 
-    /// Lets the names that were declared after the first `mark` ones stand for `entity` from now
+    /// Lets the names that were declared after the first `mark` ones represent `entity` from now
     /// on.
     pub fn set_from(&mut self, mark: usize, entity: Entity)
         ensures { self.new ≡ with_set self.old mark entity }

@@ -94,7 +94,7 @@ impl<'t> Checker<'t> {
         let t = self.environment.type_count();
         let row = enumeration(t, names.len())?;
         self.add_type(row)?;
-        // What its name stands for makes no difference to its values.
+        // What its name represents makes no difference to its values.
         self.declare(name, Entity::Type(t))?;
         self.declare_values(t, names)
     }
@@ -161,7 +161,7 @@ impl<'t> Checker<'t> {
         }
     }
 
-    // Judges definitions until something is told, and returns those that are left.
+    // Judges definitions until something is reported, and returns those that are left.
     fn define_types_until_broken(
         &mut self,
         list: &'t [TypeDefinition],
@@ -183,7 +183,7 @@ impl<'t> Checker<'t> {
         Ok(&[])
     }
 
-    // Judges a section until something is told, and returns the definitions that are left.
+    // Judges a section until something is reported, and returns the definitions that are left.
     fn define_section_until_broken(
         &mut self,
         section: &'t Section,
@@ -203,8 +203,8 @@ impl<'t> Checker<'t> {
         }
     }
 
-    /// Judges the definitions of a text until something is told, and returns what is left. Fails
-    /// only if memory runs out.
+    /// Judges the definitions of a text until something is reported, and returns what is left.
+    /// Fails only if memory runs out.
     pub fn define_until_broken(&mut self, tree: &'t Tree) -> Result<Remaining<'t>, AllocError>
         ensures { IfOk result
             (λ left. reported_with self.new (rest_of left)

@@ -1,6 +1,6 @@
-//! When judging ends early: once a violation is told, all that is left of the text stands after its
-//! place, and nothing broken that is visible is earlier. Then nothing that is told of the rest is
-//! earlier, as cp_rules_cutoff proves.
+//! When judging ends early: once a violation is reported, all that is left of the text is after its
+//! place, and nothing broken that is visible is earlier. Then nothing that is reported of the rest
+//! is earlier, as cp_rules_cutoff proves.
 
 ghost use Rattle.std.specs.Prelude.{◌≡◌, IsTrue};
 ghost use Rattle.cp_rules_cutoff.specs.Later as later;
@@ -29,7 +29,7 @@ fn are_returns_later(first: Violation, returns: Returns) -> bool
     }
 }
 
-// Whether a name stands for nothing that is broken earlier than `first`.
+// Whether a name represents nothing that is broken earlier than `first`.
 fn is_entity_later(first: Violation, entity: Entity) -> bool
     ensures { result ≡ later.entity_later first entity }
 {
@@ -72,8 +72,8 @@ fn is_environment_later(first: Violation, environment: &Environment) -> bool
 }
 
 impl<'t> Checker<'t> {
-    /// Whether what was told stays the earliest, whatever is told of the rest of the text. Where
-    /// all violations are listed nothing is decided before the end.
+    /// Whether what was reported stays the earliest, whatever is reported of the rest of the text.
+    /// Where all violations are listed nothing is decided before the end.
     pub fn is_decided(&self, left: &Remaining) -> bool
         ensures { IsTrue result → (reported_with self.now (rest_of left.now) ≡ self.now.diagnostics) }
     {

@@ -20,7 +20,7 @@ use cp_model::tree::{Identifier, Parameters, Sort};
 use cp_rules_body::Environment;
 use std::alloc::{AllocError, Global};
 
-/// The parameters of a heading: what each name stands for after it, their rows, and the words that
+/// The parameters of a heading: what each name represents after it, their rows, and the words that
 /// they take in an activation, counted up to one above the limit.
 #[derive(Drop)]
 pub struct Heading<'t> {
@@ -74,7 +74,7 @@ fn access(by_reference: bool) -> Access
     }
 }
 
-// What a parameter of a type stands for.
+// What a parameter of a type represents.
 fn entity(by_reference: bool, of: Judged<usize>) -> Entity
     ensures { result ≡ entity_of_type (d.parameter_entity by_reference) of }
 {
@@ -108,7 +108,7 @@ fn parameter_words(env: &Environment, by_reference: bool, of: Judged<usize>) -> 
 }
 
 impl<'t> Heading<'t> {
-    /// Returns a heading without parameters.
+    /// A heading without parameters.
     pub fn new(alloc: Global) -> Heading<'t>
         ensures { collection result ≡ nothing }
     {

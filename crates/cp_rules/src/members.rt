@@ -9,7 +9,7 @@ use cp_model::rules::{Entity, Member};
 use cp_rules_body::environment::Members;
 use std::alloc::AllocError;
 
-// Adds what a name stands for, if that is a routine.
+// Adds what a name represents, if that is a routine.
 fn add_member<'t>(
     members: &mut Members<'t>,
     name: &'t [u8],

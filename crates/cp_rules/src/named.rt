@@ -13,7 +13,7 @@ use cp_rules_body::constants::{constant, unfinished_of_other_sort};
 use cp_rules_body::names::resolve;
 
 impl<'t> Checker<'t> {
-    /// What a name stands for. C1: it isn't visible. A violation in its declaration is reported
+    /// What a name represents. C1: it isn't visible. A violation in its declaration is reported
     /// again.
     pub fn judge_name(&mut self, name: &Identifier) -> Judged<Entity>
         ensures { Judges self.old self.new result (r.c1_named self.old.env name.now) }
@@ -45,7 +45,7 @@ impl<'t> Checker<'t> {
         }
     }
 
-    /// The type that a name stands for.
+    /// The type that a name represents.
     pub fn named_type(&mut self, name: &Identifier) -> Judged<usize>
         ensures { Judges self.old self.new result (types.named_type self.old.env name.now) }
     {

@@ -69,7 +69,7 @@ fn is_written_structure(written: &TypeExpression) -> bool
     )
 }
 
-// The type that a name stands for, if that is known.
+// The type that a name represents, if that is known.
 fn known_type(env: &Environment, name: &Identifier) -> Option<usize>
     ensures { result ≡ meaning_of (types.named_type env.now name.now) }
 {

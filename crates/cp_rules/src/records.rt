@@ -25,7 +25,7 @@ pub struct FieldList<'t> {
 }
 
 impl<'t> FieldList<'t> {
-    /// Returns an empty list of fields.
+    /// An empty list of fields.
     pub fn new(alloc: Global, key: Key) -> FieldList<'t>
         ensures members { result.members ≡ [] }
         ensures first { result.first ≡ None }

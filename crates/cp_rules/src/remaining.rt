@@ -20,7 +20,7 @@ pub struct Remaining<'t> {
 impl<'t> Remaining<'t> {
     ghost use Rattle.cp_rules.specs.Endings.{rest_of};
 
-    // Whether the definitions that are left stand after a place.
+    // Whether the definitions that are left are after a place.
     fn are_definitions_after(&self, place: usize) -> bool
         ensures { result ≡ (all_after (type_definition_after place) (rest_of self.now).definitions
             && all_after (section_after place) (rest_of self.now).sections) }
@@ -28,7 +28,7 @@ impl<'t> Remaining<'t> {
         all_after(self.definitions, place) && all_after(self.sections, place)
     }
 
-    // Whether the variables and the routines of the initial process stand after a place.
+    // Whether the variables and the routines of the initial process are after a place.
     fn are_declarations_after(&self, place: usize) -> bool
         ensures { result ≡ (all_after (variables_after place) (rest_of self.now).variables
             && all_after (routine_after place) (rest_of self.now).routines) }
@@ -36,7 +36,7 @@ impl<'t> Remaining<'t> {
         both_after(&self.tree.variables, &self.tree.routines, place)
     }
 
-    /// Whether all that is left stands after a place.
+    /// Whether all that is left is after a place.
     pub fn is_after(&self, place: usize) -> bool
         ensures { result ≡ rest_after place (rest_of self.now) }
     {

@@ -17,7 +17,7 @@ use cp_model::rules::{Entity, Position, Region, Returns, RoutineRow};
 use cp_model::tree::{Routine, Sort};
 use std::alloc::AllocError;
 
-// What a routine's name stands for in its own heading.
+// What a routine's name represents in its own heading.
 const NO_ROUTINE: RoutineRow = RoutineRow {
     entry: false,
     first: 0,
@@ -87,7 +87,7 @@ impl<'t> Checker<'t> {
         Ok(sum(words, self.need(&routine.body.statements)))
     }
 
-    // Adds the row of a routine. Its name stands for the routine from now on.
+    // Adds the row of a routine. Its name represents the routine from now on.
     fn finish_routine(
         &mut self,
         outside: usize,

@@ -89,7 +89,7 @@ impl<'t> Checker<'t> {
         Ok(t)
     }
 
-    // Adds the row of a system type. Its name stands for the type from now on.
+    // Adds the row of a system type. Its name represents the type from now on.
     fn finish_system(
         &mut self,
         outside: usize,

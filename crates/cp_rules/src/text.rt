@@ -31,7 +31,7 @@ pub enum RuleError {
 }
 
 impl<'t> Checker<'t> {
-    // What is told of these statements alone.
+    // What is reported of these statements alone.
     fn reported_inside(&self, list: &[Statement]) -> Result<Diagnostics, AllocError>
         ensures { IfOk result
             (λ diagnostics. diagnostics ≡ least None
@@ -74,8 +74,9 @@ impl<'t> Checker<'t> {
         Ok(())
     }
 
-    // Judges a text, and goes on telling from `diagnostics`, where nothing is told yet. Once something is
-    // told in the definitions, the rest is judged only if it could tell something earlier.
+    // Judges a text, and continues reporting from `diagnostics`, where nothing is reported yet. Once
+    // something is reported in the definitions, the rest is judged only if it could report
+    // something earlier.
     fn text(
         alloc: Global,
         key: Key,

@@ -1,4 +1,4 @@
-//! Written types: what they stand for, and the rules inside them.
+//! Written types: what they represent, and the rules inside them.
 
 ghost use Rattle.std.specs.Prelude.{◌≡◌, IfOk, OnOk, map};
 ghost use Rattle.cp_model.specs.Syntax as s;

@@ -16,10 +16,10 @@ use cp_rules_body::Environment;
 use cp_rules_body::bases::INTEGER;
 use std::alloc::AllocError;
 
-/// What a name stands for while its type isn't known: a variable, which can't be used as a type.
+/// What a name represents while its type isn't known: a variable, which can't be used as a type.
 pub const UNFINISHED: Entity = Entity::Variable(INTEGER, Access::Own);
 
-// What a variable of a type stands for.
+// What a variable of a type represents.
 fn entity(of: Judged<usize>) -> Entity
     ensures { result ≡ entity_of_type d.own_variable of }
 {

@@ -1,4 +1,4 @@
--- What the names of a designator stand for covers what the designator stands for: if nothing is
+-- What the names of a designator represent covers what the designator represents: if nothing is
 -- broken in it, the two are the same.
 --
 -- What is selected of something covered is covered too: a field is found by its name alone, and of

@@ -1,4 +1,4 @@
--- A name that stands at some place in a scope stands for what is there.
+-- A name that is at some place in a scope represents what is there.
 use Rattle.std.proofs.Common.{◌≡◌, ◌∙◌, ℕ, zero, suc, List, [], ◌∷◌, Some, ap, arith, if◌then◌else◌, refl, slice_get, subst, sym}
 use Rattle.std.proofs.lemmas.Option.{same_Some}
 use Rattle.std.proofs.lemmas.Slice.Eq.{bytes_eq-Decides}

@@ -31,7 +31,7 @@ ReportsCallee env old new answer j = (new ≡ least old (violations_of j)) × (c
 abbrev pub ReportsWherever : Option Violation → Option Violation → Option Callee → (r.Environment → Judged n.Callee) → Type 0
 ReportsWherever old new answer k = (env : r.Environment) → ReportsCallee env old new answer (k env)
 
--- What the arguments must satisfy, if it is known what the name before them stands for.
+-- What the arguments must satisfy, if it is known what the name before them represents.
 abbrev pub wants_known : r.Environment → Option Entity → List Want
 wants_known env None = []
 wants_known env (Some e) = n.wants_named env (Sound e)

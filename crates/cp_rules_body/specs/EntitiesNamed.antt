@@ -1,4 +1,4 @@
--- What the names of a designator stand for, whatever its indices are.
+-- What the names of a designator represent, whatever its indices are.
 use Rattle.std.specs.Prelude.{ℕ, Bool, true, false, Option, Some, None}
 use Rattle.cp_model.specs.Syntax as s
 use Rattle.cp_model.specs.declared.rules.Entity.{Entity}

@@ -11,7 +11,7 @@ abbrev pub need_operations : Environment → List s.Operation → ℕ
 need_operations env [] = 0
 need_operations env (o ∷ os) = max (need_expression env o.operand) (need_operations env os)
 
--- The need of what a designator stands for, if that is a routine.
+-- The need of what a designator represents, if that is a routine.
 abbrev pub need_if_called : Environment → Option Entity → ℕ
 need_if_called env (Some (entity.Routine r)) = (routine_of env r).need
 need_if_called env (Some (entity.Entry r)) = (routine_of env r).need

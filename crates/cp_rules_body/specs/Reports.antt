@@ -24,7 +24,7 @@ are_none (v ∷ vs) = false
 abbrev pub ReportsOf : Option Violation → Option Violation → Bool → Violations → Type 0
 ReportsOf old new sound vs = (new ≡ least old vs) × (sound ≡ are_none vs)
 
--- What was told of a part is told of the whole.
+-- What was reported of a part is reported of the whole.
 abbrev pub with_part : Option Violation → Option Violation → Option Violation
 with_part diagnostics None = diagnostics
 with_part diagnostics (Some v) = earlier diagnostics v

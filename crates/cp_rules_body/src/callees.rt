@@ -121,7 +121,7 @@ fn judge_procedure_call(
     report_violation(diagnostics, Rule::C2, name.at)
 }
 
-// C5: a routine without `entry` stands after a component's `.`.
+// C5: a routine without `entry` is after a component's `.`.
 pub fn has_entry(diagnostics: &mut Diagnostics, name: &Identifier, row: RoutineRow) -> bool
     ensures { ReportsOf diagnostics.old diagnostics.new result (n.c5_without_entry name.now row) }
 {

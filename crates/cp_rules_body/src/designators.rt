@@ -58,7 +58,7 @@ fn no_indexed_type(
     unless_holds(diagnostics, !wrong, first_rule(mode), designated.root.at)
 }
 
-// The member named `y` of what `x` stands for, if there is one.
+// The member named `y` of what `x` represents, if there is one.
 fn find_member(env: &Environment, name: &Identifier, identifier: &Identifier) -> Option<Member>
     ensures { result ≡ n.member_selected env.now identifier.now.name (r.c1_named env.now name.now) }
 {
@@ -113,7 +113,7 @@ fn entry_after_point(
 }
 
 // Whether the first name of a designator is that of a variable which may be named here, and indices
-// come right after it: then nothing is broken in its names, as one look-up tells.
+// come right after it: then nothing is broken in its names, as one look-up reports.
 fn indexes_variable(env: &Environment, mode: Mode, designated: &Designator) -> bool
     ensures { result ≡ true → n.c2_c5_c8_named env.now mode (designator designated.now) ≡ [] }
 {

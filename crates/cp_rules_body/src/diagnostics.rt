@@ -1,5 +1,5 @@
-//! What is told while a part of a text is judged: violations, of which the earliest is the one by
-//! its place in the text, and among those at one place by the number of the rule.
+//! What is reported while a part of a text is judged: violations, of which the earliest is the one
+//! by its place in the text, and among those at one place by the number of the rule.
 
 ghost use Rattle.std.specs.Prelude.{◌≡◌, IfOk, None, OnOk, slice_get};
 ghost use Rattle.cp_model.specs.RulesJudged.{breaks, earlier, is_before, unless};
@@ -18,10 +18,10 @@ enum Kept {
     Lost,
 }
 
-/// The violations that were told. Contracts see the earliest.
+/// The violations that were reported. Contracts see the earliest.
 ///
-/// `Diagnostics::earliest` keeps no other and takes no memory. `Diagnostics::all` lists them too, each as often
-/// as it was told.
+/// `Diagnostics::earliest` keeps no other and takes no memory. `Diagnostics::all` lists them too,
+/// each as often as it was reported.
 #[derive(Drop)]
 pub struct Diagnostics {
     earliest: Option<Violation>,
@@ -38,7 +38,7 @@ impl Model for Diagnostics {
 }
 
 impl Diagnostics {
-    /// Nothing is told yet. The earliest violation alone will be kept.
+    /// Nothing is reported yet. The earliest violation alone will be kept.
     pub fn earliest() -> Diagnostics
         ensures { result ≡ None }
     {
@@ -48,7 +48,7 @@ impl Diagnostics {
         }
     }
 
-    /// Nothing is told yet. All violations will be listed.
+    /// Nothing is reported yet. All violations will be listed.
     pub fn all(alloc: Global) -> Diagnostics
         ensures { result ≡ None }
     {
@@ -70,8 +70,8 @@ impl Diagnostics {
         !matches!(&self.kept, Kept::None)
     }
 
-    /// A place for what is told of a part, which keeps as much as this one. Nothing is told there
-    /// yet.
+    /// A place for what is reported of a part, which keeps as much as this one. Nothing is reported
+    /// there yet.
     pub fn part(&self, alloc: Global) -> Diagnostics
         ensures { result ≡ None }
     {
@@ -121,7 +121,7 @@ impl Diagnostics {
         }
     }
 
-    /// Tells all that was told of a part.
+    /// Reports all that was reported of a part.
     pub fn report_part(&mut self, part: Diagnostics)
         ensures { self.new ≡ with_part self.old part }
     {
@@ -154,7 +154,7 @@ impl Diagnostics {
 }
 
 impl Kept {
-    // The violations in the order of their places and rules, each as often as it was told.
+    // The violations in the order of their places and rules, each as often as it was reported.
     fn in_order(self, alloc: Global) -> Result<Vec<Violation>, AllocError> {
         match self {
             Kept::None => Ok(Vec::new(alloc)),
@@ -187,7 +187,7 @@ fn push_later(list: &mut Vec<Violation>, violation: Violation) -> Result<(), All
     Ok(())
 }
 
-/// Tells a violation.
+/// Reports a violation.
 pub fn report(diagnostics: &mut Diagnostics, violation: Violation)
     ensures { diagnostics.new ≡ earlier diagnostics.old violation }
 {
@@ -226,7 +226,7 @@ pub fn unless_holds(diagnostics: &mut Diagnostics, holds: bool, rule: Rule, at: 
     holds
 }
 
-/// Returns the answer if nothing else is broken.
+/// The answer if nothing else is broken.
 pub fn answer_if<A: Copy>(sound: bool, answer: Option<A>) -> Option<A>
     ensures { result ≡ Rattle.cp_rules_body.specs.Reports.answer_if sound answer }
 {

@@ -1,6 +1,6 @@
-//! What the names of a designator stand for, whatever its indices are.
+//! What the names of a designator represent, whatever its indices are.
 //!
-//! If nothing is broken in a designator, it stands for the same (`proofs/Covers.antt`). So code
+//! If nothing is broken in a designator, it represents the same (`proofs/Covers.antt`). So code
 //! that only needs to know whether that is a routine needn't judge the indices.
 
 ghost use Rattle.std.specs.Prelude.{◌≡◌, map, Option, None, Some};
@@ -44,7 +44,7 @@ fn elements(env: &Environment, entity: Option<Entity>, indices: &[Index]) -> Opt
     entity
 }
 
-// What a selector selects of what the names before it stand for.
+// What a selector selects of what the names before it represent.
 fn part(env: &Environment, entity: Option<Entity>, s: &Selector) -> Option<Entity>
     ensures { result ≡ spec.part env.now entity (selector s.now) }
 {
@@ -57,7 +57,7 @@ fn part(env: &Environment, entity: Option<Entity>, s: &Selector) -> Option<Entit
     }
 }
 
-/// What the names of a designator stand for, if that is known.
+/// What the names of a designator represent, if that is known.
 pub fn find_designated_entity(env: &Environment, designated: &Designator) -> Option<Entity>
     ensures { result ≡ spec.designated_entity env.now (designator designated.now) }
 {

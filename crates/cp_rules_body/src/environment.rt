@@ -35,7 +35,7 @@ pub struct Environment<'t> {
     region: Region,
 }
 
-// A derived one would make proofs slower (docs/GATE.md).
+// A derived one would make proofs slower (docs/CI.md).
 impl Drop for Environment<'_> {
     fn drop(self) {
         let Environment {
@@ -76,7 +76,7 @@ fn is_structured(structure: Structure) -> bool
 
 // What is known about names.
 impl<'t> Environment<'t> {
-    /// What a name stands for, if it is visible.
+    /// What a name represents, if it is visible.
     pub fn find(&self, name: &[u8]) -> Option<Entity>
         ensures { result ≡ lookup name.now self.now.names }
     {
@@ -91,7 +91,7 @@ impl<'t> Environment<'t> {
         self.names.len()
     }
 
-    /// The visible name with this number, and what it stands for.
+    /// The visible name with this number, and what it represents.
     pub fn name(&self, number: usize) -> Option<(&'t [u8], Entity)>
         ensures { option_map entry_view result ≡ slice_get self.now.names number }
     {
@@ -238,7 +238,7 @@ impl<'t> Environment<'t> {
 
 // What declarations add. Each function fails only if memory runs out.
 impl<'t> Environment<'t> {
-    /// Returns the environment of the initial process, with these names and types.
+    /// The environment of the initial process, with these names and types.
     pub fn new(alloc: Global, names: Scope<'t>, types: Vec<TypeRow>) -> Environment<'t>
         ensures { result ≡ record
             r.standard_environment { names = names.entry; types = types.items } }
@@ -291,7 +291,7 @@ impl<'t> Environment<'t> {
         self.names.add_if_new(name.name.as_bytes(), entity)
     }
 
-    /// Lets the names that were declared after the first `mark` ones stand for `entity` from now
+    /// Lets the names that were declared after the first `mark` ones represent `entity` from now
     /// on.
     pub fn set_from(&mut self, mark: usize, entity: Entity)
         ensures { self.new ≡ r.with_names (with_values_from mark entity self.old.names) self.old }

@@ -136,7 +136,7 @@ pub fn type_of_designator(
     value(env, diagnostics, mode, designated, entity)
 }
 
-/// Judges a designator and returns what it stands for.
+/// Judges a designator and returns what it represents.
 #[cycle(judge)]
 pub fn judge_designator(
     env: &Environment,
@@ -228,7 +228,7 @@ fn result(env: &Environment, callee: Option<Callee>, found: Option<usize>) -> Op
     }
 }
 
-// The function that is called, if it is known what its name stands for.
+// The function that is called, if it is known what its name represents.
 fn function_if(
     env: &Environment,
     diagnostics: &mut Diagnostics,

@@ -142,7 +142,7 @@ fn unwanted_designator(
     answer_if(fits, t)
 }
 
-// Judges an argument without requirements. What a designator stands for isn't judged as a value.
+// Judges an argument without requirements. What a designator represents isn't judged as a value.
 fn unwanted_argument(
     env: &Environment,
     diagnostics: &mut Diagnostics,

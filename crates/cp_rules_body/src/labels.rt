@@ -40,7 +40,7 @@ impl Model for Labels {
 }
 
 impl Labels {
-    /// Returns an empty set of labels. It is fastest for ascending labels of the base type
+    /// An empty set of labels. It is fastest for ascending labels of the base type
     /// `base`.
     pub fn new(alloc: Global, base: usize) -> Labels
         ensures { result ≡ spec.no_labels }

@@ -12,7 +12,7 @@ use crate::names::entity_of_member;
 use cp_model::rules::{Entity, Member, Rule, Structure};
 use cp_model::tree::Identifier;
 
-/// What a name after a `.` stands for. C2: the `.` comes after something that is neither a record
+/// What a name after a `.` represents. C2: the `.` comes after something that is neither a record
 /// nor a component.
 pub fn member(
     env: &Environment,

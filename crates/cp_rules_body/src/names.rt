@@ -17,7 +17,7 @@ use cp_model::rules::{
 };
 use cp_model::tree::{Designator, Identifier, Selector};
 
-/// What a name stands for, or the violation. C1: it isn't visible. A violation in its declaration
+/// What a name represents, or the violation. C1: it isn't visible. A violation in its declaration
 /// is reported again.
 pub fn resolve(
     env: &Environment,
@@ -37,7 +37,7 @@ pub fn resolve(
     }
 }
 
-/// What a name stands for, or `None` if something is broken in it, which is reported.
+/// What a name represents, or `None` if something is broken in it, which is reported.
 pub fn judge_name(
     env: &Environment,
     diagnostics: &mut Diagnostics,
@@ -48,7 +48,7 @@ pub fn judge_name(
     resolve(env, diagnostics, name).ok()
 }
 
-/// What a name stands for, if that is known. This reports nothing.
+/// What a name represents, if that is known. This reports nothing.
 pub fn find_entity(env: &Environment, name: &Identifier) -> Option<Entity>
     ensures { result ≡ meaning_of (r.c1_named env.now name.now) }
 {
@@ -140,7 +140,7 @@ pub fn anywhere(
     finished && in_place
 }
 
-/// What a member of a record or a component stands for. C1: there is no member with this name.
+/// What a member of a record or a component represents. C1: there is no member with this name.
 pub fn entity_of_member(
     diagnostics: &mut Diagnostics,
     name: &Identifier,

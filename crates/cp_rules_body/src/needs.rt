@@ -104,8 +104,8 @@ fn need_of_indices(env: &Environment, indices: &[Index]) -> usize
     need
 }
 
-// The need of the routine that a designator stands for, if it stands for one. The indices are
-// judged only if the names stand for a routine. With indices they never do, since no array contains
+// The need of the routine that a designator represents, if it represents one. The indices are
+// judged only if the names represent a routine. With indices they never do, since no array contains
 // components.
 fn need_of_callee(env: &Environment, designated: &Designator) -> usize
     ensures { result ≡ n.need_called env.now (x.designate env.now (designator designated.now)) }
@@ -117,7 +117,7 @@ fn need_of_callee(env: &Environment, designated: &Designator) -> usize
     }
 }
 
-// What a designator stands for, if nothing is broken in it.
+// What a designator represents, if nothing is broken in it.
 fn designation(env: &Environment, designated: &Designator) -> Option<Entity>
     ensures { result ≡ meaning_of (x.designate env.now (designator designated.now)) }
 {

@@ -18,7 +18,7 @@ use crate::expressions::{arguments, judge_designator};
 use cp_model::rules::{Entity, Mode, Violation};
 use cp_model::tree::{Designator, Expression};
 
-// The procedure that is called, if it is known what its name stands for.
+// The procedure that is called, if it is known what its name represents.
 fn procedure_if(
     env: &Environment,
     diagnostics: &mut Diagnostics,

@@ -33,7 +33,7 @@ fn before_selectors(
     }
 }
 
-/// What the first name of a designator stands for, before its selectors apply.
+/// What the first name of a designator represents, before its selectors apply.
 pub fn root(
     env: &Environment,
     diagnostics: &mut Diagnostics,

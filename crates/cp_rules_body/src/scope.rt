@@ -1,8 +1,8 @@
-//! The visible names, and what they stand for.
+//! The visible names, and what they represent.
 //!
 //! A table finds a name by comparisons, whose number grows with the logarithm of the number of
-//! names. Most names are found by a hint instead: the length and three letters of a name lead to the
-//! number of a name with the same ones. If that is another name, the table is asked.
+//! names. Most names are found by a hint instead: the length and three letters of a name lead to
+//! the number of a name with the same ones. If that is another name, the table is asked.
 
 ghost use Rattle.std.specs.Prelude.{◌≡◌, ◌++◌, ◌∷◌, [], None, Some, IfOk, IfSome, OnOk, is_some, length, not, option_map, slice_get, take};
 ghost use Rattle.cp_model.specs.Names.{lookup};
@@ -19,7 +19,7 @@ const HINT_SLOTS: usize = 512;
 // So many names, the first ones, keep their hints: the standard names are among them.
 const MAX_KEPT_HINTS: usize = 32;
 
-/// The visible names and what they stand for, in the order of their declarations. No name occurs
+/// The visible names and what they represent, in the order of their declarations. No name occurs
 /// twice.
 #[derive(Drop)]
 pub struct Scope<'t> {
@@ -55,7 +55,7 @@ fn set_hint(hints: &mut Vec<usize>, name: &[u8], number: usize) {
 }
 
 impl<'t> Scope<'t> {
-    /// Returns a scope without names. Fails only if memory runs out.
+    /// A scope without names. Fails only if memory runs out.
     pub fn new(alloc: Global, key: Key) -> Result<Scope<'t>, AllocError>
         ensures { IfOk result (λ scope. scope ≡ []) }
     {
@@ -82,14 +82,14 @@ impl<'t> Scope<'t> {
         self.table.reserve(count)
     }
 
-    /// The name with a number, and what it stands for.
+    /// The name with a number, and what it represents.
     pub fn get(&self, number: usize) -> Option<(&'t [u8], Entity)>
         ensures { option_map entry_view result ≡ slice_get self.now number }
     {
         self.table.get(number)
     }
 
-    // What a name stands for, if its hint leads to it.
+    // What a name represents, if its hint leads to it.
     fn hinted(&self, name: &[u8]) -> Option<Entity>
         ensures { IfSome result (λ entity. lookup name.now self.now ≡ Some entity) }
     {
@@ -101,7 +101,7 @@ impl<'t> Scope<'t> {
         if found == name { Some(entity) } else { None }
     }
 
-    /// What a name stands for, if it is visible.
+    /// What a name represents, if it is visible.
     pub fn find(&self, name: &[u8]) -> Option<Entity>
         ensures { result ≡ lookup name.now self.now }
     {
@@ -126,7 +126,7 @@ impl<'t> Scope<'t> {
         Ok(is_new)
     }
 
-    /// Lets the names from number `from` on stand for `entity` from now on.
+    /// Lets the names from number `from` on represent `entity` from now on.
     pub fn set_from(&mut self, from: usize, entity: Entity)
         ensures { self.new ≡ with_values_from from entity self.old }
     {

@@ -162,7 +162,7 @@ pub fn designates_variable(
     )
 }
 
-/// Whether a variable of the type may stand for itself alone where it is used: it has no queues,
+/// Whether a variable of the type may represent itself alone where it is used: it has no queues,
 /// and isn't a component that is used as a value.
 pub fn is_plain(env: &Environment, mode: Mode, t: usize) -> bool
     ensures { result ≡ is_plain env.now mode t }

@@ -1,4 +1,4 @@
--- What is told of a name that is called or used as a value is later.
+-- What is reported of a name that is called or used as a value is later.
 use Rattle.std.proofs.Common.{Bool, None, Option, Some, refl, true, ℕ, ◌≡◌}
 use Rattle.std.specs.Prelude.{nat_eq}
 use Rattle.std.proofs.lemmas.Bool.{and_from}

@@ -1,5 +1,5 @@
--- What is told of a whole is later than a violation if what is told of its parts is: one lemma for
--- each word by which the rules join their judgements.
+-- What is reported of a whole is later than a violation if what is reported of its parts is: one
+-- lemma for each word by which the rules join their judgements.
 use Rattle.std.proofs.Common.{Bool, [], arith, false, refl, true, ℕ, ◌++◌, ◌≡◌, ◌∷◌}
 use Rattle.std.specs.Prelude.{nat_lt}
 use Rattle.std.proofs.lemmas.Bool.Decides.{nat_tests}

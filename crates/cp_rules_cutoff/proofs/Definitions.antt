@@ -1,4 +1,4 @@
--- What is told of definitions that stand later is later, and so is the environment with them.
+-- What is reported of definitions that are later is later, and so is the environment with them.
 use Rattle.std.proofs.Common.{◌≡◌, ◌∷◌, ◌++◌, ◌+◌, ◌-◌, ℕ, ℤ, pos, Bool, List, Some, [], drop, false, length, refl, suc, true}
 use Rattle.std.specs.Prelude.{if◌then◌else◌, nat_lt}
 use Rattle.std.proofs.lemmas.Bool.{and_from, and_parts}

@@ -7,7 +7,8 @@ use Rattle.cp_model.specs.RulesJudged.{Broken, Judged, Sound, Violations, also, 
 use Rattle.cp_rules_cutoff.specs.Later.{entity_later, judged_later, violations_later}
 use Rattle.cp_rules_cutoff.proofs.Combinators.{later_append}
 
--- Nothing that is told is earlier, and neither is what the entity knows of a broken declaration.
+-- Nothing that is reported is earlier, and neither is what the entity knows of a broken
+-- declaration.
 abbrev pub entity_judged : Violation → Judged Entity → Bool
 entity_judged w (Sound e) = entity_later w e
 entity_judged w (Broken v vs) = violations_later w (v ∷ vs)

@@ -1,4 +1,4 @@
--- Names that are declared keep an environment later, if what they stand for is.
+-- Names that are declared keep an environment later, if what they represent is.
 use Rattle.std.proofs.Common.{◌≡◌, ◌∷◌, ◌++◌, List, Option, None, Some, [], refl, true}
 use Rattle.std.specs.Prelude.{is_some, not}
 use Rattle.std.proofs.lemmas.Bool.{and_from, and_parts}

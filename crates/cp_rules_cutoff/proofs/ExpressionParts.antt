@@ -1,4 +1,4 @@
--- When expressions and designators stand after a place. The plain tree folds the lists in them into
+-- When expressions and designators are after a place. The plain tree folds the lists in them into
 -- lists of its own, and a chain of operands into the expression that it groups to.
 use Rattle.std.proofs.Common.{◌≡◌, ◌&&◌, ◌∷◌, ◌∙◌, [], ℕ, Bool, Box, Global, List, Vec, ap, false, map, nat_lt, refl, true}
 use Rattle.cp_model.specs.Syntax as s

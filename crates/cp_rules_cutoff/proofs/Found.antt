@@ -1,4 +1,4 @@
--- What is told of a name that is used: either at the name, or of a broken declaration that the
+-- What is reported of a name that is used: either at the name, or of a broken declaration that the
 -- environment knows, and no such declaration is earlier.
 use Rattle.std.proofs.Common.{Bool, List, None, Option, Some, [], false, get_or, refl, suc, true, zero, ℕ, ◌≡◌, ◌∷◌}
 use Rattle.std.specs.Prelude.{if◌then◌else◌}

@@ -1,4 +1,4 @@
--- What is told of a heading that stands later is later, and so is what its names stand for.
+-- What is reported of a heading that is later is later, and so is what its names represent.
 use Rattle.std.proofs.Common.{◌≡◌, ◌∷◌, ◌++◌, ℕ, Bool, List, None, Option, Some, [], false, map, refl, true}
 use Rattle.std.specs.Prelude.{if◌then◌else◌, is_some, nat_lt, not, ◌&&◌}
 use Rattle.std.proofs.lemmas.Bool.{and_from, and_parts}
@@ -23,7 +23,7 @@ use Rattle.cp_rules_cutoff.proofs.Types.{named_type_later}
 abbrev pub bound_later : Violation → List (Identifier × Entity) → Bool
 bound_later w bound = all_after (λ (b : Identifier × Entity). entity_later w b.1) bound
 
--- what is told of a heading, its environment and what its names will stand for are later
+-- what is reported of a heading, its environment and what its names will represent are later
 pub record HeadingLater (w : Violation) (m : d.Heading) : Type 0 where
   pub known : environment_later w m.env ≡ true
   pub diagnostics : violations_later w m.violations ≡ true

@@ -1,4 +1,4 @@
--- What is told of `init` is later if its places are.
+-- What is reported of `init` is later if its places are.
 use Rattle.std.proofs.Common.{Bool, List, None, Option, Some, [], false, refl, true, ℕ, ◌++◌, ◌≡◌, ◌∷◌}
 use Rattle.std.specs.Prelude.{if◌then◌else◌}
 use Rattle.std.proofs.lemmas.Bool.{and_parts}

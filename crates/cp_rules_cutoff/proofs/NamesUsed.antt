@@ -1,4 +1,4 @@
--- What is told of a designator's names, and of what they stand for, is later.
+-- What is reported of a designator's names, and of what they represent, is later.
 use Rattle.std.proofs.Common.{Bool, false, None, Option, Some, [], refl, true, ℕ, ◌≡◌, ◌++◌, ◌∷◌}
 use Rattle.std.specs.Prelude.{nat_lt}
 use Rattle.std.proofs.lemmas.Bool.{and_parts}

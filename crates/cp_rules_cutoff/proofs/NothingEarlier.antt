@@ -1,4 +1,4 @@
--- What is left of a text tells nothing earlier than a violation before it.
+-- What is left of a text reports nothing earlier than a violation before it.
 use Rattle.std.proofs.Common.{◌≡◌, ◌∷◌, ◌+◌, Bool, Some, [], false, if◌then◌else◌, refl, true}
 use Rattle.std.specs.Prelude.{not}
 use Rattle.std.proofs.lemmas.Bool.{and_parts}

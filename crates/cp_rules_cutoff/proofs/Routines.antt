@@ -1,4 +1,4 @@
--- What is told of routines that stand later is later, and so is the environment with them.
+-- What is reported of routines that are later is later, and so is the environment with them.
 use Rattle.std.proofs.Common.{◌≡◌, ◌∷◌, ◌++◌, ◌+◌, ℕ, List, None, Option, Some, [], length, refl, true}
 use Rattle.std.specs.Prelude.{is_some, nat_lt, not}
 use Rattle.std.proofs.lemmas.Bool.{and_from, and_parts}

@@ -1,4 +1,4 @@
--- What is told of an assignment, a condition, a label or a call is later if its places are.
+-- What is reported of an assignment, a condition, a label or a call is later if its places are.
 use Rattle.std.proofs.Common.{Bool, List, None, Option, Some, [], false, refl, true, ℕ, ◌++◌, ◌≡◌, ◌∷◌}
 use Rattle.std.specs.Prelude.{nat_lt}
 use Rattle.std.proofs.lemmas.Bool.{and_from, and_parts}

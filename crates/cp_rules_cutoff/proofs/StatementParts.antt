@@ -1,4 +1,4 @@
--- When statements stand after a place. The plain tree folds the lists in them into lists of its own.
+-- When statements are after a place. The plain tree folds the lists in them into lists of its own.
 use Rattle.std.proofs.Common.{◌≡◌, ◌&&◌, ◌∷◌, ◌∙◌, [], ℕ, Bool, Box, Global, List, Vec, ap, map, refl, sym}
 use Rattle.cp_model.specs.Syntax as s
 use Rattle.cp_model.specs.View.{LabelledStatement, arm, arm_layer, arms_of, designator, expression, init_item, statement, statement_layer, statements_of}

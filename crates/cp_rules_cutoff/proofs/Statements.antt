@@ -1,4 +1,4 @@
--- What is told of a statement is later if its places are.
+-- What is reported of a statement is later if its places are.
 use Rattle.std.proofs.Common.{List, Option, [], refl, true, ℕ, ◌++◌, ◌≡◌}
 use Rattle.std.specs.Prelude.{nat_lt, ◌&&◌}
 use Rattle.std.proofs.lemmas.Bool.{and_parts}

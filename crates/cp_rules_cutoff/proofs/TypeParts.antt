@@ -1,4 +1,4 @@
--- When written types stand after a place. The plain tree folds the lists in them into lists of its
+-- When written types are after a place. The plain tree folds the lists in them into lists of its
 -- own.
 use Rattle.std.proofs.Common.{◌≡◌, ◌&&◌, ◌∷◌, ◌∙◌, [], ℕ, Bool, Box, Global, List, Vec, ap, map, nat_lt, refl}
 use Rattle.cp_model.specs.Syntax as s

@@ -1,5 +1,5 @@
--- What is told of a written type that stands later is later, and so is the environment with what was
--- made of it.
+-- What is reported of a written type that is later is later, and so is the environment with what
+-- was made of it.
 use Rattle.std.proofs.Common.{◌≡◌, ◌∷◌, ◌++◌, ℕ, ℤ, Bool, List, [], map, nat_eq, refl, true}
 use Rattle.std.specs.Prelude.{nat_lt, not, ◌||◌, ◌&&◌}
 use Rattle.std.proofs.lemmas.Bool.{and_from, and_parts}

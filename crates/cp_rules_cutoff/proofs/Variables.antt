@@ -1,4 +1,4 @@
--- What is told of variables that stand later is later, and so is the environment with them.
+-- What is reported of variables that are later is later, and so is the environment with them.
 use Rattle.std.proofs.Common.{◌≡◌, ◌∷◌, ℕ, List, [], nat_eq, refl, suc, true}
 use Rattle.std.specs.Prelude.{not, ◌&&◌}
 use Rattle.std.proofs.lemmas.Bool.{and_parts}
@@ -23,7 +23,7 @@ use Rattle.cp_rules_cutoff.proofs.Combinators.{later_append, unless_later}
 use Rattle.cp_rules_cutoff.proofs.Environments.{all_reported, all_visible, entity_of_later, known_again, known_names, known_routines}
 use Rattle.cp_rules_cutoff.proofs.Types.{type_placed_later}
 
--- what is told of declarations and the environment with them are later
+-- what is reported of declarations and the environment with them are later
 abbrev pub DeclaredLater : Violation → d.Declared → Type 0
 DeclaredLater w m = (environment_later w m.env ≡ true) × (violations_later w m.violations ≡ true)
 

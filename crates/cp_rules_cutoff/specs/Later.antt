@@ -29,17 +29,17 @@ abbrev pub routines_later : Violation → List RoutineRow → Bool
 routines_later w [] = true
 routines_later w (r ∷ rs) = returns_later w r.returns && routines_later w rs
 
--- No broken declaration that is visible is broken at an earlier place: its violation is told again
--- wherever it is used.
+-- No broken declaration that is visible is broken at an earlier place: its violation is reported
+-- again wherever it is used.
 abbrev pub environment_later : Violation → Environment → Bool
 environment_later w env = names_later w env.names && routines_later w env.routines
 
--- ---- What is told
+-- ---- What is reported
 
 abbrev pub violations_later : Violation → Violations → Bool
 violations_later w [] = true
 violations_later w (v ∷ vs) = is_later w v && violations_later w vs
 
--- Nothing that is told of this judgement is earlier.
+-- Nothing that is reported of this judgement is earlier.
 abbrev pub judged_later : {A : Type 0} → Violation → Judged A → Bool
 judged_later w j = violations_later w (violations_of j)

@@ -1,4 +1,4 @@
--- The law of what stands later in a text.
+-- The law of what is later in a text.
 use Rattle.std.specs.Prelude.{Some, true, ◌≡◌}
 use Rattle.cp_model.specs.declared.rules.Violation.{Violation}
 use Rattle.cp_model.specs.RulesEnvironment.{Environment}

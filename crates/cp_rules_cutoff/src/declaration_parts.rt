@@ -37,7 +37,7 @@ impl Part for Parameters {
     }
 }
 
-// Whether what stands before the variables of a routine is after `place`.
+// Whether what is before the variables of a routine is after `place`.
 fn heading_after(r: &Routine, place: usize) -> bool
     ensures { result ≡ (optional_after (nat_lt place) r.now.entry
         && name_after place r.now.name

@@ -2,8 +2,8 @@
 
 ghost use Rattle.cp_rules_cutoff.specs.Laws.{RestReportsNothingEarlier};
 
-/// Once a violation is told and all that is left of a text stands after its place, nothing that is
-/// told of the rest is earlier.
+/// Once a violation is reported and all that is left of a text is after its place, nothing that is
+/// reported of the rest is earlier.
 pub fn rest()
     ensures { RestReportsNothingEarlier }
 {}

@@ -1,6 +1,6 @@
-//! Which parts of a text stand after a place, and the law of what stands later.
+//! Which parts of a text are after a place, and the law of what is later.
 //!
-//! A part stands after a place if each of its tokens that a rule names does. `specs/After.antt`
+//! A part is after a place if each of its tokens that a rule names does. `specs/After.antt`
 //! defines it for the tree as plain data. `parts` has the trait of all such parts and the loop over
 //! lists of them; the other modules go through the tree.
 #![tactic(auto)]

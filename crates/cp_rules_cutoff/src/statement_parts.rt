@@ -17,7 +17,7 @@ fn assignment_after(a: &Assignment, place: usize) -> bool
     a.target.is_after(place) && both_after(&a.at, &a.value, place)
 }
 
-// Whether what stands between a `for` and its `do` is after `place`.
+// Whether what is between a `for` and its `do` is after `place`.
 fn header_after(h: &ForHeader, place: usize) -> bool
     ensures { result ≡ (name_after place h.now.variable
         && expression_after place (view.expression h.now.from)

@@ -10,7 +10,7 @@ use Rattle.cp_scan.specs.Pieces.{run, comment, piece}
 use Rattle.cp_scan.proofs.Fronts.{front, Holds, by_test}
 use Rattle.cp_scan.proofs.Runs.{run_append, run_splits, run_each, run_stops, length_run}
 
--- what stands inside a comment
+-- what is inside a comment
 abbrev pub is_inside : ℕ → Bool
 is_inside b = not (is_quote b)
 

@@ -10,7 +10,7 @@ abbrev pub Fails : {A : Type 0} → ScanError → Result A (Cause × ℕ) → Ty
 Fails (error.Refused cause at) outcome = outcome ≡ Err (cause, at)
 Fails error.Memory outcome = Unit {0}
 
--- The code took this piece: it went on from `before` to `after`, or it returns the cause.
+-- The code took this piece: it continued from `before` to `after`, or it returns the cause.
 abbrev pub Takes : {A : Type 0} → Result A ScanError → Progress → Progress → Piece → Type 0
 Takes (Ok done) before after piece = step piece before.at before.tokens.items ≡ Ok (after.at, after.tokens.items)
 Takes (Err error) before after piece = Fails error (step piece before.at before.tokens.items)

@@ -39,7 +39,7 @@ pub fn is_in_word(byte: u8) -> bool
     is_digit(byte) || byte == b'_'
 }
 
-/// A byte that can stand for itself in a character constant, or the apostrophe.
+/// A byte that can represent itself in a character constant, or the apostrophe.
 pub fn is_printable(byte: u8) -> bool
     ensures { result ≡ character.is_printable byte }
 {

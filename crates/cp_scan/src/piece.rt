@@ -22,7 +22,7 @@ use std::alloc::Global;
 /// begins there.
 pub type Found<A> = Result<(A, usize), Cause>;
 
-/// Reads the piece at the place that was reached, and goes on after it.
+/// Reads the piece at the place that was reached, and continues after it.
 pub fn read_piece(alloc: Global, text: &[u8], progress: &mut Progress) -> Result<(), ScanError>
     requires some { progress.old.at < length text.now }
     requires fits { length text.now < 2 ^ 32 }

@@ -17,7 +17,7 @@ pub struct Progress {
 }
 
 impl Progress {
-    /// Appends a token of so many bytes, and goes on after it. Fails only if memory runs out.
+    /// Appends a token of so many bytes, and continues after it. Fails only if memory runs out.
     #[inline(always)]
     pub fn append(&mut self, kind: Kind, length: usize) -> Result<(), ScanError>
         requires { self.old.at + length < 2 ^ 32 }
@@ -33,7 +33,7 @@ impl Progress {
         Ok(())
     }
 
-    /// Goes on after a separator of so many bytes.
+    /// Continues after a separator of so many bytes.
     #[inline(always)]
     pub fn pass(&mut self, length: usize)
         requires { self.old.at + length < 2 ^ 32 }
@@ -42,7 +42,7 @@ impl Progress {
         self.at += length;
     }
 
-    /// The refusal of what stands at this place.
+    /// The refusal of what is at this place.
     pub fn refusal(&self, cause: Cause) -> ScanError
         ensures { result ≡ Refused cause self.now.at }
     {

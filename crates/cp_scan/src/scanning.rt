@@ -19,16 +19,16 @@ use std::alloc::Global;
 /// The largest number of bytes of a text that is scanned.
 pub const MAX_SOURCE_BYTES: usize = 1_048_576;
 
-/// Returns the tokens that spell the text, in its order: words in lower case, and no blanks or
+/// The tokens that spell the text, in its order: words in lower case, and no blanks or
 /// comments. Each span covers the bytes of its token, so the spans rise and don't overlap. No other
 /// list of tokens spells the text.
 ///
 /// # Errors
 ///
 /// `Refused` says why no tokens spell the text. If the text is too long, that is [`Cause::Size`] at
-/// [`MAX_SOURCE_BYTES`], whatever the text contains. Otherwise it is the first place from left to right
-/// at which neither a token nor a separator begins, with the cause. `Memory` only says that memory
-/// was refused.
+/// [`MAX_SOURCE_BYTES`], whatever the text contains. Otherwise it is the first place from left to
+/// right at which neither a token nor a separator begins, with the cause. `Memory` only says that
+/// memory was refused.
 pub fn scan(alloc: Global, text: &[u8]) -> Result<Vec<Token>, ScanError>
     ensures spelled { IfOk result (λ tokens. Spells text.now tokens.items) }
     ensures spans { IfOk result (λ tokens. RisesFrom 0 tokens.items (length text.now)) }

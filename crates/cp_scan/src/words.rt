@@ -177,7 +177,7 @@ fn read_long_word(alloc: Global, word: &[u8], progress: &mut Progress) -> Result
     }
 }
 
-/// Reads the word at the front of a text, and goes on after it.
+/// Reads the word at the front of a text, and continues after it.
 #[tactic(auto, unfolding(crate::specs::Pieces::word))]
 pub fn read_word(alloc: Global, text: &[u8], progress: &mut Progress) -> Result<(), ScanError>
     requires { progress.old.at + length text.now < 2 ^ 32 }

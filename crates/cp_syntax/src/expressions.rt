@@ -33,7 +33,7 @@ impl Nested for Expression {
     ghost at = { spec.factor_at };
 }
 
-/// The operators of one class, and the operands between which they stand.
+/// The operators of one class, and the operands between which they are.
 trait Operators: Copy {
     ghost operators: { Option Kind → Option plain.Operator };
 
@@ -139,7 +139,7 @@ fn chain<O: Operators>(
     ensures { Gives view.expression result
         (spec.chain_from O.operators (O.operands class) (view.expression first) tokens.now) }
 {
-    // Most operands stand alone.
+    // Most operands are alone.
     if O::operator(tokens).is_none() {
         return Ok((first, tokens));
     }

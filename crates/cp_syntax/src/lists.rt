@@ -17,7 +17,7 @@ const JOINED: usize = 64 * 1024;
 
 /// A part of the syntax tree that occurs in lists, and how the rules `R` read it.
 pub trait Node<R>: Drop {
-    /// The plain data that stands for it in the grammar.
+    /// The plain data that represents it in the grammar.
     ghost Plain: { Type 0 };
 
     ghost view: { Self → Plain };
@@ -89,7 +89,7 @@ pub fn read_while<X: Item<R>, R: Copy>(
     Ok((found, rest))
 }
 
-/// Returns a list of one item. Most lists have no more, so it has room for that one alone.
+/// A list of one item. Most lists have no more, so it has room for that one alone.
 pub fn lone<X: Drop>(alloc: Global, item: X) -> Result<Vec<X>, AllocError>
     ensures { IfOk result (λ list. list.items ≡ item ∷ []) }
 {

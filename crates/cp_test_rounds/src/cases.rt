@@ -2,7 +2,7 @@
 //!
 //! A case is a value and not a closure, since a closure is proved as four functions, which takes
 //! minutes where it gets a machine. A function that owns a tree, its program and tables or its
-//! machine has to give up all of them wherever it can fail, and takes minutes to prove: so each of
+//! machine has to stop all of them wherever it can fail, and takes minutes to prove: so each of
 //! these owns one, and lends it to the next.
 
 use crate::machines::machine_of;

@@ -7,7 +7,7 @@ use cp_syntax::parse;
 use std::alloc::Global;
 use std::test::Fail;
 
-/// Returns the syntax tree of a text.
+/// The syntax tree of a text.
 pub(crate) fn tree_of(alloc: Global, text: &str) -> Result<Tree, Fail> {
     let Ok(tokens) = scan(alloc, text.as_bytes()) else {
         return Err("the text has no tokens".into());
@@ -18,7 +18,7 @@ pub(crate) fn tree_of(alloc: Global, text: &str) -> Result<Tree, Fail> {
     Ok(tree)
 }
 
-/// Returns the program and the tables of an accepted text.
+/// The program and the tables of an accepted text.
 pub(crate) fn compiled<'t>(alloc: Global, tree: &'t Tree) -> Result<CompiledText<'t>, Fail> {
     let Ok(compiled) = check(alloc, tree) else {
         return Err("the text is refused".into());

@@ -19,7 +19,7 @@ const TWO: &str = "type p = process; begin display(7) end; var a, b: p; begin in
 const FOUR: &str =
     "type p = process; begin display(7) end; var a, b, c, d: p; begin init a, b, c, d end.";
 
-// Two processes that compute for ever.
+// Two processes that compute forever.
 const COUNTERS: &str = "type p = process; var x: integer; begin cycle x := (x + 1) mod 100 end end;
     var a, b: p; begin init a, b end.";
 

@@ -15,7 +15,7 @@ pub(crate) struct Bar {
     pub(crate) end: usize,
 }
 
-/// Returns the stretches of cells, in their order. The first cell is that of column 0.
+/// The stretches of cells, in their order. The first cell is that of column 0.
 pub(crate) fn bars(alloc: Global, cells: &[Cell]) -> Result<Vec<Bar>, AllocError> {
     let mut bars: Vec<Bar> = Vec::new(alloc);
     for (from, cell) in cells.iter().enumerate() {
@@ -97,7 +97,7 @@ impl Bar {
         Ok(Some(about?))
     }
 
-    /// Returns what it is in words, such as `delayed table`, `held by a`, `fault 3` or `ready`.
+    /// What it is in words, such as `delayed table`, `held by a`, `fault 3` or `ready`.
     pub(crate) fn words(
         &self,
         alloc: Global,
@@ -110,7 +110,7 @@ impl Bar {
         }
     }
 
-    /// Returns what stands on it, in at most so many characters: of a gate the name or the number
+    /// What is written on it, in at most so many characters: of a gate the name or the number
     /// of its holder, of other cells the words or what they are about. Nothing does if none is
     /// short enough, or if the colour says all.
     pub(crate) fn caption(

@@ -54,7 +54,7 @@ pub(crate) enum Change<'t> {
 }
 
 impl Change<'_> {
-    /// Returns the word for its kind.
+    /// The word for its kind.
     pub(crate) fn kind(&self) -> &'static str {
         match self {
             Change::Status(_) => "status",
@@ -66,7 +66,7 @@ impl Change<'_> {
     }
 }
 
-/// What changed of a process or a monitor, in the order in which it is told.
+/// What changed of a process or a monitor, in the order in which it is reported.
 #[derive(Drop)]
 pub(crate) struct Changes<'t> {
     pub(crate) owner: Owner,

@@ -36,7 +36,7 @@ const OF_PROCESSES: [&str; COLOURS] = [
     "p0", "p1", "p2", "p3", "p4", "p5", "p6", "p7", "p8", "p9", "p10", "p11",
 ];
 
-/// Returns the class of the colour of the process with a number.
+/// The class of the colour of the process with a number.
 pub(crate) fn colour(process: u32) -> &'static str {
     OF_PROCESSES[process as usize % COLOURS]
 }

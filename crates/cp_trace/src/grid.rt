@@ -33,7 +33,8 @@ pub(crate) struct Row<'t> {
     pub(crate) cells: Vec<Cell>,
 }
 
-/// The processes and monitors of which a trace tells, with what they are after each of some rounds.
+/// The processes and monitors of which a trace reports, with what they are after each of some
+/// rounds.
 #[derive(Drop)]
 pub(crate) struct Grid<'t> {
     pub(crate) alloc: Global,
@@ -74,7 +75,7 @@ fn cell_of<M: Inspect>(machine: &M, owner: Owner) -> Cell {
 }
 
 impl<'t> Grid<'t> {
-    /// Returns the grid, without cells, of the rounds of a topic.
+    /// The grid, without cells, of the rounds of a topic.
     ///
     /// # Errors
     ///
@@ -119,12 +120,12 @@ impl<'t> Grid<'t> {
         self.columns = 0;
     }
 
-    /// Returns the round of a column.
+    /// The round of a column.
     pub(crate) fn round(&self, column: usize) -> u64 {
         self.first.saturating_add(column as u64)
     }
 
-    /// Returns the length of the longest name.
+    /// The length of the longest name.
     pub(crate) fn longest_name(&self) -> usize {
         self.rows
             .iter()

@@ -1,8 +1,8 @@
 //! A trace: what becomes of each process and monitor of a machine, round by round.
 //!
-//! - `tracer`: follows a machine, and tells of it in one of four forms.
-//! - `topic`: of what is told.
-//! - `owners`: of whom is told.
+//! - `tracer`: follows a machine, and reports of it in one of four forms.
+//! - `topic`: of what is reported.
+//! - `owners`: of which is reported.
 //! - `trace`: what was seen of a machine, and what changed since: of a `process`, of a `monitor`,
 //!   and of the `values` of variables, whose places are their `shapes`. `vocabulary`: names in
 //!   place of numbers.

@@ -19,7 +19,7 @@ pub(crate) struct SeenMonitor {
 }
 
 impl SeenMonitor {
-    /// Returns a monitor of a machine with variables at these places, as it is.
+    /// A monitor of a machine with variables at these places, as it is.
     pub(crate) fn of<M: Inspect>(
         alloc: Global,
         number: u32,
@@ -70,7 +70,7 @@ impl SeenMonitor {
         self.askers.extend_from_slice(askers)
     }
 
-    /// Returns what changed since the monitor was seen last: its gate, its askers, and its
+    /// What changed since the monitor was seen last: its gate, its askers, and its
     /// variables and queues at these places. It has then been seen.
     pub(crate) fn changes<'a, 't: 'a, M: Inspect>(
         &mut self,

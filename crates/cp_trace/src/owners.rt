@@ -1,4 +1,4 @@
-//! The processes and monitors of which a trace tells, and their names.
+//! The processes and monitors of which a trace reports, and their names.
 
 use cp_compile_symbols::small_number;
 use cp_inspect::component_table::{ComponentTable, Owner};
@@ -9,7 +9,7 @@ pub(crate) fn word(bytes: &[u8]) -> &str {
     str::from_utf8(bytes).unwrap_or("")
 }
 
-/// Returns the name of a process or monitor.
+/// The name of a process or monitor.
 pub(crate) fn name_of<'t>(component_table: &ComponentTable<'t>, owner: Owner) -> &'t str {
     word(match owner {
         Owner::Process(number) => component_table.process_name(number),
@@ -28,8 +28,8 @@ fn all(alloc: Global, component_table: &ComponentTable<'_>) -> Result<Vec<Owner>
         .collect(alloc)
 }
 
-/// Returns the processes by number, and then the monitors: those with names in `only`, or all if it
-/// has none. A name that no process or monitor has stands for none.
+/// The processes by number, and then the monitors: those with names in `only`, or all if it
+/// has none. A name that no process or monitor has represents none.
 ///
 /// # Errors
 ///

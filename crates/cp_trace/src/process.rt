@@ -32,7 +32,7 @@ fn written<M: Inspect>(machine: &M, number: u32) -> usize {
 }
 
 impl SeenProcess {
-    /// Returns a process of a machine with variables at these places, as it is.
+    /// A process of a machine with variables at these places, as it is.
     pub(crate) fn of<M: Inspect>(
         alloc: Global,
         number: u32,
@@ -86,7 +86,7 @@ impl SeenProcess {
         Ok(())
     }
 
-    /// Returns what changed since the process was seen last: its status, what it wrote, and its
+    /// What changed since the process was seen last: its status, what it wrote, and its
     /// variables at these places. It has then been seen.
     pub(crate) fn changes<'a, 't: 'a, M: Inspect>(
         &mut self,

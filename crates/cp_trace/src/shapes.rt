@@ -1,4 +1,4 @@
-//! Where the variables of components lie. Components of one type share their places.
+//! Where the variables of components are. Components of one type share their places.
 
 use cp_inspect::inspect::Inspect;
 use cp_inspect::leaves::Leaf;
@@ -19,14 +19,14 @@ pub(crate) struct Shapes {
 }
 
 impl Shapes {
-    /// Returns no places.
+    /// No places.
     pub(crate) fn new(alloc: Global) -> Shapes {
         Shapes {
             shapes: Vec::new(alloc),
         }
     }
 
-    /// Returns the number of the shape of a type, which is added if it is new. `None` stands for
+    /// The number of the shape of a type, which is added if it is new. `None` represents
     /// the type of the initial process.
     pub(crate) fn number_of<M: Inspect>(
         &mut self,
@@ -43,7 +43,7 @@ impl Shapes {
         Ok(number)
     }
 
-    /// Returns the places of the shape with a number.
+    /// The places of the shape with a number.
     pub(crate) fn leaves(&self, number: usize) -> &[Leaf] {
         match self.shapes.get(number) {
             Some(shape) => &shape.leaves,

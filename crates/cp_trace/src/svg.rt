@@ -45,7 +45,7 @@ const NAMES: usize = 36;
 // The margin around all.
 const MARGIN: usize = 12;
 
-/// A grid that is told as a picture, band by band.
+/// A grid that is reported as a picture, band by band.
 #[derive(Drop)]
 pub struct Picture<'t> {
     grid: Grid<'t>,
@@ -58,7 +58,7 @@ pub struct Picture<'t> {
 }
 
 impl<'t> Picture<'t> {
-    /// Returns the picture that tells a grid of so many rounds.
+    /// The picture that reports a grid of so many rounds.
     pub(crate) fn of(grid: Grid<'t>, rounds: u32) -> Picture<'t> {
         let names = grid.longest_name().saturating_mul(NAME_CHARACTER);
         let columns = names.saturating_add(NAMES) / COLUMN;
@@ -187,7 +187,7 @@ viewBox=\"0 0 {width} {height}\">"
         write!(page, "rounds {first} to {last}")
     }
 
-    // Adds a bar, with a title: of whom it says what, and of which rounds.
+    // Adds a bar, with a title: of which it says what, and of which rounds.
     fn push_bar(
         &self,
         page: &mut String,
@@ -205,7 +205,7 @@ viewBox=\"0 0 {width} {height}\">"
         page.push_str("</title></rect>\n")
     }
 
-    // Adds what stands on a bar.
+    // Adds what is written on a bar.
     fn push_caption(&self, page: &mut String, bar: &Bar, y: usize) -> Result<(), AllocError> {
         let Area { x, width, .. } = self.area(bar.from, bar.end, y);
         let caption = bar.caption(
@@ -250,7 +250,7 @@ viewBox=\"0 0 {width} {height}\">"
         Ok(())
     }
 
-    // Adds a row: its name, its bars, the lines between its rounds, and what stands on the bars.
+    // Adds a row: its name, its bars, the lines between its rounds, and what is written on the bars.
     fn push_row(&self, page: &mut String, row: &Row<'_>, y: usize) -> Result<(), AllocError> {
         let bars = bars(self.grid.alloc, &row.cells)?;
         self.push_name(page, row, y)?;

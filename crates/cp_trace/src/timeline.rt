@@ -20,7 +20,7 @@ const LEGEND: &str =
 monitor: . unset, - free, else the sign of the process that holds it
 ";
 
-// The sign of a process, which stands before its name: a digit, or a letter from the tenth on. All
+// The sign of a process, which is before its name: a digit, or a letter from the tenth on. All
 // above the 61st have one.
 fn sign(number: u32) -> char {
     char::from(match u8::try_from(number) {
@@ -45,7 +45,7 @@ fn letter(cell: Cell) -> char {
     }
 }
 
-/// A grid that is told as text, block by block.
+/// A grid that is reported as text, block by block.
 #[derive(Drop)]
 pub struct Timeline<'t> {
     grid: Grid<'t>,
@@ -56,7 +56,7 @@ pub struct Timeline<'t> {
 }
 
 impl<'t> Timeline<'t> {
-    /// Returns the timeline that tells a grid.
+    /// The timeline that reports a grid.
     pub(crate) fn of(grid: Grid<'t>) -> Timeline<'t> {
         let margin = grid.longest_name().max(b"rnd".len()).saturating_add(4);
         let steps = (WIDTH.saturating_sub(margin) / STEP).max(1);

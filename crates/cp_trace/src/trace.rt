@@ -51,7 +51,7 @@ impl Seen {
     }
 }
 
-// A process or monitor of which a trace tells.
+// A process or monitor of which a trace reports.
 #[derive(Drop)]
 struct Traced {
     owner: Owner,
@@ -60,7 +60,7 @@ struct Traced {
     seen: Seen,
 }
 
-/// The processes and monitors of which a trace tells, as they were seen last.
+/// The processes and monitors of which a trace reports, as they were seen last.
 #[derive(Drop)]
 pub struct Trace<'t> {
     pub(crate) alloc: Global,
@@ -70,7 +70,7 @@ pub struct Trace<'t> {
 }
 
 impl<'t> Trace<'t> {
-    /// Returns the trace of a machine from what it is now.
+    /// The trace of a machine from what it is now.
     ///
     /// # Errors
     ///
@@ -105,7 +105,7 @@ impl<'t> Trace<'t> {
         Ok(())
     }
 
-    /// Returns what changed since the machine was seen last, for each process and monitor that
+    /// What changed since the machine was seen last, for each process and monitor that
     /// changed. The machine has then been seen.
     ///
     /// # Errors

@@ -1,4 +1,4 @@
-//! Following a machine round by round, and telling of it in the form that is asked for.
+//! Following a machine round by round, and reporting of it in the form that is asked for.
 
 ghost use Rattle.std.specs.Prelude.{◌≡◌, IfOk, OnOk};
 ghost use Rattle.cp_trace.specs.WalkOutput.{Adds};
@@ -14,8 +14,8 @@ use cp_base_config::trace::TraceForm;
 use cp_inspect::inspect::Inspect;
 use std::alloc::{AllocError, Global};
 
-/// Who follows a machine and tells of it. What it has seen takes memory that doesn't grow with the
-/// rounds.
+/// Who follows a machine and reports of it. What it has seen takes memory that doesn't grow with
+/// the rounds.
 #[derive(Drop)]
 pub enum Tracer<'t> {
     Lines(Trace<'t>),
@@ -27,8 +27,8 @@ pub enum Tracer<'t> {
 impl<'t> Tracer<'t> {
     ghost use Rattle.cp_trace.specs.Tracers.{IsPart, IsTrace, ReportsRound, form_of};
 
-    /// Returns who follows a machine from what it is now, and tells of it in this form. The machine
-    /// runs the program of the topic's text, and has made the rounds before those that are told.
+    /// Who follows a machine from what it is now, and reports of it in this form. The machine runs
+    /// the program of the topic's text, and has made the rounds before those that are reported.
     ///
     /// # Errors
     ///
@@ -52,7 +52,7 @@ impl<'t> Tracer<'t> {
         })
     }
 
-    /// Adds what stands before all rounds.
+    /// Adds what is before all rounds.
     ///
     /// # Errors
     ///
@@ -66,7 +66,7 @@ impl<'t> Tracer<'t> {
         }
     }
 
-    /// Sees the machine after so many rounds, and adds what is told at once.
+    /// Sees the machine after so many rounds, and adds what is reported at once.
     ///
     /// # Errors
     ///
@@ -93,7 +93,7 @@ impl<'t> Tracer<'t> {
         }
     }
 
-    /// Adds what stands behind all rounds.
+    /// Adds what is behind all rounds.
     ///
     /// # Errors
     ///

@@ -18,7 +18,7 @@ pub(crate) struct Values {
 }
 
 impl Values {
-    /// Returns the values that the variables at these places of a process or monitor have in a
+    /// The values that the variables at these places of a process or monitor have in a
     /// machine.
     pub(crate) fn of<M: Inspect>(
         alloc: Global,

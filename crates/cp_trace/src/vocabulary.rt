@@ -52,7 +52,7 @@ fn enumerations<'t>(
 }
 
 impl<'t> Vocabulary<'t> {
-    /// Returns the vocabulary of a text with this tree, whose processes and monitors these are.
+    /// The vocabulary of a text with this tree, whose processes and monitors these are.
     pub(crate) fn of(
         alloc: Global,
         key: Key,
@@ -66,7 +66,7 @@ impl<'t> Vocabulary<'t> {
         })
     }
 
-    /// Returns the number of the type of a process or monitor, or `None` for the initial process.
+    /// The number of the type of a process or monitor, or `None` for the initial process.
     pub(crate) fn type_of(&self, owner: Owner) -> Option<usize> {
         let component = match owner {
             Owner::Process(number) => {
@@ -78,12 +78,12 @@ impl<'t> Vocabulary<'t> {
         Some(component.of)
     }
 
-    /// Returns the name of the process with a number.
+    /// The name of the process with a number.
     pub(crate) fn process(&self, number: u32) -> &'t str {
         name_of(&self.component_table, Owner::Process(number))
     }
 
-    /// Returns the names of the processes with these numbers.
+    /// The names of the processes with these numbers.
     pub(crate) fn processes(&self, numbers: &[u32]) -> Result<Vec<&'t str>, AllocError> {
         let mut names = Vec::with_capacity(self.alloc, numbers.len())?;
         for number in numbers {
@@ -92,7 +92,7 @@ impl<'t> Vocabulary<'t> {
         Ok(names)
     }
 
-    /// Returns the name of the holder of a gate, `free` or `unset`.
+    /// The name of the holder of a gate, `free` or `unset`.
     pub(crate) fn holder(&self, holder: Holder) -> &'t str {
         match holder {
             Holder::Unset => "unset",
@@ -124,7 +124,7 @@ impl<'t> Vocabulary<'t> {
         }
     }
 
-    /// Returns the value of a variable of a type with the number `of`, as it is told.
+    /// The value of a variable of a type with the number `of`, as it is reported.
     pub(crate) fn value<M: Inspect>(
         &self,
         machine: &M,

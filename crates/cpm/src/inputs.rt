@@ -52,7 +52,7 @@ pub(crate) fn open_inputs<'a, H: Files + Input>(
 }
 
 impl<'a, F: Read + Drop, I: Read + Drop> Opened<'a, F, I> {
-    /// Returns one input for all processes. To join inputs by name it reads the text, and puts the
+    /// One input for all processes. To join inputs by name it reads the text, and puts the
     /// bytes in the place of their source.
     ///
     /// # Errors

@@ -31,7 +31,7 @@ fn now(clock: &impl Clock) -> u64 {
 }
 
 impl<'a, H: Clock + Eprint> Progress<'a, H> {
-    /// Returns the gate of a run that begins now.
+    /// The gate of a run that begins now.
     pub(crate) fn of(rt: &'a H, is_asked_for: bool) -> Progress<'a, H> {
         let next = if is_asked_for {
             now(rt).saturating_add(PERIOD)
@@ -68,7 +68,7 @@ impl<'a, H: Clock + Eprint> Progress<'a, H> {
         }
     }
 
-    /// Returns a writer that erases the line whenever it writes to another, since both may be shown
+    /// A writer that erases the line whenever it writes to another, since both may be shown
     /// on one terminal.
     pub(crate) fn beside<'p, W: Write>(&'p self, out: W) -> Beside<'p, 'a, H, W> {
         Beside {

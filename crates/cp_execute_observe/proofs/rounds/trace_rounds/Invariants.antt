@@ -5,7 +5,7 @@ use Rattle.cp_execute_observe.specs.Writing.{Extends}
 use Rattle.cp_execute_observe.proofs.Reported.{WritesPart}
 use Rattle.cp_execute_observe.proofs.rounds.trace_rounds.Given as goal
 
--- so many rounds were made, and what is told of them is written, or held
+-- so many rounds were made, and what is reported of them is written, or held
 abbrev pub invariant-loop-round : goal.invariant-loop-round
 invariant-loop-round g l = record {
   made : MakesRounds l.plan.turn.steps l._round l.fn.machine l.machine;

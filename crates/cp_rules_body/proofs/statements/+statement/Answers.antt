@@ -1,5 +1,5 @@
 -- A statement's violations are those of its parts in text order, and the earliest of two lists together is found by
--- going on with the second from the earliest of the first: each answer is that fact, once for each part that is judged.
+-- continuing with the second from the earliest of the first: each answer is that fact, once for each part that is judged.
 -- Only memory can stop the walk, and then nothing is claimed.
 use Rattle.std.proofs.Common.{◌≡◌, ◌+◌, ◌++◌, ◌∷◌, [], map, drop, ap, sym, ◌∙◌}
 use Rattle.std.proofs.lemmas.List.{at_drop_more}

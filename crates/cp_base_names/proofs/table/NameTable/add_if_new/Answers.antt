@@ -13,7 +13,7 @@ use Rattle.cp_base_names.specs.declared.name.Name.{Name}
 use Rattle.cp_base_names.proofs.Named.{lookup-named, put_back, same_name}
 use Rattle.cp_base_names.proofs.table.NameTable.add_if_new.Goals as goal
 
--- what the name stood for
+-- what the name represented
 before : {A : Type 0} (x : Text) (es : List (Name × A)) (o p : Option A) → o ≡ map_lookup (λ k. bytes_eq x k.letters.now) es → o ≡ p → lookup x (map named es) ≡ p
 before x es o p old is = sym (lookup-named x es) ∙ sym old ∙ is
 

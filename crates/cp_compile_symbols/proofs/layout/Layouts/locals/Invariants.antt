@@ -8,7 +8,7 @@ use Rattle.cp_compile_symbols.specs.Variables.{AreDeclared, declared_entry}
 use Rattle.cp_compile_symbols.proofs.LocalsLaid.{PartlyLaid}
 use Rattle.cp_compile_symbols.proofs.layout.Layouts.locals.Given as goal
 
--- The remaining variables lie after those that are laid out.
+-- The remaining variables are after those that are laid out.
 abbrev pub invariant-loop-d : goal.invariant-loop-d
 invariant-loop-d l =
     (g : GlobalScope) (types : Types) (at : ℕ) (vs : List (Name × Variable)) → AreLaid g types l.self.rows.items

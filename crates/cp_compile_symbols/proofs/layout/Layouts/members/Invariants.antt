@@ -6,7 +6,7 @@ use Rattle.cp_compile_symbols.specs.Standing.{AreMembers, entry}
 use Rattle.cp_compile_symbols.proofs.Laying.{PartlyLaid}
 use Rattle.cp_compile_symbols.proofs.layout.Layouts.members.Given as goal
 
--- The remaining members lie after those that are laid out.
+-- The remaining members are after those that are laid out.
 abbrev pub invariant-loop-member : goal.invariant-loop-member
 invariant-loop-member l =
     (g : GlobalScope) (types : Types) (at : ℕ) (ms : Members) → AreLaid g types l.self.rows.items → AreMembers types (map entry l.fn.members) ms → Counts l.fn.head at

@@ -1,6 +1,7 @@
--- Rows of types are only added, so what stood for a type before a call stands for it after (`still_represents`). Each answer
--- puts the rows made by the calls under the new one. The loops over groups and indices keep what was added so far, and
--- that the definition's list is this followed by what the rest adds.
+-- Rows of types are only added, so what represented a type before a call represents it after
+-- (`still_represents`). Each answer puts the rows made by the calls under the new one. The loops
+-- over groups and indices keep what was added so far, and that the definition's list is this
+-- followed by what the rest adds.
 use Rattle.std.proofs.Common.{◌≡◌, ◌++◌, ◌∷◌, ◌≤◌, ◌∙◌, ◌-◌, ◌+◌, ℕ, List, [], drop, get_or, map, length, ap, arith, refl, sym, subst}
 use Rattle.cp_model.specs.declared.tree.TypeExpression.{TypeExpression}
 use Rattle.std.proofs.lemmas.List.{append-nil, at_drop_more, drop_all}

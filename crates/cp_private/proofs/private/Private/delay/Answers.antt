@@ -1,4 +1,4 @@
--- The queue lies at the address that the definition finds (`found`). Each test of the code is that of
+-- The queue is at the address that the definition finds (`found`). Each test of the code is that of
 -- the definition there: whether a gate is held, whether the word exists, and whether it is free.
 use Rattle.std.proofs.Common.{rules, arith, ◌≡◌, ◌+◌, ℕ, true, false, Ok, Err, length, refl, to_z, sym, ◌∙◌}
 use Rattle.std.specs.Int.{w32}

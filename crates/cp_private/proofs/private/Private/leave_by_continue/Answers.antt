@@ -1,6 +1,7 @@
--- The queue lies at the address that the definition finds (`found`), and the innermost frame decides
--- (`here`): without a gate nothing is done, and else the routine returns what the definition returns.
--- The code writes the word of the queue after the return, which changes no word (`written_after`).
+-- The queue is at the address that the definition finds (`found`), and the innermost frame decides
+-- (`here`): without a gate nothing is done, and else the routine returns what the definition
+-- returns. The code writes the word of the queue after the return, which changes no word
+-- (`written_after`).
 use Rattle.std.proofs.Common.{rules, arith, ◌≡◌, ◌∷◌, ℕ, ◌-◌, List, Bool, true, false, pos, Ok, Err, length, refl, ap, sym, to_z, of_z, ◌∙◌}
 use Rattle.std.specs.Prelude.{if◌then◌else◌}
 use Rattle.std.specs.Int.{w32}
