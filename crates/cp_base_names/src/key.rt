@@ -53,7 +53,13 @@ fn add_written(digest: &mut Md5, of: &TypeExpression) {
             ..
         } => {
             for index in indices.as_slice() {
-                add_written(digest, index);
+                // Most index types declare nothing, and there may be very many.
+                if !matches!(
+                    index,
+                    TypeExpression::Named(_) | TypeExpression::Subrange(_)
+                ) {
+                    add_written(digest, index);
+                }
             }
             add_written(digest, element);
         }
