@@ -1,4 +1,4 @@
-use Rattle.std.proofs.Common.{rules, ◌≡◌, false, true, ap, arith, sym, ◌∙◌}
+use Rattle.std.proofs.Common.{ap, arith, sym, ◌∙◌}
 use Rattle.cp_rounds_still.specs.Stillness.{moves}
 use Rattle.cp_rounds_still.proofs.StillStates.{rest_more, report_moving, report_still}
 use Rattle.cp_rounds_still.proofs.stillness.is_still.Goals as goal
@@ -10,13 +10,11 @@ pub returns-then-can_move : goal.returns-then-can_move
 returns-then-can_move c =
     let below = c.loop-i-test.true in
     let count = c.processes-i-end.ensures.count in
-    let tested : c.can_move.result ≡ true = search rules in
-    report_moving c.args.machine.now c.loop-i.i (omega (arith, below, count)) (ap moves (sym c.state.ensures.part) ∙ (sym c.can_move.ensures ∙ tested))
+    report_moving c.args.machine.now c.loop-i.i (omega (arith, below, count)) (ap moves (sym c.state.ensures.part) ∙ (sym c.can_move.ensures ∙ c.if-can_move.true))
 
 pub loop-i-preserved : goal.loop-i-preserved
 loop-i-preserved c =
-    let tested : c.can_move.result ≡ false = search rules in
-    rest_more c.args.machine.now c.loop-i.i (ap moves (sym c.state.ensures.part) ∙ (sym c.can_move.ensures ∙ tested)) c.loop-i.invariant
+    rest_more c.args.machine.now c.loop-i.i (ap moves (sym c.state.ensures.part) ∙ (sym c.can_move.ensures ∙ c.if-can_move.false)) c.loop-i.invariant
 
 pub returns : goal.returns
 returns c =
