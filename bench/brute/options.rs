@@ -1,0 +1,39 @@
+//! The arguments of the command line.
+
+pub const USAGE: &str = "usage: brute [--by-calls] [--states LIMIT] [--input FILE] \
+[--schedule ended|stuck|fault|faulted] FILE";
+
+const DEFAULT_LIMIT: usize = 1_000_000;
+
+pub struct Options {
+    pub file: String,
+    pub input: Option<String>,
+    pub by_calls: bool,
+    /// The largest number of states.
+    pub limit: usize,
+    /// The kind of state whose schedule is printed in place of the counts.
+    pub schedule: Option<String>,
+}
+
+impl Options {
+    pub fn read(mut words: impl Iterator<Item = String>) -> Option<Options> {
+        let mut options = Options {
+            file: String::new(),
+            input: None,
+            by_calls: false,
+            limit: DEFAULT_LIMIT,
+            schedule: None,
+        };
+        while let Some(word) = words.next() {
+            match word.as_str() {
+                "--by-calls" => options.by_calls = true,
+                "--states" => options.limit = words.next()?.parse().ok()?,
+                "--input" => options.input = Some(words.next()?),
+                "--schedule" => options.schedule = Some(words.next()?),
+                _ if options.file.is_empty() => options.file = word,
+                _ => return None,
+            }
+        }
+        (!options.file.is_empty()).then_some(options)
+    }
+}
