@@ -19,18 +19,25 @@ fn mix(hash: u64, chunk: u64) -> u64 {
     (product >> 64) as u64 ^ product as u64
 }
 
+/// Eight bytes of a key from a place on.
+fn eight(key: &[u8], from: usize) -> u64 {
+    let mut bytes = [0; 8];
+    bytes.copy_from_slice(&key[from..from + 8]);
+    u64::from_le_bytes(bytes)
+}
+
+/// Keys of eight bytes and more are read eight bytes at a time. The last eight may overlap others.
 fn hash(key: &[u8]) -> u64 {
-    let mut chunks = key.chunks_exact(8);
     let mut hash = key.len() as u64 + 1;
-    for chunk in &mut chunks {
-        hash = mix(
-            hash,
-            u64::from_le_bytes(chunk.try_into().unwrap_or_default()),
-        );
+    if key.len() < 8 {
+        let joined = key.iter().fold(0, |all, byte| all << 8 | u64::from(*byte));
+        return mix(mix(hash, joined), MULTIPLIER);
     }
-    let rest = chunks.remainder().iter().rev();
-    let last = rest.fold(0, |last, byte| last << 8 | u64::from(*byte));
-    mix(mix(hash, last), MULTIPLIER)
+    let last = key.len() - 8;
+    for from in (0..last).step_by(8) {
+        hash = mix(hash, eight(key, from));
+    }
+    mix(mix(hash, eight(key, last)), MULTIPLIER)
 }
 
 impl ByteSet {

@@ -28,19 +28,48 @@ impl<'a> Reader<'a> {
         number
     }
 
-    fn word(&mut self) -> i32 {
-        let folded = self.number();
-        (folded >> 1) as i32 ^ -((folded & 1) as i32)
-    }
-
     fn words(&mut self, words: &mut Vec<i32>) {
-        let count = self.number();
         words.clear();
-        words.extend((0..count).map(|_| self.word()));
+        let head = self.number();
+        let count = head as usize >> 1;
+        if head & 1 == 1 {
+            let (small, rest) = self.bytes.as_slice().split_at(count);
+            words.extend(small.iter().map(|byte| unfold(u32::from(*byte))));
+            self.bytes = rest.iter();
+        } else {
+            words.extend((0..count).map(|_| unfold(self.number())));
+        }
     }
 }
 
-pub fn put(bytes: &mut Vec<u8>, mut number: u32) {
+/// A number for a word, which is small if the word is close to 0.
+fn fold(word: i32) -> u32 {
+    ((word << 1) ^ (word >> 31)) as u32
+}
+
+fn unfold(folded: u32) -> i32 {
+    (folded >> 1) as i32 ^ -((folded & 1) as i32)
+}
+
+/// The most bytes of a number.
+pub const MAX_NUMBER_BYTES: usize = 5;
+
+/// Writes numbers into a slice that has room for them, and returns how many bytes they take.
+pub fn put_all(bytes: &mut [u8], numbers: &[u32]) -> usize {
+    let mut at = 0;
+    for mut number in numbers.iter().copied() {
+        while number >= 0x80 {
+            bytes[at] = number as u8 | 0x80;
+            number >>= 7;
+            at += 1;
+        }
+        bytes[at] = number as u8;
+        at += 1;
+    }
+    at
+}
+
+fn put(bytes: &mut Vec<u8>, mut number: u32) {
     while number >= 0x80 {
         bytes.push(number as u8 | 0x80);
         number >>= 7;
@@ -48,14 +77,15 @@ pub fn put(bytes: &mut Vec<u8>, mut number: u32) {
     bytes.push(number as u8);
 }
 
-/// Small numbers of either sign take one byte.
-fn put_word(bytes: &mut Vec<u8>, word: i32) {
-    put(bytes, ((word << 1) ^ (word >> 31)) as u32);
-}
-
+/// Words that are all small take a byte each, which is soon done.
 fn put_words(bytes: &mut Vec<u8>, words: &[i32]) {
-    put(bytes, words.len() as u32);
-    words.iter().for_each(|word| put_word(bytes, *word));
+    let are_small = words.iter().fold(0, |all, word| all | fold(*word)) < 0x100;
+    put(bytes, (words.len() as u32) << 1 | u32::from(are_small));
+    if are_small {
+        bytes.extend(words.iter().map(|word| fold(*word) as u8));
+    } else {
+        words.iter().for_each(|word| put(bytes, fold(*word)));
+    }
 }
 
 impl Process {

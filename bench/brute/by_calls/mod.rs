@@ -7,7 +7,7 @@ mod settling;
 
 use crate::byte_set::ByteSet;
 use crate::findings::{Findings, GaveUp};
-use crate::packing::{put, Reader};
+use crate::packing::{put_all, Reader, MAX_NUMBER_BYTES};
 use crate::program::Program;
 use parts::Way;
 use settling::Settler;
@@ -19,7 +19,8 @@ pub struct Search<'p> {
     /// For each state the one before it, and who made the late step.
     parents: Vec<u32>,
     movers: Vec<u8>,
-    bytes: Vec<u8>,
+    /// Room for the bytes of a state.
+    key: Vec<u8>,
     pub findings: Findings,
 }
 
@@ -31,7 +32,7 @@ impl<'p> Search<'p> {
             seen: ByteSet::default(),
             parents: Vec::new(),
             movers: Vec::new(),
-            bytes: Vec::new(),
+            key: vec![0; MAX_NUMBER_BYTES * (program.processes.len() + 1)],
             findings: Findings::default(),
         }
     }
@@ -44,9 +45,8 @@ impl<'p> Search<'p> {
         parent: usize,
         mover: usize,
     ) -> Result<(), GaveUp> {
-        self.bytes.clear();
-        state.iter().for_each(|part| put(&mut self.bytes, *part));
-        let (number, is_new) = self.seen.insert(&self.bytes);
+        let length = put_all(&mut self.key, state);
+        let (number, is_new) = self.seen.insert(&self.key[..length]);
         if !is_new {
             return Ok(());
         }

@@ -106,11 +106,21 @@ impl<'p> Parts<'p> {
         self.ways[number - 1][part as usize]
     }
 
+    fn begun(&self, kernel: u32) -> &[u64] {
+        let first = kernel as usize * self.stride;
+        &self.begun[first..first + self.stride]
+    }
+
+    /// Whether a kernel lets a process run that one before it doesn't.
+    pub fn has_woken(&self, before: u32, after: u32) -> bool {
+        let mut pairs = self.begun(before).iter().zip(self.begun(after));
+        pairs.any(|(before, after)| after & !before != 0)
+    }
+
     /// Whether the kernel lets a process run, and its next step is of this kind.
     pub fn may_move(&self, state: &[u32], number: usize, kind: Way) -> bool {
-        let place = number - 1;
-        let begun = self.begun[state[0] as usize * self.stride + place / 64];
-        begun >> (place % 64) & 1 == 1 && self.way(number, state[number]) == kind
+        let (word, bit) = ((number - 1) / 64, (number - 1) % 64);
+        self.begun(state[0])[word] >> bit & 1 == 1 && self.way(number, state[number]) == kind
     }
 
     /// The first process that may make a step of this kind.

@@ -62,10 +62,14 @@ impl<'p> Settler<'p> {
         Ok(numbers)
     }
 
-    /// Makes the late step of a process, and settles.
+    /// Makes the late step of a process in a settled state, and settles.
     pub fn advance(&mut self, state: &mut [u32], mover: usize) -> Result<(), GaveUp> {
+        let before = state[0];
         self.run(state, mover)?;
-        self.settle(state)
+        if self.parts.has_woken(before, state[0]) {
+            self.settle(state)?;
+        }
+        Ok(())
     }
 
     fn settle(&mut self, state: &mut [u32]) -> Result<(), GaveUp> {
