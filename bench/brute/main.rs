@@ -9,6 +9,7 @@
 //! - `state`, `evaluation`, `steps`, `calls`: one step of a process, as docs/meaning.md says.
 //! - `packing`, `byte_set`: states as bytes, and sets of them.
 //! - `single_events`, `by_calls`: the two searches. `findings`: what they print.
+//! - `replays`: the state that an order text leads to, to compare it with that of `cpm replay`.
 
 #[path = "../plain_front/checker/mod.rs"]
 mod checker;
@@ -30,6 +31,7 @@ mod lowering;
 mod options;
 mod packing;
 mod program;
+mod replays;
 mod single_events;
 mod state;
 mod steps;
@@ -110,8 +112,19 @@ fn search_single_events(program: &Program, options: &Options) -> Result<String, 
     Ok(order.unwrap_or_default())
 }
 
+fn replay(program: &Program, path: &str) -> Result<String, Failed> {
+    let order = std::fs::read_to_string(path);
+    let order = order.map_err(|_| (format!("{path} can't be read"), USAGE))?;
+    let state = replays::replay(program, &order);
+    let unlawful = || (format!("{path} is no order"), USAGE);
+    Ok(replays::report(program, &state.ok_or_else(unlawful)?))
+}
+
 fn run(options: &Options) -> Result<String, Failed> {
     let program = lower(options)?;
+    if let Some(path) = &options.order {
+        return replay(&program, path);
+    }
     let found = if options.by_calls {
         search_by_calls(&program, options)
     } else {

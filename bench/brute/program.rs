@@ -12,6 +12,13 @@ pub struct Bounds {
     pub high: i32,
 }
 
+/// A word of a component at the start. Marks of classes and rights aren't reported.
+#[derive(Clone, Copy)]
+pub struct Word {
+    pub value: i32,
+    pub is_reported: bool,
+}
+
 #[derive(Clone, Copy)]
 pub enum Root {
     /// So many words after the first of the running activation.
@@ -171,7 +178,7 @@ pub struct Unit {
 
 pub struct Process {
     pub start: NodeId,
-    pub words: Vec<i32>,
+    pub words: Vec<Word>,
     pub input: Vec<u8>,
 }
 
@@ -183,7 +190,23 @@ pub struct Program {
     /// Where the words of each monitor begin.
     pub monitors: Vec<u32>,
     /// The words of all monitors at the start.
-    pub shared: Vec<i32>,
+    pub shared: Vec<Word>,
+}
+
+impl Word {
+    pub fn reported(value: i32) -> Word {
+        Word {
+            value,
+            is_reported: true,
+        }
+    }
+
+    pub fn hidden() -> Word {
+        Word {
+            value: 0,
+            is_reported: false,
+        }
+    }
 }
 
 impl Node {

@@ -173,8 +173,7 @@ impl<'p> Search<'p> {
                 rounds.push(Vec::new());
             } else {
                 let process = &state.processes[usize::from(mover) - 1];
-                let node = self.program.node(process);
-                let is_of_kernel = process.gate != 0 || node.is_of_kernel();
+                let is_of_kernel = self.program.is_of_kernel(process);
                 let letter = if is_of_kernel { 'K' } else { 'P' };
                 rounds
                     .last_mut()

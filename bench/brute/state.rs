@@ -94,7 +94,7 @@ impl Process {
             gate: 0,
             consumed: 0,
             frames: Vec::new(),
-            words: start.words.clone(),
+            words: start.words.iter().map(|word| word.value).collect(),
         }
     }
 
@@ -113,7 +113,7 @@ impl Kernel {
         let mut stages = vec![Stage::Unstarted; program.processes.len()];
         stages[0] = Stage::Begun;
         Kernel {
-            words: program.shared.clone(),
+            words: program.shared.iter().map(|word| word.value).collect(),
             gates: program.monitors.iter().map(|_| unset()).collect(),
             stages,
         }

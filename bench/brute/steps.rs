@@ -55,6 +55,11 @@ impl Program {
     pub fn node(&self, process: &Process) -> &Node {
         &self.nodes[process.at as usize]
     }
+
+    /// Whether the next step of a process that is ready is the kernel's.
+    pub fn is_of_kernel(&self, process: &Process) -> bool {
+        process.gate != 0 || self.node(process).is_of_kernel()
+    }
 }
 
 /// What follows the last counter of a `for`.

@@ -4,7 +4,7 @@ mod expressions;
 mod statements;
 mod types;
 
-use crate::program::{Action, Node, NodeId, Process, Program, Unit};
+use crate::program::{Action, Bounds, Node, NodeId, Process, Program, Unit, Word};
 use crate::tree::{Body, ConstantDefinition, Defined, Fields, Identifier, Parameters, Section};
 use crate::tree::{Sort, System as SystemTree, Tree, TypeDefinition};
 use std::rc::Rc;
@@ -93,7 +93,7 @@ impl<'t> Lowering<'t> {
     }
 
     fn enumeration(&mut self, names: &[Identifier<'t>]) -> Type<'t> {
-        let base = crate::program::Bounds {
+        let base = Bounds {
             low: 0,
             high: names.len() as i32 - 1,
         };
@@ -142,6 +142,7 @@ impl<'t> Lowering<'t> {
         let (parameters, variables, words) = self.heading(&tree.parameters, &tree.variables);
         let mut starts = Vec::new();
         variables.iter().for_each(|x| x.of.start(&mut starts));
+        let mut starts: Vec<i32> = starts.iter().map(|word| word.value).collect();
         self.locals = [parameters.clone(), variables].concat();
         let result = tree.result_type.as_ref().map(|x| self.scope.named(x));
         let place = result.as_ref().map(|_| words + starts.len() as u32);
@@ -197,7 +198,7 @@ impl<'t> Lowering<'t> {
         }
     }
 
-    fn add_process(&mut self, start: NodeId, words: Vec<i32>, inputs: &[Vec<u8>]) {
+    fn add_process(&mut self, start: NodeId, words: Vec<Word>, inputs: &[Vec<u8>]) {
         let input = inputs.get(self.program.processes.len()).cloned();
         self.program.processes.push(Process {
             start,

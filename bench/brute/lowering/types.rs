@@ -1,6 +1,6 @@
 //! What written types and constants stand for, and how their words are laid out.
 
-use crate::program::{Bounds, NodeId};
+use crate::program::{Bounds, NodeId, Word};
 use crate::tree::{Constant, Fields, Identifier, Parameters, Sort, TypeExpression};
 use std::collections::HashMap;
 use std::rc::Rc;
@@ -83,17 +83,17 @@ impl<'t> Type<'t> {
         }
     }
 
-    /// Adds the start values of a variable.
-    pub fn start(&self, words: &mut Vec<i32>) {
+    /// Adds the words of a variable at the start.
+    pub fn start(&self, words: &mut Vec<Word>) {
         match self {
-            Type::Simple { start, .. } => words.push(*start),
+            Type::Simple { start, .. } => words.push(Word::reported(*start)),
             Type::Array(bounds, element) => {
                 (bounds.low..=bounds.high).for_each(|_| element.start(words))
             }
             Type::Record(fields) => fields.iter().for_each(|(_, of)| of.start(words)),
-            Type::Queue => words.push(0),
+            Type::Queue => words.push(Word::reported(0)),
             Type::Component(system) if system.sort == Sort::Class => {
-                words.push(0);
+                words.push(Word::hidden());
                 words.extend(system.starts());
             }
             Type::Component(_) => {}
@@ -152,12 +152,12 @@ impl<'t> System<'t> {
         parameters + total(self.variables.iter().map(|variable| &variable.of))
     }
 
-    /// The start values of its parameters and variables.
-    pub fn starts(&self) -> Vec<i32> {
+    /// The words of its parameters and variables at the start.
+    pub fn starts(&self) -> Vec<Word> {
         let mut words = Vec::new();
         for parameter in &self.parameters {
             match parameter.of {
-                Type::Component(_) => words.push(0),
+                Type::Component(_) => words.push(Word::hidden()),
                 _ => parameter.of.start(&mut words),
             }
         }
