@@ -8,8 +8,16 @@ import random
 from typing import NamedTuple
 
 
+# Entries of a monitor that is taken and put back by turns, or that counts.
+LOCKS = [
+    ('  procedure entry take; begin if b then delay(q); b := true end;', '  procedure entry put; begin b := false; continue(q) end;'),
+    ('  procedure entry take; begin if y = 0 then delay(q) else y := y - 1 end;', '  procedure entry put; begin if empty(q) then y := y + 1 else continue(q) end;'),
+    ('  procedure entry take; begin while b do delay(q); b := true end;', '  procedure entry put; begin b := not b; continue(q) end;'),
+]
+
+
 class Routine(NamedTuple):
-    """A routine as its callers see it. Each parameter is `value`, `small` or `var`."""
+    """A routine as its callers see it. Each parameter is `value`, `small`, `var`, `pair` or `var pair`."""
     name: str
     parameters: tuple
     is_function: bool
@@ -24,15 +32,16 @@ class Type(NamedTuple):
 
 
 class Scope(NamedTuple):
-    """What a statement may name: integers and variables of type small, of these the variables of each type, and so on. `calls` are routines as they are called,
-    with their component's name in front."""
+    """What a statement may name: integers and variables of type small, of these the variables of each type, and so on. A pair is an array of two integers; those of
+    `pair_values` are parameters, which nothing is assigned to. `calls` are routines as they are called, with their component's name in front."""
     numbers: tuple
     integers: tuple
     smalls: tuple
     truths: tuple
-    arrays: tuple
+    pairs: tuple
     calls: tuple
     queues: tuple = ()
+    pair_values: tuple = ()
     may_continue: bool = False
     counters: tuple = ('l0', 'l1')
 
@@ -52,7 +61,8 @@ class Maker:
 
     def call(self, scope, is_function, depth):
         """A call of a routine of this sort, or none."""
-        routines = [routine for routine in scope.calls if routine.is_function == is_function]
+        wanted = {'pair', 'var pair'} if not scope.pairs else set()
+        routines = [routine for routine in scope.calls if routine.is_function == is_function and not wanted & set(routine.parameters)]
         if not routines:
             return None
         routine = self.rng.choice(routines)
@@ -61,7 +71,9 @@ class Maker:
 
     def argument(self, scope, sort, depth):
         if sort == 'var':
-            return self.rng.choice(scope.integers)
+            return self.rng.choice([*scope.integers, *scope.integers, *(f'{pair}[{self.index(scope)}]' for pair in scope.pairs)])
+        if sort in ('pair', 'var pair'):
+            return self.rng.choice(scope.pairs if sort == 'var pair' else scope.pairs + scope.pair_values)
         if sort == 'small':
             return str(self.rng.randrange(3)) if self.chance(0.95) else self.number(scope, depth - 1)
         return self.number(scope, depth - 1)
@@ -74,14 +86,14 @@ class Maker:
             made = self.call(scope, True, depth)
             if made:
                 return made
-        if scope.arrays and self.chance(0.2):
-            return f'{self.rng.choice(scope.arrays)}[{self.index(scope)}]'
+        if scope.pairs + scope.pair_values and self.chance(0.2):
+            return f'{self.rng.choice(scope.pairs + scope.pair_values)}[{self.index(scope)}]'
         a, b = self.number(scope, depth - 1), self.number(scope, depth - 1)
         return self.rng.choice([f'({a} + {b})', f'({a} - {b})', f'({a} * {b}) mod 4', f'{a} mod 3', f'abs({a})', f'pred({a})',
                                 f'({a} + {b}) mod 3', f'(7 div {b})' if self.chance(0.1) else f'({a} + 1)'])
 
     def index(self, scope):
-        """An index of an array with the bounds 0 and 1, seldom beyond them."""
+        """An index of a pair, seldom beyond its bounds."""
         return self.rng.choice(['0', '1', f'abs({self.rng.choice(scope.numbers)}) mod 2' if self.chance(0.9) else self.rng.choice(scope.numbers)])
 
     def truth(self, scope, depth=2):
@@ -104,8 +116,9 @@ class Maker:
     def assignment(self, scope):
         if scope.truths and self.chance(0.3):
             return f'{self.rng.choice(scope.truths)} := {self.truth(scope)}'
-        if scope.arrays and self.chance(0.2):
-            return f'{self.rng.choice(scope.arrays)}[{self.index(scope)}] := {self.number(scope)}'
+        if scope.pairs and self.chance(0.25):
+            pair = self.rng.choice(scope.pairs)
+            return self.rng.choice([f'{pair} := {self.rng.choice(scope.pairs + scope.pair_values)}', f'{pair}[{self.index(scope)}] := {self.number(scope)}'])
         if self.chance(0.3):
             value = str(self.rng.randrange(3)) if self.chance(0.5) else f'abs({self.number(scope)}) mod 3'
             return f'{self.rng.choice(scope.smalls)} := {self.number(scope) if self.chance(0.05) else value}'
@@ -143,12 +156,20 @@ class Maker:
         if scope.queues and self.chance(0.3):
             return self.waiting(scope)
         if self.chance(0.4 if scope.queues else 0.6):
-            made = self.call(scope, False, 1)
+            made = self.taking(scope) if self.chance(0.4) else self.call(scope, False, 1)
             if made:
                 return made
         if depth > 0 and self.chance(0.35):
             return self.loop(scope, depth) if self.chance(0.5) else self.choice(scope, depth)
         return 'display(1)' if self.chance(0.05) else self.assignment(scope)
+
+    def taking(self, scope):
+        """A statement between `take` and `put` of a monitor that has them, or none."""
+        takes = [routine.name for routine in scope.calls if routine.name.endswith('.take')]
+        if not takes:
+            return None
+        take = self.rng.choice(takes)
+        return f"begin {take}; {self.statement(scope)}; {take.replace('take', 'put')} end"
 
     def statements(self, scope, least, most, last=()):
         count = self.rng.randint(least, most)
@@ -159,17 +180,18 @@ class Maker:
     def routine(self, scope, name, is_entry, in_monitor):
         """A routine of a component, and what its callers see."""
         is_function = self.chance(0.3)
-        parameters = tuple(self.rng.choice(['value', 'value', 'small', *([] if is_function else ['var'])]) for _ in range(self.rng.choice([0, 0, 1, 2])))
+        sorts = ['value', 'value', 'value', 'small', 'small', 'pair', *([] if is_function else ['var', 'var', 'var pair'])]
+        parameters = tuple(self.rng.choice(sorts) for _ in range(self.rng.choice([0, 0, 1, 2])))
         names = [f'o{k}' for k in range(len(parameters))]
-        kinds = {'value': '{}: integer', 'small': '{}: small', 'var': 'var {}: integer'}
+        kinds = {'value': '{}: integer', 'small': '{}: small', 'var': 'var {}: integer', 'pair': '{}: pair', 'var pair': 'var {}: pair'}
+        of = {wanted: tuple(p for p, sort in zip(names, parameters) if sort == wanted) for wanted in kinds}
         heading = '; '.join(kinds[sort].format(p) for p, sort in zip(names, parameters))
-        by_reference = tuple(p for p, sort in zip(names, parameters) if sort == 'var')
-        inner = scope._replace(numbers=(*scope.numbers, *names, 'i'), integers=(*scope.integers, *by_reference, 'i'), counters=('k0', 'k1'),
-                               may_continue=is_entry and in_monitor)
+        inner = scope._replace(numbers=(*scope.numbers, *of['value'], *of['small'], *of['var'], 'i'), integers=(*scope.integers, *of['var'], 'i'),
+                               pairs=scope.pairs + of['var pair'], pair_values=of['pair'], counters=('k0', 'k1'), may_continue=is_entry and in_monitor)
         last = []
         if is_function:
             last.append(f'if {self.truth(inner)} then {name} := 1' if self.chance(0.05) else f'{name} := {self.number(inner)} mod 3')
-        if inner.may_continue and self.chance(0.6):
+        if inner.may_continue and self.chance(0.8):
             last.append(f'continue({self.queue(inner)})')
         body = self.statements(inner, 1, 3, last)
         words = f"{'function' if is_function else 'procedure'} {'entry ' if is_entry else ''}{name}{f'({heading})' if heading else ''}"
@@ -207,19 +229,22 @@ class Maker:
         held = [(x, t) for x, t in self.classes() if self.init_class(rights, x, t)]
         calls = sum((self.entries_of(x, t) for x, t in [*rights, *held]), ())
         queues = (('q', 'qs') if self.chance(0.3) else ('q',)) if sort == 'monitor' else ()
-        scope = Scope(('x', 'y', 'n'), ('y',), ('x',), ('b',), ('a',) if self.chance(0.3) else (), calls, queues)
+        scope = Scope(('x', 'y', 'n'), ('y',), ('x',), ('b',), ('a',) if self.chance(0.4) else (), calls, queues)
         texts, entries = [], []
         if self.chance(0.3):
             text, own = self.routine(scope, 'h', False, sort == 'monitor')
             texts.append(text)
             scope = scope._replace(calls=scope.calls + (own,))
-        for k in range(self.rng.randint(1, 3)):
+        if sort == 'monitor' and self.chance(0.4):
+            texts += self.rng.choice(LOCKS)
+            entries += [Routine('take', (), False), Routine('put', (), False)] * 2
+        for k in range(self.rng.randint(1, 3) if not entries else self.rng.randint(0, 1)):
             text, entry = self.routine(scope, f'e{k}', True, sort == 'monitor')
             texts.append(text)
             entries.append(entry)
         inits = [self.init_class(rights, x, t) for x, t in held if not self.chance(0.05)]
         start = self.statements(scope._replace(queues=()), 0, 1, ['b := true'] if self.chance(0.5) else [])
-        variables = ['x: small; y: integer; b: boolean; a: array [0..1] of integer; l0, l1: integer;', *(f'{x}: {t.name};' for x, t in held)]
+        variables = ['x: small; y: integer; b: boolean; a: pair; l0, l1: integer;', *(f'{x}: {t.name};' for x, t in held)]
         variables += {0: [], 1: ['q: queue;'], 2: ['q: queue; qs: array [0..1] of queue;']}[len(queues)]
         parameters = '; '.join(['n: integer', *(f'{x}: {t.name}' for x, t in rights)])
         self.types.append(Type(name, sort, tuple(t.name for _, t in rights), tuple(entries)))
@@ -232,7 +257,7 @@ class Maker:
         rights = [(f'r{k}', t) for k, t in enumerate(self.rng.choices(monitors, k=self.rng.randint(1, 2)))]
         held = [(x, t) for x, t in self.classes() if self.init_class(rights, x, t)]
         calls = sum((self.entries_of(x, t) for x, t in [*rights, *rights, *held]), ())
-        scope = Scope(('x', 'y', 'n'), ('y',), ('x',), ('b',), ('a',) if self.chance(0.3) else (), calls)
+        scope = Scope(('x', 'y', 'n'), ('y',), ('x',), ('b',), ('a',) if self.chance(0.4) else (), calls)
         texts = []
         if self.chance(0.3):
             text, own = self.routine(scope, 'h', False, False)
@@ -241,7 +266,7 @@ class Maker:
         inits = [self.init_class(rights, x, t) for x, t in held if not self.chance(0.05)]
         steps = self.statements(scope, 2, 4)
         body = '; '.join([*inits, f'cycle {steps} end' if self.chance(0.1) else steps])
-        variables = ['x: small; y: integer; b: boolean; a: array [0..1] of integer; l0, l1: integer;', *(f'{x}: {t.name};' for x, t in held)]
+        variables = ['x: small; y: integer; b: boolean; a: pair; l0, l1: integer;', *(f'{x}: {t.name};' for x, t in held)]
         parameters = '; '.join(['n: integer', *(f'{x}: {t.name}' for x, t in rights)])
         self.types.append(Type(name, 'process', tuple(t.name for _, t in rights), ()))
         return '\n'.join([f'{name} = process({parameters});', f"  var {' '.join(variables)}", *texts, f'  begin {body} end;'])
@@ -269,7 +294,7 @@ class Maker:
         calls = sum((self.entries_of(x, t) for x, t in monitors), ())
         scope = Scope(('x', 'y'), ('y',), ('x',), ('b',), (), calls)
         for _ in range(self.rng.choice([0, 0, 1, 1, 2])):
-            steps.insert(self.rng.randint(len(monitors), len(steps)), self.statement(scope))
+            steps.insert(len(steps) if self.chance(0.7) else self.rng.randint(len(monitors), len(steps)), self.statement(scope))
         if self.chance(0.06):
             steps.pop(self.rng.randrange(len(steps)))
         if self.chance(0.04):
@@ -286,7 +311,7 @@ class Maker:
         parts += [self.process(len(sorts) + k) for k in range(self.rng.randint(1, 2))]
         monitors, processes = self.instances()
         variables = [f'{x}: {t.name};' for x, t in [*monitors, *processes]]
-        return '\n'.join(['type small = 0..2;', *parts, f"var x: small; y, l0, l1: integer; b: boolean; {' '.join(variables)}",
+        return '\n'.join(['type small = 0..2; pair = array [0..1] of integer;', *parts, f"var x: small; y, l0, l1: integer; b: boolean; {' '.join(variables)}",
                           f'begin\n  {self.initial(monitors, processes)}\nend.', ''])
 
 
