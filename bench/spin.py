@@ -1,9 +1,10 @@
 #!/usr/bin/env python3
-"""Runs Spin's exhaustive search on models of the programs in bench/spin, and prints their states and its time.
+"""Runs Spin's exhaustive search on models of the programs in bench/spin.
 
-Spin and a C compiler have to be there: `apt-get install spin gcc` on Debian. Each model does what the program of the same name does, with the gates and queues of monitors.
-Spin is given partial-order reduction, which is its default, and with `--collapse` it also keeps the parts of a state apart. A state in which some process can't go on is an
-invalid end state: the program can get stuck.
+It needs Spin and a C compiler: `apt-get install spin gcc` on Debian. Each model does what the
+program of the same name does, with the gates and queues of monitors. Spin uses partial-order
+reduction, which is its default. With `--collapse` it also stores the parts of a state separately.
+Spin's invalid end states are those in which the program is stuck.
 """
 import pathlib
 import re
@@ -24,7 +25,7 @@ NEEDED = {'spin': 'spin', 'gcc': 'gcc'}
 
 
 def expect_tools():
-    """Ends the script where a tool is missing, and says which package has it."""
+    """Ends the script if a tool is missing, and says which package has it."""
     missing = [package for tool, package in NEEDED.items() if not shutil.which(tool)]
     if missing:
         raise SystemExit(f"this needs {' and '.join(missing)}: apt-get install {' '.join(missing)}")
@@ -45,7 +46,7 @@ def counted(what, text):
 
 def row(name, folder, flags):
     verifier = build(name, folder, flags)
-    # -E lets the search go on where a process is stuck, so that all states are counted.
+    # -E makes the search pass over invalid end states, so that all states are counted.
     whole = [verifier, DEPTH, '-E']
     printed = subprocess.run(whole, cwd=folder, capture_output=True, text=True, check=True).stdout
     first = subprocess.run([verifier, DEPTH], cwd=folder, capture_output=True, text=True, check=True).stdout

@@ -11,7 +11,8 @@ from typing import NamedTuple
 # Entries of a monitor that is taken and put back by turns, or that counts.
 LOCKS = [
     ('  procedure entry take; begin if b then delay(q); b := true end;', '  procedure entry put; begin b := false; continue(q) end;'),
-    ('  procedure entry take; begin if y = 0 then delay(q) else y := y - 1 end;', '  procedure entry put; begin if empty(q) then y := y + 1 else continue(q) end;'),
+    ('  procedure entry take; begin if y = 0 then delay(q) else y := y - 1 end;',
+     '  procedure entry put; begin if empty(q) then y := y + 1 else continue(q) end;'),
     ('  procedure entry take; begin while b do delay(q); b := true end;', '  procedure entry put; begin b := not b; continue(q) end;'),
 ]
 
@@ -32,8 +33,12 @@ class Type(NamedTuple):
 
 
 class Scope(NamedTuple):
-    """What a statement may name: integers and variables of type small, of these the variables of each type, and so on. A pair is an array of two integers; those of
-    `pair_values` are parameters, which nothing is assigned to. `calls` are routines as they are called, with their component's name in front."""
+    """What a statement may name.
+
+    `numbers` are integers and variables of type small; `integers` and `smalls` are those of each
+    type to which a value may be assigned. A pair is an array of two integers, and `pair_values` are
+    value parameters. `calls` are routines by the name with which they are called.
+    """
     numbers: tuple
     integers: tuple
     smalls: tuple
@@ -47,7 +52,7 @@ class Scope(NamedTuple):
 
 
 class Maker:
-    """Makes the text of one program."""
+    """Makes the source of one program."""
 
     def __init__(self, seed):
         self.rng = random.Random(seed)
@@ -213,7 +218,7 @@ class Maker:
         return [('c', self.rng.choice(known))] if known and self.chance(0.5) else []
 
     def init_class(self, rights, name, of):
-        """`init` of a class variable. Its rights are those of the component that has it, or it isn't made."""
+        """`init` of a class variable, or none if its component lacks a right that the class needs."""
         arguments = ['1']
         for right in of.rights:
             mine = [r for r, t in rights if t.name == right]
@@ -271,7 +276,7 @@ class Maker:
         self.types.append(Type(name, 'process', tuple(t.name for _, t in rights), ()))
         return '\n'.join([f'{name} = process({parameters});', f"  var {' '.join(variables)}", *texts, f'  begin {body} end;'])
 
-    # ---- The text
+    # ---- The source
 
     def instances(self):
         """The monitors and processes by name and type, in an order in which their rights come first."""
@@ -289,7 +294,7 @@ class Maker:
         return f"init {name}({', '.join(arguments)})"
 
     def initial(self, monitors, processes):
-        """The statements of the initial process. Seldom one is left out, doubled or moved."""
+        """The statements of the initial process. One of them is seldom left out, doubled or moved."""
         steps = [self.init(x, t, monitors) for x, t in [*monitors, *processes]]
         calls = sum((self.entries_of(x, t) for x, t in monitors), ())
         scope = Scope(('x', 'y'), ('y',), ('x',), ('b',), (), calls)
@@ -304,7 +309,7 @@ class Maker:
             steps[a], steps[b] = steps[b], steps[a]
         return ';\n  '.join(steps)
 
-    def text(self):
+    def source(self):
         sorts = [*self.rng.choice([['monitor'], ['monitor', 'monitor'], ['class', 'monitor'], ['monitor', 'class'], ['class', 'monitor', 'monitor'],
                                    ['monitor', 'class', 'monitor'], ['monitor', 'class', 'class', 'monitor']])]
         parts = [self.component(k, sort) for k, sort in enumerate(sorts)]
@@ -316,5 +321,5 @@ class Maker:
 
 
 def program(seed):
-    """The text of a random program."""
-    return Maker(seed).text()
+    """The source of a random program."""
+    return Maker(seed).source()

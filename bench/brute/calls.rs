@@ -65,7 +65,7 @@ impl Step<'_> {
         Ok(words)
     }
 
-    /// Puts an end mark, behind which the process goes on in a component.
+    /// Pushes an end mark. The process then runs in a component.
     fn enter(&mut self, component: u32, monitor: u32, start: u32) {
         self.process.frames.push(Frame {
             node: self.process.at,
@@ -99,7 +99,7 @@ impl Step<'_> {
         Ok(())
     }
 
-    /// Where the entry that a `continue` ends has its result.
+    /// The place of the result of the entry that a `continue` ends.
     pub fn result_of_entry(&self) -> Option<u32> {
         let frame = self.process.frames.last()?;
         match self.program.nodes[frame.node as usize].action {

@@ -22,7 +22,7 @@ const CHARACTERS: Bounds = Bounds { low: 0, high: 127 };
 pub struct Reading<'a> {
     process: &'a Process,
     kernel: &'a Kernel,
-    /// Where the answers of the statement begin among the words of the process.
+    /// The first answer of the statement among the words of the process.
     answers: usize,
 }
 
@@ -77,7 +77,7 @@ fn apply(operator: Operator, a: i32, b: i32) -> Result<i32, Fault> {
 }
 
 impl<'a> Reading<'a> {
-    /// The process and the kernel, where the statement has so many answers.
+    /// The process and the kernel, while the statement has this many answers.
     pub fn new(process: &'a Process, kernel: &'a Kernel, answers: u32) -> Reading<'a> {
         Reading {
             process,

@@ -8,7 +8,7 @@ pub struct Found {
     pub first: Option<(u32, usize)>,
 }
 
-/// The states that a search found. A fault stops one process, and others may go on.
+/// The states that a search found. A fault stops one process, and others may still move.
 #[derive(Default)]
 pub struct Findings {
     pub states: usize,
@@ -23,11 +23,11 @@ pub struct Findings {
     pub faulted: Found,
 }
 
-/// Why a search gave up.
-pub enum GaveUp {
+/// Why a search was not finished.
+pub enum Stopped {
     /// There are more states than this.
     States(usize),
-    /// This process seems to run for ever without a late step.
+    /// This process seems to run forever without a late step.
     Endless(u32),
 }
 

@@ -1,4 +1,4 @@
-//! A plain search over all schedules of a text, written by hand without proofs.
+//! A plain search over all schedules of a program, written by hand without proofs.
 //!
 //! `brute FILE` tries each order of single steps of the processes. With `--by-calls` it tries only
 //! which process calls a monitor next, and makes all other steps at once. Both print the number of
@@ -9,7 +9,7 @@
 //! - `state`, `evaluation`, `steps`, `calls`: one step of a process, as docs/meaning.md says.
 //! - `packing`, `byte_set`: states as bytes, and sets of them.
 //! - `single_events`, `by_calls`: the two searches. `findings`: what they print.
-//! - `replays`: the state that an order text leads to, to compare it with that of `cpm replay`.
+//! - `replays`: the state after a schedule, to compare it with that of `cpm replay`.
 
 #[path = "../plain_front/checker/mod.rs"]
 mod checker;
@@ -36,31 +36,31 @@ mod single_events;
 mod state;
 mod steps;
 
-use findings::GaveUp;
+use findings::Stopped;
 use options::Options;
 use program::Program;
 use std::process::ExitCode;
 use std::time::Instant;
 
-/// Exits beside 0: the text is refused, the call is wrong, the search gave up.
+/// Exits other than 0: the program is refused, the arguments are wrong, the search was stopped.
 const REFUSED: u8 = 1;
 const USAGE: u8 = 2;
-const GAVE_UP: u8 = 7;
+const STOPPED: u8 = 7;
 
 /// Why there are no findings: a line for standard error, and the exit.
 type Failed = (String, u8);
 
-fn gave_up(why: GaveUp) -> Failed {
+fn stopped(why: Stopped) -> Failed {
     let line = match why {
-        GaveUp::States(limit) => format!("gave up: more than {limit} states"),
-        GaveUp::Endless(process) => format!("gave up: process {process} seems to run for ever"),
+        Stopped::States(limit) => format!("stopped: more than {limit} states"),
+        Stopped::Endless(process) => format!("stopped: process {process} seems to run forever"),
     };
-    (line, GAVE_UP)
+    (line, STOPPED)
 }
 
 fn lower(options: &Options) -> Result<Program, Failed> {
     let unreadable = |path: &str| (format!("{path} can't be read"), USAGE);
-    let mut text = std::fs::read(&options.file).map_err(|_| unreadable(&options.file))?;
+    let mut source = std::fs::read(&options.file).map_err(|_| unreadable(&options.file))?;
     let input = match &options.input {
         None => Vec::new(),
         Some(path) => std::fs::read(path).map_err(|_| unreadable(path))?,
@@ -69,14 +69,14 @@ fn lower(options: &Options) -> Result<Program, Failed> {
         .split(|byte| *byte == 28)
         .map(<[u8]>::to_vec)
         .collect();
-    let judged = scanner::scan(&mut text).and_then(|tokens| {
-        let tree = parser::parse(&text, tokens)?;
+    let judged = scanner::scan(&mut source).and_then(|tokens| {
+        let tree = parser::parse(&source, tokens)?;
         checker::check(&tree)?;
         Ok(lowering::lower(&tree, &inputs))
     });
     match judged {
         Ok(Some(program)) => Ok(program),
-        Ok(None) => Err(("gave up: the text uses the clock".into(), GAVE_UP)),
+        Ok(None) => Err(("stopped: the program uses the clock".into(), STOPPED)),
         Err(why) => {
             let line = format!("refused {}{} at {}", why.letter, why.number, why.at);
             Err((line, REFUSED))
@@ -85,7 +85,7 @@ fn lower(options: &Options) -> Result<Program, Failed> {
 }
 
 /// What the search by calls prints, or the callers before the first state of a kind.
-fn search_by_calls(program: &Program, options: &Options) -> Result<String, GaveUp> {
+fn search_by_calls(program: &Program, options: &Options) -> Result<String, Stopped> {
     let began = Instant::now();
     let mut search = by_calls::Search::new(program, options.limit);
     search.run()?;
@@ -100,29 +100,29 @@ fn search_by_calls(program: &Program, options: &Options) -> Result<String, GaveU
     Ok(numbers.join(" ") + "\n")
 }
 
-/// What the search over single events prints, or the order text of the first state of a kind.
-fn search_single_events(program: &Program, options: &Options) -> Result<String, GaveUp> {
+/// What the search over single events prints, or the schedule of the first state of a kind.
+fn search_single_events(program: &Program, options: &Options) -> Result<String, Stopped> {
     let mut search = single_events::Search::new(program, options.limit);
     search.run()?;
     let Some(kind) = &options.schedule else {
         return Ok(search.findings.text());
     };
     let found = search.findings.of_kind(kind).and_then(|found| found.first);
-    let order = found.map(|(_, state)| search.order(state));
-    Ok(order.unwrap_or_default())
+    let schedule = found.map(|(_, state)| search.schedule(state));
+    Ok(schedule.unwrap_or_default())
 }
 
 fn replay(program: &Program, path: &str) -> Result<String, Failed> {
-    let order = std::fs::read_to_string(path);
-    let order = order.map_err(|_| (format!("{path} can't be read"), USAGE))?;
-    let state = replays::replay(program, &order);
-    let unlawful = || (format!("{path} is no order"), USAGE);
-    Ok(replays::report(program, &state.ok_or_else(unlawful)?))
+    let schedule = std::fs::read_to_string(path);
+    let schedule = schedule.map_err(|_| (format!("{path} can't be read"), USAGE))?;
+    let state = replays::replay(program, &schedule);
+    let malformed = || (format!("{path} is no schedule"), USAGE);
+    Ok(replays::report(program, &state.ok_or_else(malformed)?))
 }
 
 fn run(options: &Options) -> Result<String, Failed> {
     let program = lower(options)?;
-    if let Some(path) = &options.order {
+    if let Some(path) = &options.replayed {
         return replay(&program, path);
     }
     let found = if options.by_calls {
@@ -130,7 +130,7 @@ fn run(options: &Options) -> Result<String, Failed> {
     } else {
         search_single_events(&program, options)
     };
-    found.map_err(gave_up)
+    found.map_err(stopped)
 }
 
 fn main() -> ExitCode {

@@ -1,7 +1,7 @@
 //! The arguments of the command line.
 
 pub const USAGE: &str = "usage: brute [--by-calls] [--states LIMIT] [--input FILE] \
-[--schedule ended|stuck|fault|faulted] [--replay ORDER] FILE";
+[--schedule ended|stuck|fault|faulted] [--replay SCHEDULE] FILE";
 
 const DEFAULT_LIMIT: usize = 1_000_000;
 
@@ -13,8 +13,8 @@ pub struct Options {
     pub limit: usize,
     /// The kind of state whose schedule is printed in place of the counts.
     pub schedule: Option<String>,
-    /// The order text that is replayed in place of a search.
-    pub order: Option<String>,
+    /// The file of a schedule that is replayed in place of a search.
+    pub replayed: Option<String>,
 }
 
 impl Options {
@@ -25,7 +25,7 @@ impl Options {
             by_calls: false,
             limit: DEFAULT_LIMIT,
             schedule: None,
-            order: None,
+            replayed: None,
         };
         while let Some(word) = words.next() {
             match word.as_str() {
@@ -33,7 +33,7 @@ impl Options {
                 "--states" => options.limit = words.next()?.parse().ok()?,
                 "--input" => options.input = Some(words.next()?),
                 "--schedule" => options.schedule = Some(words.next()?),
-                "--replay" => options.order = Some(words.next()?),
+                "--replay" => options.replayed = Some(words.next()?),
                 _ if options.file.is_empty() => options.file = word,
                 _ => return None,
             }

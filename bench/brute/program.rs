@@ -1,8 +1,8 @@
 //! Lowered programs: each task of a continuation is a node, and each name an offset.
 //!
-//! A node names the node after it, so the node of its next task tells what a process has left to do
-//! in the running routine. The value of a call that was made is an answer. The answers of a statement
-//! are on top of the process's words until the statement is done.
+//! A node names the node after it, so the node of its next task determines what a process has
+//! left to do in the running routine. The value of a call that was made is an answer. The answers
+//! of a statement are on top of the process's words until the statement is done.
 
 pub type NodeId = u32;
 
@@ -145,7 +145,7 @@ pub enum Action {
     Accept(Spot, Bounds),
     Delay(Spot),
     Continue(Spot),
-    /// The end of a routine, and where in the activation a function has its result.
+    /// The end of a routine, and the place of a function's result in the activation.
     EndCall(Option<u32>),
     EndBody,
     EndProcess,
@@ -172,7 +172,7 @@ pub struct Node {
 pub struct Unit {
     pub start: NodeId,
     pub starts: Vec<i32>,
-    /// Where in the activation a function has its result.
+    /// The place of a function's result in the activation.
     pub result: Option<u32>,
 }
 
@@ -187,7 +187,7 @@ pub struct Program {
     pub nodes: Vec<Node>,
     pub units: Vec<Unit>,
     pub processes: Vec<Process>,
-    /// Where the words of each monitor begin.
+    /// The first word of each monitor.
     pub monitors: Vec<u32>,
     /// The words of all monitors at the start.
     pub shared: Vec<Word>,

@@ -1,4 +1,4 @@
-//! Replays of order texts with turns of one step, and reports of the state after them.
+//! Replays of schedules with turns of one step, and reports of the state after them.
 
 use crate::program::{Program, Word};
 use crate::state::{Activity, Holder, Kernel, Stage, State};
@@ -14,10 +14,10 @@ fn make(program: &Program, state: &mut State, event: &str) -> Option<()> {
     Some(())
 }
 
-/// The state after the rounds of an order text, or none if it is no order.
-pub fn replay(program: &Program, order: &str) -> Option<State> {
+/// The state after the rounds of a schedule, or none if it is malformed.
+pub fn replay(program: &Program, schedule: &str) -> Option<State> {
     let mut state = State::new(program);
-    for round in order.lines() {
+    for round in schedule.lines() {
         for event in round.split(' ').filter(|event| !event.is_empty()) {
             make(program, &mut state, event)?;
         }

@@ -5,7 +5,7 @@
 //! fewest.
 
 use crate::byte_set::ByteSet;
-use crate::findings::{Findings, GaveUp};
+use crate::findings::{Findings, Stopped};
 use crate::packing::Reader;
 use crate::program::Program;
 use crate::state::State;
@@ -95,11 +95,11 @@ impl<'p> Search<'p> {
         is_late: bool,
         parent: u32,
         mover: u8,
-    ) -> Result<(), GaveUp> {
+    ) -> Result<(), Stopped> {
         let bytes = pack(state);
         let (number, is_new) = self.seen.insert(&bytes);
         if number >= self.limit {
-            return Err(GaveUp::States(self.limit));
+            return Err(Stopped::States(self.limit));
         }
         let way = Way {
             late_steps: self.late_steps + u32::from(is_late),
@@ -108,8 +108,8 @@ impl<'p> Search<'p> {
             is_expanded: false,
         };
         if is_new {
-            let told = unpack(self.program, &bytes) == *state;
-            assert!(told, "different states have different bytes");
+            let is_kept = unpack(self.program, &bytes) == *state;
+            assert!(is_kept, "a packed state is unpacked as it was");
             self.ways.push(way);
         } else if way.late_steps < self.ways[number].late_steps {
             self.ways[number] = way;
@@ -125,7 +125,7 @@ impl<'p> Search<'p> {
         Ok(())
     }
 
-    fn expand(&mut self, number: u32) -> Result<(), GaveUp> {
+    fn expand(&mut self, number: u32) -> Result<(), Stopped> {
         let state = unpack(self.program, self.seen.get(number as usize));
         self.findings.add(
             number as usize,
@@ -143,7 +143,7 @@ impl<'p> Search<'p> {
         Ok(())
     }
 
-    pub fn run(&mut self) -> Result<(), GaveUp> {
+    pub fn run(&mut self) -> Result<(), Stopped> {
         self.reach(&State::new(self.program), false, NOBODY, END_OF_ROUND)?;
         while !self.now.is_empty() {
             while let Some(number) = self.now.pop() {
@@ -159,8 +159,8 @@ impl<'p> Search<'p> {
         Ok(())
     }
 
-    /// The events that lead to a state, as an order text for turns of one step.
-    pub fn order(&self, mut number: usize) -> String {
+    /// A schedule that leads to a state, for turns of one step.
+    pub fn schedule(&self, mut number: usize) -> String {
         let mut movers = Vec::new();
         while self.ways[number].parent != NOBODY {
             movers.push(self.ways[number].mover);

@@ -30,7 +30,7 @@ pub struct Process {
     pub activity: Activity,
     /// The node of its next task.
     pub at: NodeId,
-    /// Where the running activation begins among its words.
+    /// The first word of the running activation.
     pub base: u32,
     /// The address of the running component.
     pub component: u32,

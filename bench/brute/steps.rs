@@ -1,6 +1,6 @@
 //! One step of a process: its next task, and what the kernel does about it.
 //!
-//! A step that faults changes the activity of its process alone, so everything is evaluated before
+//! A step that faults only changes the activity of its process, so everything is evaluated before
 //! anything is written.
 
 use crate::evaluation::{Fault, Reading};
@@ -221,7 +221,7 @@ impl Step<'_> {
         Ok(())
     }
 
-    /// `continue`: the entry returns, and who stood in the queue holds the gate.
+    /// `continue`: the entry returns, and whoever is in the queue holds the gate.
     fn resume(&mut self, queue: &Spot) -> Result<(), Fault> {
         let at = self.reading().address(queue)?;
         let resumed = self.reading().word(at);

@@ -1,4 +1,4 @@
-"Two processes that take two locks in opposite order: both may wait for ever."
+"Two processes that take two locks in opposite order: both may wait forever."
 type lock = monitor;
   var is_taken: boolean; waiting: queue;
 

@@ -1,4 +1,4 @@
-"Five philosophers, each of whom takes the fork at the left and then the one at the right: all may wait for ever."
+"Five philosophers, each of whom takes the fork at the left and then the one at the right: all may wait forever."
 type fork = monitor;
   var is_taken: boolean; waiting: queue;
 

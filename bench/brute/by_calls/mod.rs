@@ -1,12 +1,12 @@
 //! The search by calls: only late steps are tried, and eager steps are made at once.
 //!
-//! It keeps settled states alone, breadth first, each as the numbers of its parts.
+//! It keeps only settled states, breadth first, each as the numbers of its parts.
 
 mod parts;
 mod settling;
 
 use crate::byte_set::ByteSet;
-use crate::findings::{Findings, GaveUp};
+use crate::findings::{Findings, Stopped};
 use crate::packing::{put_all, Reader, MAX_NUMBER_BYTES};
 use crate::program::Program;
 use parts::Way;
@@ -44,14 +44,14 @@ impl<'p> Search<'p> {
         late_steps: u32,
         parent: usize,
         mover: usize,
-    ) -> Result<(), GaveUp> {
+    ) -> Result<(), Stopped> {
         let length = put_all(&mut self.key, state);
         let (number, is_new) = self.seen.insert(&self.key[..length]);
         if !is_new {
             return Ok(());
         }
         if number >= self.limit {
-            return Err(GaveUp::States(self.limit));
+            return Err(Stopped::States(self.limit));
         }
         self.parents.push(parent as u32);
         self.movers.push(mover as u8);
@@ -71,7 +71,7 @@ impl<'p> Search<'p> {
         late_steps: u32,
         state: &mut [u32],
         next: &mut [u32],
-    ) -> Result<(), GaveUp> {
+    ) -> Result<(), Stopped> {
         let mut from = Reader::new(self.seen.get(number));
         state.iter_mut().for_each(|part| *part = from.number());
         for mover in 1..state.len() {
@@ -87,7 +87,7 @@ impl<'p> Search<'p> {
         Ok(())
     }
 
-    pub fn run(&mut self) -> Result<(), GaveUp> {
+    pub fn run(&mut self) -> Result<(), Stopped> {
         let mut state = self.settler.start()?;
         let mut next = state.clone();
         self.add(&state, 0, 0, 0)?;

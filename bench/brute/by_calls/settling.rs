@@ -1,14 +1,14 @@
 //! Moves: a late step, and then eager steps until there are none.
 //!
 //! A move is made of runs. In a run one process makes steps until its next step is late or it can't
-//! go on. What a run does depends on the kernel and the process alone, so runs are remembered.
+//! move. What a run does depends only on the kernel and the process, so runs are remembered.
 
 use super::parts::{way, Parts, Way};
-use crate::findings::GaveUp;
+use crate::findings::Stopped;
 use crate::program::Program;
 use crate::state::{Kernel, Process, Stage, State};
 
-/// A process that runs for more steps is said to run for ever.
+/// A process that runs for more steps is taken to run forever.
 const MAX_RUN_STEPS: u32 = 1_000_000;
 const REMEMBERED_RUNS: usize = 1 << 16;
 
@@ -32,7 +32,7 @@ pub struct Settler<'p> {
 }
 
 impl Run {
-    /// Where a run is remembered.
+    /// The place of a run among those remembered.
     fn slot(process: u32, kernel: u32, part: u32) -> usize {
         let mixed = (u64::from(kernel) << 32 | u64::from(part) << 8 | u64::from(process))
             .wrapping_mul(0x9e37_79b9_7f4a_7c15);
@@ -52,7 +52,7 @@ impl<'p> Settler<'p> {
     }
 
     /// The numbers of the parts of the start, settled.
-    pub fn start(&mut self) -> Result<Vec<u32>, GaveUp> {
+    pub fn start(&mut self) -> Result<Vec<u32>, Stopped> {
         let mut state = State::new(self.program);
         let mut numbers = vec![self.parts.add_kernel(&state.kernel)];
         for (number, process) in (1..).zip(&mut state.processes) {
@@ -63,7 +63,7 @@ impl<'p> Settler<'p> {
     }
 
     /// Makes the late step of a process in a settled state, and settles.
-    pub fn advance(&mut self, state: &mut [u32], mover: usize) -> Result<(), GaveUp> {
+    pub fn advance(&mut self, state: &mut [u32], mover: usize) -> Result<(), Stopped> {
         let before = state[0];
         self.run(state, mover)?;
         if self.parts.has_woken(before, state[0]) {
@@ -72,14 +72,14 @@ impl<'p> Settler<'p> {
         Ok(())
     }
 
-    fn settle(&mut self, state: &mut [u32]) -> Result<(), GaveUp> {
+    fn settle(&mut self, state: &mut [u32]) -> Result<(), Stopped> {
         while let Some(mover) = self.parts.first_mover(state, Way::Eager) {
             self.run(state, mover)?;
         }
         Ok(())
     }
 
-    fn run(&mut self, state: &mut [u32], mover: usize) -> Result<(), GaveUp> {
+    fn run(&mut self, state: &mut [u32], mover: usize) -> Result<(), Stopped> {
         let (process, kernel, part) = (mover as u32, state[0], state[mover]);
         let slot = Run::slot(process, kernel, part);
         let known = self.runs[slot];
@@ -102,7 +102,7 @@ impl<'p> Settler<'p> {
     }
 
     /// Makes a step and those that follow at once. Returns whether it started a process.
-    fn make_steps(&mut self, state: &mut [u32], mover: usize) -> Result<bool, GaveUp> {
+    fn make_steps(&mut self, state: &mut [u32], mover: usize) -> Result<bool, Stopped> {
         self.parts.unpack_kernel(state[0], &mut self.kernel);
         self.parts
             .unpack_process(mover, state[mover], &mut self.process);
@@ -122,7 +122,7 @@ impl<'p> Settler<'p> {
                 return Ok(starts_others);
             }
         }
-        Err(GaveUp::Endless(mover as u32))
+        Err(Stopped::Endless(mover as u32))
     }
 
     /// The bytes of memory of the parts and the remembered runs.

@@ -1,7 +1,7 @@
 //! Lowers expressions, designators and calls.
 //!
-//! The calls of a statement become nodes of their own, leftmost and innermost first. Where a call
-//! stood, the term has its answer.
+//! The calls of a statement become nodes of their own, leftmost and innermost first. The
+//! term has the answer in place of the call.
 
 use super::types::{Name, Routine, Type, Variable, BOOLEAN, CHAR, INTEGER};
 use super::Lowering;
@@ -182,7 +182,7 @@ impl<'t> Lowering<'t> {
         }
     }
 
-    /// Lowers the call of a user's routine, if the designator names one, and returns whether it did.
+    /// Lowers the call of a user's routine, if the designator names one. Returns the routine.
     pub fn user_call(
         &mut self,
         designator: &Designator<'t>,

@@ -1,4 +1,4 @@
-//! Lowers the tree of an accepted text to nodes, terms and offsets.
+//! Lowers the tree of an accepted program to nodes, terms and offsets.
 
 mod expressions;
 mod statements;
@@ -13,7 +13,7 @@ use types::{whole, Routine, Scope, System, Type, Variable};
 /// The word of a function's result that was never set.
 pub const UNSET: i32 = i32::MIN;
 
-/// The number of a process of the text begins after the initial one's.
+/// The number of the first process that a program declares.
 const FIRST_PROCESS: u32 = 2;
 
 struct Lowering<'t> {
@@ -26,7 +26,7 @@ struct Lowering<'t> {
     uses_clock: bool,
 }
 
-/// Lowers a text, unless it uses the clock.
+/// Lowers a program, unless it uses the clock.
 pub fn lower(tree: &Tree, inputs: &[Vec<u8>]) -> Option<Program> {
     let mut lowering = Lowering {
         scope: Scope::standard(),
@@ -41,7 +41,7 @@ pub fn lower(tree: &Tree, inputs: &[Vec<u8>]) -> Option<Program> {
         locals: Vec::new(),
         uses_clock: false,
     };
-    lowering.text(tree, inputs);
+    lowering.whole(tree, inputs);
     (!lowering.uses_clock).then_some(lowering.program)
 }
 
@@ -53,7 +53,7 @@ fn count(sort: Sort, variables: &[Variable]) -> u32 {
 }
 
 impl<'t> Lowering<'t> {
-    fn text(&mut self, tree: &Tree<'t>, inputs: &[Vec<u8>]) {
+    fn whole(&mut self, tree: &Tree<'t>, inputs: &[Vec<u8>]) {
         for section in &tree.sections {
             self.section(section);
         }

@@ -1,4 +1,4 @@
-//! What written types and constants stand for, and how their words are laid out.
+//! What written types and constants represent, and the layout of their words.
 
 use crate::program::{Bounds, NodeId, Word};
 use crate::tree::{Constant, Fields, Identifier, Parameters, Sort, TypeExpression};
