@@ -104,16 +104,10 @@ pub enum Initialised {
 }
 
 pub enum Action {
-    Assign {
-        target: Spot,
-        bounds: Bounds,
-        value: Term,
-    },
-    Copy {
-        target: Spot,
-        source: Spot,
-        words: u32,
-    },
+    /// A simple variable, its bounds, and the value that is assigned.
+    Assign(Spot, Bounds, Term),
+    /// An array or a record, the one that is assigned to it, and its words.
+    Copy(Spot, Spot, u32),
     Test {
         condition: Term,
         then: NodeId,
@@ -137,10 +131,7 @@ pub enum Action {
         unit: u32,
         arguments: Vec<Argument>,
     },
-    Init {
-        component: Initialised,
-        arguments: Vec<Argument>,
-    },
+    Init(Initialised, Vec<Argument>),
     Display(Term),
     Accept(Spot, Bounds),
     Delay(Spot),
@@ -217,22 +208,13 @@ impl Node {
             Action::Call {
                 target: Target::Monitor(_) | Target::MonitorRight(_),
                 ..
-            } | Action::Init {
-                component: Initialised::Monitor { .. },
-                ..
-            }
+            } | Action::Init(Initialised::Monitor { .. }, _)
         )
     }
 
     /// Whether the step is the kernel's wherever the process is.
     pub fn is_of_kernel(&self) -> bool {
-        let starts_process = matches!(
-            self.action,
-            Action::Init {
-                component: Initialised::Process { .. },
-                ..
-            }
-        );
+        let starts_process = matches!(self.action, Action::Init(Initialised::Process { .. }, _));
         starts_process || self.is_late()
     }
 }

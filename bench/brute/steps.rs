@@ -109,16 +109,8 @@ impl Step<'_> {
         let program = self.program;
         let node = program.node(self.process);
         match &node.action {
-            Action::Assign {
-                target,
-                bounds,
-                value,
-            } => self.assign(target, *bounds, value),
-            Action::Copy {
-                target,
-                source,
-                words,
-            } => self.copy(target, source, *words),
+            Action::Assign(target, bounds, value) => self.assign(target, *bounds, value),
+            Action::Copy(target, source, words) => self.copy(target, source, *words),
             Action::Test {
                 condition,
                 then,
@@ -137,10 +129,7 @@ impl Step<'_> {
                 unit,
                 arguments,
             } => self.call(target, *unit, arguments),
-            Action::Init {
-                component,
-                arguments,
-            } => self.init(component, arguments),
+            Action::Init(component, arguments) => self.init(component, arguments),
             Action::Display(value) => self.display(value),
             Action::Accept(target, bounds) => self.accept(target, *bounds),
             Action::Delay(queue) => self.delay(queue),

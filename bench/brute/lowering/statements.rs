@@ -42,19 +42,8 @@ impl<'t> Lowering<'t> {
                 self.test(condition, then, otherwise)
             }
             Statement::Case { selector, arms } => self.case(selector, arms, next),
-            Statement::While { condition, body } => {
-                let test = self.reserve_test(condition);
-                let first = test.first;
-                let body = self.statement(body, first);
-                self.fill_test(test, body, next);
-                first
-            }
-            Statement::Repeat { body, condition } => {
-                let test = self.reserve_test(condition);
-                let body = self.list(body, test.first);
-                self.fill_test(test, next, body);
-                body
-            }
+            Statement::While { condition, body } => self.while_loop(condition, body, next),
+            Statement::Repeat { body, condition } => self.repeat_loop(body, condition, next),
             Statement::For { header, body } => self.for_loop(header, body, next),
             Statement::Cycle(list) => {
                 let cycle = self.reserve();
@@ -94,16 +83,14 @@ impl<'t> Lowering<'t> {
         let mut calls = Calls::default();
         let (target, of) = self.place(&assignment.target, &mut calls);
         let action = match of.simple() {
-            Some((bounds, _)) => Action::Assign {
-                target,
-                bounds,
-                value: self.value(&assignment.value, &mut calls).0,
-            },
-            None => Action::Copy {
-                target,
-                source: self.place_of(&assignment.value, &mut calls).0,
-                words: of.words(),
-            },
+            Some((bounds, _)) => {
+                let (value, _) = self.value(&assignment.value, &mut calls);
+                Action::Assign(target, bounds, value)
+            }
+            None => {
+                let (source, _) = self.place_of(&assignment.value, &mut calls);
+                Action::Copy(target, source, of.words())
+            }
         };
         self.act(action, calls, next)
     }
@@ -154,6 +141,31 @@ impl<'t> Lowering<'t> {
         self.fill(test.node, action, test.answers, otherwise);
     }
 
+    fn while_loop(
+        &mut self,
+        condition: &Expression<'t>,
+        body: &Statement<'t>,
+        next: NodeId,
+    ) -> NodeId {
+        let test = self.reserve_test(condition);
+        let first = test.first;
+        let body = self.statement(body, first);
+        self.fill_test(test, body, next);
+        first
+    }
+
+    fn repeat_loop(
+        &mut self,
+        body: &[Statement<'t>],
+        condition: &Expression<'t>,
+        next: NodeId,
+    ) -> NodeId {
+        let test = self.reserve_test(condition);
+        let body = self.list(body, test.first);
+        self.fill_test(test, next, body);
+        body
+    }
+
     fn counting(&mut self, name: Name<'t>, is_down: bool, body: NodeId) -> Counting {
         let (variable, of) = self.variable(name).expect("a variable");
         let (bounds, _) = of.simple().expect("a simple variable");
@@ -200,11 +212,7 @@ impl<'t> Lowering<'t> {
         };
         let mut calls = Calls::default();
         let arguments = self.call_arguments(&system.parameters, &item.arguments, &mut calls);
-        let action = Action::Init {
-            component,
-            arguments,
-        };
-        self.act(action, calls, next)
+        self.act(Action::Init(component, arguments), calls, next)
     }
 
     fn perform(
