@@ -1,7 +1,7 @@
 #!/usr/bin/env python3
 """Compares what cpm finds out about programs with a brute-force search over all their schedules.
 
-    trials/schedules.py [PROGRAM] [--count N] [--seed N] [--repository] [--states N] [--search]
+    trials/brute_force.py [PROGRAM] [--count N] [--seed N] [--repository] [--states N] [--search]
                         [--quiet]
 
 The script builds bench/brute by rustc. It tries each order of single steps of a program, and finds
