@@ -7,7 +7,7 @@ import subprocess
 ROOT = pathlib.Path(__file__).resolve().parent.parent
 PROGRAM = pathlib.Path(os.environ.get('CPM', ROOT / 'crates' / 'cpm' / 'out' / 'cpm'))
 # The tests of rounds, as rt ci builds them.
-ROUNDS = pathlib.Path(os.environ.get('CPM_ROUNDS', ROOT / 'crates' / 'cp_test_rounds' / 'out' / 'cp_rounds_tests_tests'))
+ROUNDS = pathlib.Path(os.environ.get('CPM_ROUNDS', ROOT / 'crates' / 'cp_test_rounds' / 'out' / 'cp_test_rounds_tests'))
 EXAMPLES = ROOT / 'docs' / 'examples'
 
 wrong = []
