@@ -23,7 +23,7 @@ use Rattle.cp_model_program.specs.Scopes.{declared_type, or_zero}
 use Rattle.cp_compile_symbols.specs.declared.systems.SystemTable.{SystemTable}
 use Rattle.cp_compile_symbols.specs.declared.types.Types.{Types}
 use Rattle.cp_compile_symbols.specs.Numbering.{system_of}
-use Rattle.cp_compile_symbols.specs.Standing.{Represents, row_at, system_at}
+use Rattle.cp_compile_symbols.specs.Representing.{Represents, row_at, system_at}
 use Rattle.cp_compile_symbols.proofs.SystemsMade.{has_table, lacks_no_table}
 use Rattle.cp_compile_symbols.specs.declared.variables.Declared.{Declared}
 use Rattle.cp_compile_symbols.specs.Components.{own_members}

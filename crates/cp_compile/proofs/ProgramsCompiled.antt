@@ -19,7 +19,7 @@ use Rattle.cp_compile_emit.specs.ComponentPlans.{ArePlans}
 use Rattle.cp_compile_emit.specs.Planning.{Extends, Knows, types_of}
 use Rattle.cp_compile_symbols.specs.declared.tables.Tables.{Tables}
 use Rattle.cp_compile_symbols.specs.Layouts.{AreLaid}
-use Rattle.cp_compile_symbols.specs.Standing.{ScopeRepresents}
+use Rattle.cp_compile_symbols.specs.Representing.{ScopeRepresents}
 use Rattle.cp_compile_symbols.specs.Texts.{TablesRepresent}
 use Rattle.cp_compile_symbols.specs.Variables.{AreDeclared, Entry}
 use Rattle.cp_compile.specs.declared.compiler.Code.{Code}

@@ -23,7 +23,7 @@ use Rattle.cp_compile_symbols.specs.declared.types.Types.{Types}
 use Rattle.cp_compile_symbols.specs.Scopes.{IsWritten}
 use Rattle.cp_compile_lower.specs.Initialisation.{IsTable}
 use Rattle.cp_compile_symbols.specs.Numbering.{system_of}
-use Rattle.cp_compile_symbols.specs.Standing.{TypeMeans, row_at, system_at}
+use Rattle.cp_compile_symbols.specs.Representing.{TypeMeans, row_at, system_at}
 use Rattle.cp_compile_symbols.specs.Tables.{InFront}
 use Rattle.cp_compile.specs.Compiles.{IsCompiled}
 use Rattle.cp_compile.specs.CompiledSystems.{IsSystem}

@@ -11,7 +11,7 @@ use Rattle.cp_compile_emit.specs.declared.emitter.Emitter.{Emitter}
 use Rattle.cp_compile_emit.specs.Planning.{Knows, known_of}
 use Rattle.cp_compile_symbols.specs.Layouts.{EachIsLaid}
 use Rattle.cp_compile_symbols.specs.Scopes.{IsWritten}
-use Rattle.cp_compile_symbols.specs.Standing.{ScopeRepresents}
+use Rattle.cp_compile_symbols.specs.Representing.{ScopeRepresents}
 use Rattle.cp_compile_symbols.specs.Systems.{SystemRepresents}
 use Rattle.cp_compile_symbols.specs.Texts.{AreSystems}
 use Rattle.cp_compile.specs.Compiles.{IsCompiled}

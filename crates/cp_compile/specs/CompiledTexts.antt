@@ -11,7 +11,7 @@ use Rattle.cp_compile_emit.specs.declared.emitter.Emitter.{Emitter}
 use Rattle.cp_compile_emit.specs.Planning.{Knows, known_of}
 use Rattle.cp_compile_symbols.specs.Layouts.{EachIsLaid}
 use Rattle.cp_compile_symbols.specs.Numbering.{system_of}
-use Rattle.cp_compile_symbols.specs.Standing.{ScopeRepresents, row_at}
+use Rattle.cp_compile_symbols.specs.Representing.{ScopeRepresents, row_at}
 use Rattle.cp_compile_symbols.specs.Texts.{AreSystems}
 use Rattle.cp_compile_symbols.specs.declared.tables.Tables.{Tables}
 use Rattle.cp_compile.specs.declared.definitions.TextCompiler.{TextCompiler}

@@ -8,7 +8,7 @@ ghost use Rattle.cp_model.specs.Types.{GlobalScope};
 ghost use Rattle.cp_model_program.specs.Compile as code;
 ghost use Rattle.cp_model_program.specs.Compile.{of_sort, owners_of};
 ghost use Rattle.cp_compile_symbols.specs.Numbering.{system_of};
-ghost use Rattle.cp_compile_symbols.specs.Standing.{Represents, row_at, system_at};
+ghost use Rattle.cp_compile_symbols.specs.Representing.{Represents, row_at, system_at};
 ghost use Rattle.cp_model_program.specs.Programs.{StartPlan};
 ghost use Rattle.cp_compile.specs.CompiledComponents.{AreOwners, IsInitial, IsOwner, PutsOwner};
 

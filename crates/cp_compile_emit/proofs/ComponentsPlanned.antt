@@ -10,7 +10,7 @@ use Rattle.cp_model_program.specs.Plans.{plan_of_component}
 use Rattle.cp_model_program.specs.Programs as code
 use Rattle.cp_compile_symbols.specs.declared.systems.SystemTable.{SystemTable}
 use Rattle.cp_compile_symbols.specs.declared.tables.Tables.{Tables}
-use Rattle.cp_compile_symbols.specs.Standing.{system_at}
+use Rattle.cp_compile_symbols.specs.Representing.{system_at}
 use Rattle.cp_program.specs.View.{plan_at}
 use Rattle.cp_compile_emit.specs.ComponentPlans.{ArePlans}
 

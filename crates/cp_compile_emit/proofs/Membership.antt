@@ -14,7 +14,7 @@ use Rattle.cp_compile_symbols.specs.declared.types.Types.{Types}
 use Rattle.cp_compile_symbols.specs.declared.types.Field.{Field}
 use Rattle.cp_compile_symbols.specs.declared.variables.Declared.{Declared}
 use Rattle.cp_compile_symbols.specs.Numbering.{system_of}
-use Rattle.cp_compile_symbols.specs.Standing.{AreMembers, Represents, entry, row_at}
+use Rattle.cp_compile_symbols.specs.Representing.{AreMembers, Represents, entry, row_at}
 use Rattle.cp_compile_symbols.specs.Variables.{AreDeclared, declared_entry}
 use Rattle.cp_compile_emit.specs.Members.{is_own, member_of, own_of}
 

@@ -15,7 +15,7 @@ use Rattle.cp_program.specs.View.{plan_at, plan_of, plan_or_none, plans_in}
 use Rattle.cp_program.proofs.PlansKnown.{pieces_counted, plans_length}
 use Rattle.cp_compile_symbols.specs.declared.types.Field.{Field}
 use Rattle.cp_compile_symbols.specs.declared.types.Types.{Types}
-use Rattle.cp_compile_symbols.specs.Standing.{AreMembers, Represents}
+use Rattle.cp_compile_symbols.specs.Representing.{AreMembers, Represents}
 use Rattle.cp_compile_emit.specs.declared.plan.Placed.{Placed}
 use Rattle.cp_compile_emit.specs.Planning.{placed_in}
 

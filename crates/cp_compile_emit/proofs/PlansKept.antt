@@ -9,7 +9,7 @@ use Rattle.cp_program.specs.declared.program.StartPlan.{StartPlan}
 use Rattle.cp_program.proofs.PlansKnown as table
 use Rattle.cp_compile_symbols.specs.declared.tables.Tables.{Tables}
 use Rattle.cp_compile_symbols.specs.Layouts.{AreLaid}
-use Rattle.cp_compile_symbols.specs.Standing.{ScopeRepresents, Represents}
+use Rattle.cp_compile_symbols.specs.Representing.{ScopeRepresents, Represents}
 use Rattle.cp_compile_symbols.proofs.Laying.{last_or_before}
 use Rattle.cp_compile_emit.specs.declared.plan.Planner.{Planner}
 use Rattle.cp_compile_emit.specs.declared.plan.TypePlans.{TypePlans}

@@ -17,7 +17,7 @@ use Rattle.cp_compile_symbols.specs.declared.types.Simple as simple_row
 use Rattle.cp_compile_symbols.specs.declared.types.Types.{Types}
 use Rattle.cp_compile_symbols.specs.declared.types.TypeRow.{TypeRow}
 use Rattle.cp_compile_symbols.specs.declared.types.TypeRow.TheVariants as row
-use Rattle.cp_compile_symbols.specs.Standing.{AreMembers, Represents, entry, row_at, simple_of, system_at}
+use Rattle.cp_compile_symbols.specs.Representing.{AreMembers, Represents, entry, row_at, simple_of, system_at}
 
 -- ---- Elements
 

@@ -4,7 +4,7 @@ use Rattle.cp_model.specs.Abstract.{Name}
 use Rattle.cp_compile_symbols.specs.declared.types.Types.{Types}
 use Rattle.cp_compile_symbols.specs.declared.variables.Declared.{Declared}
 use Rattle.cp_compile_symbols.specs.Numbering.{system_of}
-use Rattle.cp_compile_symbols.specs.Standing.{row_at}
+use Rattle.cp_compile_symbols.specs.Representing.{row_at}
 
 -- The name of a declared variable and the number of its type.
 abbrev pub member_of : Declared → Name × ℕ

@@ -8,7 +8,7 @@ use Rattle.cp_program.specs.View.{plan_at, plans_in}
 use Rattle.cp_program.specs.declared.program.StartPlan.{StartPlan}
 use Rattle.cp_compile_symbols.specs.declared.types.Types.{Types}
 use Rattle.cp_compile_symbols.specs.Layouts.{AreLaid}
-use Rattle.cp_compile_symbols.specs.Standing.{ScopeRepresents, Represents}
+use Rattle.cp_compile_symbols.specs.Representing.{ScopeRepresents, Represents}
 use Rattle.cp_compile_emit.specs.declared.plan.Placed.{Placed}
 use Rattle.cp_compile_emit.specs.declared.plan.Planner.{Planner}
 use Rattle.cp_compile_emit.specs.declared.plan.TypePlans.{TypePlans}

@@ -2,7 +2,7 @@
 
 ghost use Rattle.std.specs.Prelude.{◌≡◌, ◌∷◌, ◌++◌, [], IfOk, OnOk, if◌then◌else◌, map};
 ghost use Rattle.cp_compile_emit.specs.Members.{is_own, member_of, own_of};
-ghost use Rattle.cp_compile_symbols.specs.Standing.{entry};
+ghost use Rattle.cp_compile_symbols.specs.Representing.{entry};
 
 use cp_compile_symbols::{Declared, Field, Types};
 use std::alloc::{AllocError, Global};

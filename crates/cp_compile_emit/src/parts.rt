@@ -6,7 +6,7 @@ ghost use Rattle.cp_compile_emit.specs.Drafts.{plan_of};
 ghost use Rattle.cp_compile_emit.specs.Planning.{Knows, known_of, placed_in, types_of};
 ghost use Rattle.cp_model.specs.Types.{GlobalScope, Members};
 ghost use Rattle.cp_program.specs.View.{plan_at};
-ghost use Rattle.cp_compile_symbols.specs.Standing.{AreMembers, entry};
+ghost use Rattle.cp_compile_symbols.specs.Representing.{AreMembers, entry};
 
 use crate::draft::Draft;
 use crate::pieces::{is_light, is_short};

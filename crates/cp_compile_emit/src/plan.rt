@@ -14,7 +14,7 @@ ghost use Rattle.cp_model.specs.Types.{GlobalScope, ResolvedType};
 ghost use Rattle.cp_program.specs.View as code_view;
 ghost use Rattle.cp_program.specs.View.{plan_at};
 ghost use Rattle.cp_compile_symbols.specs.Layouts.{rights_of};
-ghost use Rattle.cp_compile_symbols.specs.Standing.{Represents};
+ghost use Rattle.cp_compile_symbols.specs.Representing.{Represents};
 ghost use Rattle.cp_law_typing.specs.Words.{words};
 
 use crate::draft::Draft;

@@ -11,7 +11,7 @@ ghost use Rattle.cp_model.specs.Types.{ArrayOf, ComponentOf, GlobalScope, Member
 ghost use Rattle.cp_model.specs.View as view;
 ghost use Rattle.cp_program.specs.View.{plan_at};
 ghost use Rattle.cp_compile_symbols.specs.Layouts.{AreLaid};
-ghost use Rattle.cp_compile_symbols.specs.Standing.{AreMembers, ScopeRepresents, Represents, entry};
+ghost use Rattle.cp_compile_symbols.specs.Representing.{AreMembers, ScopeRepresents, Represents, entry};
 
 use crate::draft::Draft;
 use crate::pieces::value_of_fill;

@@ -19,7 +19,7 @@ use Rattle.cp_compile_emit.specs.declared.emitter.CodedCall.{CodedCall}
 use Rattle.cp_compile_symbols.specs.declared.types.Types.{Types}
 use Rattle.cp_compile_symbols.specs.declared.variables.Declared.{Declared}
 use Rattle.cp_compile_symbols.specs.Expressions.{is_simple}
-use Rattle.cp_compile_symbols.specs.Standing.{Represents}
+use Rattle.cp_compile_symbols.specs.Representing.{Represents}
 use Rattle.cp_compile_symbols.specs.Variables.{AreDeclared, declared_entry}
 use Rattle.cp_program.specs.View as view
 use Rattle.cp_compile_lower.specs.declared.made.MadeArgument.{MadeArgument}

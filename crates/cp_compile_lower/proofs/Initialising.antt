@@ -15,7 +15,7 @@ use Rattle.cp_compile_symbols.specs.declared.systems.SystemTable.{SystemTable}
 use Rattle.cp_compile_symbols.specs.declared.types.Simple as simple
 use Rattle.cp_compile_symbols.specs.declared.types.Types.{Types}
 use Rattle.cp_compile_symbols.specs.Expressions.{is_simple}
-use Rattle.cp_compile_symbols.specs.Standing.{simple_of, system_at}
+use Rattle.cp_compile_symbols.specs.Representing.{simple_of, system_at}
 use Rattle.cp_compile_symbols.specs.Texts.{AreSystems}
 use Rattle.cp_compile_symbols.proofs.SystemsMade.{has_table, lacks_no_table}
 use Rattle.cp_compile_symbols.specs.Variables.{AreDeclared, declared_entry}

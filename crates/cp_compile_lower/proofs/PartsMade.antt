@@ -22,7 +22,7 @@ use Rattle.cp_compile_symbols.specs.declared.places.Elements.{Elements}
 use Rattle.cp_compile_symbols.specs.declared.scope.Scope.{Scope}
 use Rattle.cp_compile_symbols.specs.declared.types.Types.{Types}
 use Rattle.cp_compile_symbols.specs.Places.{TypeIs, elements_of}
-use Rattle.cp_compile_symbols.specs.Standing.{Represents, row_at}
+use Rattle.cp_compile_symbols.specs.Representing.{Represents, row_at}
 use Rattle.cp_program.specs.View as view
 use Rattle.cp_compile_lower.specs.declared.made.MadePlaceExpression.{MadePlaceExpression}
 use Rattle.cp_compile_lower.specs.Translated.{IsPlace, IsPlaceExpression, IsTerm, elements_at}

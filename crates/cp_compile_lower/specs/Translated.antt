@@ -14,7 +14,7 @@ use Rattle.cp_compile_symbols.specs.declared.places.Elements.{Elements}
 use Rattle.cp_compile_symbols.specs.declared.types.Types.{Types}
 use Rattle.cp_compile_symbols.specs.Places.{PlaceIs, elements_of}
 use Rattle.cp_compile_symbols.specs.Scopes.{IsScope}
-use Rattle.cp_compile_symbols.specs.Standing.{row_at}
+use Rattle.cp_compile_symbols.specs.Representing.{row_at}
 use Rattle.cp_compile_emit.specs.Emission.{coded_call}
 use Rattle.cp_compile_emit.specs.declared.call.MadeTerm.{MadeTerm}
 use Rattle.cp_compile_emit.specs.declared.emitter.CodedCall.{CodedCall}

@@ -11,7 +11,7 @@ ghost use Rattle.cp_model_program.specs.Terms as plain;
 ghost use Rattle.cp_compile_emit.specs.declared.emitter.CodedCall.{CodedCall};
 ghost use Rattle.cp_compile_symbols.specs.Expressions.{is_simple};
 ghost use Rattle.cp_compile_symbols.specs.Scopes.{IsScope};
-ghost use Rattle.cp_compile_symbols.specs.Standing.{Represents, simple_of};
+ghost use Rattle.cp_compile_symbols.specs.Representing.{Represents, simple_of};
 ghost use Rattle.cp_compile_lower.specs.Translated.{IsArgument, IsPlaceExpression, IsTerm};
 
 use crate::made::{MadeArgument, MadePlaceExpression};

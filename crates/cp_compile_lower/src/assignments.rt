@@ -14,7 +14,7 @@ ghost use Rattle.cp_compile_emit.specs.Emission.{place_of};
 ghost use Rattle.cp_compile_symbols.specs.Expressions.{is_simple};
 ghost use Rattle.cp_compile_symbols.specs.Places.{TypeIs};
 ghost use Rattle.cp_compile_symbols.specs.Scopes.{IsScope};
-ghost use Rattle.cp_compile_symbols.specs.Standing.{simple_of};
+ghost use Rattle.cp_compile_symbols.specs.Representing.{simple_of};
 ghost use Rattle.cp_compile_lower.specs.Statements.{Enters, StatementOf};
 ghost use Rattle.cp_compile_lower.specs.Translated.{IsPlaceExpression};
 

@@ -19,7 +19,7 @@ ghost use Rattle.cp_model_program.specs.Sites.{first_parameter};
 ghost use Rattle.cp_compile_emit.specs.Emission.{coded_call};
 ghost use Rattle.cp_compile_emit.specs.declared.emitter.CodedCall.{CodedCall};
 ghost use Rattle.cp_compile_symbols.specs.Scopes.{IsCallee, IsScope};
-ghost use Rattle.cp_compile_symbols.specs.Standing.{Represents};
+ghost use Rattle.cp_compile_symbols.specs.Representing.{Represents};
 ghost use Rattle.cp_compile_symbols.specs.Variables.{AreDeclared, declared_entry};
 ghost use Rattle.cp_compile_lower.specs.Translated.{AreArguments, ChainOf, IsArgument, IsTerm, PartOf, PlaceExpressionOf, TermOf, VariableOf};
 

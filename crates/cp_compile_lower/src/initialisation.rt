@@ -16,7 +16,7 @@ ghost use Rattle.cp_model_program.specs.Terms as plain;
 ghost use Rattle.cp_compile_emit.specs.Emission.{coded_call, place_of};
 ghost use Rattle.cp_compile_emit.specs.declared.emitter.CodedCall.{CodedCall};
 ghost use Rattle.cp_compile_symbols.specs.Scopes.{IsScope, Names};
-ghost use Rattle.cp_compile_symbols.specs.Standing.{Represents};
+ghost use Rattle.cp_compile_symbols.specs.Representing.{Represents};
 ghost use Rattle.cp_program.specs.View as view;
 ghost use Rattle.cp_compile_lower.specs.Initialisation.{IsTable, right_argument};
 ghost use Rattle.cp_compile_lower.specs.Statements.{Enters, StatementOf};

@@ -16,7 +16,7 @@ ghost use Rattle.cp_model_program.specs.Scopes as code;
 ghost use Rattle.cp_model_program.specs.Scopes.{environment};
 ghost use Rattle.cp_compile_emit.specs.Emission.{coded_call, place_of};
 ghost use Rattle.cp_compile_symbols.specs.Scopes.{IsCallee, IsScope};
-ghost use Rattle.cp_compile_symbols.specs.Standing.{base_of};
+ghost use Rattle.cp_compile_symbols.specs.Representing.{base_of};
 ghost use Rattle.cp_compile_lower.specs.Statements.{Enters, StatementOf};
 
 use crate::calls::words_before;

@@ -15,7 +15,7 @@ ghost use Rattle.cp_model_program.specs.Scopes.{environment};
 ghost use Rattle.cp_model_program.specs.Terms as plain;
 ghost use Rattle.cp_compile_emit.specs.declared.emitter.CodedCall.{CodedCall};
 ghost use Rattle.cp_compile_symbols.specs.Scopes.{IsScope};
-ghost use Rattle.cp_compile_symbols.specs.Standing.{base_of};
+ghost use Rattle.cp_compile_symbols.specs.Representing.{base_of};
 ghost use Rattle.cp_program.specs.View as view;
 ghost use Rattle.cp_compile_lower.specs.Translated.{IsPlaceExpression, IsTerm};
 

@@ -8,7 +8,7 @@ ghost use Rattle.cp_model_program.specs.Scopes as code;
 ghost use Rattle.cp_compile_symbols.specs.Expressions.{SimpleIs};
 ghost use Rattle.cp_compile_symbols.specs.Places.{TypeIs};
 ghost use Rattle.cp_compile_symbols.specs.Scopes.{IsScope};
-ghost use Rattle.cp_compile_symbols.specs.Standing.{Represents};
+ghost use Rattle.cp_compile_symbols.specs.Representing.{Represents};
 
 use crate::translator::Translator;
 use cp_compile_symbols::Simple;

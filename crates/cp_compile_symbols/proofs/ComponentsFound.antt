@@ -10,7 +10,7 @@ use Rattle.cp_compile_symbols.specs.declared.numbering.Numbered.{Numbered}
 use Rattle.cp_compile_symbols.specs.declared.systems.Component.{Component}
 use Rattle.cp_compile_symbols.specs.declared.types.Types.{Types}
 use Rattle.cp_compile_symbols.specs.Numbering.{IsNumbered, NumberedIs}
-use Rattle.cp_compile_symbols.specs.Standing.{Represents}
+use Rattle.cp_compile_symbols.specs.Representing.{Represents}
 use Rattle.cp_compile_symbols.specs.Systems.{ComponentIs, component_among, component_of_name}
 
 -- The parameters or the variables.

@@ -10,7 +10,7 @@ use Rattle.cp_compile_symbols.specs.declared.numbering.Numbered.{Numbered}
 use Rattle.cp_compile_symbols.specs.declared.variables.Declared.{Declared}
 use Rattle.cp_compile_symbols.specs.declared.types.Types.{Types}
 use Rattle.cp_compile_symbols.specs.Numbering.{NumberedIs}
-use Rattle.cp_compile_symbols.specs.Standing.{Represents}
+use Rattle.cp_compile_symbols.specs.Representing.{Represents}
 use Rattle.cp_compile_symbols.specs.Tables.{Behind, or_last}
 use Rattle.cp_compile_symbols.specs.Variables.{AreDeclared, Entry}
 

@@ -13,8 +13,8 @@ use Rattle.cp_compile_symbols.specs.declared.names.Names.{Names}
 use Rattle.cp_compile_symbols.specs.declared.types.Types.{Types}
 use Rattle.cp_compile_symbols.specs.Variables.{AreDeclared, Declares, Entry, declared_entries, parameters_of, variables_of, with_declared_groups, with_declared_parameters}
 use Rattle.cp_compile_symbols.specs.Routines.{ResultIs}
-use Rattle.cp_compile_symbols.specs.Standing.{Grows, ScopeRepresents, Represents, type_from}
-use Rattle.cp_compile_symbols.proofs.Standing.{still_represents}
+use Rattle.cp_compile_symbols.specs.Representing.{Grows, ScopeRepresents, Represents, type_from}
+use Rattle.cp_compile_symbols.proofs.Representing.{still_represents}
 
 pub each_declared : (types : Types) (xs : List Identifier) (r : Bool) (n : ℕ) (t : ResolvedType) (rest : List Entry) (vs : List (Name × Variable)) → Represents types n t
     → AreDeclared types rest vs → AreDeclared types (declared_entries xs r n ++ rest) (declared_group r t (map erase.name xs) vs)

@@ -9,7 +9,7 @@ use Rattle.cp_compile_symbols.specs.declared.types.Types.{Types}
 use Rattle.cp_compile_symbols.specs.declared.names.Names.{Names}
 use Rattle.cp_compile_symbols.specs.declared.names.Value.{Value}
 use Rattle.cp_compile_symbols.specs.Outer.{with_type, with_value}
-use Rattle.cp_compile_symbols.specs.Standing.{ScopeRepresents, Represents, TypeMeans, value_of}
+use Rattle.cp_compile_symbols.specs.Representing.{ScopeRepresents, Represents, TypeMeans, value_of}
 use Rattle.cp_compile_symbols.specs.Tables.{InFront, or_last}
 
 pub behind_others : {A : Type 0} (es : List (Name × A)) (x : Name) (v : A) (y : Name)

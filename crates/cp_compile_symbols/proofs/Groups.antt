@@ -7,8 +7,8 @@ use Rattle.cp_model.specs.declared.tree.Fields.{Fields}
 use Rattle.cp_model.specs.declared.tree.Parameters.{Parameters}
 use Rattle.cp_compile_symbols.specs.declared.types.Types.{Types}
 use Rattle.cp_compile_symbols.specs.declared.names.Names.{Names}
-use Rattle.cp_compile_symbols.specs.Standing.{AreMembers, Grows, MakesList, ScopeRepresents, with_groups, with_parameters}
-use Rattle.cp_compile_symbols.proofs.Standing.{grows_more, grows_not, still_scope}
+use Rattle.cp_compile_symbols.specs.Representing.{AreMembers, Grows, MakesList, ScopeRepresents, with_groups, with_parameters}
+use Rattle.cp_compile_symbols.proofs.Representing.{grows_more, grows_not, still_scope}
 
 -- For any kind of group, and anything that groups make.
 module _ {A E M : Type 0} (are : Types → List E → M → Type 0) (with_all : List A → GlobalScope → M → M) where

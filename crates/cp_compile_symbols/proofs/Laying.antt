@@ -17,13 +17,13 @@ use Rattle.cp_compile_symbols.specs.declared.types.Types.{Types}
 use Rattle.cp_model.specs.declared.tree.Sort.{Sort}
 use Rattle.cp_model.specs.declared.tree.Sort.TheVariants as sort
 use Rattle.cp_model.specs.declared.tree.System.{System}
-use Rattle.cp_compile_symbols.proofs.Standing.{grows_more}
+use Rattle.cp_compile_symbols.proofs.Representing.{grows_more}
 use Rattle.cp_compile_symbols.specs.declared.names.Names.{Names}
 use Rattle.cp_compile_symbols.specs.declared.types.Field.{Field}
 use Rattle.cp_compile_symbols.specs.declared.types.TypeRow.{TypeRow}
 use Rattle.cp_compile_symbols.specs.declared.types.TypeRow.TheVariants as row
 use Rattle.cp_compile_symbols.specs.Layouts.{AreLaid, Counts, LaysRow, LayoutIs, MembersLie, PartIs, rights_of}
-use Rattle.cp_compile_symbols.specs.Standing.{AreMembers, Grows, ScopeRepresents, Represents, entry, row_at, system_at}
+use Rattle.cp_compile_symbols.specs.Representing.{AreMembers, Grows, ScopeRepresents, Represents, entry, row_at, system_at}
 use Rattle.cp_compile_symbols.specs.Tables.{Behind, or_last}
 
 -- Where a part is: as recorded if it is laid out already, and otherwise among those that remain.

@@ -1,4 +1,4 @@
-pub mod Standing
+pub mod Representing
 pub mod Unrefused
 pub mod Written
 pub mod Groups

@@ -11,7 +11,7 @@ use Rattle.cp_compile_symbols.specs.declared.locals.Locals.{Locals}
 use Rattle.cp_compile_symbols.specs.declared.types.Types.{Types}
 use Rattle.cp_compile_symbols.specs.Layouts.{Counts}
 use Rattle.cp_compile_symbols.specs.Locals.{LocalIs, LocalsLie}
-use Rattle.cp_compile_symbols.specs.Standing.{Represents}
+use Rattle.cp_compile_symbols.specs.Representing.{Represents}
 use Rattle.cp_compile_symbols.specs.Tables.{Behind, or_last}
 use Rattle.cp_compile_symbols.specs.Variables.{AreDeclared, Entry}
 

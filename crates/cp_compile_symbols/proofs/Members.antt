@@ -7,7 +7,7 @@ use Rattle.cp_model.specs.View as view
 use Rattle.cp_model.specs.Types.{GlobalScope, Members, NoMembers, ResolvedType, with_members}
 use Rattle.cp_model.specs.declared.tree.Fields.{Fields}
 use Rattle.cp_model.proofs.TypeViews.{view_fields}
-use Rattle.cp_compile_symbols.specs.Standing.{with_groups, type_from}
+use Rattle.cp_compile_symbols.specs.Representing.{with_groups, type_from}
 
 group_first : (t : ResolvedType) (xs : List Name) (vs : List (Name × Variable)) (ms : Members)
     → members_from (declared_group false t xs vs) ms ≡ with_members xs t (members_from vs ms)

@@ -25,7 +25,7 @@ use Rattle.cp_compile_symbols.specs.declared.scope.Scope.{Scope}
 use Rattle.cp_compile_symbols.specs.declared.types.Types.{Types}
 use Rattle.cp_compile_symbols.specs.Layouts.{PartIs}
 use Rattle.cp_compile_symbols.specs.Places.{PlaceIs, TypeIs, elements_of, is_record}
-use Rattle.cp_compile_symbols.specs.Standing.{Represents, row_at}
+use Rattle.cp_compile_symbols.specs.Representing.{Represents, row_at}
 
 abbrev elements_type : Option Elements → Option ℕ
 elements_type o = option_map (λ e. e.of) o

@@ -9,7 +9,7 @@ use Rattle.cp_model_program.specs.Layout.{right_at}
 use Rattle.cp_compile_symbols.specs.declared.components.Right.{Right}
 use Rattle.cp_compile_symbols.specs.declared.types.Types.{Types}
 use Rattle.cp_compile_symbols.specs.Components.{Picks, RightIs}
-use Rattle.cp_compile_symbols.specs.Standing.{Represents}
+use Rattle.cp_compile_symbols.specs.Representing.{Represents}
 use Rattle.cp_compile_symbols.specs.Tables.{Behind, or_last}
 use Rattle.cp_compile_symbols.specs.Variables.{AreDeclared, Entry}
 

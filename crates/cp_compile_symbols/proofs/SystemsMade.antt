@@ -15,15 +15,15 @@ use Rattle.cp_compile_symbols.specs.Routines.{Builds, MakesRoutine}
 use Rattle.cp_model.specs.Abstract.{Name}
 use Rattle.cp_compile_symbols.specs.declared.numbering.Numbered.{Numbered}
 use Rattle.cp_compile_symbols.specs.Numbering.{NumberedIs}
-use Rattle.cp_compile_symbols.specs.Standing.{Grows, ScopeRepresents}
+use Rattle.cp_compile_symbols.specs.Representing.{Grows, ScopeRepresents}
 use Rattle.cp_compile_symbols.specs.Systems.{AreRoutines, MakesRoutines, routines_of}
 use Rattle.std.proofs.lemmas.Option.{same_Some, slice_get_cases, slice_get_within}
 use Rattle.cp_model.specs.declared.tree.System.{System}
 use Rattle.cp_compile_symbols.specs.declared.systems.SystemTable.{SystemTable}
-use Rattle.cp_compile_symbols.specs.Standing.{system_at}
+use Rattle.cp_compile_symbols.specs.Representing.{system_at}
 use Rattle.cp_compile_symbols.specs.Texts.{AreSystems, TableIs}
 use Rattle.cp_compile_symbols.proofs.Laying.{last_or_before}
-use Rattle.cp_compile_symbols.proofs.Standing.{grows_more, grows_not, still_scope, still_represents}
+use Rattle.cp_compile_symbols.proofs.Representing.{grows_more, grows_not, still_scope, still_represents}
 
 pub builds_nothing : (names : Names) (types : Types) (ls : List Layout) → Builds names types types ls ls
 builds_nothing names types ls = record { grows = grows_not types; laid = λ g scope laid. laid }

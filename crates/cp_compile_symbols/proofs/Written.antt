@@ -10,7 +10,7 @@ use Rattle.cp_model.specs.declared.tree.TypeExpression.{TypeExpression}
 use Rattle.cp_model.specs.declared.tree.TypeExpression.TheVariants as tree
 use Rattle.cp_model.proofs.TypeViews.{view_array, view_fields, view_record}
 use Rattle.cp_compile_symbols.specs.declared.types.Types.{Types}
-use Rattle.cp_compile_symbols.specs.Standing.{AreMembers, Represents, entries_of, fields_of, array_type_over, record_type, with_groups, type_from}
+use Rattle.cp_compile_symbols.specs.Representing.{AreMembers, Represents, entries_of, fields_of, array_type_over, record_type, with_groups, type_from}
 
 pub array_written : (g : GlobalScope) (at : ℕ) (indices : Box (Vec TypeExpression Global) Global) (element : Box TypeExpression Global)
     → array_type_over indices.value.items (type_from element.value g) g ≡ type_from (tree.Array at indices element) g

@@ -13,7 +13,7 @@ use Rattle.cp_compile_symbols.specs.declared.names.Names.{Names}
 use Rattle.cp_compile_symbols.specs.declared.types.Types.{Types}
 use Rattle.cp_compile_symbols.specs.Layouts.{AreLaid, MembersLie, rights_of}
 use Rattle.cp_compile_symbols.specs.Routines.{Builds}
-use Rattle.cp_compile_symbols.specs.Standing.{Grows, ScopeRepresents, Represents, with_parameters}
+use Rattle.cp_compile_symbols.specs.Representing.{Grows, ScopeRepresents, Represents, with_parameters}
 use Rattle.cp_compile_symbols.specs.Variables.{AreDeclared, Entry, variables_of}
 
 -- `after` is `before` with `d` appended if `d` is a component, and `before` itself otherwise.

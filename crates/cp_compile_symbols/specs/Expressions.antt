@@ -7,7 +7,7 @@ use Rattle.cp_law_typing.specs.StaticTypes.{expression_type}
 use Rattle.cp_model_program.specs.Scopes as code
 use Rattle.cp_model_program.specs.Scopes.{environment}
 use Rattle.cp_compile_symbols.specs.declared.types.Simple as plain
-use Rattle.cp_compile_symbols.specs.Standing.{simple_of}
+use Rattle.cp_compile_symbols.specs.Representing.{simple_of}
 
 abbrev pub is_simple : ResolvedType → Bool
 is_simple (Simple b low high start) = true

@@ -17,7 +17,7 @@ use Rattle.cp_model.specs.declared.tree.System.{System}
 use Rattle.cp_compile_symbols.specs.declared.names.Names.{Names}
 use Rattle.cp_compile_symbols.specs.declared.types.TypeRow.{TypeRow}
 use Rattle.cp_compile_symbols.specs.declared.types.Types.{Types}
-use Rattle.cp_compile_symbols.specs.Standing.{AreMembers, Grows, ScopeRepresents, Represents, name_type, row_at}
+use Rattle.cp_compile_symbols.specs.Representing.{AreMembers, Grows, ScopeRepresents, Represents, name_type, row_at}
 
 -- A count is the number `n`, or `None`, which the code uses for a number that is too large.
 abbrev pub Counts : Option ℕ → ℕ → Type 0

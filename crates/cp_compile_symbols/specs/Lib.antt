@@ -1,5 +1,5 @@
 pub mod Tables
-pub mod Standing
+pub mod Representing
 pub mod Outer
 pub mod Layouts
 pub mod Variables

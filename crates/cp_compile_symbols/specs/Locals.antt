@@ -10,7 +10,7 @@ use Rattle.cp_compile_symbols.specs.declared.locals.Local.{Local}
 use Rattle.cp_compile_symbols.specs.declared.locals.Locals.{Locals}
 use Rattle.cp_compile_symbols.specs.declared.types.Types.{Types}
 use Rattle.cp_compile_symbols.specs.Layouts.{AreLaid, Counts}
-use Rattle.cp_compile_symbols.specs.Standing.{Represents}
+use Rattle.cp_compile_symbols.specs.Representing.{Represents}
 use Rattle.cp_compile_symbols.specs.Variables.{AreDeclared, Entry}
 
 -- The place, the kind (`var` parameter or not) and the type of a variable, if there is one.

@@ -11,7 +11,7 @@ use Rattle.cp_model.specs.declared.tree.System.{System}
 use Rattle.cp_compile_symbols.specs.declared.names.Names.{Names}
 use Rattle.cp_compile_symbols.specs.declared.outer.Outer.{Outer}
 use Rattle.cp_compile_symbols.specs.declared.types.Types.{Types}
-use Rattle.cp_compile_symbols.specs.Standing.{Keeps, ScopeRepresents, Represents}
+use Rattle.cp_compile_symbols.specs.Representing.{Keeps, ScopeRepresents, Represents}
 
 abbrev pub OuterRepresents : Outer → GlobalScope → Type 0
 OuterRepresents outer g = ScopeRepresents outer.names outer.types g

@@ -10,7 +10,7 @@ use Rattle.cp_compile_symbols.specs.declared.scope.Scope.{Scope}
 use Rattle.cp_compile_symbols.specs.declared.types.TypeRow.{TypeRow}
 use Rattle.cp_compile_symbols.specs.declared.types.TypeRow.TheVariants as row
 use Rattle.cp_compile_symbols.specs.declared.types.Types.{Types}
-use Rattle.cp_compile_symbols.specs.Standing.{Represents}
+use Rattle.cp_compile_symbols.specs.Representing.{Represents}
 
 abbrev pub is_record : ResolvedType → Bool
 is_record (RecordOf ms) = true

@@ -15,7 +15,7 @@ use Rattle.cp_compile_symbols.specs.declared.routines.RoutineTable.{RoutineTable
 use Rattle.cp_compile_symbols.specs.declared.types.Types.{Types}
 use Rattle.cp_compile_symbols.specs.Layouts.{AreLaid}
 use Rattle.cp_compile_symbols.specs.Locals.{LocalsLie}
-use Rattle.cp_compile_symbols.specs.Standing.{Grows, ScopeRepresents, Represents}
+use Rattle.cp_compile_symbols.specs.Representing.{Grows, ScopeRepresents, Represents}
 use Rattle.cp_compile_symbols.specs.Variables.{AreDeclared, declared_entry}
 
 -- The number of the type of the result, or `None` if there is no result.

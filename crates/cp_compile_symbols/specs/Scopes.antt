@@ -27,7 +27,7 @@ use Rattle.cp_compile_symbols.specs.declared.scope.Scope.{Scope}
 use Rattle.cp_compile_symbols.specs.declared.types.Types.{Types}
 use Rattle.cp_compile_symbols.specs.Layouts.{EachIsLaid}
 use Rattle.cp_compile_symbols.specs.Routines.{RoutineRepresents}
-use Rattle.cp_compile_symbols.specs.Standing.{ScopeRepresents, Represents, value_of}
+use Rattle.cp_compile_symbols.specs.Representing.{ScopeRepresents, Represents, value_of}
 use Rattle.cp_compile_symbols.specs.Systems.{ComponentIs, IsComponent, IsIndexed, SystemRepresents, routines_of}
 use Rattle.cp_compile_symbols.specs.Texts.{AreSystems}
 

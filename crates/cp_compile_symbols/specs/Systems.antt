@@ -30,7 +30,7 @@ use Rattle.cp_compile_symbols.specs.Layouts.{AreLaid, MembersLie, rights_of}
 use Rattle.cp_compile_symbols.specs.Routines.{Builds, RoutineRepresents}
 use Rattle.cp_compile_symbols.specs.Numbering.{NumberedIs, system_of}
 use Rattle.cp_compile_symbols.specs.TypeNames.{AreTypeNames}
-use Rattle.cp_compile_symbols.specs.Standing.{Grows, ScopeRepresents, row_at, system_at}
+use Rattle.cp_compile_symbols.specs.Representing.{Grows, ScopeRepresents, row_at, system_at}
 use Rattle.cp_compile_symbols.specs.Variables.{AreDeclared, declared_entry, parameters_of, variables_of}
 
 -- The tables are those of these routines, one by one.

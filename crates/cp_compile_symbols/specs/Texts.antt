@@ -11,7 +11,7 @@ use Rattle.cp_compile_symbols.specs.declared.tables.Tables.{Tables}
 use Rattle.cp_compile_symbols.specs.declared.types.Types.{Types}
 use Rattle.cp_compile_symbols.specs.Layouts.{AreLaid, EachIsLaid}
 use Rattle.cp_compile_symbols.specs.Routines.{Builds}
-use Rattle.cp_compile_symbols.specs.Standing.{Grows, ScopeRepresents, system_at}
+use Rattle.cp_compile_symbols.specs.Representing.{Grows, ScopeRepresents, system_at}
 use Rattle.cp_compile_symbols.specs.Systems.{SystemRepresents}
 
 -- The table is that of the system type `y`.

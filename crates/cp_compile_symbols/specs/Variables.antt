@@ -11,7 +11,7 @@ use Rattle.cp_model.specs.declared.tree.Parameters.{Parameters}
 use Rattle.cp_compile_symbols.specs.declared.variables.Declared.{Declared}
 use Rattle.cp_compile_symbols.specs.declared.names.Names.{Names}
 use Rattle.cp_compile_symbols.specs.declared.types.Types.{Types}
-use Rattle.cp_compile_symbols.specs.Standing.{MakesList, Represents, name_type, type_from}
+use Rattle.cp_compile_symbols.specs.Representing.{MakesList, Represents, name_type, type_from}
 
 -- A name, whether it is a `var` parameter, and the number of its type.
 abbrev pub Entry : Type 0

@@ -16,7 +16,7 @@ ghost use Rattle.cp_model_program.specs.Scopes.{environment};
 ghost use Rattle.cp_compile_symbols.specs.Expressions.{SimpleIs, ValueIs};
 ghost use Rattle.cp_compile_symbols.specs.Places.{TypeIs};
 ghost use Rattle.cp_compile_symbols.specs.Scopes.{IsCallee, IsScope};
-ghost use Rattle.cp_compile_symbols.specs.Standing.{base_of, simple_of};
+ghost use Rattle.cp_compile_symbols.specs.Representing.{base_of, simple_of};
 
 use crate::designators::is_part;
 use crate::scope::{Callee, Meaning, Scope};

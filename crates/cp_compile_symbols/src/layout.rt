@@ -7,7 +7,7 @@ ghost use Rattle.cp_law_typing.specs.Words.{words};
 ghost use Rattle.cp_model_program.specs.Layout as code;
 ghost use Rattle.cp_model.specs.Locations.{ByName};
 ghost use Rattle.cp_compile_symbols.specs.Layouts.{AreLaid, Counts, EachIsLaid, LaysComponent, LaysOut, LaysRow, PartIs, rights_among, rights_of};
-ghost use Rattle.cp_compile_symbols.specs.Standing.{ScopeRepresents, Represents, entry, name_type};
+ghost use Rattle.cp_compile_symbols.specs.Representing.{ScopeRepresents, Represents, entry, name_type};
 
 use crate::counts::count_between;
 use crate::names::{Names, add_first};

@@ -15,7 +15,7 @@
 //!   (`specs/Places.antt`, `specs/Expressions.antt`), and the numbers of units.
 //!
 //! Names are borrowed from the tree and found by comparison, in logarithmic time. Look-ups alone
-//! define what names and numbers represent (`specs/Standing.antt`, and `specs/Texts.antt` for a
+//! define what names and numbers represent (`specs/Representing.antt`, and `specs/Texts.antt` for a
 //! whole text). Sizes and offsets that don't fit their fields are `None`, and an error only when
 //! they are used, because a text may declare a type that is far larger than any variable.
 #![tactic(auto)]

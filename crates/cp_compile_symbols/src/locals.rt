@@ -6,7 +6,7 @@ ghost use Rattle.cp_model.specs.Types.{GlobalScope};
 ghost use Rattle.cp_model_program.specs.Layout as code;
 ghost use Rattle.cp_compile_symbols.specs.Layouts.{AreLaid, Counts};
 ghost use Rattle.cp_compile_symbols.specs.Locals.{LaysLocals};
-ghost use Rattle.cp_compile_symbols.specs.Standing.{Represents};
+ghost use Rattle.cp_compile_symbols.specs.Representing.{Represents};
 ghost use Rattle.cp_compile_symbols.specs.declared.types.Types.{Types};
 ghost use Rattle.cp_compile_symbols.specs.Variables.{declared_entry};
 

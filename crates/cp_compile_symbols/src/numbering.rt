@@ -7,7 +7,7 @@ ghost use Rattle.cp_model.specs.Declarations.{Variable};
 ghost use Rattle.cp_model.specs.Erase as erase;
 ghost use Rattle.cp_model.specs.Types.{ResolvedType};
 ghost use Rattle.cp_compile_symbols.specs.Numbering.{AreNumbered, system_of};
-ghost use Rattle.cp_compile_symbols.specs.Standing.{Represents, row_at};
+ghost use Rattle.cp_compile_symbols.specs.Representing.{Represents, row_at};
 ghost use Rattle.cp_compile_symbols.specs.Variables.{AreDeclared, declared_entry};
 
 use crate::names::add_first;

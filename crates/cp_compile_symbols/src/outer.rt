@@ -8,7 +8,7 @@ ghost use Rattle.cp_model.specs.Types.{ResolvedType, standard_scope};
 ghost use Rattle.cp_model.specs.Erase as erase;
 ghost use Rattle.cp_model.specs.View as view;
 ghost use Rattle.cp_compile_symbols.specs.Outer.{Defines, MakesComponents, NamesType, OuterRepresents, component_of, defining, defining_all, with_standard, with_type, with_value, with_values};
-ghost use Rattle.cp_compile_symbols.specs.Standing.{MakesFields, Represents, base_of, entry, simple_of, value_of, with_parameter, with_parameters, type_from};
+ghost use Rattle.cp_compile_symbols.specs.Representing.{MakesFields, Represents, base_of, entry, simple_of, value_of, with_parameter, with_parameters, type_from};
 
 use crate::names::{Names, Value};
 use crate::resolving::add_fields;

@@ -10,7 +10,7 @@ ghost use Rattle.cp_model_program.specs.Scopes as code;
 ghost use Rattle.cp_model.specs.Abstract as a;
 ghost use Rattle.cp_compile_symbols.specs.Places.{PlaceIs, TypeIs, elements_of, is_record};
 ghost use Rattle.cp_compile_symbols.specs.Scopes.{IsScope};
-ghost use Rattle.cp_compile_symbols.specs.Standing.{Represents, row_at};
+ghost use Rattle.cp_compile_symbols.specs.Representing.{Represents, row_at};
 
 use crate::layout::Part;
 use crate::scope::{Meaning, Scope};

@@ -4,7 +4,7 @@ ghost use Rattle.std.specs.Prelude.{◌≡◌, ◌++◌, IfOk, OnOk, map, option
 ghost use Rattle.cp_model.specs.Abstract.{Integer};
 ghost use Rattle.cp_model.specs.Types.{GlobalScope, constant_value};
 ghost use Rattle.cp_model.specs.Erase as erase;
-ghost use Rattle.cp_compile_symbols.specs.Standing.{Adds, ConstantsRepresent, Makes, MakesArray, MakesFields, MakesIndexed, array_row, entries_of, entry, name_type, range_type, record_type, row_at, subrange_row, value_of, with_group, with_groups, type_from};
+ghost use Rattle.cp_compile_symbols.specs.Representing.{Adds, ConstantsRepresent, Makes, MakesArray, MakesFields, MakesIndexed, array_row, entries_of, entry, name_type, range_type, record_type, row_at, subrange_row, value_of, with_group, with_groups, type_from};
 
 use crate::names::{Names, Value};
 use crate::types::{Base, Field, Simple, TypeRow, Types};

@@ -1,7 +1,7 @@
 //! Types by number: each has a row, which refers to the types of its parts by their numbers.
 
 ghost use Rattle.std.specs.Prelude.{◌≡◌, [], IfOk, option_map};
-ghost use Rattle.cp_compile_symbols.specs.Standing.{Adds, AddsSystem, row_at, system_at};
+ghost use Rattle.cp_compile_symbols.specs.Representing.{Adds, AddsSystem, row_at, system_at};
 
 use cp_base_names::Key;
 use cp_model::tree::System;

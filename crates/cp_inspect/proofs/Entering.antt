@@ -15,7 +15,7 @@ use Rattle.cp_model.specs.declared.tree.System.{System}
 use Rattle.cp_law_typing.specs.Words.{component_words, rights_in, words, words_of_members}
 use Rattle.cp_model_program.specs.Layout.{head_words}
 use Rattle.cp_model_machine.specs.Reports.{Visit, of_class_text, visit_members, visit_type}
-use Rattle.cp_compile_symbols.specs.Standing.{ScopeRepresents, entry, row_at, system_at}
+use Rattle.cp_compile_symbols.specs.Representing.{ScopeRepresents, entry, row_at, system_at}
 use Rattle.cp_compile_symbols.specs.declared.tables.Tables.{Tables}
 use Rattle.cp_compile_symbols.specs.declared.types.Field.{Field}
 use Rattle.cp_compile_symbols.specs.declared.types.TypeRow.TheVariants as row

@@ -13,7 +13,7 @@ use Rattle.cp_model.specs.Types.{GlobalScope, Members, MoreMembers, NoMembers, R
 use Rattle.cp_model.proofs.Options.{same_some}
 use Rattle.cp_law_typing.specs.Words.{words, words_of_members}
 use Rattle.cp_model_machine.specs.Reports.{Visit, visit_elements, visit_members, visit_type}
-use Rattle.cp_compile_symbols.specs.Standing.{AreMembers, Represents, row_at}
+use Rattle.cp_compile_symbols.specs.Representing.{AreMembers, Represents, row_at}
 use Rattle.cp_compile_symbols.specs.declared.tables.Tables.{Tables}
 use Rattle.cp_compile_symbols.specs.declared.types.TypeRow.{TypeRow}
 use Rattle.cp_compile_symbols.specs.declared.types.TypeRow.TheVariants as row

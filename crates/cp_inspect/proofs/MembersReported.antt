@@ -8,7 +8,7 @@ use Rattle.cp_model.specs.Report.{Text}
 use Rattle.cp_model.specs.Types.{GlobalScope, Members, MoreMembers, NoMembers}
 use Rattle.cp_law_typing.specs.Words.{words}
 use Rattle.cp_model_machine.specs.Reports.{Visit, visit_members, visit_type}
-use Rattle.cp_compile_symbols.specs.Standing.{AreMembers, ScopeRepresents}
+use Rattle.cp_compile_symbols.specs.Representing.{AreMembers, ScopeRepresents}
 use Rattle.cp_compile_symbols.specs.declared.tables.Tables.{Tables}
 use Rattle.cp_compile_symbols.specs.declared.types.Types.{Types}
 use Rattle.cp_inspect.specs.Walks.{Visits}

@@ -9,7 +9,7 @@ use Rattle.cp_model.specs.Types.{ArrayOf, ComponentOf, Members, NoType, Queue, R
 use Rattle.cp_model.specs.View as view
 use Rattle.cp_model.proofs.Options.{same_some}
 use Rattle.cp_model.specs.declared.tree.System.{System}
-use Rattle.cp_compile_symbols.specs.Standing.{AreMembers, Represents, entry, row_at, system_at}
+use Rattle.cp_compile_symbols.specs.Representing.{AreMembers, Represents, entry, row_at, system_at}
 use Rattle.cp_compile_symbols.specs.declared.types.Field.{Field}
 use Rattle.cp_compile_symbols.specs.declared.types.TypeRow.{TypeRow}
 use Rattle.cp_compile_symbols.specs.declared.types.TypeRow.TheVariants as row

@@ -8,7 +8,7 @@ use Rattle.cp_model.specs.Report.{Text}
 use Rattle.cp_law_typing.specs.Words.{words}
 use Rattle.cp_model_machine.specs.Reports.{Visit, visit_type}
 use Rattle.cp_model.specs.Types.{GlobalScope}
-use Rattle.cp_compile_symbols.specs.Standing.{ScopeRepresents}
+use Rattle.cp_compile_symbols.specs.Representing.{ScopeRepresents}
 use Rattle.cp_compile_symbols.specs.declared.tables.Tables.{Tables}
 use Rattle.cp_compile_symbols.specs.declared.types.Types.{Types}
 use Rattle.cp_inspect.specs.Remaining.{Remaining, left_text, left_words}

@@ -4,7 +4,7 @@ use Rattle.cp_model.specs.Abstract.{Name, Sort}
 use Rattle.cp_model.specs.Components.{is_component_of}
 use Rattle.cp_model.specs.Declarations.{Variable}
 use Rattle.cp_model.specs.Types.{ResolvedType}
-use Rattle.cp_compile_symbols.specs.Standing.{Represents}
+use Rattle.cp_compile_symbols.specs.Representing.{Represents}
 use Rattle.cp_compile_symbols.specs.Variables.{AreDeclared, Entry}
 use Rattle.cp_compile_symbols.specs.declared.types.Types.{Types}
 use Rattle.cp_compile_symbols.specs.declared.variables.Declared.{Declared}

@@ -12,7 +12,7 @@ use Rattle.cp_model_program.specs.Programs.{Program}
 use Rattle.cp_model_machine.specs.Reports.{queue_text, queues_text}
 use Rattle.cp_inspect.specs.declared.state.ProcState.{ProcState}
 use Rattle.cp_inspect.specs.declared.state.ProcState.TheVariants as state
-use Rattle.cp_compile_symbols.specs.Standing.{ScopeRepresents}
+use Rattle.cp_compile_symbols.specs.Representing.{ScopeRepresents}
 use Rattle.cp_compile_symbols.specs.declared.tables.Tables.{Tables}
 use Rattle.cp_compile_symbols.specs.declared.types.Types.{Types}
 use Rattle.cp_inspect.specs.Lists.{AreListed}

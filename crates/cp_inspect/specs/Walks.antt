@@ -9,7 +9,7 @@ use Rattle.cp_model.specs.Types.{GlobalScope, Members, ResolvedType}
 use Rattle.cp_law_typing.specs.Words.{words}
 use Rattle.cp_model_program.specs.Layout.{head_words}
 use Rattle.cp_model_machine.specs.Reports.{Visit, visit_component, visit_members, visit_type}
-use Rattle.cp_compile_symbols.specs.Standing.{AreMembers, ScopeRepresents, Represents, entry, row_at}
+use Rattle.cp_compile_symbols.specs.Representing.{AreMembers, ScopeRepresents, Represents, entry, row_at}
 use Rattle.cp_compile_symbols.specs.declared.tables.Tables.{Tables}
 use Rattle.cp_compile_symbols.specs.declared.types.TypeRow.{TypeRow}
 use Rattle.cp_compile_symbols.specs.declared.types.TypeRow.TheVariants as row

@@ -2,7 +2,7 @@
 
 ghost use Rattle.std.specs.Prelude.{◌≡◌, ◌-◌, IfOk, map, option_map, slice_get};
 ghost use Rattle.cp_model.specs.Abstract.{Monitor, Process};
-ghost use Rattle.cp_compile_symbols.specs.Standing.{entry};
+ghost use Rattle.cp_compile_symbols.specs.Representing.{entry};
 ghost use Rattle.cp_compile_symbols.specs.Variables.{declared_entry};
 ghost use Rattle.cp_inspect.specs.Lists.{Lists};
 

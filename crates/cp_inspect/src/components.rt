@@ -1,7 +1,7 @@
 //! The lines of whole components.
 
 ghost use Rattle.std.specs.Prelude.{◌≡◌, OnOk, map};
-ghost use Rattle.cp_compile_symbols.specs.Standing.{entry};
+ghost use Rattle.cp_compile_symbols.specs.Representing.{entry};
 ghost use Rattle.cp_inspect.specs.Lists.{declared_member};
 ghost use Rattle.cp_inspect.specs.WalkOutputs.{visit_of};
 ghost use Rattle.cp_inspect.specs.Walks.{ReportsComponent, ReportsMembers};

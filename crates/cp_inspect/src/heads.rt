@@ -7,7 +7,7 @@ ghost use Rattle.cp_model.specs.Erase as erase;
 ghost use Rattle.cp_model.specs.Types.{GlobalScope};
 ghost use Rattle.cp_model.specs.View as view;
 ghost use Rattle.cp_model.specs.declared.tree.System.{System};
-ghost use Rattle.cp_compile_symbols.specs.Standing.{ScopeRepresents, system_at};
+ghost use Rattle.cp_compile_symbols.specs.Representing.{ScopeRepresents, system_at};
 ghost use Rattle.cp_inspect.specs.Walks.{HeadIs};
 
 use cp_compile_symbols::Tables;

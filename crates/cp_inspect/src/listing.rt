@@ -5,7 +5,7 @@ ghost use Rattle.std.specs.Prelude.{◌≡◌, IfOk, filter, map};
 ghost use Rattle.cp_model.specs.Components.{is_component_of};
 ghost use Rattle.cp_model.specs.Erase as erase;
 ghost use Rattle.cp_model.specs.Types.{ResolvedType};
-ghost use Rattle.cp_compile_symbols.specs.Standing.{Represents, entry};
+ghost use Rattle.cp_compile_symbols.specs.Representing.{Represents, entry};
 ghost use Rattle.cp_compile_symbols.specs.Variables.{declared_entry};
 ghost use Rattle.cp_inspect.specs.Lists.{Lists, Picks};
 

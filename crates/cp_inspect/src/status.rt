@@ -2,7 +2,7 @@
 
 ghost use Rattle.std.specs.Prelude.{◌≡◌, ◌++◌, ◌-◌, OnOk, map, option_map, slice_get};
 ghost use Rattle.cp_model.specs.StateViews as state;
-ghost use Rattle.cp_compile_symbols.specs.Standing.{entry};
+ghost use Rattle.cp_compile_symbols.specs.Representing.{entry};
 ghost use Rattle.cp_program.specs.View as view;
 ghost use Rattle.cp_inspect.specs.Statuses.{NamesMonitor, ReportsQueue, ReportsState, fault_text};
 

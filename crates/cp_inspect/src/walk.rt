@@ -13,7 +13,7 @@ ghost use Rattle.cp_model.specs.Report.{path_text};
 ghost use Rattle.cp_model.specs.Types.{GlobalScope};
 ghost use Rattle.cp_model.specs.View as view;
 ghost use Rattle.cp_model.specs.declared.tree.System.{System};
-ghost use Rattle.cp_compile_symbols.specs.Standing.{ScopeRepresents, entry, row_at, system_at};
+ghost use Rattle.cp_compile_symbols.specs.Representing.{ScopeRepresents, entry, row_at, system_at};
 ghost use Rattle.cp_compile_symbols.specs.declared.types.TypeRow.TheVariants as row_case;
 ghost use Rattle.cp_inspect.specs.WalkOutputs.{report_leaf, visit_of};
 ghost use Rattle.cp_inspect.specs.Walks.{Continues, Enters, Finishes, Visits, cursor as cursor_of, members_in};

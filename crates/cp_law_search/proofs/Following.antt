@@ -30,7 +30,7 @@ use Rattle.cp_law_cores.proofs.InStates.{closed_in, kernel_in, kinds_agree, priv
 use Rattle.cp_law_search.specs.Calls.{IsClosedByCalls, LeadsAs, LeadsByCalls, core_machine, step_at, way_at}
 use Rattle.cp_law_search.specs.Laws.{IsClockless}
 use Rattle.cp_law_search.proofs.Counts.{recount}
-use Rattle.cp_law_search.proofs.Standing.{Sound, closed_again, move_sound, movers, step_closed}
+use Rattle.cp_law_search.proofs.Representing.{Sound, closed_again, move_sound, movers, step_closed}
 use Rattle.cp_law_search.proofs.Ways.{core_reports_way}
 
 eager_no_late : Eager ≡ Late → ⊥

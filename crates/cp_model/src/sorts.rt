@@ -14,30 +14,21 @@ impl Sort {
     pub fn is_process(self) -> bool
         ensures { result ≡ environment.is_process self }
     {
-        match self {
-            Sort::Process => true,
-            _ => false,
-        }
+        matches!(self, Sort::Process)
     }
 
     /// Whether it is that of monitors.
     pub fn is_monitor(self) -> bool
         ensures { result ≡ environment.is_monitor self }
     {
-        match self {
-            Sort::Monitor => true,
-            _ => false,
-        }
+        matches!(self, Sort::Monitor)
     }
 
     /// Whether it is that of classes.
     pub fn is_class(self) -> bool
         ensures { result ≡ types.is_class self }
     {
-        match self {
-            Sort::Class => true,
-            _ => false,
-        }
+        matches!(self, Sort::Class)
     }
 
     /// Whether such a component has words of its own: a process or a monitor. A class takes its
@@ -45,21 +36,18 @@ impl Sort {
     pub fn is_owner(self) -> bool
         ensures { result ≡ declarations.is_owner self }
     {
-        match self {
-            Sort::Class => false,
-            _ => true,
-        }
+        !matches!(self, Sort::Class)
     }
 
     /// Whether both are the same.
     pub fn is_same(self, other: Sort) -> bool
         ensures { result ≡ same_sort (sort_of self) (sort_of other) }
     {
-        match (self, other) {
-            (Sort::Process, Sort::Process) => true,
-            (Sort::Monitor, Sort::Monitor) => true,
-            (Sort::Class, Sort::Class) => true,
-            _ => false,
-        }
+        matches!(
+            (self, other),
+            (Sort::Process, Sort::Process)
+                | (Sort::Monitor, Sort::Monitor)
+                | (Sort::Class, Sort::Class)
+        )
     }
 }

@@ -6,7 +6,7 @@ use Rattle.cp_model_program.specs.Programs as op
 use Rattle.cp_model_program.specs.Programs.{Program}
 use Rattle.cp_model_program.specs.Terms as term
 use Rattle.cp_model_machine.specs.PrivateStates.{PrivateState, Running}
-use Rattle.cp_model_machine.specs.Ahead.{IsAhead, IsQuiet}
+use Rattle.cp_model_machine.specs.Ahead.{IsAhead, NeedsNoKernel}
 
 abbrev counting : Program
 counting = record {
@@ -37,7 +37,7 @@ state counter n = record {
   consumed = 0;
 }
 
-quiet : IsQuiet counting (state 0 0)
+quiet : NeedsNoKernel counting (state 0 0)
 quiet = record { next = λ runs. refl; silent = refl }
 
 two_ahead : IsAhead counting 1 1 0 2 (state 0 0) (state 0 1)

@@ -7,7 +7,7 @@ use Rattle.cp_model_machine.specs.KernelSteps.{Turning, is_begun, is_due, join_w
 use Rattle.cp_model_machine.specs.Machines.{Machine, after_kernel_turn, clock, kernel_turn, transcript_of}
 use Rattle.cp_model_machine.specs.PrivateStates.{PrivateState, is_running}
 use Rattle.cp_model_machine.specs.Steps.{is_held, is_kernel_operation, is_private, operation_of, step_with}
-use Rattle.cp_model_machine.specs.Ahead.{IsQuiet}
+use Rattle.cp_model_machine.specs.Ahead.{NeedsNoKernel}
 
 pub needs_none : (o : PrivateState) (x : Option Operation) → is_private o x ≡ true → needs_kernel o x ≡ false
 needs_none o None h = absurd (true≢false (sym h))
@@ -18,7 +18,7 @@ needs_none o (Some x) h = by (is_held o.gate) (is_kernel_operation x) h
     by false true h = absurd (true≢false (sym h))
     by false false h = refl
 
-not_due : (program : Program) (x : Turning) → IsQuiet program x.own → is_due program x ≡ false
+not_due : (program : Program) (x : Turning) → NeedsNoKernel program x.own → is_due program x ≡ false
 not_due program x quiet = by (is_running x.own.activity) refl
   where
     both : (b : Bool) → (if b then false else false) ≡ false
@@ -31,7 +31,7 @@ not_due program x quiet = by (is_running x.own.activity) refl
         ap (λ b. if is_begun (stage_of x.kernel.stages x.own.number) then b else false) (quiet.next runs) ∙ both (is_begun (stage_of x.kernel.stages x.own.number))
     by false stops = refl
 
-pub no_steps : (program : Program) (at n : ℕ) (x : Turning) → IsQuiet program x.own → kernel_steps program at n x ≡ x
+pub no_steps : (program : Program) (at n : ℕ) (x : Turning) → NeedsNoKernel program x.own → kernel_steps program at n x ≡ x
 no_steps program at zero x quiet = refl
 no_steps program at (suc n) x quiet =
     ap (λ b. kernel_steps program at n (if b then part_words (length x.own.words) x (step_with program (outside at x) (join_words x)) else x))
@@ -55,7 +55,7 @@ nothing_written ts p = ap (slice_set ts (p - 1)) (nothing_more (transcript_of ts
     same (x ∷ ts) zero = refl
     same (x ∷ ts) (suc i) = ap (λ l. x ∷ l) (same ts i)
 
-pub quiet_turn : (t : ℕ) (m : Machine) (p : ℕ) (o : PrivateState) → slice_get m.parts (p - 1) ≡ Some o → IsQuiet m.program o
+pub quiet_turn : (t : ℕ) (m : Machine) (p : ℕ) (o : PrivateState) → slice_get m.parts (p - 1) ≡ Some o → NeedsNoKernel m.program o
     → kernel_turn t m p ≡ m
 quiet_turn t m p o is quiet =
     let moved : kernel_turn t m p ≡ after_kernel_turn m p (kernel_steps m.program (clock m) t (record { kernel = m.kernel; own = o })) =

@@ -10,18 +10,18 @@ use Rattle.cp_model_machine.specs.Machines.{begin_if, begin_one, wake_one}
 use Rattle.cp_model_machine.specs.PrivateStates.{PrivateState, is_running}
 use Rattle.cp_model_machine.specs.Steps.{act_on, alone, is_private, operation_of, private_step, private_steps}
 use Rattle.cp_model_machine.proofs.StagesKept.{stage_is}
-use Rattle.cp_model_machine.specs.Ahead.{AreAhead, AreNumbered, HasBegun, HaveTurned, IsAhead, IsQuiet, turn_at}
+use Rattle.cp_model_machine.specs.Ahead.{AreAhead, AreNumbered, HasBegun, HaveTurned, IsAhead, NeedsNoKernel, turn_at}
 use Rattle.cp_model_machine.proofs.AheadNumbers.{step_keeps_number}
 
 -- ---- One process
 
 module _ (program : Program) (tick t : ℕ) where
   -- A quiet process may make one more turn.
-  pub further : (rounds n : ℕ) (o y : PrivateState) → IsAhead program tick t rounds n o y → IsQuiet program y
+  pub further : (rounds n : ℕ) (o y : PrivateState) → IsAhead program tick t rounds n o y → NeedsNoKernel program y
       → IsAhead program tick t rounds (suc n) o (turn_at program tick t (rounds + n) y)
   further rounds zero o y is quiet =
       let same : rounds + zero ≡ rounds = omega arith in
-      (subst (IsQuiet program) is quiet, ap (λ r. turn_at program tick t r y) same ∙ ap (turn_at program tick t rounds) is)
+      (subst (NeedsNoKernel program) is quiet, ap (λ r. turn_at program tick t r y) same ∙ ap (turn_at program tick t rounds) is)
   further rounds (suc n) o y (first, rest) quiet =
       let same : suc rounds + n ≡ rounds + suc n = omega arith in (
         first,

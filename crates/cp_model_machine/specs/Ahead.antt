@@ -14,7 +14,7 @@ use Rattle.cp_model_machine.specs.Steps.{operation_of, private_steps}
 -- ---- One process
 
 -- No step of the kernel is next, and nothing that was written is left.
-pub record IsQuiet (program : Program) (o : PrivateState) : Type 0 where
+pub record NeedsNoKernel (program : Program) (o : PrivateState) : Type 0 where
   pub next : is_running o.activity ≡ true → needs_kernel o (operation_of program o) ≡ false
   pub silent : o.output ≡ []
 
@@ -29,7 +29,7 @@ turn_at program tick t rounds o =
 abbrev pub IsAhead : Program → (tick t rounds n : ℕ) → PrivateState → PrivateState → Type 0
 IsAhead program tick t rounds zero o y = y ≡ o
 IsAhead program tick t rounds (suc n) o y =
-    IsQuiet program o × IsAhead program tick t (suc rounds) n (turn_at program tick t rounds o) y
+    NeedsNoKernel program o × IsAhead program tick t (suc rounds) n (turn_at program tick t rounds o) y
 
 -- ---- All processes
 

@@ -28,7 +28,7 @@ use Rattle.cp_model_program.proofs.Fits.{AllBelow, below_split, place_expression
 use Rattle.cp_model_program.proofs.NamesRepresent.{uncalled_is_no_result}
 use Rattle.cp_model_program.proofs.OperationsRepresent.{AllRepresent, WithCalls, with_calls_represent}
 use Rattle.cp_model_program.proofs.ResultRepresent.{result_represents}
-use Rattle.cp_model_program.proofs.Standing.{Chained, Standing, place_at, split}
+use Rattle.cp_model_program.proofs.Representing.{Chained, Representing, place_at, split}
 use Rattle.cp_model_program.proofs.Temps.{place_expression_grows}
 use Rattle.cp_model_program.proofs.TermsRepresent.{place_expression_represents, term_represents}
 
@@ -50,7 +50,7 @@ arm_of g place (c ∷ cs) rest n = go (constant_value g c) (arm_of g place cs re
         by false = h
 
 module _ (scope : Scope) (program : Program) (texts : List UnitText) (systems : List System) (routines : ℕ) (before : List CodeUnit) (unit : CodeUnit) (at : Location) (o : Owner)
-    (standing : Standing scope program texts before systems routines) where
+    (standing : Representing scope program texts before systems routines) where
   abbrev env : Environment
   env = environment_at scope at o
 

@@ -22,7 +22,7 @@ use Rattle.cp_law_typing.proofs.ComponentNames.{IsNamed, is_named}
 use Rattle.cp_law_typing.proofs.Names.{bytes_same, lookup_first, lookup_later}
 use Rattle.cp_model_program.specs.CodedTerms.{call_of}
 use Rattle.cp_model_program.proofs.Environments.{environment_at}
-use Rattle.cp_model_program.proofs.Standing.{CallFits, Standing, UnitThere, place_at}
+use Rattle.cp_model_program.proofs.Representing.{CallFits, Representing, UnitThere, place_at}
 
 -- ---- Names of components
 
@@ -157,7 +157,7 @@ module _ (scope : Scope) (at : Location) (o : Owner) (distinct : Distinct (perma
 -- ---- Calls
 
 module _ (scope : Scope) (program : Program) (texts : List UnitText) (systems : List System) (routines : ℕ) (before : List CodeUnit) (unit : CodeUnit) (at : Location) (o : Owner)
-    (standing : Standing scope program texts before systems routines) where
+    (standing : Representing scope program texts before systems routines) where
   abbrev env : Environment
   env = environment_at scope at o
 

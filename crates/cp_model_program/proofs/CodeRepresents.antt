@@ -26,7 +26,7 @@ use Rattle.cp_model_program.proofs.Fits.{AllBelow, below_split, term_fits}
 use Rattle.cp_model_program.proofs.NamesRepresent.{RootFor, uncalled_is_no_result}
 use Rattle.cp_model_program.proofs.OperationsRepresent.{AllRepresent, calls_represent, represent_split, with_calls_represent}
 use Rattle.cp_model_program.proofs.ResultRepresent.{bounds_are}
-use Rattle.cp_model_program.proofs.Standing.{CallFits, Chained, InitRepresents, Standing, place_at, split}
+use Rattle.cp_model_program.proofs.Representing.{CallFits, Chained, InitRepresents, Representing, place_at, split}
 use Rattle.cp_model_program.proofs.Temps.{term_grows}
 use Rattle.cp_model_program.proofs.TermsRepresent.{term_represents}
 use Rattle.cp_model_program.proofs.PlaceExpressionsRepresent.{variable_root}
@@ -37,7 +37,7 @@ use Rattle.cp_model_program.proofs.ProceduresRepresent.{perform_represents}
 use Rattle.cp_model_program.proofs.TablesRepresent.{table_finds}
 
 module _ (scope : Scope) (program : Program) (texts : List UnitText) (systems : List System) (routines : ℕ) (before : List CodeUnit) (unit : CodeUnit) (at : Location) (o : Owner)
-    (standing : Standing scope program texts before systems routines) where
+    (standing : Representing scope program texts before systems routines) where
   abbrev env : Environment
   env = environment_at scope at o
 

@@ -25,7 +25,7 @@ use Rattle.cp_model_program.specs.CodedTerms.{CodedCall, coded_term, init_argume
 use Rattle.cp_model_program.proofs.Environments.{environment_at}
 use Rattle.cp_model_program.proofs.Found.{kept_found, parameter_is_member, right_found}
 use Rattle.cp_model_program.proofs.Fits.{AllBelow, below_split, term_fits}
-use Rattle.cp_model_program.proofs.Standing.{Chained, Standing, place_at, split}
+use Rattle.cp_model_program.proofs.Representing.{Chained, Representing, place_at, split}
 use Rattle.cp_model_program.proofs.Temps.{term_grows}
 use Rattle.cp_model_program.proofs.TermsRepresent.{term_represents}
 use Rattle.cp_law_typing.proofs.ComponentNames.{IsNamed, is_named}
@@ -99,7 +99,7 @@ all_found (v ∷ vs) d =
 -- ---- Arguments
 
 module _ (scope : Scope) (program : Program) (texts : List UnitText) (systems : List System) (routines : ℕ) (before : List CodeUnit) (unit : CodeUnit) (at : Location) (o : Owner)
-    (standing : Standing scope program texts before systems routines) (K : Knowns) (s : System) (defined : List System) where
+    (standing : Representing scope program texts before systems routines) (K : Knowns) (s : System) (defined : List System) where
   abbrev env : Environment
   env = environment_at scope at o
 

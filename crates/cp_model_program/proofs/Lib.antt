@@ -1,6 +1,6 @@
 mod Environments
 mod Found
-mod Standing
+mod Representing
 mod NamesRepresent
 mod Temps
 mod Fits

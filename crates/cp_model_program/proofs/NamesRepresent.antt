@@ -25,7 +25,7 @@ use Rattle.cp_model_program.specs.Scopes.{Scope, local_in, root_named, root_or_m
 use Rattle.cp_model_program.specs.CodedStatements.{is_result, is_result_of}
 use Rattle.cp_model_program.proofs.Environments.{environment_at, frame_at}
 use Rattle.cp_model_program.proofs.Found.{is_member, local_found, local_none, no_member}
-use Rattle.cp_model_program.proofs.Standing.{RoutineHere}
+use Rattle.cp_model_program.proofs.Representing.{RoutineHere}
 
 abbrev pub NoResult : Scope → Name → Type 0
 NoResult scope x = is_result scope (Plain x) ≡ false

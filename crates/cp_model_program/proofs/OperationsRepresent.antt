@@ -7,7 +7,7 @@ use Rattle.cp_model_program.specs.Scopes.{Scope}
 use Rattle.cp_model_program.specs.CodedTerms.{CodedCall}
 use Rattle.cp_model_program.specs.CodedStatements.{calls_at, with_calls}
 use Rattle.cp_model_program.proofs.Fits.{AllBelow}
-use Rattle.cp_model_program.proofs.Standing.{CallFits, Chained}
+use Rattle.cp_model_program.proofs.Representing.{CallFits, Chained}
 
 module _ (scope : Scope) (program : Program) (texts : List UnitText) (before : List CodeUnit) (unit : CodeUnit) where
   abbrev pub RoomFor : ℕ → ℕ → Type 0

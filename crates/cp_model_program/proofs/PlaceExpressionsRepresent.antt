@@ -27,7 +27,7 @@ use Rattle.cp_model_program.specs.CodedTerms.{CodedCall, CodedPlaceExpression, C
 use Rattle.cp_model_program.proofs.Environments.{environment_at, place_type_same}
 use Rattle.cp_model_program.proofs.Found.{part_whole}
 use Rattle.cp_model_program.proofs.NamesRepresent.{NoResult, RootFor, constant_has_no_root, names_root, structured_is_no_result, uncalled_is_no_result}
-use Rattle.cp_model_program.proofs.Standing.{Chained, Standing, place_at, split}
+use Rattle.cp_model_program.proofs.Representing.{Chained, Representing, place_at, split}
 use Rattle.cp_model_program.proofs.CallsRepresent.{answers, call_represents}
 
 -- ---- Types
@@ -79,7 +79,7 @@ member_there g x n (MoreMembers y u ms) t h = go (bytes_eq x y) h (member_there 
 -- ---- The induction
 
 module _ (scope : Scope) (program : Program) (texts : List UnitText) (systems : List System) (routines : ℕ) (before : List CodeUnit) (unit : CodeUnit) (at : Location) (o : Owner)
-    (standing : Standing scope program texts before systems routines) (K : Knowns) where
+    (standing : Representing scope program texts before systems routines) (K : Knowns) where
   abbrev env : Environment
   env = environment_at scope at o
 

@@ -22,7 +22,7 @@ use Rattle.cp_model_program.specs.CodedStatements.{Emitted, high_of, is_char, lo
 use Rattle.cp_model_program.proofs.Environments.{environment_at, frame_at, type_same}
 use Rattle.cp_model_program.proofs.Fits.{AllBelow, arguments_fit, place_expression_fits}
 use Rattle.cp_model_program.proofs.OperationsRepresent.{AllRepresent, WithCalls, with_calls_represent}
-use Rattle.cp_model_program.proofs.Standing.{Chained, Standing, place_at}
+use Rattle.cp_model_program.proofs.Representing.{Chained, Representing, place_at}
 use Rattle.cp_model_program.proofs.TermsRepresent.{arguments_represent}
 use Rattle.cp_model_program.proofs.CallsRepresent.{call_represents}
 use Rattle.cp_model_program.proofs.AssignmentsRepresent as assignments
@@ -34,7 +34,7 @@ byte_is_char Boolean = refl
 byte_is_char (Enumeration x n) = refl
 
 module _ (scope : Scope) (program : Program) (texts : List UnitText) (systems : List System) (routines : ℕ) (before : List CodeUnit) (unit : CodeUnit) (at : Location) (o : Owner)
-    (standing : Standing scope program texts before systems routines) where
+    (standing : Representing scope program texts before systems routines) where
   abbrev env : Environment
   env = environment_at scope at o
 

@@ -20,7 +20,7 @@ use Rattle.cp_model_program.specs.CodedStatements.{high_of, is_result, is_result
 use Rattle.cp_model_program.proofs.Environments.{environment_at}
 use Rattle.cp_model_program.proofs.Found.{local_found, local_none}
 use Rattle.cp_model_program.proofs.NamesRepresent.{local_is_no_result, of_routine}
-use Rattle.cp_model_program.proofs.Standing.{RoutineHere}
+use Rattle.cp_model_program.proofs.Representing.{RoutineHere}
 use Rattle.cp_model_program.proofs.PlaceExpressionsRepresent.{simple_is}
 
 pub bounds_are : (t : ResolvedType) → IsSimple t → (start : ℤ) × (t ≡ Simple (base_of_type t) (low_of t) (high_of t) start)

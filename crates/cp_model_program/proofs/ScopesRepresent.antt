@@ -19,7 +19,7 @@ use Rattle.cp_model_program.specs.Scopes.{Scope, first_of, routine_index, unit_o
 use Rattle.cp_model_program.proofs.Environments.{environment_at}
 pub use Rattle.cp_model_program.specs.Known.{RunsIn, SystemKnown}
 use Rattle.cp_model_program.proofs.CallsRepresent.{name_kept}
-use Rattle.cp_model_program.proofs.Standing.{InitRepresents, RoutineHere, Standing, UnitThere, place_at}
+use Rattle.cp_model_program.proofs.Representing.{InitRepresents, RoutineHere, Representing, UnitThere, place_at}
 
 -- The number of a routine whose name no other has is its place in the list.
 pub index_is : (rs : List Routine) (j : ℕ) (r : Routine) → slice_get rs j ≡ Some r → ((i : ℕ) (q : Routine) → slice_get rs i ≡ Some q → q.name ≡ r.name → i ≡ j)
@@ -62,7 +62,7 @@ module _ (g : GlobalScope) (program : Program) (texts : List UnitText) (before :
   pub standing : RoutineHere scope w → RunsIn s w
       → ((j : ℕ) (r : Routine) → j < k → slice_get s.routines j ≡ Some r → UnitThere program texts before (first + j) (RoutineOf s r))
       → ((n : Component) → component_named (some_environment g s None) n.name ≡ Some n → UnitsThere program texts before (first_of scope n) n.system)
-      → Standing scope program texts before systems k
+      → Representing scope program texts before systems k
   standing running runs own named = record {
     running = running;
     by_value = known.by_value;

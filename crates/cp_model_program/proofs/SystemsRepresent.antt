@@ -22,7 +22,7 @@ use Rattle.cp_model_program.specs.CodeNeeds.{need_of_all}
 use Rattle.cp_model_program.specs.Compile.{Compiled, body_scope, code_unit, routine_scope, unit_code, with_body, with_routine, with_routines, with_system, with_unit}
 use Rattle.cp_model_program.specs.Known.{Plannable, PlannableMembers}
 use Rattle.cp_model_program.proofs.ScopesRepresent.{SystemKnown, UnitsThere, standing}
-use Rattle.cp_model_program.proofs.Standing.{UnitThere}
+use Rattle.cp_model_program.proofs.Representing.{UnitThere}
 use Rattle.cp_model_program.proofs.StartsRepresent.{ByValue, routine_starts}
 use Rattle.cp_model_program.proofs.UnitsRepresent.{AllThere, unit_represents, words_needed}
 

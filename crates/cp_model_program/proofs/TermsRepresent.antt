@@ -32,7 +32,7 @@ use Rattle.cp_model_program.specs.TermsFor.{ArgumentsFor, Knowns, PlaceExpressio
 use Rattle.cp_model_program.specs.Scopes.{Scope, environment, target_of, unit_of}
 use Rattle.cp_model_program.specs.CodedTerms.{CodedCall, argument_of, call_of, called_term, coded_arguments, coded_place_expression, coded_standard, coded_term, coded_variable, function_call, parameters_of, standard_term}
 use Rattle.cp_model_program.proofs.Environments.{callee_same, environment_at, place_type_same, type_same}
-use Rattle.cp_model_program.proofs.Standing.{Chained, Standing, place_at, split}
+use Rattle.cp_model_program.proofs.Representing.{Chained, Representing, place_at, split}
 use Rattle.cp_model_program.proofs.Temps.{arguments_grow, place_expression_grows, term_grows}
 use Rattle.cp_model_program.proofs.StandardRepresent.{abs_represents, base_of_operator, chr_represents, empty_represents, ord_represents, pred_represents, succ_represents}
 use Rattle.cp_model_program.proofs.CallsRepresent.{answers, call_represents}
@@ -40,7 +40,7 @@ use Rattle.cp_model_program.proofs.PlaceExpressionsRepresent as place_expression
 use Rattle.cp_model_program.proofs.PlaceExpressionsRepresent.{member_there, operands, simple_full, simple_is, simple_is_no_component, simple_of}
 
 module _ (scope : Scope) (program : Program) (texts : List UnitText) (systems : List System) (routines : ℕ) (before : List CodeUnit) (unit : CodeUnit) (at : Location) (o : Owner)
-    (standing : Standing scope program texts before systems routines) (K : Knowns) where
+    (standing : Representing scope program texts before systems routines) (K : Knowns) where
   abbrev env : Environment
   env = environment_at scope at o
 

@@ -16,7 +16,7 @@ use Rattle.cp_model_program.specs.CodeNeeds.{Need, need_of, need_of_all, need_of
 use Rattle.cp_model_program.specs.Compile.{code_unit, unit_code}
 use Rattle.cp_model_program.proofs.Environments.{environment_at}
 use Rattle.cp_model_program.proofs.OperationsRepresent.{AllRepresent, OperationFits}
-use Rattle.cp_model_program.proofs.Standing.{CallFits, Standing, place_at}
+use Rattle.cp_model_program.proofs.Representing.{CallFits, Representing, place_at}
 use Rattle.cp_model_program.proofs.CodeRepresents.{code_represents}
 
 -- ---- Needs
@@ -92,7 +92,7 @@ words_needed before words (x ∷ xs) = omega (arith, words_needed before words x
 -- ---- Units
 
 module _ (scope : Scope) (program : Program) (texts : List UnitText) (before : List CodeUnit) (systems : List System) (routines : ℕ)
-    (standing : Standing scope program texts before systems routines) (starts : StartPlan) (last : Operation) (s : Statement) (at : ℕ) where
+    (standing : Representing scope program texts before systems routines) (starts : StartPlan) (last : Operation) (s : Statement) (at : ℕ) where
   abbrev unit : CodeUnit
   unit = code_unit (unit_code scope last s at).entry starts (need_of_all before scope.words (unit_code scope last s at).operations)
 

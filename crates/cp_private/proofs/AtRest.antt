@@ -5,7 +5,7 @@ use Rattle.cp_model_program.specs.Programs.{Operation, Program}
 use Rattle.cp_model_machine.specs.Machines.{awake, wake_one}
 use Rattle.cp_model_machine.specs.PrivateStates.{PrivateState, is_running}
 use Rattle.cp_model_machine.specs.Steps.{act_on, alone, is_private, operation_of, private_step, private_steps}
-use Rattle.cp_private.specs.Resting.{rests, rests_while}
+use Rattle.cp_private.specs.Resting.{is_idle, is_idle_while}
 use Rattle.cp_private.specs.States.{activity, private_of}
 use Rattle.cp_private.specs.declared.private.Activity.{Activity}
 use Rattle.cp_private.specs.declared.private.Activity.TheVariants as activity_case
@@ -27,7 +27,7 @@ not_running : (program : Program) (clock : ℕ) (o : PrivateState) → is_runnin
 not_running program clock o h = rw h refl
 
 resting_step : (wakes : Bool) (a : Activity) (gate : ℕ) (program : Program) (clock : ℕ) (o : PrivateState) → o.activity ≡ activity a → o.gate ≡ gate
-    → rests_while wakes gate a ≡ true → private_step program clock o ≡ o
+    → is_idle_while wakes gate a ≡ true → private_step program clock o ≡ o
 resting_step wakes activity_case.NotBegun gate program clock o ea eg h = not_running program clock o (rw ea refl)
 resting_step wakes activity_case.Running zero program clock o ea eg h = absurd (cc)
 resting_step wakes activity_case.Running (suc g) program clock o ea eg h =
@@ -36,17 +36,17 @@ resting_step wakes activity_case.Waiting gate program clock o ea eg h = not_runn
 resting_step wakes activity_case.Ended gate program clock o ea eg h = not_running program clock o (rw ea refl)
 resting_step wakes (activity_case.Faulted f) gate program clock o ea eg h = not_running program clock o (rw ea refl)
 
-pub resting_steps : (wakes : Bool) (x : Private) → rests wakes x ≡ true → (program : Program) (clock n : ℕ) (input : List ℕ)
+pub resting_steps : (wakes : Bool) (x : Private) → is_idle wakes x ≡ true → (program : Program) (clock n : ℕ) (input : List ℕ)
     → private_steps program clock n (private_of x input) ≡ private_of x input
 resting_steps wakes x h program clock n input =
     steps_rest program clock n (private_of x input) (resting_step wakes x.activity x.gate program clock (private_of x input) refl refl h)
 
-sleeping : (wakes : Bool) (a : Activity) (gate : ℕ) → rests_while wakes gate a ≡ true → wakes ≡ true → awake (activity a) ≡ activity a
+sleeping : (wakes : Bool) (a : Activity) (gate : ℕ) → is_idle_while wakes gate a ≡ true → wakes ≡ true → awake (activity a) ≡ activity a
 sleeping wakes activity_case.NotBegun gate h e = refl
 sleeping wakes activity_case.Running gate h e = refl
 sleeping wakes activity_case.Waiting gate h e = absurd (cc)
 sleeping wakes activity_case.Ended gate h e = refl
 sleeping wakes (activity_case.Faulted f) gate h e = refl
 
-pub resting_sleeps : (wakes : Bool) (x : Private) → rests wakes x ≡ true → wakes ≡ true → (input : List ℕ) → wake_one (private_of x input) ≡ private_of x input
+pub resting_sleeps : (wakes : Bool) (x : Private) → is_idle wakes x ≡ true → wakes ≡ true → (input : List ℕ) → wake_one (private_of x input) ≡ private_of x input
 resting_sleeps wakes x h e input = ap (λ v. record (private_of x input) { activity = v }) (sleeping wakes x.activity x.gate h e)

@@ -129,11 +129,11 @@ module _ (program : Program) (setup : Setup) (F : IsProgramFor program setup) (p
 
   -- It doesn't run.
   still : (x : Status) → s.status p ≡ x → meaning.kind_of x (s.continuation p) ≡ meaning.NoStep → (IsRunning (private_status x) → ⊥) → meaning.kind s p ≡ meaning_kind (kind_of program o)
-  still x is none rests =
+  still x is none is_idle =
       ap (λ z. meaning.kind_of z (s.continuation p)) is ∙ (none
       ∙ ap meaning_kind (sym (ap (λ b. if b
       then (if steps.is_private o (operation_of program o) then kind.Private else (if needs_kernel o (operation_of program o) then kind.Kernel else kind.None))
-      else kind.None) (still_is o.activity (λ h. rests (subst IsRunning (sym (same x is)) h))))))
+      else kind.None) (still_is o.activity (λ h. is_idle (subst IsRunning (sym (same x is)) h))))))
 
   pub kind_is_meant : (IsBlocked (s.status p) → ⊥) → meaning.kind s p ≡ meaning_kind (kind_of program o)
   kind_is_meant free = by (s.status p) refl

@@ -3,7 +3,7 @@
 
 ghost use Rattle.std.specs.Prelude.{◌≡◌, ℕ, Bool, List, false, true};
 ghost use Rattle.cp_model_program.specs.Programs as code;
-ghost use Rattle.cp_private.specs.Resting.{rests, rests_while};
+ghost use Rattle.cp_private.specs.Resting.{is_idle, is_idle_while};
 ghost use Rattle.cp_private.specs.States.{private_of};
 ghost use Rattle.cp_model_machine.specs.Machines as machines;
 ghost use Rattle.cp_model_machine.specs.Steps as plain;
@@ -15,7 +15,7 @@ use std::alloc::Global;
 
 #[inline(always)]
 fn has_no_step(activity: Activity, gate: u32, wakes: bool) -> bool
-    ensures { result ≡ rests_while wakes gate activity }
+    ensures { result ≡ is_idle_while wakes gate activity }
 {
     // Two comparisons, where a match of three cases compiles to a jump by a table.
     if matches!(activity, Activity::Running) {
@@ -28,8 +28,8 @@ impl Private {
     /// Whether the process has no private step to make in a round, in which the processes
     /// that wait for the clock continue if it wakes them. Its private turn then leaves it as it is.
     #[inline(always)]
-    pub fn rests(&self, wakes: bool) -> bool
-        ensures rests { result ≡ rests wakes self.now }
+    pub fn is_idle(&self, wakes: bool) -> bool
+        ensures is_idle { result ≡ is_idle wakes self.now }
         ensures steps { result ≡ true → (program : code.Program) (clock n : ℕ) (input : List ℕ)
             → plain.private_steps program clock n (private_of self.now input)
             ≡ private_of self.now input }
@@ -42,7 +42,7 @@ impl Private {
     /// A private state of no process, for the place of one that is elsewhere. It takes no
     /// memory, and never rests.
     pub fn absent(alloc: Global) -> Private
-        ensures { (wakes : Bool) → rests wakes result ≡ false }
+        ensures { (wakes : Bool) → is_idle wakes result ≡ false }
     {
         Private {
             number: 0,

@@ -37,10 +37,10 @@ impl<'a> StepContext<'a> {
         if process == 0 {
             return true;
         }
-        match self.stages.get(process as usize - 1) {
-            Some(SchedulingState::Unstarted) => false,
-            _ => true,
-        }
+        !matches!(
+            self.stages.get(process as usize - 1),
+            Some(SchedulingState::Unstarted)
+        )
     }
 }
 

@@ -12,7 +12,7 @@ use Rattle.cp_model.specs.declared.tree.Tree as tree
 use Rattle.cp_model_program.specs.Layout.{head_words}
 use Rattle.cp_model_machine.specs.Machines.{Machine}
 use Rattle.cp_model_machine.specs.Reports.{monitors_lines, processes_lines}
-use Rattle.cp_compile_symbols.specs.Standing.{AreMembers}
+use Rattle.cp_compile_symbols.specs.Representing.{AreMembers}
 use Rattle.cp_compile_symbols.specs.Texts.{TablesRepresent}
 use Rattle.cp_compile_symbols.specs.Variables.{AreDeclared, declared_entry, variables_of}
 use Rattle.cp_compile_symbols.specs.declared.tables.Tables.{Tables}

@@ -14,7 +14,7 @@ use Rattle.cp_model_machine.specs.Machines as plain
 use Rattle.cp_model_machine.specs.Reports.{head_of, machine_report, monitor_lines, monitors_lines, process_lines, processes_lines, stage_text}
 use Rattle.cp_rounds.specs.ProcessStates.{activity_at}
 use Rattle.cp_rounds.specs.Views.{machine_of, output_of}
-use Rattle.cp_compile_symbols.specs.Standing.{ScopeRepresents, Represents, entry}
+use Rattle.cp_compile_symbols.specs.Representing.{ScopeRepresents, Represents, entry}
 use Rattle.cp_compile_symbols.specs.Texts.{TablesRepresent}
 use Rattle.cp_report.specs.Lines.{front_lines}
 use Rattle.cp_inspect.specs.Lists.{AreListed}

@@ -1,7 +1,7 @@
 //! The lines of processes.
 
 ghost use Rattle.std.specs.Prelude.{◌≡◌, OnOk, map};
-ghost use Rattle.cp_compile_symbols.specs.Standing.{entry};
+ghost use Rattle.cp_compile_symbols.specs.Representing.{entry};
 ghost use Rattle.cp_report.specs.Subjects.{ReportsFront, ReportsInitial, ReportsStatus};
 ghost use Rattle.cp_report.specs.Subjects.{ReportsProcess, ReportsProcesses};
 

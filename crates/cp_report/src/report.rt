@@ -2,7 +2,7 @@
 
 ghost use Rattle.std.specs.Prelude.{OnOk, IfOk, map};
 ghost use Rattle.cp_rounds.specs.Views.{machine_of};
-ghost use Rattle.cp_compile_symbols.specs.Standing.{entry};
+ghost use Rattle.cp_compile_symbols.specs.Representing.{entry};
 ghost use Rattle.cp_report.specs.Subjects.{ReportsAll};
 ghost use Rattle.cp_report.specs.WholeReports.{IsReport, IsReportWithChains};
 

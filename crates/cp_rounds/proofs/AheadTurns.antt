@@ -19,7 +19,7 @@ use Rattle.cp_private.specs.declared.private.Private.{Private}
 use Rattle.cp_program.specs.View as view
 use Rattle.cp_rounds_handoff.specs.Inputs.{input_at, input_of}
 use Rattle.cp_rounds_handoff.specs.Numbers.{AreNumbered}
-use Rattle.cp_rounds_handoff.specs.Tasks.{AllFree, AreMade, AreTaken, IsCourseOf, StaysQuiet}
+use Rattle.cp_rounds_handoff.specs.Tasks.{AllFree, AreMade, AreTaken, IsCourseOf, StaysWithoutKernel}
 use Rattle.cp_rounds_handoff.specs.Turned.{AreTimes, round_time_of, take_turn, with_turn_taken}
 use Rattle.cp_rounds_handoff.specs.declared.round_time.RoundTime.{RoundTime}
 use Rattle.cp_rounds_handoff.specs.declared.config.MachineConfig.{MachineConfig}
@@ -52,15 +52,15 @@ begun_is k i h = record { stage = by (get_or (kernel_of k).stages i Begun) (sym 
 
 -- ---- All processes
 
-module _ (quiet : PrivateState → Bool) (turned : RoundTime → PrivateState → PrivateState) (round_time : ℕ → RoundTime) (input : ℕ → List ℕ) (most : ℕ) (g : MachineConfig)
-    (t done : ℕ) (course : IsCourseOf quiet turned input most g t) (times : AreTimes round_time g done) where
+module _ (without_kernel : PrivateState → Bool) (turned : RoundTime → PrivateState → PrivateState) (round_time : ℕ → RoundTime) (input : ℕ → List ℕ) (most : ℕ) (g : MachineConfig)
+    (t done : ℕ) (course : IsCourseOf without_kernel turned input most g t) (times : AreTimes round_time g done) where
   abbrev program : Program
   program = view.program g.program
 
   turn_is : (round : ℕ) (o : PrivateState) → turned (round_time round) o ≡ turn_at program g.tick.rounds t (done + round) o
   turn_is round o = course.steps (round_time round) o ∙ ap (λ (w : RoundTime). take_turn program t w o) (times round)
 
-  stays_ahead : (round n : ℕ) (o y : PrivateState) → StaysQuiet quiet turned round_time round n o y → IsAhead program g.tick.rounds t (done + round) n o y
+  stays_ahead : (round n : ℕ) (o y : PrivateState) → StaysWithoutKernel without_kernel turned round_time round n o y → IsAhead program g.tick.rounds t (done + round) n o y
   stays_ahead round zero o y is = is
   stays_ahead round (suc n) o y (now, rest) =
       let next : done + suc round ≡ suc (done + round) = omega arith in (
@@ -72,7 +72,7 @@ module _ (quiet : PrivateState → Bool) (turned : RoundTime → PrivateState �
 
   -- After the turns that were taken back, the machine is the one after the private turns of the first round.
   pub back_ahead : (round count : ℕ) (xs : List Private) (ns : List ℕ) (ys : List Private) (k : Kernel) → AreNumbered xs
-      → AreBack quiet turned round_time input most round count xs ns ys k
+      → AreBack without_kernel turned round_time input most round count xs ns ys k
       → PartsAhead g t (suc (done + round)) (with_turn_taken t (machine_with g (done + round) xs k)) ns ys k
   back_ahead round count xs ns ys k numbered back = record {
     kernel = refl;
@@ -109,12 +109,12 @@ module _ (quiet : PrivateState → Bool) (turned : RoundTime → PrivateState �
           turn_is round (private_of x.0 (input i))
           ∙ (ap (λ (l : List ℕ). turn (private_of x.0 l)) (course.inputs i) ∙ (ap turn (sym x.1.1) ∙ sym was.2)) in
           let last : private_of z.0 (input i) ≡ y = ap (private_of z.0) (course.inputs i) ∙ sym z.1.1 in
-          let made : StaysQuiet quiet turned round_time (suc round) (turns_ahead ns i) (turned (round_time round) (private_of x.0 (input i))) (private_of z.0 (input i)) =
+          let made : StaysWithoutKernel without_kernel turned round_time (suc round) (turns_ahead ns i) (turned (round_time round) (private_of x.0 (input i))) (private_of z.0 (input i)) =
           (back.taken i z.0 z.1.0).comes x.0 (ap (slice_get xs) at ∙ x.1.0) in
           subst (λ (r : ℕ). IsAhead program g.tick.rounds t r (turns_ahead ns i) o y) next
           (stays_ahead (suc round) (turns_ahead ns i) o y
-          (subst (λ (u : PrivateState). StaysQuiet quiet turned round_time (suc round) (turns_ahead ns i) u y) first
-          (subst (λ (v : PrivateState). StaysQuiet quiet turned round_time (suc round) (turns_ahead ns i) (turned (round_time round) (private_of x.0 (input i))) v) last made)))
+          (subst (λ (u : PrivateState). StaysWithoutKernel without_kernel turned round_time (suc round) (turns_ahead ns i) u y) first
+          (subst (λ (v : PrivateState). StaysWithoutKernel without_kernel turned round_time (suc round) (turns_ahead ns i) (turned (round_time round) (private_of x.0 (input i))) v) last made)))
 
 -- ---- Room
 
@@ -122,12 +122,12 @@ pub fewer_bytes : (k : Kernel) (p n m : ℕ) → m ≤ n → HasRoomForBytes k p
 fewer_bytes k p n m le h = λ v e. let room = h v e in omega (arith, room, le)
 
 -- A process that rests for good has made all its turns.
-pub rests_taken : (quiet : PrivateState → Bool) (turned : RoundTime → PrivateState → PrivateState) (round_time : ℕ → RoundTime) (input : List ℕ) (most round n process : ℕ)
-    (xs : List Private) (y : Private) → 0 < process → slice_get xs (process - 1) ≡ Some y → AreNumbered xs → AllFree most xs → quiet (private_of y input) ≡ true
-    → ((w : RoundTime) → turned w (private_of y input) ≡ private_of y input) → AreTaken (AreMade quiet turned round_time round (n + 1)) input most xs process y
-rests_taken quiet turned round_time input most round n process xs y some at numbers free still same = record {
+pub idle_taken : (without_kernel : PrivateState → Bool) (turned : RoundTime → PrivateState → PrivateState) (round_time : ℕ → RoundTime) (input : List ℕ) (most round n process : ℕ)
+    (xs : List Private) (y : Private) → 0 < process → slice_get xs (process - 1) ≡ Some y → AreNumbered xs → AllFree most xs → without_kernel (private_of y input) ≡ true
+    → ((w : RoundTime) → turned w (private_of y input) ≡ private_of y input) → AreTaken (AreMade without_kernel turned round_time round (n + 1)) input most xs process y
+idle_taken without_kernel turned round_time input most round n process xs y some at numbers free still same = record {
   number = let number = numbers (process - 1) y at in omega (arith, number, some);
-  comes = λ x e. subst (λ (z : Private). AreMade quiet turned round_time round (n + 1) (private_of z input) (private_of y input)) (sym (is_here x e)) made;
+  comes = λ x e. subst (λ (z : Private). AreMade without_kernel turned round_time round (n + 1) (private_of z input) (private_of y input)) (sym (is_here x e)) made;
   room = let room = free (process - 1) y at in omega (arith, room);
   short = λ x e. let long = ap (λ (z : Private). vec_len z.output) (is_here x e) in omega (arith, long);
   wide = let room = free (process - 1) y at in omega (arith, room);
@@ -136,16 +136,16 @@ rests_taken quiet turned round_time input most round n process xs y some at numb
     is_here : (x : Private) → slice_get xs (process - 1) ≡ Some x → x ≡ y
     is_here x e = same_some x y (sym e ∙ at)
 
-    stays : (r k : ℕ) → StaysQuiet quiet turned round_time r k (private_of y input) (private_of y input)
+    stays : (r k : ℕ) → StaysWithoutKernel without_kernel turned round_time r k (private_of y input) (private_of y input)
     stays r zero = refl
     stays r (suc k) =
-        (still, subst (λ (o : PrivateState). StaysQuiet quiet turned round_time (suc r) k o (private_of y input)) (sym (same (round_time r))) (stays (suc r) k))
+        (still, subst (λ (o : PrivateState). StaysWithoutKernel without_kernel turned round_time (suc r) k o (private_of y input)) (sym (same (round_time r))) (stays (suc r) k))
 
-    made : AreMade quiet turned round_time round (n + 1) (private_of y input) (private_of y input)
+    made : AreMade without_kernel turned round_time round (n + 1) (private_of y input) (private_of y input)
     made =
         let one : suc n ≡ n + 1 = omega arith in
-        subst (λ (k : ℕ). AreMade quiet turned round_time round k (private_of y input) (private_of y input)) one
-        (subst (λ (o : PrivateState). StaysQuiet quiet turned round_time (suc round) n o (private_of y input)) (sym (same (round_time round))) (stays (suc round) n))
+        subst (λ (k : ℕ). AreMade without_kernel turned round_time round k (private_of y input) (private_of y input)) one
+        (subst (λ (o : PrivateState). StaysWithoutKernel without_kernel turned round_time (suc round) n o (private_of y input)) (sym (same (round_time round))) (stays (suc round) n))
 
 -- With room for more rounds there is room for fewer.
 pub ready_fewer : (most n m : ℕ) (xs : List Private) (k : Kernel) → n ≤ m → IsReadyFor most m xs k → IsReadyFor most n xs k
@@ -157,10 +157,10 @@ ready_fewer most n m xs k le ready = record {
       fewer_bytes k (suc i) (vec_len x.output + m * (most + most)) (vec_len x.output + n * (most + most)) (omega (arith, less)) (ready.transcripts i x e);
 }
 
-pub back_ready : (quiet : PrivateState → Bool) (turned : RoundTime → PrivateState → PrivateState) (round_time : ℕ → RoundTime) (input : ℕ → List ℕ) (most round later : ℕ)
+pub back_ready : (without_kernel : PrivateState → Bool) (turned : RoundTime → PrivateState → PrivateState) (round_time : ℕ → RoundTime) (input : ℕ → List ℕ) (most round later : ℕ)
     (xs : List Private) (ns : List ℕ) (ys : List Private) (k : Kernel) → IsReadyFor most (suc later) xs k
-    → AreBack quiet turned round_time input most round (suc later) xs ns ys k → IsReadyAhead most later 0 ns ys k
-back_ready quiet turned round_time input most round later xs ns ys k ready back = record {
+    → AreBack without_kernel turned round_time input most round (suc later) xs ns ys k → IsReadyAhead most later 0 ns ys k
+back_ready without_kernel turned round_time input most round later xs ns ys k ready back = record {
   stages = ready.stages ∙ sym back.count;
   turns = back.turns;
   numbers = λ i y e. (back.taken i y e).number;

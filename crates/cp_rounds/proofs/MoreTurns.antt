@@ -23,13 +23,13 @@ use Rattle.cp_rounds.proofs.Rooms.{fewer_askers, moved_stages, numbered_more}
 
 -- The private state of the process at index i is y after its private turn and z after its kernel
 -- turn.
-pub taken_more : (quiet : PrivateState → Bool) (turned : RoundTime → PrivateState → PrivateState) (input : ℕ → List ℕ) (most : ℕ) (config : MachineConfig) (t : ℕ)
-    → IsCourseOf quiet turned input most config t → (rounds : ℕ) (round_time : RoundTime) (xs ys : List Private) (k k1 k2 : Kernel) (i : ℕ) (y z : Private)
+pub taken_more : (without_kernel : PrivateState → Bool) (turned : RoundTime → PrivateState → PrivateState) (input : ℕ → List ℕ) (most : ℕ) (config : MachineConfig) (t : ℕ)
+    → IsCourseOf without_kernel turned input most config t → (rounds : ℕ) (round_time : RoundTime) (xs ys : List Private) (k k1 k2 : Kernel) (i : ℕ) (y z : Private)
     → i < length ys → length ys ≡ length xs → round_time ≡ round_time_of config.tick.rounds rounds
     → IsTaken (turned round_time) (input ((i + 1) - 1)) most xs (i + 1) y
     → IsTurned (view.program config.program) round_time.clock t k1 k2 y z (input_at config.inputs.items ((i + 1) - 1))
     → TurnsTaken config t rounds xs k (take i ys) k1 → TurnsTaken config t rounds xs k (take i ys ++ z ∷ []) k2
-taken_more quiet turned input most config t course rounds round_time xs ys k k1 k2 i y z within count time taken turn was =
+taken_more without_kernel turned input most config t course rounds round_time xs ys k k1 k2 i y z within count time taken turn was =
     let program = view.program config.program in
     let inputs = config.inputs.items in
     let back : (i + 1) - 1 ≡ i = Prim.omega arith in

@@ -31,12 +31,12 @@ pub record IsTime (g : MachineConfig) (m : Machine) (round_time : RoundTime) : T
   pub time : round_time ≡ round_time_of m.tick m.rounds
 
 -- All private states are taken back, after so many turns ahead, fewer than `rounds`.
-pub record AreBack (quiet : PrivateState → Bool) (turned : RoundTime → PrivateState → PrivateState) (round_time : ℕ → RoundTime)
+pub record AreBack (without_kernel : PrivateState → Bool) (turned : RoundTime → PrivateState → PrivateState) (round_time : ℕ → RoundTime)
     (input : ℕ → List ℕ) (most round rounds : ℕ) (xs : List Private) (ns : List ℕ) (ys : List Private) (k : Kernel) : Type 0 where
   pub count : length ys ≡ length xs
   pub turns : length ns ≡ length ys
   pub taken : (i : ℕ) (y : Private) → slice_get ys i ≡ Some y
-      → AreTaken (AreMade quiet turned round_time round (suc (turns_ahead ns i))) (input i) most xs (suc i) y
+      → AreTaken (AreMade without_kernel turned round_time round (suc (turns_ahead ns i))) (input i) most xs (suc i) y
   pub few : (i : ℕ) → turns_ahead ns i < rounds
   pub begun : (i : ℕ) → turns_ahead ns i ≢ 0 → HasBegun i (kernel_of k)
 

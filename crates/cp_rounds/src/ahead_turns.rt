@@ -202,7 +202,7 @@ fn turn_unless_ahead<'a, C: Course, G: TurnGate>(
         *turns -= 1;
         return false;
     }
-    if private.private().rests(round_time.wakes) {
+    if private.private().is_idle(round_time.wakes) {
         return false;
     }
     let private = private.private_mut();

@@ -6,7 +6,7 @@ ghost use Rattle.std.specs.Prelude.{◌≡◌, ◌≤◌, ◌<◌, ◌+◌, ◌-
 ghost use Rattle.cp_kernel.specs.KernelOf.{HasRoomForAskers, HasRoomForBytes, IsAmong};
 ghost use Rattle.cp_kernel.specs.Turns.{IsTurned};
 ghost use Rattle.cp_kernel.specs.declared.kernel.Kernel.{Kernel};
-ghost use Rattle.cp_private.specs.Resting.{rests};
+ghost use Rattle.cp_private.specs.Resting.{is_idle};
 ghost use Rattle.cp_private.specs.Rooms.{HasRoomFor};
 ghost use Rattle.cp_program.specs.View as view;
 ghost use Rattle.cp_rounds_handoff.specs.Inputs.{input_at};
@@ -75,14 +75,14 @@ fn bring_back<'a, C: Course, R: Wait, G: TurnGate>(
     private: &mut PrivateBox,
 )
     requires some { 0 < process }
-    requires left { rests round.now.round_time.wakes private.old ≡ true
+    requires left { is_idle round.now.round_time.wakes private.old ≡ true
         → slice_get round.now.start.value.items (process - 1) ≡ Some private.old }
     requires here { is_none round.now.token ≡ true
         → slice_get round.now.start.value.items (process - 1) ≡ Some private.old }
     ensures taken { IsTaken (C.turned round.now.round_time) (C.input (process - 1)) C.most
         round.now.start.value.items process private.new }
 {
-    if private.private().rests(round.round_time.wakes) {
+    if private.private().is_idle(round.round_time.wakes) {
         return;
     }
     if round.is_alone() {
@@ -181,7 +181,7 @@ fn makes_no_step<'a, C: Course, G: TurnGate>(
     kernel: &Kernel,
 ) -> bool
     requires some { 0 < process }
-    requires left { rests round.now.round_time.wakes private.now ≡ true
+    requires left { is_idle round.now.round_time.wakes private.now ≡ true
         → slice_get round.now.start.value.items (process - 1) ≡ Some private.now }
     ensures taken { result ≡ true → IsTaken (C.turned round.now.round_time) (C.input (process - 1))
         C.most round.now.start.value.items process private.now }
@@ -190,10 +190,10 @@ fn makes_no_step<'a, C: Course, G: TurnGate>(
         private.now private.now input }
 {
     let private = private.private();
-    // The output is asked for first, so that what `rests` finds is known where the kernel turn is
+    // The output is asked for first, so that what `is_idle` finds is known where the kernel turn is
     // asked for.
     private.output().is_empty()
-        && private.rests(round.round_time.wakes)
+        && private.is_idle(round.round_time.wakes)
         && has_no_kernel_turn(&run.turns.config.program, kernel, private)
 }
 

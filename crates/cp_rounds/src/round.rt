@@ -109,7 +109,7 @@ fn turns_to_share<'a, C: Course, G: TurnGate>(
     }
     let mut turns = 0usize;
     for private in privates {
-        if !private.private().rests(wakes) {
+        if !private.private().is_idle(wakes) {
             turns = turns.wrapping_add(1);
         }
     }

@@ -12,7 +12,7 @@ ghost use Rattle.cp_kernel.specs.KernelOf.{kernel_of};
 ghost use Rattle.cp_model_machine.specs.KernelSteps as plain;
 ghost use Rattle.cp_model_machine.specs.Machines.{Machine, phased_rounds};
 ghost use Rattle.cp_model.specs.States.{numbers_from};
-ghost use Rattle.cp_private.specs.Resting.{rests};
+ghost use Rattle.cp_private.specs.Resting.{is_idle};
 ghost use Rattle.cp_program.specs.View as view;
 ghost use Rattle.cp_rounds_handoff.specs.Tasks.{AreInPlace, AreMade, AreTaken};
 ghost use Rattle.cp_rounds_handoff.specs.Turned.{with_turn_taken};
@@ -61,7 +61,7 @@ fn take_back<'a, C: Course, R: Wait, G: TurnGate>(
 ) -> u32
     requires count { 0 < round.now.rounds }
     requires some { 0 < process }
-    requires left { rests round.now.round_time.wakes private.old ≡ true
+    requires left { is_idle round.now.round_time.wakes private.old ≡ true
         → slice_get round.now.start.value.items (process - 1) ≡ Some private.old }
     ensures taken { AreTaken (AreMade C.quiet C.turned C.round_time round.now.index (result + 1))
         (C.input (process - 1)) C.most round.now.start.value.items process private.new }
@@ -70,7 +70,7 @@ fn take_back<'a, C: Course, R: Wait, G: TurnGate>(
         → plain.is_begun (plain.stage_of (kernel_of kernel.now).stages process) ≡ true }
 {
     let most = most_turns(kernel, process, round.rounds);
-    if private.private().rests(round.round_time.wakes) {
+    if private.private().is_idle(round.round_time.wakes) {
         if is_idle_forever(&run.turns.config.program, private.private()) {
             return most - 1;
         }

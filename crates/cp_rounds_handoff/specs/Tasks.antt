@@ -2,7 +2,7 @@
 use Rattle.std.specs.Prelude.{◌≡◌, ◌≤◌, ◌+◌, ◌-◌, ◌*◌, ℕ, zero, suc, Bool, true, false, List, Option, None, Some, slice_get, vec_len, vec_capacity}
 use mathlib.Core.Bool.{Bool-set}
 use mathlib.Core.HLevel.{×_prop}
-use Rattle.cp_private.specs.Resting.{rests}
+use Rattle.cp_private.specs.Resting.{is_idle}
 use Rattle.cp_private.specs.States.{private_of}
 use Rattle.cp_private.specs.declared.private.Private.{Private}
 use Rattle.cp_model_machine.specs.PrivateStates.{PrivateState}
@@ -16,26 +16,26 @@ use Rattle.cp_rounds_handoff.specs.declared.config.MachineConfig.{MachineConfig}
 -- ---- Turns of one process, of one round after another
 
 -- y is what o becomes by the turns of n rounds from `round` on. The process is quiet before each of them.
-abbrev pub StaysQuiet : (PrivateState → Bool) → (RoundTime → PrivateState → PrivateState) → (ℕ → RoundTime) → (round n : ℕ) → PrivateState → PrivateState → Type 0
-StaysQuiet quiet turned round_time round zero o y = y ≡ o
-StaysQuiet quiet turned round_time round (suc n) o y = (quiet o ≡ true) × StaysQuiet quiet turned round_time (suc round) n (turned (round_time round) o) y
+abbrev pub StaysWithoutKernel : (PrivateState → Bool) → (RoundTime → PrivateState → PrivateState) → (ℕ → RoundTime) → (round n : ℕ) → PrivateState → PrivateState → Type 0
+StaysWithoutKernel without_kernel turned round_time round zero o y = y ≡ o
+StaysWithoutKernel without_kernel turned round_time round (suc n) o y = (without_kernel o ≡ true) × StaysWithoutKernel without_kernel turned round_time (suc round) n (turned (round_time round) o) y
 
 -- The same, but that it needn't be quiet before the first of them.
 abbrev pub AreMade : (PrivateState → Bool) → (RoundTime → PrivateState → PrivateState) → (ℕ → RoundTime) → (round n : ℕ) → PrivateState → PrivateState → Type 0
-AreMade quiet turned round_time round zero o y = y ≡ o
-AreMade quiet turned round_time round (suc n) o y = StaysQuiet quiet turned round_time (suc round) n (turned (round_time round) o) y
+AreMade without_kernel turned round_time round zero o y = y ≡ o
+AreMade without_kernel turned round_time round (suc n) o y = StaysWithoutKernel without_kernel turned round_time (suc round) n (turned (round_time round) o) y
 
 -- There is at most one proof of it.
-StaysQuiet-prop : IsSet PrivateState → (quiet : PrivateState → Bool) (turned : RoundTime → PrivateState → PrivateState) (round_time : ℕ → RoundTime) (round n : ℕ)
-    (o y : PrivateState) → IsProp (StaysQuiet quiet turned round_time round n o y)
-StaysQuiet-prop set quiet turned round_time round zero o y = set y o
-StaysQuiet-prop set quiet turned round_time round (suc n) o y =
-    ×_prop (Bool-set (quiet o) true) (StaysQuiet-prop set quiet turned round_time (suc round) n (turned (round_time round) o) y)
+StaysWithoutKernel-prop : IsSet PrivateState → (without_kernel : PrivateState → Bool) (turned : RoundTime → PrivateState → PrivateState) (round_time : ℕ → RoundTime) (round n : ℕ)
+    (o y : PrivateState) → IsProp (StaysWithoutKernel without_kernel turned round_time round n o y)
+StaysWithoutKernel-prop set without_kernel turned round_time round zero o y = set y o
+StaysWithoutKernel-prop set without_kernel turned round_time round (suc n) o y =
+    ×_prop (Bool-set (without_kernel o) true) (StaysWithoutKernel-prop set without_kernel turned round_time (suc round) n (turned (round_time round) o) y)
 
-pub AreMade-prop : IsSet PrivateState → (quiet : PrivateState → Bool) (turned : RoundTime → PrivateState → PrivateState) (round_time : ℕ → RoundTime) (round n : ℕ)
-    (o y : PrivateState) → IsProp (AreMade quiet turned round_time round n o y)
-AreMade-prop set quiet turned round_time round zero o y = set y o
-AreMade-prop set quiet turned round_time round (suc n) o y = StaysQuiet-prop set quiet turned round_time (suc round) n (turned (round_time round) o) y
+pub AreMade-prop : IsSet PrivateState → (without_kernel : PrivateState → Bool) (turned : RoundTime → PrivateState → PrivateState) (round_time : ℕ → RoundTime) (round n : ℕ)
+    (o y : PrivateState) → IsProp (AreMade without_kernel turned round_time round n o y)
+AreMade-prop set without_kernel turned round_time round zero o y = set y o
+AreMade-prop set without_kernel turned round_time round (suc n) o y = StaysWithoutKernel-prop set without_kernel turned round_time (suc round) n (turned (round_time round) o) y
 
 -- Whether a number of turns isn't 0.
 abbrev pub is_some : ℕ → Bool
@@ -93,11 +93,11 @@ pub record AreTaken (leads : PrivateState → PrivateState → Type 0) (input : 
   pub short : IsShort most xs (process - 1) true y
   pub wide : IsWide most y
 
--- `quiet` reports whether a process is quiet, `turned` is the turn of t steps in this setting,
+-- `without_kernel` reports whether a process is quiet, `turned` is the turn of t steps in this setting,
 -- which writes at most `most` bytes, and `input` is the input at each index.
-pub record IsCourseOf (quiet : PrivateState → Bool) (turned : RoundTime → PrivateState → PrivateState) (input : ℕ → List ℕ)
+pub record IsCourseOf (without_kernel : PrivateState → Bool) (turned : RoundTime → PrivateState → PrivateState) (input : ℕ → List ℕ)
     (most : ℕ) (g : MachineConfig) (t : ℕ) : Type 0 where
-  pub reports : (o : PrivateState) → quiet o ≡ needs_no_kernel (view.program g.program) o
+  pub reports : (o : PrivateState) → without_kernel o ≡ needs_no_kernel (view.program g.program) o
   pub steps : (w : RoundTime) (o : PrivateState) → turned w o ≡ plain.take_turn (view.program g.program) t w o
   pub inputs : (i : ℕ) → input i ≡ input_at g.inputs.items i
   pub bytes : most ≡ 11 * t
@@ -109,7 +109,7 @@ AllFree most xs = (i : ℕ) (x : Private) → slice_get xs i ≡ Some x → HasR
 -- From index `from` on, each private state that rests is the one at the start of the round. The
 -- others may be at the handoff queue.
 abbrev pub AreInPlace : Bool → ℕ → List Private → List Private → Type 0
-AreInPlace wakes from xs ys = (i : ℕ) (y : Private) → from ≤ i → slice_get ys i ≡ Some y → rests wakes y ≡ true → slice_get xs i ≡ Some y
+AreInPlace wakes from xs ys = (i : ℕ) (y : Private) → from ≤ i → slice_get ys i ≡ Some y → is_idle wakes y ≡ true → slice_get xs i ≡ Some y
 
 -- If the calling thread makes a round alone, all private states from index `from` on are those at the
 -- start of the round.

@@ -1,7 +1,7 @@
 //! What the threads of a run share: batches for the turns of a round.
 
 ghost use Rattle.std.specs.Prelude.{◌≡◌, ◌-◌, false, true, Some, length, slice_get};
-ghost use Rattle.cp_private.specs.Resting.{rests};
+ghost use Rattle.cp_private.specs.Resting.{is_idle};
 ghost use Rattle.cp_rounds_handoff.specs.Tasks.{AreInPlace, HasRoom};
 
 use crate::cursor::Cursor;
@@ -142,7 +142,7 @@ impl<'a, C: Course> HandoffQueue<'a, C> {
         requires at { slice_get round.now.start.value.items (process - 1)
             ≡ Some private.old }
         requires room { HasRoom C.most false private.old }
-        ensures left { rests round.now.round_time.wakes private.new ≡ true
+        ensures left { is_idle round.now.round_time.wakes private.new ≡ true
             → private.new ≡ private.old }
     {
         if let Some(slot) = tasks.get_mut(place.slot) {
@@ -175,7 +175,7 @@ impl<'a, C: Course> HandoffQueue<'a, C> {
     {
         let mut place = Cursor::first();
         for i in 0..privates.len() {
-            if !of_all && privates[i].private().rests(round.round_time.wakes) {
+            if !of_all && privates[i].private().is_idle(round.round_time.wakes) {
                 continue;
             }
             place = self.put(rt, plan, place, round, i + 1, &mut privates[i], tasks);

@@ -36,5 +36,5 @@ pub fn is_idle_forever(program: &Program, private: &Private) -> bool
         → take_turn (view.program program.now) t w (private_of private.now input)
         ≡ private_of private.now input }
 {
-    private.rests(true) && needs_no_kernel(program, private)
+    private.is_idle(true) && needs_no_kernel(program, private)
 }

@@ -1,7 +1,7 @@
 //! Slots for private turns, and the exchange of private states with them.
 
 ghost use Rattle.std.specs.Prelude.{◌≡◌, ◌<◌, ◌≤◌, ◌-◌, false, true, Some, slice_get};
-ghost use Rattle.cp_private.specs.Resting.{rests};
+ghost use Rattle.cp_private.specs.Resting.{is_idle};
 ghost use Rattle.cp_rounds_handoff.specs.Tasks.{AreMade, AreTaken, HasRoom};
 
 use crate::open_round::OpenRound;
@@ -41,7 +41,7 @@ impl<'a, C: Course> Slot<'a, C> {
         requires at { slice_get round.now.start.value.items (process - 1)
             ≡ Some private.old }
         requires room { HasRoom C.most false private.old }
-        ensures left { rests round.now.round_time.wakes private.new ≡ true
+        ensures left { is_idle round.now.round_time.wakes private.new ≡ true
             → private.new ≡ private.old }
     {
         let Some(start) = &round.token else {
@@ -51,7 +51,7 @@ impl<'a, C: Course> Slot<'a, C> {
             return;
         };
         // No spare private state rests, but no contract says so.
-        if spare.private().rests(round.round_time.wakes) {
+        if spare.private().is_idle(round.round_time.wakes) {
             return;
         }
         let private = mem::replace(private, spare);

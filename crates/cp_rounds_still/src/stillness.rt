@@ -10,10 +10,10 @@ use cp_rounds::machine::Machine;
 fn can_move(state: ProcState) -> bool
     ensures { result ≡ moves state }
 {
-    match state {
-        ProcState::Fresh | ProcState::Ready | ProcState::Waiting => true,
-        _ => false,
-    }
+    matches!(
+        state,
+        ProcState::Fresh | ProcState::Ready | ProcState::Waiting
+    )
 }
 
 /// Whether a machine is still: no process can move. None is ready, was started in this round or

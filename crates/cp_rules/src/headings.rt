@@ -34,11 +34,7 @@ pub struct Heading<'t> {
 fn allows_component(of: Sort, sort: Sort) -> bool
     ensures { result ≡ d.allows_component of sort }
 {
-    match (of, sort) {
-        (_, Sort::Monitor) => true,
-        (Sort::Class, Sort::Class) => true,
-        _ => false,
-    }
+    matches!((of, sort), (_, Sort::Monitor) | (Sort::Class, Sort::Class))
 }
 
 fn allows_parameter(env: &Environment, of: Option<Sort>, structure: Structure) -> bool

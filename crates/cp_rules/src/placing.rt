@@ -39,12 +39,10 @@ fn allows_structure(env: &Environment, position: Position, structure: Structure)
 fn allows_queues(position: Position) -> bool
     ensures { result ≡ types.allows_queues position }
 {
-    match position {
-        Position::Definition => true,
-        Position::Element => true,
-        Position::MonitorVariable => true,
-        _ => false,
-    }
+    matches!(
+        position,
+        Position::Definition | Position::Element | Position::MonitorVariable
+    )
 }
 
 /// The place of the first token of a written type.

@@ -96,10 +96,7 @@ fn judge_function_call(
 fn is_procedure(returns: Returns) -> bool
     ensures { result ≡ n.is_procedure returns }
 {
-    match returns {
-        Returns::Nothing => true,
-        _ => false,
-    }
+    matches!(returns, Returns::Nothing)
 }
 
 // Judges a call of a routine as a procedure with `count` arguments.

@@ -29,20 +29,16 @@ fn first_rule(mode: Mode) -> Rule
 fn is_type(env: &Environment, name: &Identifier) -> bool
     ensures { result ≡ n.is_type (r.c1_named env.now name.now) }
 {
-    match find_entity(env, name) {
-        Some(Entity::Type(_)) => true,
-        Some(Entity::UnfinishedType) => true,
-        _ => false,
-    }
+    matches!(
+        find_entity(env, name),
+        Some(Entity::Type(_)) | Some(Entity::UnfinishedType)
+    )
 }
 
 fn is_indexed_first(selectors: &[Selector]) -> bool
     ensures { result ≡ n.is_indexed_first (selectors_of (map selector selectors.now)) }
 {
-    match selectors {
-        [Selector::Indexed(_), ..] => true,
-        _ => false,
-    }
+    matches!(selectors, [Selector::Indexed(_), ..])
 }
 
 // C2 or C10: the name of a type comes before `[`.

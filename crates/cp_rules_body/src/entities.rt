@@ -18,11 +18,7 @@ use cp_model::tree::{Designator, Index, Selector};
 pub fn is_routine(entity: Option<Entity>) -> bool
     ensures { result ≡ spec.is_routine entity }
 {
-    match entity {
-        Some(Entity::Routine(_)) => true,
-        Some(Entity::Entry(_)) => true,
-        _ => false,
-    }
+    matches!(entity, Some(Entity::Routine(_)) | Some(Entity::Entry(_)))
 }
 
 // An element of what is indexed, whatever the index is.

@@ -64,12 +64,10 @@ pub fn find_entity(env: &Environment, name: &Identifier) -> Option<Entity>
 pub fn outside_definition(diagnostics: &mut Diagnostics, name: &Identifier, entity: Entity) -> bool
     ensures { ReportsOf diagnostics.old diagnostics.new result (r.c4_unfinished name.now entity) }
 {
-    let finished = match entity {
-        Entity::UnfinishedConstant => false,
-        Entity::UnfinishedType => false,
-        Entity::UnfinishedRoutine(_) => false,
-        _ => true,
-    };
+    let finished = !matches!(
+        entity,
+        Entity::UnfinishedConstant | Entity::UnfinishedType | Entity::UnfinishedRoutine(_)
+    );
     unless_holds(diagnostics, finished, Rule::C4, name.at)
 }
 
@@ -77,19 +75,13 @@ pub fn outside_definition(diagnostics: &mut Diagnostics, name: &Identifier, enti
 pub fn is_in_routine(part: Part) -> bool
     ensures { result ≡ r.is_in_routine part }
 {
-    match part {
-        Part::Body => false,
-        _ => true,
-    }
+    !matches!(part, Part::Body)
 }
 
 fn is_in_entry(part: Part) -> bool
     ensures { result ≡ r.is_in_entry part }
 {
-    match part {
-        Part::EntryRoutine => true,
-        _ => false,
-    }
+    matches!(part, Part::EntryRoutine)
 }
 
 fn is_allowed(region: Region, standard: Standard) -> bool

@@ -64,14 +64,10 @@ fn standard_function(standard: Standard) -> Option<Callee>
 fn standard_procedure(standard: Standard) -> Option<Callee>
     ensures { (env : r.Environment) → callee_if env result ≡ n.standard_procedure standard }
 {
-    let is_procedure = match standard {
-        Standard::Delay => true,
-        Standard::Continue => true,
-        Standard::Display => true,
-        Standard::Accept => true,
-        Standard::Wait => true,
-        _ => false,
-    };
+    let is_procedure = matches!(
+        standard,
+        Standard::Delay | Standard::Continue | Standard::Display | Standard::Accept | Standard::Wait
+    );
     if is_procedure {
         let wants = standard_wants(standard);
         let gives = Gives::Nothing;

@@ -116,19 +116,13 @@ pub fn value(
 pub fn is_changeable(access: Access) -> bool
     ensures { result ≡ n.is_changeable access }
 {
-    match access {
-        Access::Passive => false,
-        _ => true,
-    }
+    !matches!(access, Access::Passive)
 }
 
 fn selects_field_first(selectors: &[Selector]) -> bool
     ensures { result ≡ n.selects_field_first (selectors_of (map selector selectors.now)) }
 {
-    match selectors {
-        [Selector::Field { .. }, ..] => true,
-        _ => false,
-    }
+    matches!(selectors, [Selector::Field { .. }, ..])
 }
 
 /// Whether a name with these selectors is a variable or a part of one. An unknown name passes,

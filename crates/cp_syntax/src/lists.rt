@@ -13,7 +13,7 @@ use std::mem::size_of_val;
 // When a block of so many bytes is freed, the C library joins all blocks that were freed before it,
 // and a tree has up to half a million. At first it maps blocks of twice as many bytes by themselves,
 // and to free one of those joins nothing.
-const JOINED: usize = 64 * 1024;
+const MAX_JOINED_BYTES: usize = 64 * 1024;
 
 /// A part of the syntax tree that occurs in lists, and how the rules `R` read it.
 pub trait Node<R>: Drop {
@@ -40,7 +40,7 @@ pub trait Item<R>: Node<R> {
         ensures { result ≡ begins (kind_at tokens.now) };
 }
 
-// Makes room in a full list that is about to become a block of `JOINED` to twice as many bytes for
+// Makes room in a full list that is about to become a block of `MAX_JOINED_BYTES` to twice as many bytes for
 // four times as many items, not twice.
 #[cold]
 #[inline(never)]
@@ -48,13 +48,13 @@ fn widen<X: Drop>(list: &mut Vec<X>) -> Result<(), AllocError>
     ensures { list.new.items ≡ list.old.items }
 {
     let bytes = size_of_val(list.as_slice());
-    if bytes >= JOINED / 2 && bytes < JOINED {
+    if bytes >= MAX_JOINED_BYTES / 2 && bytes < MAX_JOINED_BYTES {
         list.reserve(list.len().saturating_mul(3))?;
     }
     Ok(())
 }
 
-// Appends an item. A list is never a block of `JOINED` to twice as many bytes.
+// Appends an item. A list is never a block of `MAX_JOINED_BYTES` to twice as many bytes.
 #[inline(always)]
 fn append<X: Drop>(list: &mut Vec<X>, item: X) -> Result<(), AllocError>
     ensures { OnOk result (list.new.items ≡ list.old.items ++ item ∷ []) }

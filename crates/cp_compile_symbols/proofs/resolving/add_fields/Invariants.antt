@@ -1,5 +1,5 @@
 use Rattle.std.proofs.Common.{◌≡◌, ◌++◌, drop, map}
-use Rattle.cp_compile_symbols.specs.Standing.{entries_of, entry}
+use Rattle.cp_compile_symbols.specs.Representing.{entries_of, entry}
 use Rattle.cp_compile_symbols.proofs.resolving.add_fields.Given as goal
 
 -- The fields added so far and those of the remaining names are all fields.

@@ -3,7 +3,7 @@ use Rattle.std.specs.Prelude.{filter}
 use Rattle.std.specs.Prelude.{slice_index_or}
 use Rattle.cp_model.specs.Components.{is_component_of}
 use Rattle.cp_model.specs.Erase as erase
-use Rattle.cp_compile_symbols.specs.Standing.{entry}
+use Rattle.cp_compile_symbols.specs.Representing.{entry}
 use Rattle.cp_compile_symbols.specs.Variables.{declared_entry}
 use Rattle.cp_compile_symbols.specs.declared.variables.Declared.{Declared}
 use Rattle.cp_inspect.proofs.Listed.{Listing, next_listed, none_listed}

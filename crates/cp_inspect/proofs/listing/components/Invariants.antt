@@ -4,7 +4,7 @@ use Rattle.cp_model.specs.Abstract.{Name}
 use Rattle.cp_model.specs.Components.{is_component_of}
 use Rattle.cp_model.specs.Declarations.{Variable}
 use Rattle.cp_model.specs.Erase as erase
-use Rattle.cp_compile_symbols.specs.Standing.{entry}
+use Rattle.cp_compile_symbols.specs.Representing.{entry}
 use Rattle.cp_compile_symbols.specs.Variables.{AreDeclared, declared_entry}
 use Rattle.cp_inspect.proofs.Listed.{Listing}
 use Rattle.cp_inspect.proofs.listing.components.Given as goal

@@ -2,7 +2,7 @@ use Rattle.std.proofs.Common.{rules, OnOk, ◌≡◌, ◌++◌, ◌-◌, Some, N
 use Rattle.std.specs.Prelude.{option_map, slice_get}
 use Rattle.std.proofs.lemmas.List.{append-nil}
 use Rattle.std.proofs.lemmas.Result.{on_ok_weaker}
-use Rattle.cp_compile_symbols.specs.Standing.{entry}
+use Rattle.cp_compile_symbols.specs.Representing.{entry}
 use Rattle.cp_inspect.proofs.ListedNames.{entry_name, listed_name, map_get}
 use Rattle.cp_inspect.proofs.status.push_monitor.Goals as goal
 

@@ -2,7 +2,7 @@ use Rattle.std.proofs.Common.{rules, ◌≡◌, ◌+◌, ◌++◌, ◌<◌, [], 
 use Rattle.std.specs.Prelude.{slice_index_or}
 use Rattle.cp_model_machine.specs.Passing as plain
 use Rattle.cp_model_machine.specs.Reports.{queue_visit, queues_text}
-use Rattle.cp_compile_symbols.specs.Standing.{entry}
+use Rattle.cp_compile_symbols.specs.Representing.{entry}
 use Rattle.cp_compile_symbols.specs.declared.types.Field.{Field}
 use Rattle.cp_program.specs.View as view
 use Rattle.cp_inspect.proofs.MembersReported.{drop_first}

@@ -3,7 +3,7 @@ use Rattle.cp_model.specs.Abstract.{Name}
 use Rattle.cp_model.specs.Declarations.{Variable}
 use Rattle.cp_model.specs.Types.{GlobalScope}
 use Rattle.cp_model_machine.specs.Reports.{queues_text}
-use Rattle.cp_compile_symbols.specs.Standing.{ScopeRepresents, entry}
+use Rattle.cp_compile_symbols.specs.Representing.{ScopeRepresents, entry}
 use Rattle.cp_program.specs.View as view
 use Rattle.cp_inspect.specs.Lists.{AreListed}
 use Rattle.cp_inspect.proofs.QueuesReported.{QueuesToReport}

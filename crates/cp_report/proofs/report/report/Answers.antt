@@ -4,7 +4,7 @@ use Rattle.cp_model.specs.Abstract.{Monitor, Process}
 use Rattle.cp_model.specs.Declarations.{globals}
 use Rattle.cp_model.specs.Report.{components_of}
 use Rattle.cp_model_machine.specs.Reports.{machine_report}
-use Rattle.cp_compile_symbols.specs.Standing.{entry}
+use Rattle.cp_compile_symbols.specs.Representing.{entry}
 use Rattle.cp_compile_symbols.specs.Texts.{TablesRepresent}
 use Rattle.cp_inspect.specs.Lists.{AreListed}
 use Rattle.cp_report.proofs.Initial.{listed}

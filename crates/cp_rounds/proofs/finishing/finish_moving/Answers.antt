@@ -21,7 +21,7 @@ returns-clause-taken g c = λ rounds k time was.
     let taken = c.bring_back.ensures.taken in
     let turn = c.kernel_turn_of.ensures.turn in
     subst (λ (l : List Private). TurnsTaken config t rounds xs k l k2) (sym (take_more_set ys i z c.requires.within))
-    (taken_more g.C.Course.quiet g.C.Course.turned g.C.Course.input g.C.Course.most config t run.turns.course rounds c.args.round.now.round_time xs ys k c.args.kernel.now k2 i y z
+    (taken_more g.C.Course.without_kernel g.C.Course.turned g.C.Course.input g.C.Course.most config t run.turns.course rounds c.args.round.now.round_time xs ys k c.args.kernel.now k2 i y z
     c.requires.within c.requires.count time taken turn was)
 
 pub returns-clause-numbers : goal.returns-clause-numbers

@@ -23,7 +23,7 @@ returns-then-makes_no_step-clause-taken g c = λ rounds k time was.
     let one : take (i + 1) ys ≡ take i ys ++ y ∷ [] =
     take_more ys i y c.requires.within ∙ ap (λ (w : Private). take i ys ++ w ∷ []) (sym c.index.ensures) in
     subst (λ (l : List Private). TurnsTaken config t rounds xs k l k1) (sym one)
-    (taken_more g.C.Course.quiet g.C.Course.turned g.C.Course.input g.C.Course.most config t run.turns.course rounds c.args.round.now.round_time xs ys k k1 k1 i y y c.requires.within
+    (taken_more g.C.Course.without_kernel g.C.Course.turned g.C.Course.input g.C.Course.most config t run.turns.course rounds c.args.round.now.round_time xs ys k k1 k1 i y y c.requires.within
     c.requires.count time taken turn was)
 
 pub returns-then-makes_no_step-clause-numbers : goal.returns-then-makes_no_step-clause-numbers

@@ -10,7 +10,7 @@ returns g c =
     let one : c.take.result ≡ 1 = omega (arith, taken.some, taken.few) in
     let all =
     subst (λ (n : ℕ).
-    AreTaken (AreMade g.C.Course.quiet g.C.Course.turned g.C.Course.round_time c.args.round.now.index n) (g.C.Course.input (c.args.process - 1)) g.C.Course.most
+    AreTaken (AreMade g.C.Course.without_kernel g.C.Course.turned g.C.Course.round_time c.args.round.now.index n) (g.C.Course.input (c.args.process - 1)) g.C.Course.most
     c.args.round.now.start.value.items c.args.process c.take.new.private) one taken.taken in
     let input = g.C.Course.input (c.args.process - 1) in
     let y = c.take.new.private in

@@ -8,7 +8,7 @@ use Rattle.cp_rounds.proofs.run.with_cells.Given as goal
 
 abbrev pub ghosts-with_worker_pool-C-Course : goal.ghosts-with_worker_pool-C-Course
 ghosts-with_worker_pool-C-Course g a = record {
-  quiet = needs_no_kernel (view.program a.rounds.now.config.now.program);
+  without_kernel = needs_no_kernel (view.program a.rounds.now.config.now.program);
   turned = plain.take_turn (view.program a.rounds.now.config.now.program) a.rounds.now.plan.now.turn.steps;
   round_time = λ i. plain.round_time_of a.rounds.now.config.now.tick.rounds (a.rounds.now.done + i);
   input = input_at a.rounds.now.config.now.inputs.items;

@@ -24,9 +24,9 @@ finish_rounds-computed-requires-clause-ready g c κs within =
     let ready : IsReadyFor most (suc later) xs k =
     subst (λ (n : ℕ). IsReadyFor most n xs k) count c.in-Ok-open_round.ensures.opened.ready in
     let back =
-    subst (λ (n : ℕ). AreBack g.C.Course.quiet g.C.Course.turned g.C.Course.round_time g.C.Course.input most round.index n xs ns ys k) count
+    subst (λ (n : ℕ). AreBack g.C.Course.without_kernel g.C.Course.turned g.C.Course.round_time g.C.Course.input most round.index n xs ns ys k) count
     c.take_all_back.ensures.back in
-    back_ready g.C.Course.quiet g.C.Course.turned g.C.Course.round_time g.C.Course.input most round.index later xs ns ys k ready back
+    back_ready g.C.Course.without_kernel g.C.Course.turned g.C.Course.round_time g.C.Course.input most round.index later xs ns ys k ready back
 
 pub returns-clause-made : goal.returns-clause-made
 returns-clause-made g c = λ yes.
@@ -48,9 +48,9 @@ returns-clause-made g c = λ yes.
     let k2 = c.finish_rounds-computed.new.kernel in
     let opened = c.in-Ok-open_round.ensures.opened in
     let back =
-    subst (λ (i : ℕ). AreBack g.C.Course.quiet g.C.Course.turned g.C.Course.round_time g.C.Course.input most i c.args.count xs ns ys k)
+    subst (λ (i : ℕ). AreBack g.C.Course.without_kernel g.C.Course.turned g.C.Course.round_time g.C.Course.input most i c.args.count xs ns ys k)
     c.in-Ok-open_round.ensures.index
-    (subst (λ (n : ℕ). AreBack g.C.Course.quiet g.C.Course.turned g.C.Course.round_time g.C.Course.input most round.index n xs ns ys k)
+    (subst (λ (n : ℕ). AreBack g.C.Course.without_kernel g.C.Course.turned g.C.Course.round_time g.C.Course.input most round.index n xs ns ys k)
     (c.in-Ok-open_round.ensures.rounds ∙ c.shares_of-shares.ensures) c.take_all_back.ensures.back) in
     let some = c.requires.some in
     let count : later + 1 ≡ c.args.count = omega (arith, c.take_all_back.ensures.later, c.in-Ok.ensures.later, some) in
@@ -58,7 +58,7 @@ returns-clause-made g c = λ yes.
     let next : suc rounds ≡ rounds + 1 = omega arith in
     let first : PartsAhead config t (rounds + 1) (with_turn_taken t m) ns ys k =
     subst (λ (r : ℕ). PartsAhead config t r (with_turn_taken t m) ns ys k) next
-    (back_ahead g.C.Course.quiet g.C.Course.turned g.C.Course.round_time g.C.Course.input most config t run.turns.done run.turns.course run.turns.times index
+    (back_ahead g.C.Course.without_kernel g.C.Course.turned g.C.Course.round_time g.C.Course.input most config t run.turns.done run.turns.course run.turns.times index
     c.args.count xs ns ys k (opened.same.numbers before.numbers) back) in
     let made = c.finish_rounds-computed.ensures.made m refl refl refl first in
     let last : PartsAhead config t (rounds + c.args.count) (phased_rounds t (numbers_from 1 (length xs)) c.args.count m) ms zs k2 =

@@ -32,7 +32,7 @@ loop-i-preserved g c =
     let y = c.index_mut.result.now in
     let z = c.take_back.new.private in
     let n = c.take_back.result in
-    let quiet = g.C.Course.quiet in
+    let without_kernel = g.C.Course.without_kernel in
     let turned = g.C.Course.turned in
     let round_time = g.C.Course.round_time in
     let most = g.C.Course.most in
@@ -46,10 +46,10 @@ loop-i-preserved g c =
     let next : i + 1 ≡ suc i = omega arith in
     let one : n + 1 ≡ suc n = omega arith in
     let at : turns_ahead (slice_set ns i n) i ≡ n = set_turns_here ns i n within in
-    let taken : AreTaken (AreMade quiet turned round_time round (suc n)) (g.C.Course.input i) most xs (suc i) z =
-    subst (λ (m : ℕ). AreTaken (AreMade quiet turned round_time round m) (g.C.Course.input i) most xs (suc i) z) one
-    (subst (λ (p : ℕ). AreTaken (AreMade quiet turned round_time round (n + 1)) (g.C.Course.input i) most xs p z) next
-    (subst (λ (j : ℕ). AreTaken (AreMade quiet turned round_time round (n + 1)) (g.C.Course.input j) most xs (i + 1) z) back c.take_back.ensures.taken)) in
+    let taken : AreTaken (AreMade without_kernel turned round_time round (suc n)) (g.C.Course.input i) most xs (suc i) z =
+    subst (λ (m : ℕ). AreTaken (AreMade without_kernel turned round_time round m) (g.C.Course.input i) most xs (suc i) z) one
+    (subst (λ (p : ℕ). AreTaken (AreMade without_kernel turned round_time round (n + 1)) (g.C.Course.input i) most xs p z) next
+    (subst (λ (j : ℕ). AreTaken (AreMade without_kernel turned round_time round (n + 1)) (g.C.Course.input j) most xs (i + 1) z) back c.take_back.ensures.taken)) in
     record {
       count = set_length ys i z ∙ was.count;
       turns = set_length ns i n ∙ (was.turns ∙ sym (set_length ys i z));
@@ -57,12 +57,12 @@ loop-i-preserved g c =
       left = λ j w from e rest. was.left j w (omega (arith, from)) (sym (set_apart ys i j z (λ f. omega (arith, f, from))) ∙ e) rest;
       taken = λ j w under e. ⊎_elim
           (λ (h : (j ≡ i) × (z ≡ w)).
-          subst (λ (q : ℕ). AreTaken (AreMade quiet turned round_time round (suc (turns_ahead (slice_set ns i n) q))) (g.C.Course.input q) most xs (suc q) w) (sym h.0)
-          (subst (λ (m : ℕ). AreTaken (AreMade quiet turned round_time round (suc m)) (g.C.Course.input i) most xs (suc i) w) (sym at)
-          (subst (λ (v : Private). AreTaken (AreMade quiet turned round_time round (suc n)) (g.C.Course.input i) most xs (suc i) v) h.1 taken)))
+          subst (λ (q : ℕ). AreTaken (AreMade without_kernel turned round_time round (suc (turns_ahead (slice_set ns i n) q))) (g.C.Course.input q) most xs (suc q) w) (sym h.0)
+          (subst (λ (m : ℕ). AreTaken (AreMade without_kernel turned round_time round (suc m)) (g.C.Course.input i) most xs (suc i) w) (sym at)
+          (subst (λ (v : Private). AreTaken (AreMade without_kernel turned round_time round (suc n)) (g.C.Course.input i) most xs (suc i) v) h.1 taken)))
           (λ (h : (j ≢ i) × (slice_get ys j ≡ Some w)).
           let apart = h.0 in
-          subst (λ (m : ℕ). AreTaken (AreMade quiet turned round_time round (suc m)) (g.C.Course.input j) most xs (suc j) w) (sym (set_turns ns i j n apart))
+          subst (λ (m : ℕ). AreTaken (AreMade without_kernel turned round_time round (suc m)) (g.C.Course.input j) most xs (suc j) w) (sym (set_turns ns i j n apart))
           (was.taken j w (omega (arith, under, apart)) h.1))
           (got_set ys i j z w e);
       few = λ j under. ⊎_elim

@@ -13,7 +13,7 @@ invariant-loop-i g l = record {
   later : l.ahead.later ≡ l.fn.ahead.later;
   left : AreInPlace l.round.round_time.wakes l.i l.round.start.value.items l.privates.items;
   taken : (j : ℕ) (y : Private) → j < l.i → slice_get l.privates.items j ≡ Some y
-      → AreTaken (AreMade g.C.Course.quiet g.C.Course.turned g.C.Course.round_time l.round.index (suc (turns_ahead l.ahead.turns.items j))) (g.C.Course.input j) g.C.Course.most
+      → AreTaken (AreMade g.C.Course.without_kernel g.C.Course.turned g.C.Course.round_time l.round.index (suc (turns_ahead l.ahead.turns.items j))) (g.C.Course.input j) g.C.Course.most
       l.round.start.value.items (suc j) y;
   few : (j : ℕ) → j < l.i → turns_ahead l.ahead.turns.items j < l.round.rounds;
   begun : (j : ℕ) → j < l.i → turns_ahead l.ahead.turns.items j ≢ 0 → HasBegun j (kernel_of l.kernel);

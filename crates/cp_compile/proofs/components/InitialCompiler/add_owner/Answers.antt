@@ -3,7 +3,7 @@ use Rattle.cp_model.specs.Components.{is_component_of}
 use Rattle.cp_model.specs.Erase as erase
 use Rattle.cp_model_program.specs.Compile.{of_sort, owners_of}
 use Rattle.cp_compile_symbols.specs.Numbering.{system_of}
-use Rattle.cp_compile_symbols.specs.Standing.{row_at, system_at}
+use Rattle.cp_compile_symbols.specs.Representing.{row_at, system_at}
 use Rattle.cp_compile.specs.declared.components.Owner.{Owner}
 use Rattle.cp_compile.specs.CompiledComponents.{AreOwners}
 use Rattle.cp_compile.proofs.ComponentsCompiled.{no_owner, one_put, owner_has_number, owner_has_table, owner_has_type}

@@ -1,5 +1,5 @@
 use Rattle.std.proofs.Common.{rules, ◌≡◌, ◌∙◌, ◌∷◌, ◌++◌, [], Option, Vec, Global, ap, length, subst}
-use Rattle.cp_compile_symbols.specs.Standing.{Represents}
+use Rattle.cp_compile_symbols.specs.Representing.{Represents}
 use Rattle.cp_compile_emit.specs.declared.plan.Planner.{Planner}
 use Rattle.cp_compile_emit.specs.declared.plan.TypePlans.{TypePlans}
 use Rattle.cp_compile_emit.specs.Planning.{Extends, types_of}

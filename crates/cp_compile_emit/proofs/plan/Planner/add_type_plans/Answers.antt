@@ -1,7 +1,7 @@
 use Rattle.std.proofs.Common.{◌∙◌, ap, subst, sym}
 use Rattle.std.specs.Borrow.{Bor}
 use Rattle.cp_compile_symbols.specs.declared.tables.Tables.{Tables}
-use Rattle.cp_compile_symbols.specs.Standing.{Represents}
+use Rattle.cp_compile_symbols.specs.Representing.{Represents}
 use Rattle.cp_compile_emit.proofs.PlansKept.{knows_kept, number_there, plan_kept, there_kept}
 use Rattle.cp_compile_emit.proofs.plan.Planner.add_type_plans.Goals as goal
 

@@ -1,7 +1,7 @@
 use Rattle.std.proofs.Common.{◌≡◌, ◌-◌, length}
 use Rattle.cp_model.specs.Types.{GlobalScope}
 use Rattle.cp_compile_symbols.specs.Layouts.{AreLaid}
-use Rattle.cp_compile_symbols.specs.Standing.{ScopeRepresents}
+use Rattle.cp_compile_symbols.specs.Representing.{ScopeRepresents}
 use Rattle.cp_compile_emit.specs.Planning.{Knows}
 use Rattle.cp_compile_emit.proofs.plan.Planner.new.Given as goal
 

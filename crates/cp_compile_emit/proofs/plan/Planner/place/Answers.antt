@@ -1,7 +1,7 @@
 use Rattle.std.proofs.Common.{rules, ◌≡◌, ◌∷◌, ◌+◌, List, drop, get_or, map, subst}
 use Rattle.std.proofs.lemmas.List.{at_drop_all, at_drop_more}
 use Rattle.cp_compile_symbols.specs.declared.types.Field.{Field}
-use Rattle.cp_compile_symbols.specs.Standing.{entry}
+use Rattle.cp_compile_symbols.specs.Representing.{entry}
 use Rattle.cp_compile_emit.specs.Planning.{known_of, types_of}
 use Rattle.cp_compile_emit.proofs.PartsPlanned.{PartlyPlaced, all_placed, none_placed, nothing, one_placed}
 use Rattle.cp_compile_emit.proofs.plan.Planner.place.Goals as goal

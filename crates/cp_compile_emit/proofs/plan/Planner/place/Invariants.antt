@@ -1,6 +1,6 @@
 use Rattle.std.proofs.Common.{drop, map}
 use Rattle.cp_model.specs.Types.{GlobalScope, Members}
-use Rattle.cp_compile_symbols.specs.Standing.{AreMembers, entry}
+use Rattle.cp_compile_symbols.specs.Representing.{AreMembers, entry}
 use Rattle.cp_compile_emit.specs.Planning.{Knows, known_of, types_of}
 use Rattle.cp_compile_emit.proofs.PartsPlanned.{PartlyPlaced}
 use Rattle.cp_compile_emit.proofs.plan.Planner.place.Given as goal

@@ -7,7 +7,7 @@ use Rattle.cp_model_program.specs.Layout.{head_words}
 use Rattle.cp_model_program.specs.Plans.{placed, plan_of_parts}
 use Rattle.cp_compile_symbols.specs.declared.types.Field.{Field}
 use Rattle.cp_compile_symbols.specs.declared.variables.Declared.{Declared}
-use Rattle.cp_compile_symbols.specs.Standing.{AreMembers, entry}
+use Rattle.cp_compile_symbols.specs.Representing.{AreMembers, entry}
 use Rattle.cp_compile_emit.specs.Members.{member_of, own_of}
 use Rattle.cp_compile_emit.specs.Planning.{types_of}
 use Rattle.cp_compile_emit.proofs.Membership.{declared_members, own_declared, own_variables, rights_counted}

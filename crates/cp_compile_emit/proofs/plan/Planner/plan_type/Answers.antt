@@ -1,7 +1,7 @@
 use Rattle.std.proofs.Common.{rules, ◌≡◌, ◌∙◌, Some, ap}
 use Rattle.cp_model.proofs.Results.{if_ok}
 use Rattle.cp_model_program.specs.Plans.{plan, plan_of_word}
-use Rattle.cp_compile_symbols.specs.Standing.{row_at}
+use Rattle.cp_compile_symbols.specs.Representing.{row_at}
 use Rattle.cp_compile_symbols.specs.declared.types.TypeRow.TheVariants as row
 use Rattle.cp_program.proofs.Wide.{narrow}
 use Rattle.cp_compile_emit.specs.Drafts.{plan_of}

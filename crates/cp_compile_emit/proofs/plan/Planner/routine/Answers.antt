@@ -3,7 +3,7 @@ use Rattle.std.proofs.lemmas.List.{append-nil}
 use Rattle.cp_model.specs.Declarations.{declarations, members_from}
 use Rattle.cp_model.specs.Types.{NoMembers}
 use Rattle.cp_compile_symbols.specs.declared.types.Field.{Field}
-use Rattle.cp_compile_symbols.specs.Standing.{AreMembers, entry}
+use Rattle.cp_compile_symbols.specs.Representing.{AreMembers, entry}
 use Rattle.cp_compile_emit.specs.Drafts.{plan_of}
 use Rattle.cp_compile_emit.specs.Members.{member_of}
 use Rattle.cp_compile_emit.specs.Planning.{known_of, types_of}

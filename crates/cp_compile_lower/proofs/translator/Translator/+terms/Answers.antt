@@ -12,7 +12,7 @@ use Rattle.cp_model.specs.Types.{base_of_type}
 use Rattle.cp_law_typing.specs.StaticTypes.{expression_type}
 use Rattle.cp_model_program.specs.Scopes.{environment}
 use Rattle.cp_model_program.specs.Sites.{first_parameter}
-use Rattle.cp_compile_symbols.specs.Standing.{simple_of}
+use Rattle.cp_compile_symbols.specs.Representing.{simple_of}
 use Rattle.cp_model.specs.Syntax as syntax
 use Rattle.cp_model.specs.View as tree
 use Rattle.cp_model.specs.declared.tree.Expression.{Expression}

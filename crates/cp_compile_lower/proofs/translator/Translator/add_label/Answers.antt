@@ -4,7 +4,7 @@ use Rattle.std.specs.Prelude.{FitsSigned}
 use Rattle.std.proofs.lemmas.Int.{to_z-of_z}
 use Rattle.cp_model.specs.Erase as erase
 use Rattle.cp_model_program.specs.Programs as code
-use Rattle.cp_compile_symbols.specs.Standing.{value_of}
+use Rattle.cp_compile_symbols.specs.Representing.{value_of}
 use Rattle.cp_program.proofs.Wide.{narrow}
 use Rattle.cp_program.specs.declared.arm.Arm.{Arm}
 use Rattle.cp_compile_lower.proofs.Labelling.{label_added, no_label}

@@ -6,7 +6,7 @@ use Rattle.cp_law_typing.specs.StaticTypes.{place_type}
 use Rattle.cp_model_program.specs.CodedTerms.{coded_place_expression, coded_term, coded_variable}
 use Rattle.cp_model_program.specs.Scopes.{environment}
 use Rattle.cp_compile_emit.specs.Emission.{place_of}
-use Rattle.cp_compile_symbols.specs.Standing.{simple_of}
+use Rattle.cp_compile_symbols.specs.Representing.{simple_of}
 use Rattle.cp_compile_lower.proofs.Storing.{stored}
 use Rattle.cp_compile_lower.proofs.translator.Translator.store.Goals as goal
 

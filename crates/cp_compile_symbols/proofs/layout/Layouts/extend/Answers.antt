@@ -2,7 +2,7 @@ use Rattle.std.proofs.Common.{◌≡◌, ◌∙◌, ap, arith, length, length-ap
 use Rattle.std.proofs.lemmas.Option.{slice_get_read}
 use Rattle.std.specs.Prelude.{Some}
 use Rattle.cp_compile_symbols.specs.Layouts.{AreLaid}
-use Rattle.cp_compile_symbols.specs.Standing.{row_at}
+use Rattle.cp_compile_symbols.specs.Representing.{row_at}
 use Rattle.cp_compile_symbols.proofs.Laying.{one_more_laid}
 use Rattle.cp_compile_symbols.proofs.layout.Layouts.extend.Goals as goal
 

@@ -1,7 +1,7 @@
 use Rattle.std.proofs.Common.{◌≡◌, length}
 use Rattle.cp_model.specs.Types.{GlobalScope}
 use Rattle.cp_compile_symbols.specs.Layouts.{AreLaid}
-use Rattle.cp_compile_symbols.specs.Standing.{ScopeRepresents}
+use Rattle.cp_compile_symbols.specs.Representing.{ScopeRepresents}
 use Rattle.cp_compile_symbols.proofs.layout.Layouts.extend.Given as goal
 
 -- The first `number` types have layouts.

@@ -3,7 +3,7 @@ use Rattle.std.proofs.lemmas.List.{at_drop_all, at_drop_more}
 use Rattle.cp_compile_symbols.specs.declared.types.Field.{Field}
 use Rattle.cp_compile_symbols.specs.declared.layout.Layout.{Layout}
 use Rattle.cp_compile_symbols.specs.Layouts.{Counts}
-use Rattle.cp_compile_symbols.specs.Standing.{entry}
+use Rattle.cp_compile_symbols.specs.Representing.{entry}
 use Rattle.cp_compile_symbols.proofs.Laying.{PartlyLaid, all_laid, none_laid, one_laid}
 use Rattle.cp_compile_symbols.proofs.layout.Layouts.members.Goals as goal
 

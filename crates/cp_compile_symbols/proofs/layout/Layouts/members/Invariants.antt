@@ -2,7 +2,7 @@ use Rattle.std.proofs.Common.{ℕ, drop, map}
 use Rattle.cp_model.specs.Types.{GlobalScope, Members}
 use Rattle.cp_compile_symbols.specs.declared.types.Types.{Types}
 use Rattle.cp_compile_symbols.specs.Layouts.{AreLaid, Counts}
-use Rattle.cp_compile_symbols.specs.Standing.{AreMembers, entry}
+use Rattle.cp_compile_symbols.specs.Representing.{AreMembers, entry}
 use Rattle.cp_compile_symbols.proofs.Laying.{PartlyLaid}
 use Rattle.cp_compile_symbols.proofs.layout.Layouts.members.Given as goal
 

@@ -5,10 +5,10 @@ use Rattle.cp_model.proofs.Results.{if_ok}
 use Rattle.cp_compile_symbols.specs.declared.types.Field.{Field}
 use Rattle.cp_compile_symbols.specs.Components.{own_members}
 use Rattle.cp_compile_symbols.specs.Layouts.{Counts, rights_of}
-use Rattle.cp_compile_symbols.specs.Standing.{AreMembers, entry, with_groups, with_parameters}
+use Rattle.cp_compile_symbols.specs.Representing.{AreMembers, entry, with_groups, with_parameters}
 use Rattle.cp_compile_symbols.proofs.Laying.{laid_later}
 use Rattle.cp_compile_symbols.proofs.Members.{variables_are}
-use Rattle.cp_compile_symbols.proofs.Standing.{grows_more, still_scope}
+use Rattle.cp_compile_symbols.proofs.Representing.{grows_more, still_scope}
 use Rattle.cp_compile_symbols.proofs.layout.Layouts.own_members.Goals as goal
 
 pub returns : goal.returns

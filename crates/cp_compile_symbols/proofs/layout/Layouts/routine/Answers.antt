@@ -5,7 +5,7 @@ use Rattle.cp_compile_symbols.specs.Variables.{declared_entry, parameters_of, va
 use Rattle.cp_law_typing.specs.Needs.{result_words}
 use Rattle.cp_compile_symbols.proofs.Declaring.{both_declared, parameters_listed, result_still, variables_listed}
 use Rattle.cp_compile_symbols.proofs.Laying.{laid_later}
-use Rattle.cp_compile_symbols.proofs.Standing.{grows_more, still_scope}
+use Rattle.cp_compile_symbols.proofs.Representing.{grows_more, still_scope}
 use Rattle.cp_compile_symbols.proofs.layout.Layouts.routine.Goals as goal
 
 pub returns : goal.returns

@@ -4,7 +4,7 @@ use Rattle.cp_model.proofs.Results.{if_ok}
 use Rattle.cp_law_typing.specs.Words.{words}
 use Rattle.cp_compile_symbols.specs.Layouts.{Counts}
 use Rattle.cp_compile_symbols.proofs.Laying.{array_laid, component_laid, laid_later, record_laid}
-use Rattle.cp_compile_symbols.proofs.Standing.{has_system, same_system}
+use Rattle.cp_compile_symbols.proofs.Representing.{has_system, same_system}
 use Rattle.cp_compile_symbols.proofs.layout.Layouts.row.Goals as goal
 
 pub returns-in-Array : goal.returns-in-Array

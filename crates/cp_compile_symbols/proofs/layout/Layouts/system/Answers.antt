@@ -2,13 +2,13 @@ use Rattle.std.proofs.Common.{Bool, ℕ, List, ap, map}
 use Rattle.cp_model.specs.Abstract.{Name}
 use Rattle.cp_compile_symbols.specs.declared.types.Types.{Types}
 use Rattle.cp_compile_symbols.specs.Routines.{Builds}
-use Rattle.cp_compile_symbols.specs.Standing.{Grows}
+use Rattle.cp_compile_symbols.specs.Representing.{Grows}
 use Rattle.cp_compile_symbols.specs.declared.variables.Declared.{Declared}
 use Rattle.cp_compile_symbols.specs.Variables.{declared_entry, parameters_of, variables_of}
 use Rattle.cp_compile_symbols.proofs.Declaring.{parameters_listed, variables_listed}
 use Rattle.cp_compile_symbols.proofs.Laying.{laid_later}
 use Rattle.cp_compile_symbols.proofs.Picking.{own}
-use Rattle.cp_compile_symbols.proofs.Standing.{grows_more, still_scope}
+use Rattle.cp_compile_symbols.proofs.Representing.{grows_more, still_scope}
 use Rattle.cp_compile_symbols.proofs.SystemsMade.{builds_more, numbered_still, right_still}
 use Rattle.cp_compile_symbols.proofs.layout.Layouts.system.Goals as goal
 

@@ -1,8 +1,8 @@
 use Rattle.std.proofs.Common.{◌≡◌, ◌<◌, ◌∙◌, ap, arith, length, length-append, refl, rules, subst, sym}
 use Rattle.std.proofs.lemmas.Option.{slice_get_read}
 use Rattle.std.specs.Prelude.{Some}
-use Rattle.cp_compile_symbols.specs.Standing.{system_at}
-use Rattle.cp_compile_symbols.proofs.Standing.{grows_more, same_system, still_scope}
+use Rattle.cp_compile_symbols.specs.Representing.{system_at}
+use Rattle.cp_compile_symbols.proofs.Representing.{grows_more, same_system, still_scope}
 use Rattle.cp_compile_symbols.proofs.SystemsMade.{AreTables, all_tables, builds_more, builds_nothing, no_tables, one_table}
 use Rattle.cp_compile_symbols.proofs.layout.Layouts.systems.Goals as goal
 

@@ -1,5 +1,5 @@
 use Rattle.std.proofs.Common.{sym}
-use Rattle.cp_compile_symbols.proofs.Standing.{grows_not}
+use Rattle.cp_compile_symbols.proofs.Representing.{grows_not}
 use Rattle.cp_compile_symbols.proofs.layout.Layouts.words.Goals as goal
 
 pub returns : goal.returns

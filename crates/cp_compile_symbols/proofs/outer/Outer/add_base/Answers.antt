@@ -1,6 +1,6 @@
 use Rattle.std.proofs.Common.{refl}
 use Rattle.std.proofs.lemmas.Result.{on_ok_weaker}
-use Rattle.cp_compile_symbols.proofs.Standing.{still_scope}
+use Rattle.cp_compile_symbols.proofs.Representing.{still_scope}
 use Rattle.cp_compile_symbols.proofs.outer.Outer.add_base.Goals as goal
 
 pub returns : goal.returns

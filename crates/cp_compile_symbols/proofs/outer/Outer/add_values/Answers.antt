@@ -5,7 +5,7 @@ use Rattle.cp_model.specs.Types.{GlobalScope}
 use Rattle.cp_model.specs.declared.tree.Identifier.{Identifier}
 use Rattle.cp_compile_symbols.specs.declared.outer.Outer.{Outer}
 use Rattle.cp_compile_symbols.specs.Outer.{Defines, OuterRepresents, with_value, with_values}
-use Rattle.cp_compile_symbols.specs.Standing.{base_of}
+use Rattle.cp_compile_symbols.specs.Representing.{base_of}
 use Rattle.cp_compile_symbols.proofs.outer.Outer.add_values.Goals as goal
 
 pub loop-left-init : goal.loop-left-init

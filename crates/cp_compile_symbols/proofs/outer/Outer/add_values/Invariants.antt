@@ -1,6 +1,6 @@
 use Rattle.std.proofs.Common.{◌≤◌, drop, length}
 use Rattle.cp_compile_symbols.specs.Outer.{Defines, with_values}
-use Rattle.cp_compile_symbols.specs.Standing.{base_of}
+use Rattle.cp_compile_symbols.specs.Representing.{base_of}
 use Rattle.cp_compile_symbols.proofs.outer.Outer.add_values.Given as goal
 
 -- The values from this one on are defined.

@@ -1,5 +1,5 @@
 use Rattle.std.proofs.lemmas.Result.{on_ok_weaker}
-use Rattle.cp_compile_symbols.proofs.Standing.{kept_scope}
+use Rattle.cp_compile_symbols.proofs.Representing.{kept_scope}
 use Rattle.cp_compile_symbols.specs.Outer.{component_of}
 use Rattle.cp_compile_symbols.proofs.outer.Outer.define_system.Goals as goal
 

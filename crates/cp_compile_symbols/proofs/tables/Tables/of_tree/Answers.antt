@@ -1,7 +1,7 @@
 use Rattle.cp_model.specs.Declarations.{globals}
 use Rattle.cp_model.specs.Erase as erase
 use Rattle.cp_model.specs.View as view
-use Rattle.cp_compile_symbols.proofs.Standing.{grows_not, still_scope}
+use Rattle.cp_compile_symbols.proofs.Representing.{grows_not, still_scope}
 use Rattle.cp_compile_symbols.proofs.Laying.{nothing_laid}
 use Rattle.cp_compile_symbols.proofs.tables.Tables.of_tree.Goals as goal
 

@@ -8,8 +8,8 @@ use Rattle.std.proofs.lemmas.List.{append-nil, at_drop_more, drop_all}
 use Rattle.cp_model.specs.Types.{NoMembers}
 use Rattle.cp_model.specs.declared.tree.Fields.{Fields}
 use Rattle.cp_model.proofs.Results.{if_ok}
-use Rattle.cp_compile_symbols.specs.Standing.{AreMembers, MakesIndexed, entries_of, entry, with_group, with_groups, type_from}
-use Rattle.cp_compile_symbols.proofs.Standing.{grows_more, indexed_more, indexed_none, still_scope, still_represents}
+use Rattle.cp_compile_symbols.specs.Representing.{AreMembers, MakesIndexed, entries_of, entry, with_group, with_groups, type_from}
+use Rattle.cp_compile_symbols.proofs.Representing.{grows_more, indexed_more, indexed_none, still_scope, still_represents}
 use Rattle.cp_compile_symbols.specs.declared.types.Field.{Field}
 use Rattle.cp_compile_symbols.proofs.Groups.{GroupsAdded, all_added, none_added, one_added}
 use Rattle.cp_compile_symbols.proofs.Written.{array_written, groups_written, names_written, record_written}

@@ -1,6 +1,6 @@
 use Rattle.std.proofs.Common.{ℕ, List, ◌≤◌, drop, length, map}
 use Rattle.cp_model.specs.Abstract.{Name}
-use Rattle.cp_compile_symbols.specs.Standing.{MakesIndexed, entry}
+use Rattle.cp_compile_symbols.specs.Representing.{MakesIndexed, entry}
 use Rattle.cp_compile_symbols.proofs.Groups.{GroupsAdded}
 use Rattle.cp_compile_symbols.proofs.types.Types.+types.Given as goal
 

@@ -3,8 +3,8 @@ use Rattle.std.proofs.lemmas.List.{append-nil}
 use Rattle.cp_model.specs.Declarations.{is_component}
 use Rattle.cp_model.specs.Erase as erase
 use Rattle.cp_model.specs.Types.{with_members}
-use Rattle.cp_compile_symbols.specs.Standing.{AreMembers, entries_of, entry, name_type}
-use Rattle.cp_compile_symbols.proofs.Standing.{still_represents}
+use Rattle.cp_compile_symbols.specs.Representing.{AreMembers, entries_of, entry, name_type}
+use Rattle.cp_compile_symbols.proofs.Representing.{still_represents}
 use Rattle.cp_compile_symbols.proofs.Written.{names_written}
 use Rattle.cp_compile_symbols.proofs.types.Types.add_parameter.Goals as goal
 

@@ -5,7 +5,7 @@ use Rattle.cp_model.specs.Declarations.{Variable, declared_group, is_component, 
 use Rattle.cp_model.specs.Erase as erase
 use Rattle.cp_model.specs.Types.{Members, ResolvedType, with_members}
 use Rattle.cp_model.specs.declared.tree.Parameters.{Parameters}
-use Rattle.cp_compile_symbols.specs.Standing.{AreMembers, entry, name_type, with_parameter, with_parameters}
+use Rattle.cp_compile_symbols.specs.Representing.{AreMembers, entry, name_type, with_parameter, with_parameters}
 use Rattle.cp_compile_symbols.proofs.Groups.{ParametersAdded, all_added, none_added, one_added}
 use Rattle.cp_compile_symbols.proofs.types.Types.add_parameters.Goals as goal
 

@@ -1,6 +1,6 @@
 use Rattle.std.proofs.Common.{ℕ, List, drop, map}
 use Rattle.cp_model.specs.Abstract.{Name}
-use Rattle.cp_compile_symbols.specs.Standing.{entry}
+use Rattle.cp_compile_symbols.specs.Representing.{entry}
 use Rattle.cp_compile_symbols.proofs.Groups.{ParametersAdded}
 use Rattle.cp_compile_symbols.proofs.types.Types.add_parameters.Given as goal
 

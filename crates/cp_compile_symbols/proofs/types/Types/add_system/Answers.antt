@@ -1,5 +1,5 @@
 use Rattle.std.proofs.Common.{◌≡◌, length, refl, rules}
-use Rattle.cp_compile_symbols.proofs.Standing.{last_item, still_item}
+use Rattle.cp_compile_symbols.proofs.Representing.{last_item, still_item}
 use Rattle.cp_compile_symbols.proofs.types.Types.add_system.Goals as goal
 
 pub returns : goal.returns

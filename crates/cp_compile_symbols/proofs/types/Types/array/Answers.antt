@@ -1,4 +1,4 @@
-use Rattle.cp_compile_symbols.proofs.Standing.{array_made}
+use Rattle.cp_compile_symbols.proofs.Representing.{array_made}
 use Rattle.cp_compile_symbols.proofs.types.Types.array.Goals as goal
 use Rattle.cp_model.proofs.Results.{if_ok}
 

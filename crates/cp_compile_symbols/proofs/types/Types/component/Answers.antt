@@ -6,8 +6,8 @@ use Rattle.cp_model.specs.View as view
 use Rattle.cp_model.specs.Types.{NoMembers}
 use Rattle.cp_model.proofs.Results.{if_ok}
 use Rattle.cp_compile_symbols.specs.declared.types.Field.{Field}
-use Rattle.cp_compile_symbols.specs.Standing.{AreMembers, entry, with_groups}
-use Rattle.cp_compile_symbols.proofs.Standing.{grows_not, kept, kept_members, kept_more, same_system, still_scope}
+use Rattle.cp_compile_symbols.specs.Representing.{AreMembers, entry, with_groups}
+use Rattle.cp_compile_symbols.proofs.Representing.{grows_not, kept, kept_members, kept_more, same_system, still_scope}
 use Rattle.cp_compile_symbols.proofs.Members.{variables_are}
 use Rattle.cp_compile_symbols.proofs.types.Types.component.Goals as goal
 

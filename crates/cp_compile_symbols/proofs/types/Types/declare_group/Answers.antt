@@ -1,8 +1,8 @@
 use Rattle.std.proofs.Common.{false}
 use Rattle.cp_compile_symbols.specs.Variables.{declared_entries}
-use Rattle.cp_compile_symbols.specs.Standing.{type_from}
+use Rattle.cp_compile_symbols.specs.Representing.{type_from}
 use Rattle.cp_compile_symbols.proofs.Declaring.{each_declared}
-use Rattle.cp_compile_symbols.proofs.Standing.{still_represents}
+use Rattle.cp_compile_symbols.proofs.Representing.{still_represents}
 use Rattle.cp_compile_symbols.proofs.types.Types.declare_group.Goals as goal
 
 pub returns : goal.returns

@@ -1,8 +1,8 @@
 use Rattle.std.proofs.Common.{is_some}
 use Rattle.cp_compile_symbols.specs.Variables.{declared_entries}
-use Rattle.cp_compile_symbols.specs.Standing.{name_type}
+use Rattle.cp_compile_symbols.specs.Representing.{name_type}
 use Rattle.cp_compile_symbols.proofs.Declaring.{each_declared}
-use Rattle.cp_compile_symbols.proofs.Standing.{still_represents}
+use Rattle.cp_compile_symbols.proofs.Representing.{still_represents}
 use Rattle.cp_compile_symbols.proofs.types.Types.declare_parameter.Goals as goal
 
 pub returns : goal.returns

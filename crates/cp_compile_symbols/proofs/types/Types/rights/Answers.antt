@@ -7,7 +7,7 @@ use Rattle.cp_model.specs.Types.{ResolvedType}
 use Rattle.cp_model.specs.declared.tree.Identifier.{Identifier}
 use Rattle.cp_model.specs.declared.tree.Parameters.{Parameters}
 use Rattle.cp_compile_symbols.specs.Layouts.{Counts, rights_among, rights_of}
-use Rattle.cp_compile_symbols.specs.Standing.{name_type}
+use Rattle.cp_compile_symbols.specs.Representing.{name_type}
 use Rattle.cp_compile_symbols.proofs.types.Types.rights.Goals as goal
 
 group_counted : (r b : Bool) (t : ResolvedType) → is_component t ≡ b → (xs : List Identifier) (vs : List (Name × Variable))

@@ -1,7 +1,7 @@
 use Rattle.std.proofs.Common.{◌≡◌, ◌+◌, ℕ, drop}
 use Rattle.cp_model.specs.Types.{GlobalScope}
 use Rattle.cp_compile_symbols.specs.Layouts.{Counts, rights_of}
-use Rattle.cp_compile_symbols.specs.Standing.{ScopeRepresents}
+use Rattle.cp_compile_symbols.specs.Representing.{ScopeRepresents}
 use Rattle.cp_compile_symbols.proofs.types.Types.rights.Given as goal
 
 -- The rights counted so far and those of the remaining groups are all rights.

@@ -1,6 +1,6 @@
 use Rattle.std.proofs.Common.{◌+◌, ◌++◌, List}
 use Rattle.cp_model.specs.Types.{GlobalScope}
-use Rattle.cp_compile_symbols.specs.Standing.{ScopeRepresents}
+use Rattle.cp_compile_symbols.specs.Representing.{ScopeRepresents}
 use Rattle.cp_inspect.specs.Remaining.{Remaining, left_text, left_words}
 use Rattle.cp_inspect.specs.WalkOutputs.{visit_of}
 use Rattle.cp_inspect.specs.Walks.{Advances, WalkRepresents}

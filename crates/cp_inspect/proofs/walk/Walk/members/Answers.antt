@@ -1,6 +1,6 @@
 use Rattle.std.proofs.Common.{◌≡◌, ◌+◌, ◌<◌, ◌++◌, [], suc, drop, length, map, subst, arith}
 use Rattle.cp_model_machine.specs.Reports.{visit_members}
-use Rattle.cp_compile_symbols.specs.Standing.{entry}
+use Rattle.cp_compile_symbols.specs.Representing.{entry}
 use Rattle.cp_inspect.specs.WalkOutputs.{visit_of}
 use Rattle.cp_inspect.proofs.MembersReported.{MembersToReport, drop_first, one_reported}
 use Rattle.cp_inspect.proofs.walk.Walk.members.Goals as goal

@@ -1,7 +1,7 @@
 use Rattle.std.proofs.Common.{◌++◌, [], drop, map}
 use Rattle.cp_model.specs.Types.{GlobalScope, Members}
 use Rattle.cp_model_machine.specs.Reports.{visit_members}
-use Rattle.cp_compile_symbols.specs.Standing.{AreMembers, ScopeRepresents, entry}
+use Rattle.cp_compile_symbols.specs.Representing.{AreMembers, ScopeRepresents, entry}
 use Rattle.cp_inspect.specs.WalkOutputs.{visit_of}
 use Rattle.cp_inspect.proofs.MembersReported.{MembersToReport}
 use Rattle.cp_inspect.proofs.walk.Walk.members.Given as goal

@@ -3,7 +3,7 @@ use Rattle.std.specs.Prelude.{slice_index_or}
 use Rattle.cp_model.specs.Abstract.{Monitor}
 use Rattle.cp_model.specs.Report.{components_of}
 use Rattle.cp_model_machine.specs.Reports.{monitor_lines, monitors_lines}
-use Rattle.cp_compile_symbols.specs.Standing.{entry}
+use Rattle.cp_compile_symbols.specs.Representing.{entry}
 use Rattle.cp_compile_symbols.specs.declared.types.Field.{Field}
 use Rattle.cp_report.specs.Subjects.{machine_in}
 use Rattle.cp_report.proofs.LinesReported.{LinesToReport, one_component}

@@ -3,7 +3,7 @@ use Rattle.cp_model.specs.Abstract.{Monitor}
 use Rattle.cp_model.specs.Report.{components_of}
 use Rattle.cp_model.specs.States.{Setup}
 use Rattle.cp_model_machine.specs.Reports.{monitors_lines}
-use Rattle.cp_compile_symbols.specs.Standing.{entry}
+use Rattle.cp_compile_symbols.specs.Representing.{entry}
 use Rattle.cp_report.specs.Subjects.{IsOf, machine_in}
 use Rattle.cp_report.proofs.LinesReported.{LinesToReport}
 use Rattle.cp_report.proofs.subject.Subject.push_monitors.Given as goal

@@ -3,7 +3,7 @@ use Rattle.std.specs.Prelude.{slice_index_or}
 use Rattle.cp_model.specs.Declarations.{globals}
 use Rattle.cp_model.specs.Report.{component_members}
 use Rattle.cp_model_machine.specs.Reports.{head_of, process_lines, processes_lines}
-use Rattle.cp_compile_symbols.specs.Standing.{entry}
+use Rattle.cp_compile_symbols.specs.Representing.{entry}
 use Rattle.cp_compile_symbols.specs.declared.types.Field.{Field}
 use Rattle.cp_report.specs.Subjects.{machine_in}
 use Rattle.cp_report.proofs.LinesReported.{LinesToReport, one_component}

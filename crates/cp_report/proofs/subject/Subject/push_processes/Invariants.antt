@@ -3,7 +3,7 @@ use Rattle.cp_model.specs.Abstract.{Name}
 use Rattle.cp_model.specs.Declarations.{Variable}
 use Rattle.cp_model.specs.States.{Setup}
 use Rattle.cp_model_machine.specs.Reports.{processes_lines}
-use Rattle.cp_compile_symbols.specs.Standing.{entry}
+use Rattle.cp_compile_symbols.specs.Representing.{entry}
 use Rattle.cp_inspect.specs.Lists.{AreListed}
 use Rattle.cp_report.specs.Subjects.{IsOf, machine_in}
 use Rattle.cp_report.proofs.LinesReported.{LinesToReport}

@@ -1,5 +1,5 @@
 use Rattle.std.proofs.Common.{◌≡◌, ◌≢◌, ◌≤◌, ◌+◌, ◌-◌, suc, ℕ, List, Some, slice_get, ap, sym, subst, ◌∙◌, arith, ⊎_elim}
-use Rattle.cp_private.specs.Resting.{rests}
+use Rattle.cp_private.specs.Resting.{is_idle}
 use Rattle.cp_private.specs.declared.private.Private.{Private}
 use Rattle.cp_rounds_handoff.proofs.Lists.{got_or, got_set}
 use Rattle.cp_model_machine.proofs.AheadTurns.{set_apart, set_length}
@@ -48,7 +48,7 @@ loop-i-preserved g c =
       count = set_length xs i spare ∙ was.count;
       left = λ j y before e is. ⊎_elim
           (λ (h : (j ≡ i) × (spare ≡ y)).
-          let same : spare ≡ x = c.put-place.ensures.left (ap (λ (z : Private). rests wakes z) h.1 ∙ is) in
+          let same : spare ≡ x = c.put-place.ensures.left (ap (λ (z : Private). is_idle wakes z) h.1 ∙ is) in
           ap (λ (k : ℕ). slice_get c.args.privates.now.items k) h.0 ∙ (was.rest i x none here ∙ ap (λ (z : Private). Some z) (sym same ∙ h.1)))
           (λ (h : (j ≢ i) × (slice_get xs j ≡ Some y)). let apart = h.0 in was.left j y (omega (arith, before, apart)) h.1 is)
           (got_set xs i j spare y e);

@@ -19,7 +19,7 @@ invariant_of-self g c =
     let old = task.private in
     let new = c.turn_in_place.new.private in
     let lent = c.private_mut-private.ensures.value in
-    let quiet = g.C.Course.quiet in
+    let without_kernel = g.C.Course.without_kernel in
     let turned = g.C.Course.turned in
     let round_time = g.C.Course.round_time in
     let most = g.C.Course.most in
@@ -33,7 +33,7 @@ invariant_of-self g c =
     let wide = task.wide in
     let silent : task.made ≢ 0 → vec_len old.output ≡ 0 =
     λ some.
-    let none = ap length (quiet_is program (private_of old input) (c.requires.quiet some input)).silent in
+    let none = ap length (quiet_is program (private_of old input) (c.requires.without_kernel some input)).silent in
     let all : vec_len old.output ≡ length old.output.items = search rules in
     all ∙ none in
     record {
@@ -46,9 +46,9 @@ invariant_of-self g c =
           (subst (λ (x : Private). private_of new (input_at c.args.config.now.inputs.items at)
           ≡ plain.take_turn program steps c.args.round_time (private_of x (input_at c.args.config.now.inputs.items at))) lent c.turn_in_place.ensures.turned)
           ∙ (sym (course.steps c.args.round_time (private_of old input)) ∙ ap (λ (w : RoundTime). turned w (private_of old input)) c.requires.time) in
-          subst (λ (o : PrivateState). AreMade quiet turned round_time task.round (task.made + 1) (private_of x input) o) (sym now)
-          (made_more quiet turned round_time task.round task.made (private_of x input) (private_of old input) (task.comes x e)
-          (λ some. course.reports (private_of old input) ∙ c.requires.quiet some input));
+          subst (λ (o : PrivateState). AreMade without_kernel turned round_time task.round (task.made + 1) (private_of x input) o) (sym now)
+          (made_more without_kernel turned round_time task.round task.made (private_of x input) (private_of old input) (task.comes x e)
+          (λ some. course.reports (private_of old input) ∙ c.requires.without_kernel some input));
       short =
           subst (λ (b : Bool). IsShort most xs at b new) (sym (is_some_next task.made))
           (λ x e.

@@ -1,6 +1,6 @@
 use Rattle.std.proofs.Common.{sym, ◌∙◌}
 use Rattle.cp_private.proofs.AtRest.{resting_sleeps, resting_steps}
-use Rattle.cp_private.proofs.private.Private.rests.Goals as goal
+use Rattle.cp_private.proofs.private.Private.is_idle.Goals as goal
 
 pub returns-clause-steps : goal.returns-clause-steps
 returns-clause-steps c = λ is. resting_steps c.args.wakes c.args.self.now (sym c.has_no_step.ensures ∙ is)

@@ -10,7 +10,7 @@ use Rattle.cp_compile_symbols.specs.declared.types.TypeRow.{TypeRow}
 use Rattle.cp_compile_symbols.specs.declared.types.TypeRow.TheVariants as row
 use Rattle.cp_compile_symbols.specs.declared.types.Types.{Types}
 use Rattle.cp_compile_symbols.specs.declared.names.Names.{Names}
-use Rattle.cp_compile_symbols.specs.Standing.{Adds, AreMembers, Grows, Keeps, Makes, MakesArray, MakesIndexed, ScopeRepresents, Represents, TypeMeans, array_row, array_type_over, row_at, simple_of, system_at, type_from}
+use Rattle.cp_compile_symbols.specs.Representing.{Adds, AreMembers, Grows, Keeps, Makes, MakesArray, MakesIndexed, ScopeRepresents, Represents, TypeMeans, array_row, array_type_over, row_at, simple_of, system_at, type_from}
 
 pub grows_not : (types : Types) → Grows types types
 grows_not types = record { rows = λ n r h. h; systems = refl }

@@ -44,7 +44,7 @@ pub record InitRepresents (scope : Scope) (program : Program) (texts : List Unit
   pub distinct : Distinct (declarations scope.globals n.system.parameters)
 
 -- What is known at a site. `systems` and `routines` are those that were defined before.
-pub record Standing (scope : Scope) (program : Program) (texts : List UnitText) (before : List CodeUnit) (systems : List System) (routines : ℕ) : Type 0 where
+pub record Representing (scope : Scope) (program : Program) (texts : List UnitText) (before : List CodeUnit) (systems : List System) (routines : ℕ) : Type 0 where
   pub running : RoutineHere scope scope.routine
   pub by_value : (x : Name) (v : Variable) → lookup x (permanent_variables scope.globals scope.system) ≡ Some v → v.by_reference ≡ false
   pub no_routine : (x : Name) (v : Variable) → lookup x (permanent_variables scope.globals scope.system) ≡ Some v → routine_named x scope.system ≡ None
