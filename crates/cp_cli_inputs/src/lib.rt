@@ -1,9 +1,9 @@
-//! Inputs by name: the input of each process from a reader of its own, joined into one.
+//! Components by name: which names are unknown, the numbers of processes, and the input of each
+//! process from a reader of its own, joined into one.
 //!
-//! - `named`: the processes of a text by name: their numbers, and the joined input of those that
-//!   have one.
+//! - `named`: the processes and monitors of a text by name, in any letter case.
 //!
-//! cp_frontend joins them.
+//! cp_frontend joins the inputs.
 #![tactic(auto)]
 
 pub mod named;
