@@ -31,7 +31,7 @@ pub record AreSame (xs : List Private) (k : Kernel) (ys : List Private) (k' : Ke
   pub numbers : AreNumbered xs → AreNumbered ys
   pub count : length ys ≡ length xs
 
--- Room for so many rounds is reserved, and the private turns of the first one are laid at the
+-- Room for so many rounds is reserved, and the private turns of the first one are published at the
 -- handoff queue, unless the calling thread makes them alone. `start` has the private states at its
 -- start.
 pub record IsOpened (most : ℕ) (wakes alone : Bool) (rounds : ℕ) (xs : List Private) (k : Kernel) (start ys : List Private) (k' : Kernel) : Type 0 where

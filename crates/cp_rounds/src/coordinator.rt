@@ -47,8 +47,8 @@ fn finish_wave<'a, C: Course, R: Wait, G: TurnGate>(
 }
 
 impl<'a, C: Course> Coordinator<'a, C> {
-    /// A hand with room for the tasks of a chunk of this many processes, for rounds that
-    /// begin at a pace.
+    /// A coordinator with room for the tasks of a chunk of this many processes, for rounds that
+    /// begin at a run-ahead size.
     ///
     /// # Errors
     ///

@@ -169,7 +169,7 @@ fn waves_of<'a, C: Course, R: Wait, G: TurnGate>(
     Ok(waves)
 }
 
-// Lays the private turns of a round at the handoff queue, unless the calling thread makes them
+// Publishes the private turns of a round at the handoff queue, unless the calling thread makes them
 // alone.
 fn publish_turns<'a, C: Course, R: Wait, G: TurnGate>(
     rt: &R,

@@ -17,7 +17,7 @@ use std::mem;
 use std::sync::{Mutex, Wait};
 
 // Of which chunks the threads hear, if each has so many processes: of those before a number that
-// has none of these bits, so that some eight processes are laid before they hear of them. Each time
+// has none of these bits, so that some eight processes are published before they hear of them. Each time
 // they do, those that sleep are woken, and whoever counts up a number that others look at waits for
 // them.
 fn unheard(processes: usize) -> usize {
@@ -32,7 +32,7 @@ fn unheard(processes: usize) -> usize {
 /// The tasks of a chunk in order of process.
 pub type Tasks<'a, C> = Vec<Slot<'a, C>>;
 
-/// Room for the tasks of a chunk of this many processes. Behind the last slot stays room
+/// Room for the tasks of a chunk of this many processes. After the last slot there is room
 /// for one more, so that no cache line holds words of two chunks, whose turns may be made at the
 /// same time.
 ///
@@ -56,7 +56,7 @@ pub(crate) enum Content {
     /// Room for the tasks of a later round.
     Room,
     /// Tasks whose turns are still to be made.
-    Laid,
+    Published,
     /// Tasks whose turns are made.
     Made,
 }
@@ -72,7 +72,7 @@ pub(crate) struct Batch<'a, C: Course> {
 #[derive(Drop)]
 pub struct HandoffQueue<'a, C: Course> {
     batches: Vec<CachePadded<Mutex<Batch<'a, C>>>>,
-    // How many chunks of the round have been laid.
+    // How many chunks of the round have been published.
     published: CachePadded<EventCount>,
     unheard: usize,
 }
@@ -103,7 +103,7 @@ impl<'a, C: Course> HandoffQueue<'a, C> {
         })
     }
 
-    // Lays the tasks of a chunk, and takes the room that was there for them.
+    // Publishes the tasks of a chunk, and takes the room that was there for them.
     fn publish<R: Wait>(&self, rt: &R, chunk: usize, tasks: &mut Tasks<'a, C>) {
         let Some(batch) = self.batches.get(chunk) else {
             return;
@@ -111,11 +111,11 @@ impl<'a, C: Course> HandoffQueue<'a, C> {
         let mut batch = batch.lock(rt);
         if batch.content == Content::Room {
             mem::swap(&mut batch.tasks, tasks);
-            batch.content = Content::Laid;
+            batch.content = Content::Published;
         }
     }
 
-    // Lays the tasks of the last chunk, if there are any, and lets the threads hear of all chunks.
+    // Publishes the tasks of the last chunk, if there are any, and lets the threads hear of all chunks.
     fn publish_last<R: Wait>(&self, rt: &R, place: Cursor, tasks: &mut Tasks<'a, C>) {
         let mut published = place.chunk;
         if place.slot > 0 {
@@ -125,7 +125,7 @@ impl<'a, C: Course> HandoffQueue<'a, C> {
         self.published.advance_to(published as u64);
     }
 
-    // Puts the turn of a process into its slot, and lays the tasks of its chunk if it is the last
+    // Puts the turn of a process into its slot, and publishes the tasks of its chunk if it is the last
     // of them. Returns the place of the next task.
     #[inline(always)]
     fn put<R: Wait>(
@@ -158,7 +158,7 @@ impl<'a, C: Course> HandoffQueue<'a, C> {
         next
     }
 
-    /// Lays the turns of a round in order of process: those of all processes, or else of those that
+    /// Publishes the turns of a round in order of process: those of all processes, or else of those that
     /// don't rest. The others stay where they are. `tasks` is room for those of a chunk.
     pub fn put_all<R: Wait>(
         &self,
@@ -183,12 +183,12 @@ impl<'a, C: Course> HandoffQueue<'a, C> {
         self.publish_last(rt, place, tasks);
     }
 
-    /// Begins a round, of which nothing is laid.
+    /// Begins a round, of which nothing is published.
     pub fn clear(&self) {
         self.published.reset();
     }
 
-    // Waits until a chunk is laid.
+    // Waits until a chunk is published.
     fn wait_for<R: Wait>(&self, rt: &R, chunk: usize) {
         for _ in rt.forever() {
             let published = self.published.count();
@@ -200,7 +200,7 @@ impl<'a, C: Course> HandoffQueue<'a, C> {
         unreachable!()
     }
 
-    /// The batch of a chunk, once its tasks are laid.
+    /// The batch of a chunk, once its tasks are published.
     pub(crate) fn published_batch<R: Wait>(
         &self,
         rt: &R,

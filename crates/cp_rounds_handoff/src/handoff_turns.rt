@@ -43,7 +43,7 @@ impl<'a, C: Course, G: TurnGate> Work for HandoffTurns<'a, C, G> {
             return;
         };
         let mut batch = batch.lock(rt);
-        if batch.content != Content::Laid {
+        if batch.content != Content::Published {
             return;
         }
         for slot in batch.tasks.iter_mut() {

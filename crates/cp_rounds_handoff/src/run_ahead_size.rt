@@ -40,7 +40,7 @@ pub struct RunAheadSize {
 }
 
 impl RunAheadSize {
-    /// The pace of the first round of a program.
+    /// The run-ahead size of the first round of a program.
     pub fn first(program: &Program, turn: Turn) -> RunAheadSize {
         let worth = STEPS_AT_ONCE / u64::from(turn.steps());
         let room = MAX_BYTES_AHEAD / bytes_a_round(program, turn).max(1);
@@ -66,7 +66,7 @@ impl RunAheadSize {
         self.rounds.min(self.most)
     }
 
-    /// Learns of rounds that were made at once: whether all processes did only compute.
+    /// Adapts to rounds that were made at once: whether all processes did only compute.
     pub fn adapt(&mut self, all_computed: bool) {
         if all_computed {
             self.rounds = self.rounds.saturating_mul(2).min(self.most);

@@ -33,7 +33,7 @@ impl<'a, C: Course> Slot<'a, C> {
         })
     }
 
-    /// Lays the turn of a process in a round, which is still to be made, and leaves the spare
+    /// Publishes the turn of a process in a round, which is still to be made, and leaves the spare
     /// private state in the place of its own, where it doesn't rest.
     #[inline(always)]
     pub fn publish(&mut self, round: &OpenRound<'a, C>, process: usize, private: &mut PrivateBox)

@@ -1,8 +1,8 @@
 //! Rounds until nothing can move any more.
 //!
-//! A machine that is still stays still, so the first still state is found by rounds in stretches:
+//! A machine that is still stays still, so the first still state is found by rounds in gallops:
 //! each is twice as long as the last one, until one leads past that state. It is taken back, and
-//! from then on each stretch is half as long as the last one.
+//! from then on each gallop is half as long as the last one.
 
 ghost use Rattle.std.specs.Prelude.{◌≡◌, ◌<◌, ◌≤◌, ◌+◌, ◌-◌, ◌^◌, IfErr, IfOk, true};
 ghost use Rattle.cp_rounds.specs.InStates.{MakesRounds};
@@ -18,7 +18,7 @@ use cp_rounds::machine::{Machine, MemoryAt};
 use std::sync::Wait;
 use std::thread::Threads;
 
-// The longest stretch. The copy that is kept of the machine's parts costs little beside so many
+// The longest gallop. The copy that is kept of the machine's parts costs little beside so many
 // rounds.
 const MAX_GALLOP_ROUNDS: u32 = 65_536;
 
@@ -26,7 +26,7 @@ const MAX_GALLOP_ROUNDS: u32 = 65_536;
 #[derive(Clone, Copy)]
 struct Gallop {
     rounds: u32,
-    /// Whether a stretch led past the first still state.
+    /// Whether a gallop led past the first still state.
     past: bool,
     ghost some: { 0 < rounds },
     ghost most: { rounds ≤ 65536 },
@@ -42,7 +42,7 @@ impl Gallop {
         }
     }
 
-    // The stretch after one that made its rounds.
+    // The gallop after one that made its rounds.
     fn next(self) -> Gallop
         ensures past { result.past ≡ self.past }
         ensures less { self.past ≡ true → result.rounds ≤ self.rounds }
@@ -58,7 +58,7 @@ impl Gallop {
         }
     }
 
-    // The stretch after one of `tried` rounds, which led past the first still state.
+    // The gallop after one of `tried` rounds, which led past the first still state.
     fn half(tried: u32) -> Gallop
         requires several { 1 < tried }
         ensures past { result.past ≡ true }

@@ -1,6 +1,6 @@
 //! A seat on its way between threads.
 //!
-//! All that is known of a value taken out of a lock is its type. So the type of a shift says whose
+//! All that is known of a value taken out of a lock is its type. So the type of a lease says whose
 //! seat it has: a seat of the board that the sheet of its wave shows. The sheet of a wave is
 //! written once, and whoever begins the waves chooses the names of all sheets.
 
@@ -42,7 +42,7 @@ pub struct SeatLease<'a, C: Sheets> {
 }
 
 impl<'a, C: Sheets> SeatLease<'a, C> {
-    /// The shift of a seat in a wave.
+    /// The lease of a seat in a wave.
     pub(crate) fn new(
         sheet: &OnceToken<'a, Sheet>,
         wave: usize,

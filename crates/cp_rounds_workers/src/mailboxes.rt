@@ -1,4 +1,4 @@
-//! The places of the shifts, and the loop of a thread.
+//! The places of the leases, and the loop of a thread.
 
 ghost use Rattle.std.specs.Prelude.{◌≡◌, ◌<◌, IfOk, length};
 
@@ -8,28 +8,28 @@ use crate::work::Work;
 use std::alloc::{AllocError, Global};
 use std::sync::{Mutex, Wait};
 
-// The place of one thread. A shift in it either waits for the thread or has come back. The next
-// wave may begin while shifts of the one before are still out, so there is room for two.
+// The place of one thread. A lease in it either waits for the thread or has come back. The next
+// wave may begin while leases of the one before are still out, so there is room for two.
 #[derive(Drop)]
 struct Place<'a, C: Sheets> {
     even: Mutex<Option<SeatLease<'a, C>>>,
     odd: Mutex<Option<SeatLease<'a, C>>>,
-    // A shift has been laid here.
+    // A lease has been published here.
     published: EventCount,
 }
 
 impl<'a, C: Sheets> Place<'a, C> {
-    // Returns where the shift of a wave is.
+    // Returns where the lease of a wave is.
     fn of(&self, wave: usize) -> &Mutex<Option<SeatLease<'a, C>>> {
         if wave % 2 == 0 { &self.even } else { &self.odd }
     }
 }
 
-/// A place for the shift of each thread but the calling one.
+/// A place for the lease of each thread but the calling one.
 #[derive(Drop)]
 pub struct Mailboxes<'a, C: Sheets> {
     places: Vec<Place<'a, C>>,
-    // A shift has come back.
+    // A lease has come back.
     back: EventCount,
 }
 
@@ -70,12 +70,12 @@ impl<'a, C: Sheets> Mailboxes<'a, C> {
         self.places.len()
     }
 
-    /// The signal that a shift has come back.
+    /// The signal that a lease has come back.
     pub fn back(&self) -> &EventCount {
         &self.back
     }
 
-    /// Lays a shift in a place, and wakes its thread. If there is no such place, the shift is lost.
+    /// Publishes a lease in a place, and wakes its thread. If there is no such place, the lease is lost.
     pub(crate) fn publish<R: Wait>(&self, rt: &R, place: usize, lease: SeatLease<'a, C>) {
         let Some(place) = self.places.get(place) else {
             return;
@@ -93,7 +93,7 @@ impl<'a, C: Sheets> Mailboxes<'a, C> {
         }
     }
 
-    /// The next shift of a wave that is in its place, whether it has come back or was
+    /// The next lease of a wave that is in its place, whether it has come back or was
     /// never taken. Waits until there is one.
     pub(crate) fn take_back<R: Wait>(
         &self,
@@ -115,7 +115,7 @@ impl<'a, C: Sheets> Mailboxes<'a, C> {
         unreachable!()
     }
 
-    /// Works on each shift that is laid in a place, until one of them sees a stop.
+    /// Works on each lease that is published in a place, until one of them sees a stop.
     pub fn serve<R: Wait, W: Work>(&self, rt: &R, place: usize, work: &W)
         requires can { W.can work.now }
     {
@@ -132,7 +132,7 @@ impl<'a, C: Sheets> Mailboxes<'a, C> {
         }
     }
 
-    // Works on the shift in a place, if there is one that waits, and puts it back. Returns false if
+    // Works on the lease in a place, if there is one that waits, and puts it back. Returns false if
     // it sees a stop.
     fn work_at<R: Wait, W: Work>(
         &self,

@@ -14,7 +14,7 @@ use std::marker::PhantomData;
 use std::snapshot::Snapshot;
 use std::sync::{Arc, OnceLock, OnceToken, Wait};
 
-/// The board of a wave with the calling thread's seat, and a shift for each helper. Making it takes
+/// The board of a wave with the calling thread's seat, and a lease for each helper. Making it takes
 /// memory, and nothing that is done with it afterwards does.
 #[derive(Drop)]
 pub struct Wave<'a, C: Sheets> {
@@ -110,7 +110,7 @@ fn owned<R: Wait>(rt: &R, board: Arc<Board, Global>) -> Board
     unreachable!()
 }
 
-// Lays shifts in the first places.
+// Publishes leases in the first places.
 fn publish_all<'a, C: Sheets, R: Wait>(
     rt: &R,
     mailboxes: &Mailboxes<'a, C>,
@@ -162,7 +162,7 @@ impl<'a, C: Sheets> Wave<'a, C> {
         })
     }
 
-    /// Lays the shifts in the first places of the mailboxes, and wakes their threads.
+    /// Publishes the leases in the first places of the mailboxes, and wakes their threads.
     pub fn begin<R: Wait>(&mut self, rt: &R, mailboxes: &Mailboxes<'a, C>)
         ensures number { self.new.number ≡ self.old.number }
         ensures chunks { self.new.chunks ≡ self.old.chunks }
@@ -184,11 +184,11 @@ impl<'a, C: Sheets> Wave<'a, C> {
     }
 
     /// Draws chunks and works on them until none is left, begins the next wave, and takes back all
-    /// shifts of this one. The board that it returns can be closed with the seat, which then says
+    /// leases of this one. The board that it returns can be closed with the seat, which then says
     /// that each chunk was drawn, and drawn once.
     ///
-    /// The next wave begins before this one's shifts are back, so that no thread waits for another.
-    /// The places hold the shifts of two consecutive waves.
+    /// The next wave begins before this one's leases are back, so that no thread waits for another.
+    /// The places hold the leases of two consecutive waves.
     pub fn finish<R: Wait, W: Work>(
         self,
         rt: &R,
@@ -218,7 +218,7 @@ impl<'a, C: Sheets> Wave<'a, C> {
         (owned(rt, board), seat)
     }
 
-    /// Calls the stop, and lays the shifts, so that each thread that takes one sees the stop and
+    /// Calls the stop, and publishes the leases, so that each thread that takes one sees the stop and
     /// ends.
     pub fn stop<R: Wait>(self, rt: &R, mailboxes: &Mailboxes<'a, C>) {
         let Wave {

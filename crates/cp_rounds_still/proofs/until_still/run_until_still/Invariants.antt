@@ -11,7 +11,7 @@ invariant-rounds g l = record {
   first : NoneStillBefore l.plan.turn.steps l.done l.fn.machine;
 }
 
--- A stretch makes rounds, or leads past the first still state for the first time, or is shorter than
+-- A gallop makes rounds, or leads past the first still state for the first time, or is shorter than
 -- the last one.
 abbrev pub decreases-rounds : goal.decreases-rounds
 decreases-rounds g l = l.limit - l.done + (if l.gallop.past then l.gallop.rounds else 65537)
