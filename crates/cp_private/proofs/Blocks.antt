@@ -1,7 +1,7 @@
 -- Words written one by one, and blocks of words.
 use Rattle.std.proofs.Common.{◌≡◌, true, false, inl, inr, ℕ, zero, suc, ◌+◌, ◌-◌, ◌≤◌, ◌<◌, ◌^◌, ℤ, pos, List, [], ◌∷◌, ◌++◌, length, slice_set, refl, to_z, of_z, ap, sym, ◌∙◌, arith}
 use Rattle.std.specs.Prelude.{◌⊎◌, min, nat_le as leb, FitsSigned}
-use Rattle.std.proofs.lemmas.Bool.Decides.{leb_reports}
+use Rattle.std.proofs.lemmas.Bool.Decides.{leb_tells}
 use Rattle.std.specs.Int.{w32}
 use Rattle.std.proofs.lemmas.Int.{to_z-of_z}
 use Rattle.std.proofs.lemmas.List.{get_or-set_other, get_or_past, length-append, length-set, set-append_left, set-append_right, set_comm, set_past}
@@ -25,7 +25,7 @@ set_neither own shared at n h k = sym (set_past (own ++ shared) at n (omega (ari
 
 -- An address that is capped to the largest number is not the address of a word.
 pub set_capped : (ws : List ℤ) (place at : ℕ) (n : ℤ) → length ws < 2 ^ 32 → cap_place place ≡ at → slice_set ws at n ≡ slice_set ws place n
-set_capped ws place at n small is = by (leb_reports (2 ^ 32) place)
+set_capped ws place at n small is = by (leb_tells (2 ^ 32) place)
   where
     by : ((leb (2 ^ 32) place ≡ true) × (2 ^ 32 ≤ place)) ⊎ ((leb (2 ^ 32) place ≡ false) × (place < 2 ^ 32)) → slice_set ws at n ≡ slice_set ws place n
     by (inl h) =
@@ -51,7 +51,7 @@ fill_beyond (suc k) at n ws h = ap (fill (suc at) k n) (set_past ws at n h) ∙ 
 
 -- What is left of a fill is empty, or is beyond all words.
 pub fill_ends : (ws : List ℤ) (at i count : ℕ) (n : ℤ) → (i < min count (length ws - at) → ⊥) → fill (at + i) (count - i) n ws ≡ ws
-fill_ends ws at i count n h = by (leb_reports count i)
+fill_ends ws at i count n h = by (leb_tells count i)
   where
     by : ((leb count i ≡ true) × (count ≤ i)) ⊎ ((leb count i ≡ false) × (i < count)) → fill (at + i) (count - i) n ws ≡ ws
     by (inl e) =
@@ -155,7 +155,7 @@ clip (suc n) (suc m) to from ws us h k =
 -- Only words that exist are copied.
 pub copied_there : (ws : List ℤ) (to from count there : ℕ) → there ≡ min count (length ws - to)
     → paste to (block ws from there) ws ≡ paste to (block ws from count) ws
-copied_there ws to from count there is = by (leb_reports count there)
+copied_there ws to from count there is = by (leb_tells count there)
   where
     by : ((leb count there ≡ true) × (count ≤ there)) ⊎ ((leb count there ≡ false) × (there < count))
         → paste to (block ws from there) ws ≡ paste to (block ws from count) ws
@@ -181,7 +181,7 @@ brought_more source ws to from i count h =
 
 pub brought_all : (source ws : List ℤ) (to from i count : ℕ) → (i < min count (length ws - to) → ⊥)
     → paste (to + i) (block source (from + i) (count - i)) ws ≡ ws
-brought_all source ws to from i count h = by (leb_reports count i)
+brought_all source ws to from i count h = by (leb_tells count i)
   where
     by : ((leb count i ≡ true) × (count ≤ i)) ⊎ ((leb count i ≡ false) × (i < count)) → paste (to + i) (block source (from + i) (count - i)) ws ≡ ws
     by (inl e) =
@@ -196,7 +196,7 @@ brought_all source ws to from i count h = by (leb_reports count i)
 pub copied_capped : (ws : List ℤ) (to from i j count : ℕ) → length ws < 2 ^ 32 → cap_place i ≡ to → cap_place j ≡ from
     → paste to (block ws from count) ws ≡ paste i (block ws j count) ws
 copied_capped ws to from i j count small toward away =
-    ap (λ ns. paste to ns ws) (blocks (leb_reports (2 ^ 32) j)) ∙ pastes (leb_reports (2 ^ 32) i)
+    ap (λ ns. paste to ns ws) (blocks (leb_tells (2 ^ 32) j)) ∙ pastes (leb_tells (2 ^ 32) i)
   where
     nothing : (count a b : ℕ) → length ws ≤ a → length ws ≤ b → block ws a count ≡ block ws b count
     nothing zero a b h k = refl

@@ -80,7 +80,7 @@ arguments-loop-number-preserved t c =
     let next = more_step env j ws (i + 1) (i + 1 + 1) e (expressions_of (map expression (drop (i + 1) rest))) refl in
     let k = parts.argument_for env (slice_get ws (i + 1)) e in (
       both j k x.first_type,
-      rw c.and-t.ensures (first_reported c.args.diagnostics.now c.loop-number.diagnostics c.argument-u.new.diagnostics c.loop-number.found c.argument-u.result j k so_far.1
+      rw c.and-t.ensures (first_reported c.args.diagnostics.now c.loop-number.diagnostics c.argument-u.new.diagnostics c.loop-number.t c.argument-u.result j k so_far.1
           (rw c.want-in-loop-number.ensures at c.argument-u.ensures)),
       sym (step ∙ next) ∙ so_far.2,
     )

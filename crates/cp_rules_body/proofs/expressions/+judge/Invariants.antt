@@ -15,7 +15,7 @@ use Rattle.cp_rules_body.proofs.expressions.+judge.Given as goal
 abbrev pub invariant-arguments-loop-number : goal.invariant-arguments-loop-number
 invariant-arguments-loop-number l =
     let env = l.env in
-    (j : Judged ℕ) × Reports l.fn.diagnostics l.diagnostics l.found j
+    (j : Judged ℕ) × Reports l.fn.diagnostics l.diagnostics l.t j
     × (x.more_arguments env j (drop (l.number + 1) (wants_of env l.wants)) (expressions_of (map expression (drop l.number l.rest)))
     ≡ x.arguments env (wants_of env l.fn.wants) (expressions_of (map expression l.fn.list)))
 

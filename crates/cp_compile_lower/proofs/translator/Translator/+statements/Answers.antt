@@ -170,7 +170,7 @@ pub statement-returns-in-Cycle : goal.statement-returns-in-Cycle
 statement-returns-in-Cycle t c =
     let old = c.args.emitter.now in
     let l = tree.statements_of (map tree.statement c.in-Cycle.list.value.items) in
-    let v : tree.statement c.args.s.now ≡ syntax.Cycle l = rw c.in-Cycle.is (view_cycle c.in-Cycle.list) in
+    let v : tree.statement c.args.statement.now ≡ syntax.Cycle l = rw c.in-Cycle.is (view_cycle c.in-Cycle.list) in
     if_ok c.cycle.result
     (λ place h s scope.
     subst (λ x. Enters old c.cycle.new.emitter place (emitted s (erase.statement x) c.args.low (place_of old) c.args.next)) (sym v)
@@ -198,7 +198,7 @@ statement-returns-in-Case t c =
     let old = c.args.emitter.now in
     let all = tree.arms_of (map tree.arm c.in-Case.arms.value.items) in
     let e = tree.expression c.in-Case.selector.value in
-    let v : tree.statement c.args.s.now ≡ syntax.Case e all = rw c.in-Case.is (view_case c.in-Case.selector c.in-Case.arms) in
+    let v : tree.statement c.args.statement.now ≡ syntax.Case e all = rw c.in-Case.is (view_case c.in-Case.selector c.in-Case.arms) in
     if_ok c.case.result
     (λ place h s scope.
     subst (λ x. Enters old c.case.new.emitter place (emitted s (erase.statement x) c.args.low (place_of old) c.args.next)) (sym v)
@@ -211,7 +211,7 @@ statement-returns-in_ok-yes-in-IfElse t c =
     let e = tree.expression c.in-IfElse.condition.value in
     let x = tree.statement c.in-IfElse.branches.value.0 in
     let y = tree.statement c.in-IfElse.branches.value.1 in
-    let v : tree.statement c.args.s.now ≡ syntax.IfElse e x y =
+    let v : tree.statement c.args.statement.now ≡ syntax.IfElse e x y =
     rw c.in-IfElse.is (view_if_else c.in-IfElse.condition c.in-IfElse.branches) in
     if_ok c.test-in-IfElse.result
     (λ place h s scope.
@@ -229,7 +229,7 @@ statement-returns-in_ok-yes-in-If t c =
     let old = c.args.emitter.now in
     let e = tree.expression c.in-If.condition.value in
     let x = tree.statement c.in-If.then.value in
-    let v : tree.statement c.args.s.now ≡ syntax.If e x = rw c.in-If.is (view_if c.in-If.condition c.in-If.then) in
+    let v : tree.statement c.args.statement.now ≡ syntax.If e x = rw c.in-If.is (view_if c.in-If.condition c.in-If.then) in
     if_ok c.test.result
     (λ place h s scope.
     let d = erase.expression e in

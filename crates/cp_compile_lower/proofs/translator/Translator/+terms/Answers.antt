@@ -95,10 +95,10 @@ select-returns-in-Field t c =
 
 pub place_expression-loop-selector-init : goal.place_expression-loop-selector-init
 place_expression-loop-selector-init t c = λ s scope. (
-  a.Plain c.args.d.now.root.name,
+  a.Plain c.args.designator.now.root.name,
   rw c.as_bytes.ensures at (c.in_ok-made.ensures s c.args.calls.now.items scope),
-  ap (λ ys. erase.with_selectors (a.Plain c.args.d.now.root.name) (tree.selectors_of (map tree.selector ys))) c.deref-selector-items.ensures.value
-      ∙ sym (ap erase.designator (view_designator c.args.d.now)),
+  ap (λ ys. erase.with_selectors (a.Plain c.args.designator.now.root.name) (tree.selectors_of (map tree.selector ys))) c.deref-selector-items.ensures.value
+      ∙ sym (ap erase.designator (view_designator c.args.designator.now)),
 )
 
 pub place_expression-loop-selector-preserved : goal.place_expression-loop-selector-preserved
@@ -120,7 +120,7 @@ pub place_expression-returns : goal.place_expression-returns
 place_expression-returns t c = λ s scope.
     let so_far = c.loop-selector.invariant s scope in
     let all = c.deref-selector-items.result.now in
-    let end : so_far.0 ≡ erase.designator (tree.designator c.args.d.now) =
+    let end : so_far.0 ≡ erase.designator (tree.designator c.args.designator.now) =
     sym (ap (λ os. erase.with_selectors so_far.0 (tree.selectors_of (map tree.selector os))) (drop_all c.loop-selector.selector-index all c.loop-selector-test.false))
     ∙ so_far.2 in
     subst (λ x. IsPlace c.args.self.now.scope s c.args.low (map coded_call c.args.calls.now.items) c.loop-selector.calls.items x c.loop-selector.made) end
@@ -128,7 +128,7 @@ place_expression-returns t c = λ s scope.
 
 pub place_term-returns-then-not-is_part : goal.place_term-returns-then-not-is_part
 place_term-returns-then-not-is_part t c = λ s scope.
-    let d = c.args.d.now in
+    let d = c.args.designator.now in
     let calls = c.args.calls.now.items in
     let named = is_name d (sym c.is_part.ensures ∙ c.if-not-is_part.true) in
     let made : MadeTerm = record { term = c.in_ok-term.term; temps = c.args.low } in
@@ -137,7 +137,7 @@ place_term-returns-then-not-is_part t c = λ s scope.
 
 pub place_term-returns : goal.place_term-returns
 place_term-returns t c =
-    let x = erase.designator (tree.designator c.args.d.now) in
+    let x = erase.designator (tree.designator c.args.designator.now) in
     let before = map coded_call c.args.calls.now.items in
     let after = c.place_expression.new.calls.items in
     let low = c.args.low in
@@ -163,7 +163,7 @@ pub term-returns-in-Number : goal.term-returns-in-Number
 term-returns-in-Number t c = λ s scope.
     let calls = c.args.calls.now.items in
     let n : narrow c.from.result ≡ pos c.in-Number.value = to_z-of_z w32 c.from.result (record { sfits = c.from.type_inv }) ∙ c.from.ensures in
-    seen_as (map coded_call calls) calls c.number.result s c.args.low (tree.expression c.args.e.now) (syntax.Number c.in-Number.at c.in-Number.value)
+    seen_as (map coded_call calls) calls c.number.result s c.args.low (tree.expression c.args.expression.now) (syntax.Number c.in-Number.at c.in-Number.value)
     (rw c.in-Number.is (view_number c.in-Number.at c.in-Number.value))
     (subst (λ m. IsTerm (map coded_call calls) calls c.number.result (lone_term (Number m) c.args.low)) n (c.number.ensures calls))
 
@@ -172,7 +172,7 @@ term-returns-in-Character t c = λ s scope.
     let calls = c.args.calls.now.items in
     let n : narrow c.from-in-Character.result ≡ pos c.in-Character.ordinal =
     to_z-of_z w32 c.from-in-Character.result (record { sfits = c.from-in-Character.type_inv }) ∙ c.from-in-Character.ensures in
-    seen_as (map coded_call calls) calls c.number-in-Character.result s c.args.low (tree.expression c.args.e.now)
+    seen_as (map coded_call calls) calls c.number-in-Character.result s c.args.low (tree.expression c.args.expression.now)
     (syntax.Character c.in-Character.at c.in-Character.ordinal) (rw c.in-Character.is (view_character c.in-Character.at c.in-Character.ordinal))
     (subst (λ m. IsTerm (map coded_call calls) calls c.number-in-Character.result (lone_term (Number m) c.args.low)) n (c.number-in-Character.ensures calls))
 
@@ -181,7 +181,7 @@ term-returns-in_ok-made-in-Not t c =
     let before = map coded_call c.args.calls.now.items in
     let after = c.term-in-Not.new.calls.items in
     let e = tree.expression c.in-Not.operand.value in
-    let v : tree.expression c.args.e.now ≡ syntax.Not c.in-Not.at e = rw c.in-Not.is (view_not c.in-Not.at c.in-Not.operand) in
+    let v : tree.expression c.args.expression.now ≡ syntax.Not c.in-Not.at e = rw c.in-Not.is (view_not c.in-Not.at c.in-Not.operand) in
     if_ok c.not.result (λ made h s scope.
     seen_as before after made s _ _ _ v (h before after _ (rw c.deref-in-Not.ensures at (c.in_ok-made-in-Not.ensures s scope)))) c.not.ensures
 
@@ -190,7 +190,7 @@ term-returns-in_ok-made-in-Signed t c =
     let before = map coded_call c.args.calls.now.items in
     let after = c.term-in-Signed.new.calls.items in
     let e = tree.expression c.in-Signed.operand.value in
-    let v : tree.expression c.args.e.now ≡ syntax.Signed c.in-Signed.sign c.in-Signed.at e = rw c.in-Signed.is (view_signed _ c.in-Signed.at c.in-Signed.operand) in
+    let v : tree.expression c.args.expression.now ≡ syntax.Signed c.in-Signed.sign c.in-Signed.at e = rw c.in-Signed.is (view_signed _ c.in-Signed.at c.in-Signed.operand) in
     if_ok c.with_sign.result (λ made h s scope.
     seen_as before after made s _ _ _ v (h before after s _ c.args.low (rw c.deref-in-Signed.ensures at (c.in_ok-made-in-Signed.ensures s scope)))) c.with_sign.ensures
 
@@ -198,7 +198,7 @@ pub term-returns-in_ok-made-in-Chain : goal.term-returns-in_ok-made-in-Chain
 term-returns-in_ok-made-in-Chain t c =
     let before = map coded_call c.args.calls.now.items in
     let e = tree.expression c.in-Chain.first.value in
-    let v : tree.expression c.args.e.now ≡ syntax.chain_of e (map tree.operation c.in-Chain.rest.items) = rw c.in-Chain.is (view_chain c.in-Chain.first c.in-Chain.rest) in
+    let v : tree.expression c.args.expression.now ≡ syntax.chain_of e (map tree.operation c.in-Chain.rest.items) = rw c.in-Chain.is (view_chain c.in-Chain.first c.in-Chain.rest) in
     if_ok c.chain.result (λ made h s scope.
     seen_as before _ made s _ _ _ v
     ((rw c.deref-in-Chain-2.ensures.value at h) s c.args.low before e scope (rw c.deref-in-Chain.ensures at (c.in_ok-made-in-Chain.ensures s scope))))
@@ -276,7 +276,7 @@ standard_call-returns-then-is_empty_test t c =
     let before = map coded_call c.args.calls.now.items in
     let after = c.argument_place_expression.new.calls.items in
     let low = c.args.low in
-    let e = erase.expression (tree.expression c.args.e.now) in
+    let e = erase.expression (tree.expression c.args.expression.now) in
     if_ok c.empty.result
     (λ made h s es scope.
     let b = base_of_type (expression_type (environment s) e) in
@@ -288,7 +288,7 @@ standard_call-returns-then-is_empty_test t c =
 pub use_term-returns-in-Some : goal.use_term-returns-in-Some
 use_term-returns-in-Some t c =
     let calls = c.args.calls.now.items in
-    let d = erase.designator (tree.designator c.args.d.now) in
+    let d = erase.designator (tree.designator c.args.designator.now) in
     let after = c.function_call.new.calls.items in
     let low = c.args.low in
     if_ok c.function_call.result
@@ -303,7 +303,7 @@ pub argument-returns-in_ok-made-in-Some : goal.argument-returns-in_ok-made-in-So
 argument-returns-in_ok-made-in-Some t c = λ s v scope reference represents.
     let before = map coded_call c.args.calls.now.items in
     let after = c.term.new.calls.items in
-    let e = erase.expression (tree.expression c.args.e.now) in
+    let e = erase.expression (tree.expression c.args.expression.now) in
     let simple = (rw (c.tables.ensures, c.in-Some.is) at c.simple.ensures) v.type represents in
     valued before after c.simple_value.result s.globals v c.args.at (coded_term s e c.args.low) (coded_variable s e c.args.low) (simple_of c.in-Some.simple)
     (sym reference ∙ c.if-parameter.false) simple
@@ -313,7 +313,7 @@ pub argument-returns-in_ok-made-in-None : goal.argument-returns-in_ok-made-in-No
 argument-returns-in_ok-made-in-None t c =
     let before = map coded_call c.args.calls.now.items in
     let after = c.argument_place_expression-in-None.new.calls.items in
-    let e = erase.expression (tree.expression c.args.e.now) in
+    let e = erase.expression (tree.expression c.args.expression.now) in
     if_ok c.copy_argument.result
     (λ made h s v scope reference represents.
     let other = (rw (c.tables.ensures, c.in-None.is) at c.simple.ensures) v.type represents in
@@ -329,12 +329,12 @@ term-returns-in-Some t c =
     let low = c.args.low in
     let d = tree.designator c.in-Call.d.value in
     let es = tree.expressions_of (map tree.expression c.in-Call.es.items) in
-    let v : tree.expression c.args.e.now ≡ syntax.Call d es = rw c.in-Call.is (view_call c.in-Call.d c.in-Call.es) in
+    let v : tree.expression c.args.expression.now ≡ syntax.Call d es = rw c.in-Call.is (view_call c.in-Call.d c.in-Call.es) in
     if_ok c.user_call.result
     (λ made h s scope.
     let found = called_by c.args.self.now.scope s c.in-Some.callee (callee (environment s) (erase.designator d))
     (rw (c.in-Some.is, c.deref-in-len1-up.ensures) at (c.callee.ensures s scope)) in
-    seen_as before after made s low (tree.expression c.args.e.now) (syntax.Call d es) v
+    seen_as before after made s low (tree.expression c.args.expression.now) (syntax.Call d es) v
     (subst (IsTerm before after made) (sym (called_as s (erase.designator d) (erase.expressions es) low found.callee found.is))
     ((rw c.deref-in-Some.ensures.value at h) s found.callee scope found.represents)))
     c.user_call.ensures
@@ -347,7 +347,7 @@ term-returns-in-None t c =
     let d = tree.designator c.in-Call.d.value in
     let x = erase.designator d in
     let es = tree.expressions_of (map tree.expression c.in-Call.es.items) in
-    let v : tree.expression c.args.e.now ≡ syntax.Call d es = rw c.in-Call.is (view_call c.in-Call.d c.in-Call.es) in
+    let v : tree.expression c.args.expression.now ≡ syntax.Call d es = rw c.in-Call.is (view_call c.in-Call.d c.in-Call.es) in
     let o = c.first-item.result in
     let e = erase.expression (tree.expression o) in
     let ss = c.as_slice.result.now in
@@ -356,7 +356,7 @@ term-returns-in-None t c =
     if_ok c.standard_call.result
     (λ made h s scope.
     let none = none_called c.args.self.now.scope s (callee (environment s) x) (rw (c.in-None.is, c.deref-in-len1-up.ensures) at (c.callee.ensures s scope)) in
-    seen_as before after made s low (tree.expression c.args.e.now) (syntax.Call d es) v
+    seen_as before after made s low (tree.expression c.args.expression.now) (syntax.Call d es) v
     (subst (λ xs. IsTerm before after made (coded_term s (erase.call_or_name x (erase.expressions (tree.expressions_of (map tree.expression xs)))) low)) (sym split)
     (subst (IsTerm before after made) (sym (standard_as s x e rest low none))
     (subst (λ n. IsTerm before after made (coded_standard s n (a.MoreExpressions e rest) low)) (rw c.deref-in-None.ensures at c.lone_name.ensures) (h s rest scope)))))

@@ -30,7 +30,7 @@ invariant-place_expression-loop-selector l =
     (s : code.Scope) → IsScope l.self.scope s
     → (d : a.Designator) × IsPlace l.self.scope s l.fn.low (map coded_call l.fn.calls.items) l.calls.items d l.made
     × (erase.with_selectors d (tree.selectors_of (map tree.selector (drop l.selector-index l.selector-items)))
-    ≡ erase.designator (tree.designator l.fn.d))
+    ≡ erase.designator (tree.designator l.fn.designator))
 
 -- The spot so far is that of the indices so far.
 abbrev pub invariant-select_elements-loop-i : goal.invariant-select_elements-loop-i

@@ -14,7 +14,7 @@ pub returns : goal.returns
 returns c =
     both_ok c.emit.result
     (λ place at emits s scope.
-    let e = erase.expression (tree.expression c.args.e.now) in
+    let e = erase.expression (tree.expression c.args.expression.now) in
     let t = expression_type (environment s) e in
     let d = coded_variable s e c.args.low in
     let passed = c.in_ok-to.ensures s scope in

@@ -9,8 +9,8 @@ use Rattle.cp_compile_lower.proofs.translator.Translator.assign.Goals as goal
 
 pub returns-then-is_result : goal.returns-then-is_result
 returns-then-is_result c =
-    let d = erase.designator (tree.designator c.args.d.now) in
-    let e = erase.expression (tree.expression c.args.e.now) in
+    let d = erase.designator (tree.designator c.args.designator.now) in
+    let e = erase.expression (tree.expression c.args.expression.now) in
     let old = c.args.emitter.now in
     if_ok c.set_result.result
     (λ entry h s scope.
@@ -20,8 +20,8 @@ returns-then-is_result c =
 
 pub returns-else-is_result : goal.returns-else-is_result
 returns-else-is_result c =
-    let d = erase.designator (tree.designator c.args.d.now) in
-    let e = erase.expression (tree.expression c.args.e.now) in
+    let d = erase.designator (tree.designator c.args.designator.now) in
+    let e = erase.expression (tree.expression c.args.expression.now) in
     let old = c.args.emitter.now in
     if_ok c.store.result
     (λ entry h s scope.

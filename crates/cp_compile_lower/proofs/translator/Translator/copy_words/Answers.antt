@@ -16,7 +16,7 @@ pub returns : goal.returns
 returns c =
     both_ok c.emit.result
     (λ place at emits s to t e scope type other there.
-    let d = coded_variable s (erase.expression (tree.expression c.args.e.now)) c.args.to.temps in
+    let d = coded_variable s (erase.expression (tree.expression c.args.expression.now)) c.args.to.temps in
     let made = c.in_ok-from.ensures s scope in
     let long = c.in_ok-size.ensures s t scope type in
     subst (Enters c.args.emitter.now c.emit.new.self place) (sym (copies s.globals t to e d (place_of c.args.emitter.now) c.args.next other))

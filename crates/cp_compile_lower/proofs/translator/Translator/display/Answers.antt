@@ -17,7 +17,7 @@ returns c =
     both_ok c.emit.result
     (λ place at emits s scope.
     let made = rw c.new-calls.ensures.items at (c.in_ok-made.ensures s scope) in
-    let e = erase.expression (tree.expression c.args.e.now) in
+    let e = erase.expression (tree.expression c.args.expression.now) in
     let d = coded_term s e c.args.low in
     let byte : c.is_char.result ≡ is_char (base_of_type (expression_type (environment s) e)) =
     c.is_char.ensures ∙ ap is_char (c.in_ok-base.ensures s scope) in

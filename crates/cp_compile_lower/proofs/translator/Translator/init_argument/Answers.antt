@@ -18,7 +18,7 @@ returns-in_ok-made-in-Some c = λ s y p scope is named represents.
     let before = map coded_call c.args.calls.now.items in
     let after = c.term.new.calls.items in
     let x = c.in-Some.simple in
-    let e = erase.expression (tree.expression c.args.e.now) in
+    let e = erase.expression (tree.expression c.args.expression.now) in
     let d = coded_term s e c.args.low in
     let types = c.args.self.now.scope.tables.now.types in
     let same = (rw (c.tables.ensures, c.in-Some.is) at c.simple.ensures) p.1.type represents in
@@ -30,7 +30,7 @@ returns-in_ok-made-in-Some c = λ s y p scope is named represents.
 pub returns-then-not-is_component : goal.returns-then-not-is_component
 returns-then-not-is_component c = λ s y p scope is named represents.
     let calls = c.args.calls.now.items in
-    let e = erase.expression (tree.expression c.args.e.now) in
+    let e = erase.expression (tree.expression c.args.expression.now) in
     let known : c.is_component.result ≡ false = search rules in
     let component : is_component p.1.type ≡ false = sym ((rw c.tables.ensures at c.is_component.ensures) p.1.type represents) ∙ known in
     let other = (rw (c.tables.ensures, c.in-None.is) at c.simple.ensures) p.1.type represents in
@@ -42,7 +42,7 @@ returns-in_ok-right_at-in-None c =
     if_ok c.right.result
     (λ made h s y p scope is named represents.
     let calls = c.args.calls.now.items in
-    let e = erase.expression (tree.expression c.args.e.now) in
+    let e = erase.expression (tree.expression c.args.expression.now) in
     let types = c.args.self.now.scope.tables.now.types in
     let known : c.is_component.result ≡ true = search rules in
     let component : is_component p.1.type ≡ true = sym ((rw c.tables.ensures at c.is_component.ensures) p.1.type represents) ∙ known in

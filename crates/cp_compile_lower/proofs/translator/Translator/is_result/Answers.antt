@@ -8,9 +8,9 @@ use Rattle.cp_compile_lower.proofs.translator.Translator.is_result.Goals as goal
 
 pub returns-then-is_part : goal.returns-then-is_part
 returns-then-is_part c = λ s scope.
-    sym (part_no_result s (erase.designator (tree.designator c.args.d.now)) (sym c.is_part.ensures ∙ c.if-is_part.true))
+    sym (part_no_result s (erase.designator (tree.designator c.args.designator.now)) (sym c.is_part.ensures ∙ c.if-is_part.true))
 
 pub returns : goal.returns
 returns c = λ s scope.
     (rw c.as_bytes.ensures at c.names_result.ensures) s scope
-    ∙ ap (is_result s) (sym (is_name c.args.d.now (sym c.is_part.ensures ∙ c.if-is_part.false)))
+    ∙ ap (is_result s) (sym (is_name c.args.designator.now (sym c.is_part.ensures ∙ c.if-is_part.false)))

@@ -12,7 +12,7 @@ use Rattle.cp_compile_lower.proofs.translator.Translator.perform.Goals as goal
 
 pub returns-in-Some : goal.returns-in-Some
 returns-in-Some c =
-    let d = erase.designator (tree.designator c.args.d.now) in
+    let d = erase.designator (tree.designator c.args.designator.now) in
     let es = erase.expressions (tree.expressions_of (map tree.expression c.args.es.now)) in
     let old = c.args.emitter.now in
     if_ok c.procedure_call.result
@@ -24,7 +24,7 @@ returns-in-Some c =
 
 pub returns-in-None : goal.returns-in-None
 returns-in-None c =
-    let d = erase.designator (tree.designator c.args.d.now) in
+    let d = erase.designator (tree.designator c.args.designator.now) in
     let es = erase.expressions (tree.expressions_of (map tree.expression c.args.es.now)) in
     let old = c.args.emitter.now in
     if_ok c.standard_statement.result

@@ -13,7 +13,7 @@ returns c =
     both_ok c.emit.result
     (λ place at emits s scope.
     let passed = c.in_ok-queue.ensures s scope in
-    let d = coded_variable s (erase.expression (tree.expression c.args.e.now)) c.args.low in
+    let d = coded_variable s (erase.expression (tree.expression c.args.expression.now)) c.args.low in
     entered c.args.emitter.now c.emit.new.self place c.in_ok-queue.calls.items d.calls
     (operation.Continue c.in_ok-queue.queue c.runs_function-function.result) (op.Continue d.place_expression (runs_function s.routine)) passed.0
     (λ i. op.Continue (passed.1 i) (c.runs_function-function.ensures s scope i)) at emits)

@@ -14,8 +14,8 @@ pub returns : goal.returns
 returns c =
     both_ok c.emit.result
     (λ place at emits s scope.
-    let t = place_type (environment s) (erase.designator (tree.designator c.args.d.now)) in
-    let d = coded_term s (erase.expression (tree.expression c.args.e.now)) c.args.low in
+    let t = place_type (environment s) (erase.designator (tree.designator c.args.designator.now)) in
+    let d = coded_term s (erase.expression (tree.expression c.args.expression.now)) c.args.low in
     let made = rw c.new-calls.ensures.items at (c.in_ok-made.ensures s scope) in
     let of = (rw c.tables.ensures at c.simple.ensures) t (c.place_type-of.ensures s scope) in
     entered c.args.emitter.now c.emit.new.self place c.term.new.calls.items d.calls

@@ -14,7 +14,7 @@ use Rattle.cp_compile_lower.proofs.translator.Translator.standard_procedure.Goal
 pub returns-then-eq : goal.returns-then-eq
 returns-then-eq c =
     let display_known : bytes_eq c.args.name.now (codes "display") ≡ true = search rules in
-    let e = erase.expression (tree.expression c.args.e.now) in
+    let e = erase.expression (tree.expression c.args.expression.now) in
     let old = c.args.emitter.now in
     if_ok c.display.result
     (λ entry h s scope.
@@ -27,7 +27,7 @@ pub returns-then-eq-2 : goal.returns-then-eq-2
 returns-then-eq-2 c =
     let display_known : bytes_eq c.args.name.now (codes "display") ≡ false = search rules in
     let accept_known : bytes_eq c.args.name.now (codes "accept") ≡ true = search rules in
-    let e = erase.expression (tree.expression c.args.e.now) in
+    let e = erase.expression (tree.expression c.args.expression.now) in
     let old = c.args.emitter.now in
     if_ok c.accept.result
     (λ entry h s scope.
@@ -41,7 +41,7 @@ returns-then-eq-3 c =
     let display_known : bytes_eq c.args.name.now (codes "display") ≡ false = search rules in
     let accept_known : bytes_eq c.args.name.now (codes "accept") ≡ false = search rules in
     let delay_known : bytes_eq c.args.name.now (codes "delay") ≡ true = search rules in
-    let e = erase.expression (tree.expression c.args.e.now) in
+    let e = erase.expression (tree.expression c.args.expression.now) in
     let old = c.args.emitter.now in
     if_ok c.delay.result
     (λ entry h s scope.
@@ -55,7 +55,7 @@ returns-else-eq-3 c =
     let display_known : bytes_eq c.args.name.now (codes "display") ≡ false = search rules in
     let accept_known : bytes_eq c.args.name.now (codes "accept") ≡ false = search rules in
     let delay_known : bytes_eq c.args.name.now (codes "delay") ≡ false = search rules in
-    let e = erase.expression (tree.expression c.args.e.now) in
+    let e = erase.expression (tree.expression c.args.expression.now) in
     let old = c.args.emitter.now in
     if_ok c.resume.result
     (λ entry h s scope.

@@ -14,8 +14,8 @@ pub returns-in-Some : goal.returns-in-Some
 returns-in-Some c =
     if_ok c.set_simple.result
     (λ entry h s scope.
-    let d = erase.designator (tree.designator c.args.d.now) in
-    let e = erase.expression (tree.expression c.args.e.now) in
+    let d = erase.designator (tree.designator c.args.designator.now) in
+    let e = erase.expression (tree.expression c.args.expression.now) in
     let to = coded_place_expression s d c.args.low in
     let t = place_type (environment s) d in
     let place = rw c.new-calls.ensures.items at (c.in_ok-to.ensures s scope) in
@@ -28,8 +28,8 @@ pub returns-in-None : goal.returns-in-None
 returns-in-None c =
     if_ok c.copy_words.result
     (λ entry h s scope.
-    let d = erase.designator (tree.designator c.args.d.now) in
-    let e = erase.expression (tree.expression c.args.e.now) in
+    let d = erase.designator (tree.designator c.args.designator.now) in
+    let e = erase.expression (tree.expression c.args.expression.now) in
     let to = coded_place_expression s d c.args.low in
     let t = place_type (environment s) d in
     let place = rw c.new-calls.ensures.items at (c.in_ok-to.ensures s scope) in

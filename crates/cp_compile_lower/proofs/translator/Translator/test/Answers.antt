@@ -12,7 +12,7 @@ returns c =
     both_ok c.emit.result
     (λ place at emits s scope.
     let made = rw c.new-calls.ensures.items at (c.in_ok-made.ensures s scope) in
-    let d = coded_term s (erase.expression (tree.expression c.args.e.now)) c.args.low in
+    let d = coded_term s (erase.expression (tree.expression c.args.expression.now)) c.args.low in
     entered c.args.emitter.now c.emit.new.self place c.term.new.calls.items d.calls (operation.Test c.in_ok-made.made.term c.args.yes c.args.no)
     (op.Test d.term c.args.yes c.args.no) made.calls (λ i. op.Test (made.term i) c.args.yes c.args.no) at emits)
     c.emit.ensures.entry c.emit.ensures.emits

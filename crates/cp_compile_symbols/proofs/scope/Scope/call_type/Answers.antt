@@ -14,7 +14,7 @@ use Rattle.cp_compile_symbols.proofs.scope.Scope.call_type.Goals as goal
 
 pub returns-in-Some : goal.returns-in-Some
 returns-in-Some c =
-    let d = erase.designator (view.designator c.args.d.now) in
+    let d = erase.designator (view.designator c.args.designator.now) in
     if_ok c.answer_type.result
     (λ of gives s e es i typed.
     let found = callee (environment s) d in
@@ -24,7 +24,7 @@ returns-in-Some c =
 
 pub returns-then-is_part : goal.returns-then-is_part
 returns-then-is_part c =
-    let d = erase.designator (view.designator c.args.d.now) in
+    let d = erase.designator (view.designator c.args.designator.now) in
     if_ok c.standard_type.result
     (λ of gives s e es i typed.
     let found = callee (environment s) d in
@@ -37,12 +37,12 @@ returns-then-is_part c =
 
 pub returns-else-is_part : goal.returns-else-is_part
 returns-else-is_part c =
-    let d = erase.designator (view.designator c.args.d.now) in
+    let d = erase.designator (view.designator c.args.designator.now) in
     if_ok c.standard_type-else-is_part.result
     (λ of gives s e es i typed.
     let found = callee (environment s) d in
     let t = expression_type (environment s) (erase.expression e) in
-    let is = is_name c.args.d.now (sym c.is_part.ensures ∙ c.if-is_part.false) in
+    let is = is_name c.args.designator.now (sym c.is_part.ensures ∙ c.if-is_part.false) in
     nothing_called c.args.self.now s found of (standard_type (name_of d) t)
     (subst (λ (f : Option Callee). CalleeIs c.args.self.now s f found) c.in-None.is (c.callee.ensures s i))
     (subst (λ x. SimpleIs of (standard_type x t)) (c.as_bytes.ensures ∙ sym (ap name_of is)) (gives t typed)))

@@ -14,7 +14,7 @@ returns-then-is_part c = λ s i.
 
 pub returns-else-is_part : goal.returns-else-is_part
 returns-else-is_part c =
-    let is = is_name c.args.d.now (sym c.is_part.ensures ∙ c.if-is_part.false) in
+    let is = is_name c.args.designator.now (sym c.is_part.ensures ∙ c.if-is_part.false) in
     if_ok c.name_type.result
     (λ of typed s i.
     subst (λ d. SimpleIs of (own_value_type (environment s) d)) (ap a.Plain c.as_bytes.ensures ∙ sym is) (typed s i))

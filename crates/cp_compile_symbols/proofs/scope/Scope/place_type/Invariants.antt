@@ -10,4 +10,4 @@ use Rattle.cp_compile_symbols.proofs.scope.Scope.place_type.Given as goal
 abbrev pub invariant-loop-selector : goal.invariant-loop-selector
 invariant-loop-selector l =
     (s : code.Scope) → IsScope l.fn.self s
-    → PartlySelected l.fn.self s (erase.designator (view.designator l.fn.d)) l.of (drop l.selector-index l.fn.d.selectors.items)
+    → PartlySelected l.fn.self s (erase.designator (view.designator l.fn.designator)) l.of (drop l.selector-index l.fn.designator.selectors.items)

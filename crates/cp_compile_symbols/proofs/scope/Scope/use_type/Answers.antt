@@ -12,7 +12,7 @@ use Rattle.cp_compile_symbols.proofs.scope.Scope.use_type.Goals as goal
 
 pub returns-in-Some : goal.returns-in-Some
 returns-in-Some c =
-    let d = erase.designator (view.designator c.args.d.now) in
+    let d = erase.designator (view.designator c.args.designator.now) in
     if_ok c.answer_type.result
     (λ of gives s i.
     let found = callee (environment s) d in
@@ -22,7 +22,7 @@ returns-in-Some c =
 
 pub returns-in-None : goal.returns-in-None
 returns-in-None c =
-    let d = erase.designator (view.designator c.args.d.now) in
+    let d = erase.designator (view.designator c.args.designator.now) in
     if_ok c.own_type.result
     (λ of typed s i.
     let found = callee (environment s) d in

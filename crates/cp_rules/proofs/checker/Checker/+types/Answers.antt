@@ -25,7 +25,7 @@ type_of-returns-in-Subrange t c =
     let bounds = c.in-Subrange.bounds in
     let low = bounds.value.0 in
     let high = bounds.value.1 in
-    let v : view.type_expression c.args.t.now ≡ s.Subrange low high = rw c.in-Subrange.is (view_subrange bounds) in
+    let v : view.type_expression c.args.written.now ≡ s.Subrange low high = rw c.in-Subrange.is (view_subrange bounds) in
     let row = rw (c.deref.ensures, c.deref-in-Subrange.ensures) at c.subrange-row.ensures in
     if_ok c.make_type.result
     (λ of known. rw v (row_made old c.subrange-row.new.self c.make_type.new.self
@@ -37,7 +37,7 @@ type_of-returns-in_ok-of-in-Array t c =
     let at = c.in-Array.at in
     let is = view.types_of (map view.type_expression c.in-Array.indices.value.items) in
     let e = view.type_expression c.in-Array.element.value in
-    let v : view.type_expression c.args.t.now ≡ s.Array at is e = rw c.in-Array.is (view_array at c.in-Array.indices c.in-Array.element) in
+    let v : view.type_expression c.args.written.now ≡ s.Array at is e = rw c.in-Array.is (view_array at c.in-Array.indices c.in-Array.element) in
     let indices = rw (c.deref-in-Array-2.ensures.value, c.deref-in-Array.ensures) at c.in_ok-indices-in-Array.ensures in
     let element = rw c.deref-in-Array-3.ensures at c.in_ok-of-in-Array.ensures in
     let placed = rw c.deref-in-Array-4.ensures at c.judge_position-of.ensures in

@@ -17,5 +17,5 @@ returns c =
     c.in_ok-row.ensures in
     on_ok_weaker c.declare_values.result
     (λ valued. enumeration_defined old c.add_type.new.self c.declare.new.self c.declare_values.new.self
-    c.args.x.now c.args.names.now t number made c.in_ok-declare.ensures valued)
+    c.args.name.now c.args.names.now t number made c.in_ok-declare.ensures valued)
     c.declare_values.ensures

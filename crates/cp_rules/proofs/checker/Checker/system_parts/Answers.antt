@@ -10,7 +10,7 @@ use Rattle.cp_rules.proofs.checker.Checker.system_parts.Goals as goal
 pub returns : goal.returns
 returns c =
     let old = c.args.self.now in
-    let y = view.system c.args.y.now in
+    let y = view.system c.args.system.now in
     let k = collection c.args.heading.now in
     let within : c.add_each.new.self ≡ record old { env = inside old.env y k } =
     rw c.deref-2.ensures.value at c.in_ok-add_each.ensures
