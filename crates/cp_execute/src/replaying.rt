@@ -28,8 +28,12 @@ use cp_program::program::Program;
 use cp_rounds::machine::Machine;
 use std::alloc::{AllocError, Global};
 
-// Makes the rounds of an order on a machine that has made none.
-fn replay_rounds(machine: &mut Machine, orders: &Orders, turn: Turn) -> Result<(), AllocError>
+/// Makes the rounds of an order on a machine that has made none.
+///
+/// # Errors
+///
+/// `AllocError` if memory runs out.
+pub fn replay_rounds(machine: &mut Machine, orders: &Orders, turn: Turn) -> Result<(), AllocError>
     requires first { machine.old.rounds ≡ 0 }
     requires within { AllWithin (processes_of machine.old) (rounds_of orders.now) }
     ensures state { IfOk result (λ _. MakesReplays turn.steps (rounds_of orders.now)

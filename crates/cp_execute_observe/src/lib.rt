@@ -15,6 +15,6 @@ pub mod execute_outcome;
 pub mod execute_trace;
 pub mod form;
 mod rounds;
-mod snapshot;
+pub mod snapshot;
 pub mod tracing;
 pub mod until_still;

@@ -125,7 +125,7 @@ fn monitor_snapshots(
 /// # Errors
 ///
 /// `AllocError` if memory runs out.
-pub(crate) fn snapshot_of(alloc: Global, machine: &Machine) -> Result<StatusSnapshot, AllocError> {
+pub fn snapshot_of(alloc: Global, machine: &Machine) -> Result<StatusSnapshot, AllocError> {
     let component_table = ComponentTable::of(alloc, machine.tables())?;
     Ok(StatusSnapshot {
         rounds: machine.rounds(),

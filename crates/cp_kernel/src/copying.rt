@@ -5,6 +5,7 @@ ghost use Rattle.cp_private.specs.States as states;
 ghost use Rattle.cp_kernel.specs.KernelOf.{Bytes, kernel_of, transcripts_of};
 
 use crate::kernel::Kernel;
+use crate::starting::empty_transcripts;
 use cp_private::kernel_view::Gate;
 use std::alloc::{AllocError, Global};
 
@@ -35,6 +36,23 @@ fn copy_transcripts(alloc: Global, transcripts: &[Vec<u8>]) -> Result<Vec<Vec<u8
 }
 
 impl Kernel {
+    /// A kernel with the same content, but without transcripts.
+    ///
+    /// # Errors
+    ///
+    /// `AllocError` if memory runs out.
+    pub fn copy_without_transcripts(&self, alloc: Global) -> Result<Kernel, AllocError>
+        ensures { IfOk result (λ k. kernel_of k ≡ kernel_of self.now) }
+    {
+        Ok(Kernel {
+            shared: Vec::from_slice(alloc, &self.shared)?,
+            gates: copy_gates(alloc, &self.gates)?,
+            stages: Vec::from_slice(alloc, &self.stages)?,
+            transcripts: empty_transcripts(alloc, self.stages.len())?,
+            may_have_fresh: true,
+        })
+    }
+
     /// A kernel with the same content.
     ///
     /// # Errors

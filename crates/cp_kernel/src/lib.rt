@@ -9,7 +9,8 @@
 //! - `effects`: what a step leaves to the kernel.
 //! - `step`, `turns`: one step of the kernel, and kernel turns.
 //! - `closing`: the end of a round.
-//! - `copying`: kernels with the same content.
+//! - `copying`, `sameness`, `hashing`: copies of kernels, kernels with the same content, and hashes
+//!   of it.
 //! - `room`: room for what kernel turns add.
 #![tactic(auto)]
 
@@ -17,9 +18,11 @@ pub mod chain;
 pub mod closing;
 mod copying;
 mod effects;
+mod hashing;
 pub mod kernel;
 pub mod reading;
 mod room;
+mod sameness;
 mod starting;
 mod step;
 pub mod turns;

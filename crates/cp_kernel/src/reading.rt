@@ -1,10 +1,10 @@
 //! What can be read of the kernel.
 
-ghost use Rattle.std.specs.Prelude.{◌≡◌};
+ghost use Rattle.std.specs.Prelude.{◌≡◌, true};
 ghost use Rattle.cp_model_program.specs.Starts.{word};
 ghost use Rattle.cp_private.specs.States.{holder as holder_view, stage as stage_view};
 ghost use Rattle.cp_model_machine.specs.KernelSteps as plain;
-ghost use Rattle.cp_kernel.specs.KernelOf.{kernel_of, transcripts_of};
+ghost use Rattle.cp_kernel.specs.KernelOf.{IsAmong, kernel_of, transcripts_of};
 ghost use Rattle.cp_model_machine.specs.Machines.{transcript_of};
 
 use crate::kernel::Kernel;
@@ -35,6 +35,13 @@ impl Kernel {
             Some(gate) => &gate.askers,
             None => &[],
         }
+    }
+
+    /// Whether there is a process with this number.
+    pub fn has_process(&self, p: usize) -> bool
+        ensures { result ≡ true → IsAmong self.now p }
+    {
+        1 <= p && p <= self.stages.len()
     }
 
     /// The stage of process p. A missing process has begun.

@@ -86,7 +86,7 @@ fn first_stages(alloc: Global, count: usize) -> Result<Vec<SchedulingState>, All
     Ok(all)
 }
 
-fn empty_transcripts(alloc: Global, count: usize) -> Result<Vec<Vec<u8>>, AllocError>
+pub(crate) fn empty_transcripts(alloc: Global, count: usize) -> Result<Vec<Vec<u8>>, AllocError>
     ensures { IfOk result (λ all. map (λ (v : Bytes). v.items) all.items ≡ replicate count []) }
 {
     let mut all = Vec::with_capacity(alloc, count)?;

@@ -32,7 +32,8 @@ fn is_ended(state: ProcState) -> bool
     matches!(state, ProcState::Ended)
 }
 
-fn none_has_faulted(machine: &Machine) -> bool
+/// Whether nobody has a fault.
+pub fn none_has_faulted(machine: &Machine) -> bool
     ensures { ReportsAll has_no_fault machine.now result }
 {
     for i in 0..machine.processes() {

@@ -12,9 +12,9 @@ use cp_output::position::Position;
 use serde::Serialize;
 use std::alloc::{AllocError, Global};
 
-// What became of a process. One that has ended is in no place, and needs no reason.
+/// What became of a process. One that has ended is in no place, and needs no reason.
 #[derive(Drop, Serialize)]
-struct ProcessObject {
+pub struct ProcessObject {
     process: u32,
     name: String,
     state: &'static str,
@@ -67,6 +67,18 @@ impl<'t> Subject<'_, 't> {
         }
         Ok(all)
     }
+}
+
+/// What became of each process of a machine, by number.
+///
+/// # Errors
+///
+/// `AllocError` if memory runs out.
+pub fn process_objects(
+    alloc: Global,
+    source: Source<'_, '_>,
+) -> Result<Vec<ProcessObject>, AllocError> {
+    Subject::of(alloc, source)?.process_objects()
 }
 
 /// The outcome of a machine as a line with a JSON object: the word for its verdict, the

@@ -9,3 +9,4 @@ pub mod FastStep
 pub mod Assigning
 pub mod Plans
 pub mod Lending
+pub mod Sameness

@@ -17,6 +17,7 @@
 //! - `assignments`, `counting`, `standards`, `targets`, `passing`, `called`, `calls`, `returns`,
 //!   `initialisation`: the steps of operations.
 //! - `fast_step`: the commonest steps, made in registers.
+//! - `sameness`, `hashing`: private states with the same content, and hashes of it.
 //! - `step`, `turns`, `kind`, `resting`: a step of any operation, turns, whether the next step
 //!   is private or the kernel's, and processes that have no private step to make.
 #![tactic(auto)]
@@ -30,6 +31,7 @@ mod counting;
 pub mod effect;
 mod fast_step;
 mod frames;
+pub mod hashing;
 mod initialisation;
 pub mod kernel_view;
 pub mod kind;
@@ -42,6 +44,7 @@ pub mod private_box;
 mod reading;
 mod resting;
 mod returns;
+mod sameness;
 mod standards;
 pub mod starting;
 mod step;
