@@ -148,7 +148,7 @@ impl<'a, C: Course> Coordinator<'a, C> {
     ) -> u32
         ensures some { 0 < result }
         ensures few { result ≤ most }
-        ensures taken { AreTaken (AreMade C.quiet C.turned C.round_time round.now.index result)
+        ensures taken { AreTaken (AreMade C.without_kernel C.turned C.round_time round.now.index result)
             (C.input (process - 1)) C.most round.now.start.value.items process private.new }
     {
         if self.place.slot == 0 {

@@ -257,7 +257,7 @@ fn with_worker_pool<C: Course + Send + Sync, R: Threads + Wait + Sync, G: TurnGa
     requires room { length cells.now * waves < length sheets.now }
     requires times { AreTimes C.round_time rounds.now.config.now rounds.now.done }
     requires few { rounds.now.done + length cells.now < 2 ^ 64 }
-    requires course { IsCourseOf C.quiet C.turned C.input C.most rounds.now.config.now
+    requires course { IsCourseOf C.without_kernel C.turned C.input C.most rounds.now.config.now
         rounds.now.plan.now.turn.steps }
     ensures made { IfOk result.1
         (λ _. PartsAfter rounds.now.config.now rounds.now.plan.now.turn.steps rounds.now.done

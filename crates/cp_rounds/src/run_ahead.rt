@@ -63,7 +63,7 @@ fn take_back<'a, C: Course, R: Wait, G: TurnGate>(
     requires some { 0 < process }
     requires left { is_idle round.now.round_time.wakes private.old ≡ true
         → slice_get round.now.start.value.items (process - 1) ≡ Some private.old }
-    ensures taken { AreTaken (AreMade C.quiet C.turned C.round_time round.now.index (result + 1))
+    ensures taken { AreTaken (AreMade C.without_kernel C.turned C.round_time round.now.index (result + 1))
         (C.input (process - 1)) C.most round.now.start.value.items process private.new }
     ensures few { result < round.now.rounds }
     ensures begun { 0 < result
@@ -95,7 +95,7 @@ fn take_all_back<'a, C: Course, R: Wait, G: TurnGate>(
         privates.old.items }
     requires count { length privates.old.items ≡ length round.now.start.value.items }
     requires turns { length ahead.old.turns.items ≡ length privates.old.items }
-    ensures back { AreBack C.quiet C.turned C.round_time C.input C.most round.now.index
+    ensures back { AreBack C.without_kernel C.turned C.round_time C.input C.most round.now.index
         round.now.rounds round.now.start.value.items ahead.new.turns.items privates.new.items
         kernel.now }
     ensures later { ahead.new.later ≡ ahead.old.later }

@@ -25,7 +25,7 @@ pub struct HandoffTurns<'a, C: Course, G: TurnGate> {
     pub waves: usize,
     /// The number of chunks in the first wave of a round of all processes. No other wave has more.
     pub chunks: usize,
-    ghost course: { IsCourseOf C.quiet C.turned C.input C.most config.now plan.turn.steps },
+    ghost course: { IsCourseOf C.without_kernel C.turned C.input C.most config.now plan.turn.steps },
     ghost times: { AreTimes C.round_time config.now done },
 }
 

@@ -30,7 +30,7 @@ pub(crate) fn needs_no_kernel(program: &Program, private: &Private) -> bool
 /// Whether a process is quiet and none of its private turns, whatever the time, has a step:
 /// it has ended, or hasn't begun.
 pub fn is_idle_forever(program: &Program, private: &Private) -> bool
-    ensures quiet { result ≡ true → (input : List ℕ)
+    ensures without_kernel { result ≡ true → (input : List ℕ)
         → needs_no_kernel (view.program program.now) (private_of private.now input) ≡ true }
     ensures turns { result ≡ true → (t : ℕ) (w : RoundTime) (input : List ℕ)
         → take_turn (view.program program.now) t w (private_of private.now input)

@@ -72,7 +72,7 @@ impl<'a, C: Course> Slot<'a, C> {
     ) -> u32
         ensures few { result ≤ most }
         ensures taken { 0 < result
-            → AreTaken (AreMade C.quiet C.turned C.round_time round.now.index result)
+            → AreTaken (AreMade C.without_kernel C.turned C.round_time round.now.index result)
             (C.input (process - 1)) C.most round.now.start.value.items process private.new }
     {
         let Some(task) = self.task.take() else {

@@ -32,7 +32,7 @@ pub type Start = Snapshot<Vec<PrivateBox>>;
 /// What is the same in all rounds of a run. Whoever begins the run chooses it.
 pub trait Course: Sheets {
     /// Whether a process has no kernel turn to make, whatever the kernel is.
-    ghost kernel_need: { PrivateState → Bool };
+    ghost without_kernel: { PrivateState → Bool };
 
     /// What a turn makes of the content of a private state, at the time of a round.
     ghost turned: { declared.RoundTime → PrivateState → PrivateState };
@@ -51,7 +51,7 @@ pub trait Course: Sheets {
 }
 
 impl Course for Brand {
-    ghost kernel_need = { λ _. false };
+    ghost without_kernel = { λ _. false };
 
     ghost turned = { λ w o. o };
 
@@ -81,7 +81,7 @@ pub struct Task<'a, C: Course> {
     ghost cell: { start.of ≡ C.cell round },
     ghost time: { round_time ≡ C.round_time round },
     ghost number: { private.number ≡ process },
-    ghost comes: { ComesOf (AreMade C.kernel_need C.turned C.round_time round made) (C.input (process - 1))
+    ghost comes: { ComesOf (AreMade C.without_kernel C.turned C.round_time round made) (C.input (process - 1))
         start.value.value.items (process - 1) private } by { Prim.hlevel (AreMade-prop, props) },
     ghost short: { IsShort C.most start.value.value.items (process - 1) (is_some made) private },
     ghost room: { HasRoom C.most (is_some made) private },
@@ -131,9 +131,9 @@ impl<'a, C: Course> Task<'a, C> {
     // Makes the next turn, of a round at this time. Before any but the first one the process is
     // quiet.
     fn make_turn(&mut self, config: &MachineConfig, turn: Turn, round_time: RoundTime)
-        requires course { IsCourseOf C.kernel_need C.turned C.input C.most config.now turn.steps }
+        requires course { IsCourseOf C.without_kernel C.turned C.input C.most config.now turn.steps }
         requires time { round_time ≡ C.round_time (self.old.round + self.old.made) }
-        requires kernel_need { self.old.made ≢ 0 → (input : List ℕ)
+        requires without_kernel { self.old.made ≢ 0 → (input : List ℕ)
             → needs_no_kernel (view.program config.now.program) (private_of self.old.private input)
             ≡ true }
         requires few { self.old.made < 2 ^ 32 - 1 }
@@ -147,7 +147,7 @@ impl<'a, C: Course> Task<'a, C> {
     // Makes the turn of the next round, if there is one to make and the process is quiet. Returns
     // whether it did.
     fn make_next(&mut self, config: &MachineConfig, done: u64, turn: Turn) -> bool
-        requires course { IsCourseOf C.kernel_need C.turned C.input C.most config.now turn.steps }
+        requires course { IsCourseOf C.without_kernel C.turned C.input C.most config.now turn.steps }
         requires times { AreTimes C.round_time config.now done }
         ensures made { self.old.made ≤ self.new.made }
     {
@@ -164,7 +164,7 @@ impl<'a, C: Course> Task<'a, C> {
     /// Makes the turn, and those of later rounds while the process is quiet, of a run that began
     /// after `done` rounds.
     pub fn make(&mut self, config: &MachineConfig, done: u64, turn: Turn)
-        requires course { IsCourseOf C.kernel_need C.turned C.input C.most config.now turn.steps }
+        requires course { IsCourseOf C.without_kernel C.turned C.input C.most config.now turn.steps }
         requires times { AreTimes C.round_time config.now done }
         requires first { self.old.made ≡ 0 }
         ensures made { 0 < self.new.made }
@@ -188,7 +188,7 @@ impl<'a, C: Course> Task<'a, C> {
         ensures some { IfSome result (λ r. 0 < r.0) }
         ensures few { IfSome result (λ r. r.0 ≤ most) }
         ensures taken { IfSome result (λ r. AreTaken
-            (AreMade C.kernel_need C.turned C.round_time round.now.index r.0) (C.input (process - 1)) C.most
+            (AreMade C.without_kernel C.turned C.round_time round.now.index r.0) (C.input (process - 1)) C.most
             round.now.start.value.items process r.1) }
     {
         let Some(start) = &round.token else {

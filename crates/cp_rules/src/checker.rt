@@ -3,7 +3,7 @@
 ghost use Rattle.std.specs.Prelude.{◌≡◌, [], None, IfOk, OnOk, length, take};
 ghost use Rattle.cp_model.specs.RulesEnvironment as r;
 ghost use Rattle.cp_model.specs.RulesJudged as j;
-ghost use Rattle.cp_rules.specs.Checking.{State, Judges, after, declared_name, diagnostics, with_set};
+ghost use Rattle.cp_rules.specs.Checking.{State, Judges, after, declared_name, reporting, with_set};
 
 use crate::standard::standard_environment;
 use cp_base_names::Key;
@@ -57,7 +57,7 @@ impl<'t> Checker<'t> {
 
     /// Reports that a rule is broken at a place, unless `holds` is true.
     pub fn unless(&mut self, holds: bool, rule: Rule, at: usize)
-        ensures { self.new ≡ diagnostics self.old (j.unless holds rule at) }
+        ensures { self.new ≡ reporting self.old (j.unless holds rule at) }
     {
         unless_holds(&mut self.diagnostics, holds, rule, at);
     }

@@ -6,7 +6,7 @@ ghost use Rattle.cp_model.specs.RulesDeclarations as d;
 ghost use Rattle.cp_model.specs.RulesNeeds.{need_statements};
 ghost use Rattle.cp_model.specs.RulesStatements as st;
 ghost use Rattle.cp_model.specs.View as view;
-ghost use Rattle.cp_rules.specs.Checking.{after, diagnostics};
+ghost use Rattle.cp_rules.specs.Checking.{after, reporting};
 ghost use Rattle.cp_rules.specs.Headings.{lent};
 ghost use Rattle.cp_rules.specs.Routines.{enter_region};
 
@@ -44,7 +44,7 @@ impl<'t> Checker<'t> {
     /// Judges statements, one after another. Fails only if memory runs out.
     pub fn statements(&mut self, list: &[Statement]) -> Result<(), AllocError>
         ensures { OnOk result
-            (self.new ≡ diagnostics self.old
+            (self.new ≡ reporting self.old
             (st.statements self.old.env (view.statements_of (map view.statement list.now)))) }
     {
         statements(&self.environment, self.alloc, &mut self.diagnostics, list)

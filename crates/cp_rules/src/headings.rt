@@ -8,7 +8,7 @@ ghost use Rattle.cp_model.specs.RulesDeclarations as d;
 ghost use Rattle.cp_model.specs.RulesJudged.{then_judge};
 ghost use Rattle.cp_model.specs.RulesTypes.{named_type};
 ghost use Rattle.cp_model.specs.View as view;
-ghost use Rattle.cp_rules.specs.Checking.{Judges, first_of, diagnostics};
+ghost use Rattle.cp_rules.specs.Checking.{Judges, first_of, reporting};
 ghost use Rattle.cp_rules.specs.Declaring.{entity_of_type, words_of_type};
 ghost use Rattle.cp_rules.specs.Headings.{Heads, collection, hidden_group, is_by_reference, nothing, parameter_judged, row_of_type, with_heading, with_names, with_part, words_of_parameter};
 
@@ -160,7 +160,7 @@ impl<'t> Checker<'t> {
 
     // C7 and C11: the word `var` isn't allowed.
     fn judge_var(&mut self, rule: Option<Rule>, at: Option<usize>)
-        ensures { self.new ≡ diagnostics self.old (d.c7_c11_var rule at) }
+        ensures { self.new ≡ reporting self.old (d.c7_c11_var rule at) }
     {
         if let (Some(rule), Some(at)) = (rule, at) {
             self.unless(false, rule, at);

@@ -4,7 +4,7 @@ ghost use Rattle.std.specs.Prelude.{◌≡◌, ◌∷◌, [], None, IfOk, OnOk, 
 ghost use Rattle.cp_model.specs.RulesJudged.{unless};
 ghost use Rattle.cp_model.specs.RulesTypes.{cap_words};
 ghost use Rattle.cp_model.specs.declared.rules.Rule.TheVariants.{C1};
-ghost use Rattle.cp_rules.specs.Checking.{diagnostics};
+ghost use Rattle.cp_rules.specs.Checking.{reporting};
 ghost use Rattle.cp_rules.specs.Outer.{Knows};
 ghost use Rattle.cp_rules.specs.Records.{broken_in, is_new, or_first, record_of, with_field, with_fields, words_if, words_of_member, words_of_members};
 
@@ -85,7 +85,7 @@ impl<'t> Checker<'t> {
         t: usize,
     ) -> Result<(), AllocError>
         ensures diagnostics { OnOk result
-            (self.new ≡ diagnostics self.old (unless (is_new fields.old.members identifier.now) C1 identifier.now.at)) }
+            (self.new ≡ reporting self.old (unless (is_new fields.old.members identifier.now) C1 identifier.now.at)) }
         ensures members { OnOk result (fields.new.members ≡ with_field fields.old.members identifier.now t) }
         ensures first { OnOk result
             (fields.new.first ≡ or_first fields.old.first
@@ -108,7 +108,7 @@ impl<'t> Checker<'t> {
         t: usize,
     ) -> Result<(), AllocError>
         ensures diagnostics { OnOk result
-            (self.new ≡ diagnostics self.old (with_fields fields.old.members t names.now).violations) }
+            (self.new ≡ reporting self.old (with_fields fields.old.members t names.now).violations) }
         ensures members { OnOk result
             (fields.new.members ≡ (with_fields fields.old.members t names.now).members) }
         ensures first { OnOk result

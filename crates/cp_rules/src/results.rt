@@ -2,7 +2,7 @@
 
 ghost use Rattle.std.specs.Prelude.{◌≡◌};
 ghost use Rattle.cp_model.specs.RulesDeclarations as d;
-ghost use Rattle.cp_rules.specs.Checking.{Judges, diagnostics};
+ghost use Rattle.cp_rules.specs.Checking.{Judges, reporting};
 ghost use Rattle.cp_rules.specs.Routines.{JudgesResult, result_judged, returns_of_result, result_words};
 
 use crate::checker::{Checker, Judged};
@@ -43,7 +43,7 @@ pub fn words(answer: Option<Judged<usize>>) -> usize
 impl<'t> Checker<'t> {
     /// C5: the word `entry` is used in a process type or in the initial process.
     pub fn judge_entry(&mut self, sort: Sort, entry: Option<usize>)
-        ensures { self.new ≡ diagnostics self.old (d.c5_entry sort entry) }
+        ensures { self.new ≡ reporting self.old (d.c5_entry sort entry) }
     {
         if let Some(at) = entry {
             self.unless(!sort.is_process(), Rule::C5, at);

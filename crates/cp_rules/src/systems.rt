@@ -4,7 +4,7 @@ ghost use Rattle.std.specs.Prelude.{◌≡◌, ◌+◌, ◌++◌, IfOk, OnOk, le
 ghost use Rattle.cp_model.specs.Rules as rules;
 ghost use Rattle.cp_model.specs.RulesDeclarations as d;
 ghost use Rattle.cp_model.specs.View as view;
-ghost use Rattle.cp_rules.specs.Checking.{after, diagnostics};
+ghost use Rattle.cp_rules.specs.Checking.{after, reporting};
 ghost use Rattle.cp_rules.specs.Headings.{collection};
 ghost use Rattle.cp_rules.specs.Systems.{HeadsSystem, JudgesParts, added_system, parts, row_as, with_finished, words_of};
 

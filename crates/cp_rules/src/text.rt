@@ -9,7 +9,7 @@ ghost use Rattle.cp_model.specs.RulesTypes as ty;
 ghost use Rattle.cp_model.specs.View as view;
 ghost use Rattle.cp_rules.specs.Texts.{Judges, Lists, body_violations};
 ghost use Rattle.cp_rules.specs.Endings.{rest_of, reported_with};
-ghost use Rattle.cp_rules.specs.Checking.{diagnostics};
+ghost use Rattle.cp_rules.specs.Checking.{reporting};
 
 use crate::checker::Checker;
 use crate::remaining::Remaining;
@@ -47,7 +47,7 @@ impl<'t> Checker<'t> {
     fn initial_body(&mut self, words: usize, body: &Body) -> Result<(), AllocError>
         ensures { (n : ℕ) → words ≡ ty.cap_words n
             → OnOk result
-            (self.new ≡ diagnostics self.old (body_violations self.old.env n (view.body body.now))) }
+            (self.new ≡ reporting self.old (body_violations self.old.env n (view.body body.now))) }
     {
         let inside = self.reported_inside(&body.statements)?;
         match inside.first() {

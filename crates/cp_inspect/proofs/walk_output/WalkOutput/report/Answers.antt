@@ -8,7 +8,7 @@ use Rattle.cp_inspect.specs.Values.{value_in}
 use Rattle.cp_inspect.specs.declared.place.Kind.{Kind}
 use Rattle.cp_inspect.specs.declared.place.Kind.TheVariants as kind
 use Rattle.cp_inspect.specs.WalkOutputs.{line_of, report_leaf, visit_of}
-use Rattle.cp_inspect.proofs.walk_output.Reporting.report.Goals as goal
+use Rattle.cp_inspect.proofs.walk_output.WalkOutput.report.Goals as goal
 
 -- The line of a variable is that of its word.
 line_reported : (ws : List ℤ) (k : Kind) (p : Path) (at : ℕ) → line_of (path_text p) (value_in k (word ws at)) ≡ report_leaf (lines_visit ws) k p at
