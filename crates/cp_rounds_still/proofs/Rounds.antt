@@ -1,5 +1,5 @@
 -- Rounds that were made, and rounds that were undone.
-use Rattle.std.proofs.Common.{◌≡◌, ◌+◌, ℕ, length, ap, sym, ◌∙◌, arith}
+use Rattle.std.proofs.Common.{◌≡◌, ℕ, length, ap, sym, ◌∙◌, arith}
 use Rattle.cp_model.specs.States.{numbers_from}
 use Rattle.cp_model_machine.specs.Machines as plain
 use Rattle.cp_rounds_handoff.specs.Inputs.{input_of}
