@@ -1,10 +1,9 @@
--- A lost signal, found and computed: process 1 delays in a queue of the monitor, and process 2 continues
--- it. Where process 2 comes first, its `continue` finds nobody, and process 1 is stuck. Where process 1
--- comes first, both end. Reduced orders lead to both.
+-- Cores of a lost signal, computed: process 1 delays in a queue of the monitor, and process 2 continues
+-- it. If process 2 comes first, its `continue` finds nobody, and process 1 is stuck. If process 1 comes
+-- first, both end.
 use Rattle.std.specs.Prelude.{pos, Bool, List, [], false, refl, suc, true, zero, ℕ, ◌∷◌, ◌≡◌, ℤ}
-use Rattle.std.proofs.Common.{ap, arith, subst, sym, ◌∙◌}
+use Rattle.std.proofs.Common.{ap}
 use Rattle.std.proofs.lemmas.Bool.{true≢false}
-use Rattle.cp_model.specs.States.{is_in}
 use Rattle.cp_model_program.specs.Programs as op
 use Rattle.cp_model_program.specs.Programs.{Call, CodeUnit, Program}
 use Rattle.cp_model_program.specs.Terms as term
@@ -13,12 +12,11 @@ use Rattle.cp_model_machine.specs.Machines.{first_machine}
 use Rattle.cp_model_machine.specs.PrivateStates.{PrivateState, Running}
 use Rattle.cp_law_cores.specs.Wiping.{wiped}
 use Rattle.cp_law_cores.specs.Clocks.{is_timeless}
-use Rattle.cp_law_cores.specs.Cores.{Core, close, core, core_moves, is_private_on, part}
-use Rattle.cp_law_cores.specs.Moves.{Act, EndRound, IsClosed, IsSettled, KernelStep, Moves, ReducedFrom, Settles, apply, steps}
+use Rattle.cp_law_cores.specs.Cores.{Core, close, core, is_kernel_on, is_private_on, part}
 use Rattle.cp_law_cores.specs.Turns.{NoneFresh}
-use Rattle.cp_law_cores.proofs.Runs.{numbered}
+use Rattle.cp_law_cores.specs.Verdicts.{core_has_ended, core_is_sound, core_is_still}
+use Rattle.cp_law_cores.proofs.Acts.{EndRound, KernelStep, PrivateStep, after}
 use Rattle.cp_law_cores.proofs.Turns.{close_nobody}
-use Rattle.cp_law_cores.specs.Schedules.{core_has_ended, core_is_sound, core_is_still}
 
 abbrev call : ℕ → Call
 call unit = record { routine = unit; target = term.Monitor 1; arguments = []; words = 0; temps = 0 }
@@ -46,42 +44,18 @@ program = record {
 timeless : is_timeless program ≡ true
 timeless = refl
 
-abbrev M : Moves Core
-M = core_moves program 2
-
 abbrev first : Core
 first = core (first_machine program 1 (λ p. []))
-
--- After a choice and these private steps.
-abbrev next : Core → Act → List ℕ → Core
-next c a made = steps M (apply M c a) made
-
-past : (p : ℕ) → is_in (suc (suc (suc p))) (1 ∷ 2 ∷ []) ≡ true → ⊥
-past p there =
-    let high = (numbered 2 (suc (suc (suc p))) 1 there).1 in
-    Prim.omega (arith, high)
-
-none_of_two : (c : Core) → is_private_on program (part c.parts 1) ≡ false → is_private_on program (part c.parts 2) ≡ false → IsSettled M c
-none_of_two c one two = record { none = λ p there. by p there }
-  where
-    by : (p : ℕ) → is_in p (1 ∷ 2 ∷ []) ≡ true → is_private_on program (part c.parts p) ≡ false
-    by zero there = refl
-    by (suc zero) there = one
-    by (suc (suc zero)) there = two
-    by (suc (suc (suc p))) there = absurd (past p there)
 
 -- ---- Up to the point where the order matters
 
 abbrev started : Core
-started = next (next (next (next first (KernelStep 1) []) (KernelStep 1) []) (KernelStep 1) []) EndRound []
+started = after program first (KernelStep 1 ∷ KernelStep 1 ∷ KernelStep 1 ∷ EndRound ∷ [])
 
 -- ---- Process 2 comes first
 
-abbrev signalled : Core
-signalled = next (next started (KernelStep 2) []) (KernelStep 2) (2 ∷ [])
-
 abbrev stuck : Core
-stuck = next (next signalled (KernelStep 1) []) (KernelStep 1) []
+stuck = after program started (KernelStep 2 ∷ KernelStep 2 ∷ PrivateStep 2 ∷ KernelStep 1 ∷ KernelStep 1 ∷ [])
 
 nobody_comes : (core_is_still 2 stuck ≡ true) × (core_has_ended 2 stuck ≡ false) × (core_is_sound 2 stuck ≡ true)
 nobody_comes = (refl, refl, refl)
@@ -90,65 +64,19 @@ nobody_comes = (refl, refl, refl)
 
 abbrev ended : Core
 ended =
-    next (next (next (next (next started (KernelStep 1) []) (KernelStep 1) []) (KernelStep 2) []) (KernelStep 2) (2 ∷ []))
-    (KernelStep 1) (1 ∷ [])
+    after program started
+    (KernelStep 1 ∷ KernelStep 1 ∷ KernelStep 2 ∷ KernelStep 2 ∷ PrivateStep 2 ∷ KernelStep 1 ∷ PrivateStep 1 ∷ [])
 
 all_end : (core_is_still 2 ended ≡ true) × (core_has_ended 2 ended ≡ true)
 all_end = (refl, refl)
 
--- ---- The reduced order that gets stuck
+-- ---- Nothing leads on from the core that is stuck
 
-here : (c : Core) → is_private_on program (part c.parts 1) ≡ false → is_private_on program (part c.parts 2) ≡ false → Settles M c c
-here c one two = record { made = []; within = tt; leads = refl; settled = none_of_two c one two }
+no_private_step : (is_private_on program (part stuck.parts 1) ≡ false) × (is_private_on program (part stuck.parts 2) ≡ false)
+no_private_step = (refl, refl)
 
-two_ends : Settles M (apply M (next started (KernelStep 2) []) (KernelStep 2)) signalled
-two_ends = record { made = 2 ∷ []; within = (refl, tt); leads = refl; settled = none_of_two signalled refl refl }
-
-gets_stuck : ReducedFrom M first 1 stuck
-gets_stuck = record {
-  first = first;
-  settles = here first refl refl;
-  choices = KernelStep 1 ∷ KernelStep 1 ∷ KernelStep 1 ∷ EndRound ∷ KernelStep 2 ∷ KernelStep 2 ∷ KernelStep 1 ∷ KernelStep 1 ∷ [];
-  reduced = (
-    (refl, refl),
-    next first (KernelStep 1) [],
-    here _ refl refl,
-    (
-      (refl, refl),
-      next (next first (KernelStep 1) []) (KernelStep 1) [],
-      here _ refl refl,
-      (
-        (refl, refl),
-        next (next (next first (KernelStep 1) []) (KernelStep 1) []) (KernelStep 1) [],
-        here _ refl refl,
-        (
-          tt,
-          started,
-          here _ refl refl,
-          (
-            (refl, refl),
-            next started (KernelStep 2) [],
-            here _ refl refl,
-            (
-              (refl, refl),
-              signalled,
-              two_ends,
-              (
-                (refl, refl),
-                next signalled (KernelStep 1) [],
-                here _ refl refl,
-                ((refl, refl), stuck, here _ refl refl, refl),
-              ),
-            ),
-          ),
-        ),
-      ),
-    ),
-  );
-  count = refl;
-}
-
--- ---- A closed set: of the state in which both are stuck, nothing leads anywhere
+no_kernel_step : (is_kernel_on program stuck.kernel (part stuck.parts 1) ≡ false) × (is_kernel_on program stuck.kernel (part stuck.parts 2) ≡ false)
+no_kernel_step = (refl, refl)
 
 nobody_begins : NoneFresh stuck.kernel
 nobody_begins = record { none = by }
@@ -162,18 +90,8 @@ nobody_begins = record { none = by }
     by (suc (suc zero)) e = no e
     by (suc (suc (suc p))) e = no e
 
-only_stuck : IsClosed M (λ c. c ≡ stuck)
-only_stuck = record {
-  settled = λ v e. subst (IsSettled M) (sym e) (none_of_two stuck refl refl);
-  kernel = λ v p e there due. absurd (none p there (sym (ap (λ (c : Core). M.is_kernel c p) e) ∙ due));
-  close = λ v e. (stuck, refl, subst (λ c. Settles M c stuck) (sym (ap (close program) e ∙ close_nobody program stuck nobody_begins)) (here stuck refl refl));
-}
-  where
-    none : (p : ℕ) → is_in p (1 ∷ 2 ∷ []) ≡ true → M.is_kernel stuck p ≡ true → ⊥
-    none zero there due = true≢false (sym due)
-    none (suc zero) there due = true≢false (sym due)
-    none (suc (suc zero)) there due = true≢false (sym due)
-    none (suc (suc (suc p))) there due = past p there
+stays_stuck : close program stuck ≡ stuck
+stays_stuck = close_nobody program stuck nobody_begins
 
 -- ---- Wiping
 

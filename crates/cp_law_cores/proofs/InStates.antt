@@ -14,16 +14,17 @@ use Rattle.cp_model.specs.Parts as parts
 use Rattle.cp_model.specs.Parts.{PrivateStatus, is_own, private_status}
 use Rattle.cp_model.specs.Reach.{in_reach}
 use Rattle.cp_model.specs.Rounds as rounds
-use Rattle.cp_model.specs.Rounds.{Event, close_round, replay_event}
+use Rattle.cp_model.specs.Rounds.{Event, close_round, replay_event, wake}
 use Rattle.cp_model.specs.States.{Setup, State, is_in, process_count, processes}
-use Rattle.cp_model.specs.Turns.{Kernel, Private, kind, kind_of}
+use Rattle.cp_model.specs.Turns.{Kernel, Private, kernel_step, kind, kind_of, private_step}
 use Rattle.cp_law_gates.specs.InOrder.{world}
-use Rattle.cp_law_gates.proofs.Reached.{event_keeps}
+use Rattle.cp_law_gates.proofs.Reached.{event_keeps, wakes}
 use Rattle.cp_model_program.specs.Programs.{Operation, Program}
 use Rattle.cp_model_machine.specs.Addresses.{Ground}
 use Rattle.cp_model_machine.specs.InState.{IsIn, PartRepresents}
 use Rattle.cp_model_machine.specs.Laws.{ground_of}
 use Rattle.cp_model_machine.specs.Remaining.{innermost_gate}
+use Rattle.cp_model_machine.specs.Machines as machines
 use Rattle.cp_model_machine.specs.Machines.{Machine, end_round, transcript_of}
 use Rattle.cp_model_machine.specs.PartOf.{IsActive, RunsOn, status_of}
 use Rattle.cp_model_machine.specs.PrivateStates as machine
@@ -33,18 +34,18 @@ use Rattle.cp_model_machine.specs.Steps.{alone, is_held, is_kernel_operation, is
 use Rattle.cp_model_machine.proofs.Deciding.{ready_steps}
 use Rattle.cp_model_machine.proofs.GatesHeld.{gate_is_held}
 use Rattle.cp_model_machine.proofs.MachineReplays.{event_represents}
+use Rattle.cp_model_machine.proofs.MachineRounds.{spelled, wake_represents}
 use Rattle.cp_model_machine.proofs.MachineStarts.{as_whole, end_is_end, ordered, own_words, part_by_part}
 use Rattle.cp_model_machine.proofs.PrivateSteps.{IsRunning, running_is}
 use Rattle.cp_model_machine.proofs.Stepping.{clock_of}
 use Rattle.cp_law_cores.specs.Clocks.{is_timeless}
-use Rattle.cp_law_cores.specs.Cores.{Core, close, core, core_moves, is_private_on, part, silent}
-use Rattle.cp_law_cores.specs.Moves.{AreIn, IsSettled, Moves, apply, steps}
-use Rattle.cp_law_cores.specs.Schedules.{IsCoreIn}
-use Rattle.cp_law_cores.specs.States.{is_private_kind, moves}
-use Rattle.cp_law_cores.proofs.Parts.{map_got}
-use Rattle.cp_law_cores.proofs.Runs.{act_of, event_sees, here, in_range}
-use Rattle.cp_law_cores.proofs.Schedules.{got}
-use Rattle.cp_law_cores.proofs.Seen.{Sees, end_round_by}
+use Rattle.cp_law_cores.specs.Cores.{Core, close, core, is_private_on, kernel_at, part, private_at, silent}
+use Rattle.cp_law_cores.specs.CoresOfStates.{IsCoreIn, is_private_kind}
+use Rattle.cp_law_cores.specs.Laws.{CoreReportsKind, RoundsKeepCores, StepsKeepCores}
+use Rattle.cp_law_cores.proofs.Acts.{apply}
+use Rattle.cp_law_cores.proofs.Parts.{got, in_range, map_got}
+use Rattle.cp_law_cores.proofs.Runs.{act_of, event_sees, here}
+use Rattle.cp_law_cores.proofs.Seen.{Sees, end_round_by, wake_seen}
 
 reach_own : (p : ℕ) (o : Owner) → in_reach p [] o ≡ true → is_own p o ≡ true
 reach_own p (OfProcess q) h = h
@@ -157,9 +158,6 @@ module _ (m : Machine) (setup : Setup) (s : State) (I : IsIn m setup s) (p : ℕ
 -- ---- Cores in states
 
 module _ (program : Program) (setup : Setup) where
-  abbrev M : Moves Core
-  M = core_moves program (process_count setup)
-
   pub kinds_agree : (s : State) (c : Core) (p : ℕ) → IsCoreIn program setup s c → is_in p (processes setup) ≡ true
       → is_private_on program (part c.parts p) ≡ is_private_kind (kind s p)
   kinds_agree s c p h there =
@@ -177,12 +175,6 @@ module _ (program : Program) (setup : Setup) where
           let represents = h.inside.parts (suc i) x.0 (Prim.omega arith) (subst (λ k. slice_get m.parts k ≡ Some x.0) place x.1) in
           ap (is_private_on m.program) (map_got silent m.parts i x.0 x.1) ∙ agree m setup s h.inside (suc i) x.0 represents
 
-  -- What is settled is reported by the state.
-  pub settled_like : (s : State) (c d : Core) → IsCoreIn program setup s c → IsCoreIn program setup s d → IsSettled M c → IsSettled M d
-  settled_like s c d h k settled = record {
-    none = λ p there. kinds_agree s d p k there ∙ (sym (kinds_agree s c p h there) ∙ settled.none p there);
-  }
-
   -- ---- Steps
 
   module _ (timeless : is_timeless program ≡ true) where
@@ -197,11 +189,11 @@ module _ (program : Program) (setup : Setup) where
     }
 
     event_in : (e : Event) → 1 ≤ process_of e → process_of e ≤ process_count setup → (s : State) (c : Core) → IsCoreIn program setup s c
-        → IsCoreIn program setup (replay_event setup 1 s e) (apply M c (act_of e))
+        → IsCoreIn program setup (replay_event setup 1 s e) (apply program c (act_of e))
     event_in e low high s c h =
         let m = h.machine in
         let I = h.inside in
-        let after = event_sees program (process_count setup) e m c low (sees_of s c h) in
+        let after = event_sees program e m c low (sees_of s c h) in
         record {
           machine = event 1 m e;
           program_is = after.timeless.program_is;
@@ -213,9 +205,9 @@ module _ (program : Program) (setup : Setup) where
           is = after.sees;
         }
 
-    close_in : (s : State) (c : Core) → IsCoreIn program setup s c → IsCoreIn program setup (close_round s) (close program c)
+    pub close_in : (s : State) (c : Core) → IsCoreIn program setup s c → IsCoreIn program setup (close_round s) (close program c)
     close_in s c h =
-        let after = here program (process_count setup) end_round close (λ m i. end_round_by m i) h.machine c (sees_of s c h) in
+        let after = here program end_round close (λ m i. end_round_by m i) h.machine c (sees_of s c h) in
         record {
           machine = end_round h.machine;
           program_is = after.timeless.program_is;
@@ -225,17 +217,39 @@ module _ (program : Program) (setup : Setup) where
         }
 
     pub private_in : (p : ℕ) → is_in p (processes setup) ≡ true → (s : State) (c : Core) → IsCoreIn program setup s c
-        → IsCoreIn program setup ((moves setup).private s p) (M.private c p)
+        → IsCoreIn program setup (private_step setup s p) (private_at program c p)
     private_in p there s c h = let r = in_range setup p there in event_in (rounds.PrivateStep p) r.0 r.1 s c h
 
     pub kernel_in : (p : ℕ) → is_in p (processes setup) ≡ true → (s : State) (c : Core) → IsCoreIn program setup s c
-        → IsCoreIn program setup ((moves setup).kernel s p) (M.kernel c p)
+        → IsCoreIn program setup (kernel_step setup s p) (kernel_at program c p)
     kernel_in p there s c h = let r = in_range setup p there in event_in (rounds.KernelTurn p) r.0 r.1 s c h
 
-    pub closed_in : (s : State) (c : Core) → IsCoreIn program setup s c → IsCoreIn program setup (close_round s) (M.close c)
-    closed_in s c h = close_in s c h
+-- Nobody waits, so the waking changes nothing.
+pub wake_in : (program : Program) (setup : Setup) (s : State) (c : Core) → IsCoreIn program setup s c → IsCoreIn program setup (wake setup s) c
+wake_in program setup s c h =
+    let m = h.machine in
+    let I = h.inside in
+    record {
+      machine = m;
+      program_is = h.program_is;
+      awake = h.awake;
+      inside =
+          subst (λ (x : Machine). IsIn x setup (wake setup s)) (wake_seen m h.awake)
+          (as_whole m.program setup I.represents (own_words m) (wake setup s) (machines.wake m)
+          (spelled m.program setup I.represents (own_words m) s (wake setup s) machines.wake
+          (λ k os ts A. wake_represents m.program setup I.represents (own_words m) s k os ts A) m (part_by_part m setup s I))
+          (wakes (world setup) (ordered m.program setup I.represents) setup s I.order));
+      is = h.is;
+    }
 
-    pub steps_in : (es : List ℕ) (s : State) (c : Core) → AreIn (processes setup) es → IsCoreIn program setup s c
-        → IsCoreIn program setup (steps (moves setup) s es) (steps M c es)
-    steps_in [] s c within h = h
-    steps_in (p ∷ es) s c within h = steps_in es ((moves setup).private s p) (M.private c p) within.1 (private_in p within.0 s c h)
+-- ---- The laws
+
+pub core_reports_kind : CoreReportsKind
+core_reports_kind program setup s c p h there = kinds_agree program setup s c p h there
+
+pub steps_keep_cores : StepsKeepCores
+steps_keep_cores program setup s c p timeless h there =
+    (private_in program setup timeless p there s c h, kernel_in program setup timeless p there s c h)
+
+pub rounds_keep_cores : RoundsKeepCores
+rounds_keep_cores program setup s c timeless h = (close_in program setup timeless s c h, wake_in program setup s c h)

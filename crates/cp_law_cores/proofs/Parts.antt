@@ -1,7 +1,9 @@
--- Lists of private states, by the numbers of the processes.
-use Rattle.std.specs.Prelude.{List, None, Option, Some, [], false, map, refl, slice_get, slice_set, suc, true, zero, ℕ, ◌∷◌, ◌≡◌, ◌≢◌}
-use Rattle.std.proofs.Common.{ap, sym}
-use Rattle.std.proofs.lemmas.Bool.{true≢false}
+-- Lists of private states, by the numbers of the processes, and the numbers themselves.
+use Rattle.std.specs.Prelude.{Bool, List, None, Option, Some, [], false, if◌then◌else◌, length, map, nat_eq, refl, slice_get, slice_set, suc, true, zero, ℕ, ◌+◌, ◌<◌, ◌∷◌, ◌≡◌, ◌≢◌, ◌≤◌}
+use Rattle.std.proofs.Common.{ap, arith, sym, ◌∙◌}
+use Rattle.std.proofs.lemmas.Bool.{eqb-true, true≢false}
+use Rattle.cp_model.proofs.Options.{same_some}
+use Rattle.cp_model.specs.States.{Setup, is_in, numbers_from, process_count, processes}
 use Rattle.cp_model_machine.specs.PrivateStates.{PrivateState}
 use Rattle.cp_law_cores.specs.Cores.{part, put}
 
@@ -20,13 +22,6 @@ module _ {X : Type 0} where
   set_there (x ∷ xs) zero (suc j) z d = refl
   set_there (x ∷ xs) (suc i) zero z d = refl
   set_there (x ∷ xs) (suc i) (suc j) z d = set_there xs i j z (λ e. d (ap suc e))
-
-  set_swap : (xs : List X) (i j : ℕ) (a b : X) → i ≢ j → slice_set (slice_set xs i a) j b ≡ slice_set (slice_set xs j b) i a
-  set_swap [] i j a b d = refl
-  set_swap (x ∷ xs) zero zero a b d = absurd (d refl)
-  set_swap (x ∷ xs) zero (suc j) a b d = refl
-  set_swap (x ∷ xs) (suc i) zero a b d = refl
-  set_swap (x ∷ xs) (suc i) (suc j) a b d = ap (λ l. x ∷ l) (set_swap xs i j a b (λ e. d (ap suc e)))
 
   pub set_same : (xs : List X) (i : ℕ) (x : X) → slice_get xs i ≡ Some x → slice_set xs i x ≡ xs
   set_same [] i x e = refl
@@ -59,20 +54,48 @@ part_there os zero q z d = refl
 part_there os (suc i) zero z d = refl
 part_there os (suc i) (suc j) z d = set_there os i j z (λ e. d (ap suc e))
 
-pub put_swap : (os : List PrivateState) (p q : ℕ) (a b : PrivateState) → p ≢ q → put (put os p a) q b ≡ put (put os q b) p a
-put_swap os zero zero a b d = refl
-put_swap os zero (suc j) a b d = refl
-put_swap os (suc i) zero a b d = refl
-put_swap os (suc i) (suc j) a b d = set_swap os i j a b (λ e. d (ap suc e))
-
-pub map_put : (f : PrivateState → PrivateState) (os : List PrivateState) (p : ℕ) (z : PrivateState) → map f (put os p z) ≡ put (map f os) p (f z)
-map_put f os zero z = refl
-map_put f os (suc i) z = map_set f os i z
-
-pub map_part : (f : PrivateState → PrivateState) (os : List PrivateState) (p : ℕ) (o : PrivateState) → part os p ≡ Some o → part (map f os) p ≡ Some (f o)
+map_part : (f : PrivateState → PrivateState) (os : List PrivateState) (p : ℕ) (o : PrivateState) → part os p ≡ Some o → part (map f os) p ≡ Some (f o)
 map_part f os zero o e = absurd (none_is o e)
 map_part f os (suc i) o e = map_got f os i o e
 
-pub map_no_part : (f : PrivateState → PrivateState) (os : List PrivateState) (p : ℕ) → part os p ≡ None → part (map f os) p ≡ None
+map_no_part : (f : PrivateState → PrivateState) (os : List PrivateState) (p : ℕ) → part os p ≡ None → part (map f os) p ≡ None
 map_no_part f os zero e = refl
 map_no_part f os (suc i) e = map_none f os i e
+
+-- Mapped private states come from private states.
+pub from_map : (f : PrivateState → PrivateState) (os : List PrivateState) (p : ℕ) (o : PrivateState) → part (map f os) p ≡ Some o
+    → (y : PrivateState) × (part os p ≡ Some y) × (f y ≡ o)
+from_map f os p o is = by (part os p) refl
+  where
+    by : (x : Option PrivateState) → part os p ≡ x → (y : PrivateState) × (part os p ≡ Some y) × (f y ≡ o)
+    by None e = absurd (none_is o (sym (map_no_part f os p e) ∙ is))
+    by (Some y) e = (y, e, same_some (f y) o (sym (map_part f os p y e) ∙ is))
+
+pub got : {X : Type 0} (xs : List X) (i : ℕ) → i < length xs → (x : X) × (slice_get xs i ≡ Some x)
+got [] i h = absurd (Prim.omega (arith, h))
+got (x ∷ xs) zero h = (x, refl)
+got (x ∷ xs) (suc i) h = got xs i (Prim.omega (arith, h))
+
+-- ---- Numbers of processes
+
+pub numbered : (n p q : ℕ) → is_in p (numbers_from q n) ≡ true → (q ≤ p) × (p < q + n)
+numbered zero p q h = absurd (true≢false (sym h))
+numbered (suc n) p q h = by (nat_eq p q) refl h (numbered n p (suc q))
+  where
+    by : (b : Bool) → nat_eq p q ≡ b → (if b then true else is_in p (numbers_from (suc q) n)) ≡ true
+        → (is_in p (numbers_from (suc q) n) ≡ true → (suc q ≤ p) × (p < suc q + n)) → (q ≤ p) × (p < q + suc n)
+    by true e h later =
+        let same : p ≡ q = eqb-true p q e in
+        (Prim.omega (arith, same), Prim.omega (arith, same))
+    by false e h later =
+        let r = later h in
+        let low = r.0 in
+        let high = r.1 in
+        (Prim.omega (arith, low), Prim.omega (arith, high))
+
+pub in_range : (setup : Setup) (p : ℕ) → is_in p (processes setup) ≡ true → (1 ≤ p) × (p ≤ process_count setup)
+in_range setup p h =
+    let r = numbered (process_count setup) p 1 h in
+    let low = r.0 in
+    let high = r.1 in
+    (low, Prim.omega (arith, high))

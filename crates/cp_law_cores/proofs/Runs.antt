@@ -1,11 +1,10 @@
 -- Rounds in any orders, of machines and of their cores.
-use Rattle.std.specs.Prelude.{Bool, List, [], false, fold, if◌then◌else◌, nat_eq, refl, suc, true, zero, ℕ, ◌+◌, ◌<◌, ◌∷◌, ◌≡◌, ◌≤◌}
+use Rattle.std.specs.Prelude.{List, [], fold, refl, suc, true, zero, ℕ, ◌∷◌, ◌≡◌, ◌≤◌}
 use Rattle.std.proofs.Common.{ap, arith, subst, sym, ◌∙◌}
-use Rattle.std.proofs.lemmas.Bool.{eqb-true, true≢false}
 use Rattle.cp_model.specs.Orders as orders
 use Rattle.cp_model.specs.Rounds as rounds
 use Rattle.cp_model.specs.Rounds.{Event, close_round, replay_event, replay_round, wake}
-use Rattle.cp_model.specs.States.{Setup, State, is_in, numbers_from, process_count, processes}
+use Rattle.cp_model.specs.States.{Setup, State, is_in, process_count, processes}
 use Rattle.cp_model.specs.Turns.{kernel_step, kernel_turn, private_step}
 use Rattle.cp_model_program.specs.Programs.{Program}
 use Rattle.cp_model_machine.specs.InState.{IsIn}
@@ -14,9 +13,10 @@ use Rattle.cp_model_machine.specs.Machines.{Machine, begin_one, end_round, next_
 use Rattle.cp_model_machine.specs.Replays.{AreWithin, event, process_of, replay}
 use Rattle.cp_model_machine.proofs.MachineReplays.{replay_is_replay}
 use Rattle.cp_law_stillness.specs.Stillness.{AreAllOfProcesses, AreOfProcesses}
-use Rattle.cp_law_cores.specs.Moves.{Act, AreOf, EndRound, KernelStep, PrivateStep, after, apply}
-use Rattle.cp_law_cores.specs.Schedules.{with_one}
-use Rattle.cp_law_cores.specs.Cores.{Core, close, core, core_moves, kernel_at, private_at}
+use Rattle.cp_law_cores.specs.CoresOfStates.{with_one}
+use Rattle.cp_law_cores.specs.Cores.{Core, close, core, kernel_at, private_at}
+use Rattle.cp_law_cores.proofs.Acts.{Act, AreOf, EndRound, KernelStep, PrivateStep, after, apply}
+use Rattle.cp_law_cores.proofs.Parts.{in_range}
 use Rattle.cp_law_cores.proofs.Seen.{IsTimeless, Sees, end_round_by, kernel_turn_by, private_turn_by, wake_seen}
 
 -- ---- Kernel turns of one step
@@ -53,29 +53,7 @@ module _ (setup : Setup) where
 
 -- ---- Numbers of processes
 
-pub numbered : (n p q : ℕ) → is_in p (numbers_from q n) ≡ true → (q ≤ p) × (p < q + n)
-numbered zero p q h = absurd (true≢false (sym h))
-numbered (suc n) p q h = by (nat_eq p q) refl h (numbered n p (suc q))
-  where
-    by : (b : Bool) → nat_eq p q ≡ b → (if b then true else is_in p (numbers_from (suc q) n)) ≡ true
-        → (is_in p (numbers_from (suc q) n) ≡ true → (suc q ≤ p) × (p < suc q + n)) → (q ≤ p) × (p < q + suc n)
-    by true e h later =
-        let same : p ≡ q = eqb-true p q e in
-        (Prim.omega (arith, same), Prim.omega (arith, same))
-    by false e h later =
-        let r = later h in
-        let low = r.0 in
-        let high = r.1 in
-        (Prim.omega (arith, low), Prim.omega (arith, high))
-
 module _ (setup : Setup) where
-  pub in_range : (p : ℕ) → is_in p (processes setup) ≡ true → (1 ≤ p) × (p ≤ process_count setup)
-  in_range p h =
-      let r = numbered (process_count setup) p 1 h in
-      let low = r.0 in
-      let high = r.1 in
-      (low, Prim.omega (arith, high))
-
   kernel_within : (t p : ℕ) (es : List Event) → is_in p (processes setup) ≡ true → AreOfProcesses setup es → AreOfProcesses setup (kernel_events t p es)
   kernel_within zero p es there h = h
   kernel_within (suc t) p es there h = (there, kernel_within t p es there h)
@@ -91,8 +69,8 @@ module _ (setup : Setup) where
 
   within_range : (es : List Event) → AreOfProcesses setup es → AreWithin (process_count setup) es
   within_range [] h = tt
-  within_range (rounds.PrivateStep p ∷ es) h = let r = in_range p h.0 in (r.0, r.1, within_range es h.1)
-  within_range (rounds.KernelTurn p ∷ es) h = let r = in_range p h.0 in (r.0, r.1, within_range es h.1)
+  within_range (rounds.PrivateStep p ∷ es) h = let r = in_range setup p h.0 in (r.0, r.1, within_range es h.1)
+  within_range (rounds.KernelTurn p ∷ es) h = let r = in_range setup p h.0 in (r.0, r.1, within_range es h.1)
 
   -- ---- A machine that makes the rounds
 
@@ -120,7 +98,7 @@ abbrev pub acts_of : List (List Event) → List Act
 acts_of [] = []
 acts_of (es ∷ rs) = acts_then es (EndRound ∷ acts_of rs)
 
-module _ (program : Program) (n : ℕ) where
+module _ (program : Program) where
   -- What holds of the machine's own program holds of this one.
   pub here : (f : Machine → Machine) (g : Program → Core → Core)
       → ((m : Machine) → IsTimeless m.program m → Sees m.program (f m) (g m.program (core m)))
@@ -130,7 +108,7 @@ module _ (program : Program) (n : ℕ) where
       subst (λ (z : Core). Sees program (f m) (g program z)) s.sees
       (subst (λ (q : Program). Sees q (f m) (g q (core m))) s.timeless.program_is (h m own))
 
-  pub event_sees : (e : Event) (m : Machine) (c : Core) → 1 ≤ process_of e → Sees program m c → Sees program (event 1 m e) (apply (core_moves program n) c (act_of e))
+  pub event_sees : (e : Event) (m : Machine) (c : Core) → 1 ≤ process_of e → Sees program m c → Sees program (event 1 m e) (apply program c (act_of e))
   event_sees (rounds.PrivateStep zero) m c low s = absurd (Prim.omega (arith, low))
   event_sees (rounds.PrivateStep (suc i)) m c low s =
       here (λ x. machine.private_turn 1 x (suc i)) (λ q z. private_at q z (suc i)) (λ x h. private_turn_by x i h) m c s
@@ -139,15 +117,15 @@ module _ (program : Program) (n : ℕ) where
       here (λ x. machine.kernel_turn 1 x (suc i)) (λ q z. kernel_at q z (suc i)) (λ x h. kernel_turn_by x i h) m c s
 
   events_see : (es : List Event) (k : ℕ) (m : Machine) (c : Core) → AreWithin k es → Sees program m c
-      → (rest : List Act) → (z : Core) × Sees program (fold (event 1) m es) z × (after (core_moves program n) c (acts_then es rest) ≡ after (core_moves program n) z rest)
+      → (rest : List Act) → (z : Core) × Sees program (fold (event 1) m es) z × (after program c (acts_then es rest) ≡ after program z rest)
   events_see [] k m c h s rest = (c, s, refl)
-  events_see (e ∷ es) k m c h s rest = events_see es k (event 1 m e) (apply (core_moves program n) c (act_of e)) h.2 (event_sees e m c h.0 s) rest
+  events_see (e ∷ es) k m c h s rest = events_see es k (event 1 m e) (apply program c (act_of e)) h.2 (event_sees e m c h.0 s) rest
 
   woken : (m : Machine) (c : Core) → Sees program m c → Sees program (machine.wake m) c
   woken m c s = subst (λ (x : Machine). Sees program x c) (sym (wake_seen m s.timeless.awake)) s
 
   pub made_sees : (setup : Setup) (rs : List (List Event)) (m : Machine) (c : Core) → AreAllOfProcesses setup (with_one rs) → Sees program m c
-      → Sees program (made setup m rs) (after (core_moves program n) c (acts_of rs))
+      → Sees program (made setup m rs) (after program c (acts_of rs))
   made_sees setup [] m c h s = s
   made_sees setup (es ∷ rs) m c h s =
       let r = events_see es (process_count setup) (machine.wake m) c (within_range setup es h.0) (woken m c s) (EndRound ∷ acts_of rs) in
@@ -155,11 +133,11 @@ module _ (program : Program) (n : ℕ) where
       subst (λ (z : Core). Sees program (made setup (replay 1 es m) rs) z) (sym r.2)
       (made_sees setup rs (replay 1 es m) (close program r.0) h.1 ended)
 
-  acts_then_within : (setup : Setup) (es : List Event) (rest : List Act) → AreOfProcesses setup es → AreOf (processes setup) rest → AreOf (processes setup) (acts_then es rest)
-  acts_then_within setup [] rest h k = k
-  acts_then_within setup (rounds.PrivateStep p ∷ es) rest h k = (h.0, acts_then_within setup es rest h.1 k)
-  acts_then_within setup (rounds.KernelTurn p ∷ es) rest h k = (h.0, acts_then_within setup es rest h.1 k)
+acts_then_within : (setup : Setup) (es : List Event) (rest : List Act) → AreOfProcesses setup es → AreOf (processes setup) rest → AreOf (processes setup) (acts_then es rest)
+acts_then_within setup [] rest h k = k
+acts_then_within setup (rounds.PrivateStep p ∷ es) rest h k = (h.0, acts_then_within setup es rest h.1 k)
+acts_then_within setup (rounds.KernelTurn p ∷ es) rest h k = (h.0, acts_then_within setup es rest h.1 k)
 
-  pub acts_within : (setup : Setup) (rs : List (List Event)) → AreAllOfProcesses setup (with_one rs) → AreOf (processes setup) (acts_of rs)
-  acts_within setup [] h = tt
-  acts_within setup (es ∷ rs) h = acts_then_within setup es (EndRound ∷ acts_of rs) h.0 (tt, acts_within setup rs h.1)
+pub acts_within : (setup : Setup) (rs : List (List Event)) → AreAllOfProcesses setup (with_one rs) → AreOf (processes setup) (acts_of rs)
+acts_within setup [] h = tt
+acts_within setup (es ∷ rs) h = acts_then_within setup es (EndRound ∷ acts_of rs) h.0 (tt, acts_within setup rs h.1)

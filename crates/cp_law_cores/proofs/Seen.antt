@@ -14,7 +14,7 @@ use Rattle.cp_model_machine.specs.Steps.{act_on, alone, is_private, operation_of
 use Rattle.cp_law_cores.specs.Clocks.{are_timeless, is_timeless, operation_is_timeless}
 use Rattle.cp_law_cores.specs.Cores.{Core, close, core, is_private_on, kernel_at, kernel_on, private_at, silent, turned, with_turning}
 use Rattle.cp_law_cores.proofs.Parts.{map_got, map_none, map_set, none_is, set_same}
-use Rattle.cp_law_cores.specs.Schedules.{AreAwake, waits}
+use Rattle.cp_law_cores.specs.CoresOfStates.{AreAwake, waits}
 use Rattle.cp_law_cores.proofs.Timeless.{Alike, act_alike, both}
 
 -- ---- The operations of the program

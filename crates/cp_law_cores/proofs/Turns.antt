@@ -1,24 +1,40 @@
 -- Private turns of cores as private steps, and ends of rounds in which nobody begins.
-use Rattle.std.specs.Prelude.{Bool, List, None, Option, Some, [], false, fold, if◌then◌else◌, map, nat_eq, refl, replicate, slice_set, suc, true, zero, ℕ, ◌++◌, ◌∷◌, ◌≡◌}
+--
+-- A turn keeps what it writes until it ends, and a step of a core drops it at once. No operation of
+-- a timeless program reads what was written, so both lead to the same core.
+use Rattle.std.specs.Prelude.{Bool, List, None, Option, Some, [], false, if◌then◌else◌, map, nat_eq, refl, slice_get, slice_set, suc, true, zero, ℕ, ◌∷◌, ◌≡◌}
 use Rattle.std.proofs.Common.{ap, subst, sym, ◌∙◌}
 use Rattle.std.proofs.lemmas.Bool.{eqb-false, eqb-true, true≢false}
 use Rattle.cp_model.proofs.Options.{same_some}
-use Rattle.cp_model.specs.States.{is_in, numbers_from}
-use Rattle.cp_model.proofs.Lists.{in_head, in_more}
 use Rattle.cp_model_program.specs.Programs.{Operation, Program}
 use Rattle.cp_model_machine.specs.KernelSteps.{Asking, Begun, Delayed, Fresh, Kernel, SchedulingState, Unstarted, stage_of}
 use Rattle.cp_model_machine.specs.Machines.{begin_if, begin_one, next_stage}
 use Rattle.cp_model_machine.specs.PrivateStates.{StepContext, PrivateState, is_running}
 use Rattle.cp_model_machine.specs.Steps.{act_on, alone, is_private, operation_of, private_step, private_steps}
+use Rattle.cp_model_machine.proofs.AheadNumbers.{step_keeps_number}
 use Rattle.cp_law_cores.specs.Clocks.{is_timeless}
-use Rattle.cp_law_cores.specs.Cores.{Core, close, core_moves, is_private_on, part, private_at, put, silent, turned}
-use Rattle.cp_law_cores.specs.Moves.{AreIn, IsSettled, Settles, steps}
-use Rattle.cp_law_cores.specs.Turns.{AreSilent, NoneFresh, private_turn, private_turns, turn_on}
-use Rattle.cp_law_cores.proofs.Begun.{at}
+use Rattle.cp_law_cores.specs.Cores.{Core, close, is_private_on, part, private_at, put, silent, turned}
+use Rattle.cp_law_cores.specs.Turns.{AreSilent, NoneFresh, private_turn, turn_on}
 use Rattle.cp_law_cores.proofs.Parts.{part_here, part_there, set_same}
 use Rattle.cp_law_cores.proofs.Seen.{timeless_at}
 use Rattle.cp_law_cores.proofs.Timeless.{act_alike}
-use Rattle.cp_law_cores.proofs.Settling.{steps_on, within_on}
+
+module _ (program : Program) where
+  pub step_number : (o : PrivateState) → (private_step program 0 o).number ≡ o.number
+  step_number o = by (is_running o.activity) (is_private o (operation_of program o))
+    where
+      by : (a b : Bool) → (if a then (if b then (act_on program (alone 0 o) o (operation_of program o)).0 else o) else o).number ≡ o.number
+      by true true = step_keeps_number program (alone 0 o) o
+      by true false = refl
+      by false b = refl
+
+  -- Where the next step isn't private, there is no private step.
+  pub idle : (c : Core) (p : ℕ) → is_private_on program (part c.parts p) ≡ false → private_at program c p ≡ c
+  idle c p h = by (part c.parts p) h
+    where
+      by : (x : Option PrivateState) → is_private_on program x ≡ false → record c { parts = turned program c.parts p x } ≡ c
+      by None h = refl
+      by (Some o) h = ap (λ (b : Bool). record c { parts = if b then put c.parts p (silent (private_step program 0 o)) else c.parts }) h
 
 module _ (program : Program) (timeless : is_timeless program ≡ true) where
   -- ---- What was written doesn't matter
@@ -78,75 +94,52 @@ module _ (program : Program) (timeless : is_timeless program ≡ true) where
       by true h = refl
       by false h = sym (ap (put c.parts p) (ap silent (step_none o h) ∙ quiet) ∙ put_same c.parts p o e)
 
-  module _ (n : ℕ) where
-    steps_are : (t : ℕ) (c : Core) (p : ℕ) (o : PrivateState) → part c.parts p ≡ Some o → silent o ≡ o
-        → steps (core_moves program n) c (replicate t p) ≡ record c { parts = put c.parts p (silent (private_steps program 0 t o)) }
-    steps_are zero c p o e quiet = ap (λ os. record c { parts = os }) (sym (ap (put c.parts p) quiet ∙ put_same c.parts p o e))
-    steps_are (suc t) c p o e quiet =
-        let z = silent (private_step program 0 o) in
-        let moved : Core = record c { parts = put c.parts p z } in
-        ap (λ x. steps (core_moves program n) x (replicate t p)) (step_is c p o e quiet)
-        ∙ (steps_are t moved p z (part_here c.parts p o z e) refl
-        ∙ ap (λ os. record c { parts = os })
-        (put_again c.parts p z (silent (private_steps program 0 t z)) ∙ ap (put c.parts p) (steps_quiet t (private_step program 0 o))))
+  -- Private steps of a process, one after another.
+  abbrev pub private_steps_at : ℕ → Core → ℕ → Core
+  private_steps_at zero c p = c
+  private_steps_at (suc t) c p = private_steps_at t (private_at program c p) p
 
-    none_steps : (t : ℕ) (c : Core) (p : ℕ) → part c.parts p ≡ None → steps (core_moves program n) c (replicate t p) ≡ c
-    none_steps zero c p e = refl
-    none_steps (suc t) c p e =
-        ap (λ x. steps (core_moves program n) x (replicate t p)) (ap (λ x. record c { parts = turned program c.parts p x }) e)
-        ∙ none_steps t c p e
+  steps_are : (t : ℕ) (c : Core) (p : ℕ) (o : PrivateState) → part c.parts p ≡ Some o → silent o ≡ o
+      → private_steps_at t c p ≡ record c { parts = put c.parts p (silent (private_steps program 0 t o)) }
+  steps_are zero c p o e quiet = ap (λ os. record c { parts = os }) (sym (ap (put c.parts p) quiet ∙ put_same c.parts p o e))
+  steps_are (suc t) c p o e quiet =
+      let z = silent (private_step program 0 o) in
+      let moved : Core = record c { parts = put c.parts p z } in
+      ap (λ x. private_steps_at t x p) (step_is c p o e quiet)
+      ∙ (steps_are t moved p z (part_here c.parts p o z e) refl
+      ∙ ap (λ os. record c { parts = os })
+      (put_again c.parts p z (silent (private_steps program 0 t z)) ∙ ap (put c.parts p) (steps_quiet t (private_step program 0 o))))
 
-    pub turn_is : (t : ℕ) (c : Core) (p : ℕ) → AreSilent c → steps (core_moves program n) c (replicate t p) ≡ private_turn program t c p
-    turn_is t c p h = by (part c.parts p) refl
-      where
-        by : (x : Option PrivateState) → part c.parts p ≡ x → steps (core_moves program n) c (replicate t p) ≡ turn_on program t c p x
-        by None e = none_steps t c p e
-        by (Some o) e = steps_are t c p o e (h.silence p o e)
+  none_steps : (t : ℕ) (c : Core) (p : ℕ) → part c.parts p ≡ None → private_steps_at t c p ≡ c
+  none_steps zero c p e = refl
+  none_steps (suc t) c p e =
+      ap (λ x. private_steps_at t x p) (ap (λ x. record c { parts = turned program c.parts p x }) e)
+      ∙ none_steps t c p e
 
-    pub turn_silent : (t : ℕ) (c : Core) (p : ℕ) → AreSilent c → AreSilent (private_turn program t c p)
-    turn_silent t c p h = record { silence = λ q o e. by (part c.parts p) refl q o e }
-      where
-        on : (y : PrivateState) → part c.parts p ≡ Some y → (q : ℕ) (o : PrivateState) (z : PrivateState) → silent z ≡ z → part (put c.parts p z) q ≡ Some o → (b : Bool) → nat_eq p q ≡ b → silent o ≡ o
-        on y f q o z quiet e true g =
-            let at_p = subst (λ r. part (put c.parts p z) r ≡ Some o) (sym (eqb-true p q g)) e in
-            subst (λ v. silent v ≡ v) (same_some z o (sym (part_here c.parts p y z f) ∙ at_p)) quiet
-        on y f q o z quiet e false g = h.silence q o (sym (part_there c.parts p q z (eqb-false p q g)) ∙ e)
+  pub turn_is : (t : ℕ) (c : Core) (p : ℕ) → AreSilent c → private_steps_at t c p ≡ private_turn program t c p
+  turn_is t c p h = by (part c.parts p) refl
+    where
+      by : (x : Option PrivateState) → part c.parts p ≡ x → private_steps_at t c p ≡ turn_on program t c p x
+      by None e = none_steps t c p e
+      by (Some o) e = steps_are t c p o e (h.silence p o e)
 
-        by : (x : Option PrivateState) → part c.parts p ≡ x → (q : ℕ) (o : PrivateState) → part (turn_on program t c p x).parts q ≡ Some o → silent o ≡ o
-        by None f q o e = h.silence q o e
-        by (Some y) f q o e = on y f q o (silent (private_steps program 0 t y)) refl e (nat_eq p q) refl
+  pub turn_silent : (t : ℕ) (c : Core) (p : ℕ) → AreSilent c → AreSilent (private_turn program t c p)
+  turn_silent t c p h = record { silence = λ q o e. by (part c.parts p) refl q o e }
+    where
+      on : (y : PrivateState) → part c.parts p ≡ Some y → (q : ℕ) (o : PrivateState) (z : PrivateState) → silent z ≡ z → part (put c.parts p z) q ≡ Some o → (b : Bool) → nat_eq p q ≡ b → silent o ≡ o
+      on y f q o z quiet e true g =
+          let at_p = subst (λ r. part (put c.parts p z) r ≡ Some o) (sym (eqb-true p q g)) e in
+          subst (λ v. silent v ≡ v) (same_some z o (sym (part_here c.parts p y z f) ∙ at_p)) quiet
+      on y f q o z quiet e false g = h.silence q o (sym (part_there c.parts p q z (eqb-false p q g)) ∙ e)
 
-    repeated : (ps : List ℕ) (t p : ℕ) → is_in p ps ≡ true → AreIn ps (replicate t p)
-    repeated ps zero p h = tt
-    repeated ps (suc t) p h = (h, repeated ps t p h)
-
-    record Made (c u : Core) : Type 0 where
-      made : List ℕ
-      within : AreIn (numbers_from 1 n) made
-      leads : steps (core_moves program n) c made ≡ u
-      quiet : AreSilent u
-
-    turns_are : (t : ℕ) (ps : List ℕ) (c : Core) → ((p : ℕ) → is_in p ps ≡ true → is_in p (numbers_from 1 n) ≡ true) → AreSilent c
-        → Made c (fold (private_turn program t) c ps)
-    turns_are t [] c there h = record { made = []; within = tt; leads = refl; quiet = h }
-    turns_are t (p ∷ ps) c there h =
-        let r = turns_are t ps (private_turn program t c p) (λ q e. there q (in_more q p ps e)) (turn_silent t c p h) in
-        record {
-          made = replicate t p ++ r.made;
-          within = within_on (core_moves program n) (numbers_from 1 n) (replicate t p) r.made (repeated (numbers_from 1 n) t p (there p (in_head p ps))) r.within;
-          leads =
-              steps_on (core_moves program n) c (replicate t p) r.made
-              ∙ (ap (λ x. steps (core_moves program n) x r.made) (turn_is t c p h) ∙ r.leads);
-          quiet = r.quiet;
-        }
-
-    pub turns_settle : (t : ℕ) (c : Core) → AreSilent c → IsSettled (core_moves program n) (private_turns program n t c)
-        → Settles (core_moves program n) c (private_turns program n t c)
-    turns_settle t c h settled =
-        let r = turns_are t (numbers_from 1 n) c (λ p e. e) h in
-        record { made = r.made; within = r.within; leads = r.leads; settled = settled }
+      by : (x : Option PrivateState) → part c.parts p ≡ x → (q : ℕ) (o : PrivateState) → part (turn_on program t c p x).parts q ≡ Some o → silent o ≡ o
+      by None f q o e = h.silence q o e
+      by (Some y) f q o e = on y f q o (silent (private_steps program 0 t y)) refl e (nat_eq p q) refl
 
 -- ---- Nobody begins
+
+abbrev at : List SchedulingState → ℕ → SchedulingState
+at gs i = elim (slice_get gs i) [ None ↦ Begun | Some g ↦ g ]
 
 none_next : (gs : List SchedulingState) → ((i : ℕ) → at gs i ≡ Fresh → ⊥) → map next_stage gs ≡ gs
 none_next [] h = refl

@@ -5,12 +5,11 @@ use Rattle.std.proofs.lemmas.Bool.{eqb-true, true≢false}
 use Rattle.cp_model.proofs.Lists.{in_head, in_more}
 use Rattle.cp_model.specs.Configurations as status
 use Rattle.cp_model.specs.Configurations.{Status}
-use Rattle.cp_model.specs.Orders as orders
 use Rattle.cp_model.specs.Parts as parts
 use Rattle.cp_model.specs.Parts.{PrivateStatus, private_status}
-use Rattle.cp_model.specs.Start.{start}
 use Rattle.cp_model.specs.States.{Setup, State, is_in, process_count, processes}
-use Rattle.cp_model_program.specs.Programs.{Program}
+use Rattle.cp_model.specs.declared.state.Fault.{Fault}
+use Rattle.cp_model.specs.StateViews.{fault_number}
 use Rattle.cp_model_machine.specs.Addresses.{Ground}
 use Rattle.cp_model_machine.specs.InState.{IsIn}
 use Rattle.cp_model_machine.specs.KernelOf.{StageMeans, kernel_ground}
@@ -19,16 +18,13 @@ use Rattle.cp_model_machine.specs.KernelSteps.{SchedulingState, stage_of}
 use Rattle.cp_model_machine.specs.Machines.{Machine}
 use Rattle.cp_model_machine.specs.PartOf.{status_of}
 use Rattle.cp_model_machine.specs.PrivateStates as machine
-use Rattle.cp_model_machine.specs.PrivateStates.{Activity, PrivateState, is_running}
+use Rattle.cp_model_machine.specs.PrivateStates.{Activity, PrivateState}
 use Rattle.cp_law_stillness.specs.Stillness.{can_move, is_still, none_can_move}
-use Rattle.cp_law_cores.specs.Cores.{Core, core, core_moves, part, silent}
-use Rattle.cp_law_cores.specs.Laws.{CoreReportsEnd, CoreReportsSound, CoreReportsStill, NoOrderIsStuck}
-use Rattle.cp_law_cores.specs.Schedules as seen
-use Rattle.cp_law_cores.specs.Schedules.{IsCoreOf, all_parts, all_pass, core_has_ended, core_is_sound, core_is_still, is_active, has_ended, has_no_fault, is_end, is_sound, moves, none_moves, part_passes}
-use Rattle.cp_law_cores.specs.Moves.{Settles}
-use Rattle.cp_law_cores.proofs.Parts.{map_got}
-use Rattle.cp_law_cores.proofs.Runs.{in_range}
-use Rattle.cp_law_cores.proofs.Schedules.{got, orders_stay_within, still_states_are_within, stopped_lasts}
+use Rattle.cp_law_cores.specs.Cores.{Core, core, part, silent}
+use Rattle.cp_law_cores.specs.Laws.{CoreReportsEnd, CoreReportsFaults, CoreReportsSound, CoreReportsStill}
+use Rattle.cp_law_cores.specs.Verdicts as seen
+use Rattle.cp_law_cores.specs.Verdicts.{HasFault, all_parts, all_pass, core_has_ended, core_is_sound, core_is_still, is_active, has_ended, has_no_fault, is_end, is_sound, moves, none_moves, part_passes}
+use Rattle.cp_law_cores.proofs.Parts.{got, in_range, map_got}
 
 -- ---- One process
 
@@ -132,13 +128,13 @@ same_tests f g s c (p ∷ ps) same =
     λ i. if here i then rest i else false
 
 module _ (m : Machine) (setup : Setup) (s : State) (I : IsIn m setup s) where
-  pub record Reported (p : ℕ) : Type 0 where
-    pub own : PrivateState
-    pub there : part (core m).parts p ≡ Some own
-    pub moving : can_move (s.status p) ≡ moves (stage_of m.kernel.stages own.number) own.activity
-    pub private : private_status (s.status p) ≡ status_of own.activity
+  record Reported (p : ℕ) : Type 0 where
+    own : PrivateState
+    there : part (core m).parts p ≡ Some own
+    moving : can_move (s.status p) ≡ moves (stage_of m.kernel.stages own.number) own.activity
+    private : private_status (s.status p) ≡ status_of own.activity
 
-  pub reported : (p : ℕ) → (1 ≤ p) × (p ≤ process_count setup) → Reported p
+  reported : (p : ℕ) → (1 ≤ p) × (p ≤ process_count setup) → Reported p
   reported zero range = absurd (let low = range.0 in Prim.omega (arith, low))
   reported (suc i) range =
       let high = range.1 in
@@ -181,18 +177,64 @@ core_reports_end setup s c h = subst (λ z. core_has_ended (process_count setup)
 pub core_reports_sound : CoreReportsSound
 core_reports_sound setup s c h = subst (λ z. core_is_sound (process_count setup) z ≡ all_pass has_no_fault s (processes setup)) h.is (reports_sound h.machine setup s h.inside)
 
--- ---- The verdict
+-- ---- Faults
 
--- Where a core isn't sound, what it settles as isn't.
-one_unsound : (c : Core) (ps : List ℕ) → all_parts is_sound c ps ≡ false → (p : ℕ) × (part_passes is_sound (part c.parts p) ≡ false) × (is_in p ps ≡ true)
-one_unsound c [] h = absurd (true≢false h)
-one_unsound c (p ∷ ps) h = by (part_passes is_sound (part c.parts p)) refl h (one_unsound c ps)
+failed_is : (a : Activity) (n : ℕ) → parts.Failed n ≡ status_of a → (f : Fault) × (a ≡ machine.Faulted f) × (fault_number f ≡ n)
+failed_is (machine.Faulted f) n e = (f, refl, sym (ap number e))
   where
-    by : (b : Bool) → part_passes is_sound (part c.parts p) ≡ b → (if b then all_parts is_sound c ps else false) ≡ false
-        → (all_parts is_sound c ps ≡ false → (q : ℕ) × (part_passes is_sound (part c.parts q) ≡ false) × (is_in q ps ≡ true))
-        → (q : ℕ) × (part_passes is_sound (part c.parts q) ≡ false) × (is_in q (p ∷ ps) ≡ true)
-    by true e h later = let r = later h in (r.0, r.1, in_more r.0 p ps r.2)
-    by false e h later = (p, e, in_head p ps)
+    number : PrivateStatus → ℕ
+    number (parts.Failed k) = k
+    number _ = 0
+failed_is machine.Running n e = absurd (cc)
+failed_is machine.Waiting n e = absurd (cc)
+failed_is machine.NotBegun n e = absurd (cc)
+failed_is machine.Ended n e = absurd (cc)
+
+module _ (m : Machine) (setup : Setup) (s : State) (I : IsIn m setup s) (number : ℕ) where
+  fault_there : (p : ℕ) → (1 ≤ p) × (p ≤ process_count setup) → s.status p ≡ status.Faulted number → HasFault (core m) p number
+  fault_there zero range e = absurd (let low = range.0 in Prim.omega (arith, low))
+  fault_there (suc i) range e =
+      let high = range.1 in
+      let count = I.part_count in
+      let x = got m.parts i (Prim.omega (arith, high, count)) in
+      let place : i ≡ suc i - 1 = Prim.omega arith in
+      let represents = I.parts (suc i) x.0 (Prim.omega arith) (subst (λ k. slice_get m.parts k ≡ Some x.0) place x.1) in
+      let f = failed_is x.0.activity number (sym (ap private_status e) ∙ represents.part.status) in
+      record {
+        own = silent x.0;
+        there = map_got silent m.parts i x.0 x.1;
+        fault = f.0;
+        stopped = f.1;
+        is = f.2;
+      }
+
+pub faulted_is : (x : Status) (n : ℕ) → private_status x ≡ parts.Failed n → x ≡ status.Faulted n
+faulted_is (status.Faulted k) n e = ap status.Faulted (ap number e)
+  where
+    number : PrivateStatus → ℕ
+    number (parts.Failed k) = k
+    number _ = 0
+faulted_is status.Unstarted n e = absurd (cc)
+faulted_is status.Fresh n e = absurd (cc)
+faulted_is status.Ready n e = absurd (cc)
+faulted_is status.Ended n e = absurd (cc)
+faulted_is status.Waiting n e = absurd (cc)
+faulted_is (status.Asking m) n e = absurd (cc)
+faulted_is (status.Delayed m q) n e = absurd (cc)
+
+pub core_reports_faults : CoreReportsFaults
+core_reports_faults setup s c p number h there =
+    (λ e. subst (λ (z : Core). HasFault z p number) h.is (fault_there h.machine setup s h.inside number p (in_range setup p there) e), back)
+  where
+    own_status : Option PrivateState → PrivateStatus
+    own_status None = parts.Running
+    own_status (Some o) = status_of o.activity
+
+    back : HasFault c p number → s.status p ≡ status.Faulted number
+    back fault =
+        let t = reported h.machine setup s h.inside p (in_range setup p there) in
+        let same : Some t.own ≡ Some fault.own = sym t.there ∙ (ap (λ (z : Core). part z.parts p) h.is ∙ fault.there) in
+        faulted_is (s.status p) number (t.private ∙ (ap own_status same ∙ (ap status_of fault.stopped ∙ ap parts.Failed fault.is)))
 
 pub unsound_if : (c : Core) (ps : List ℕ) (p : ℕ) → is_in p ps ≡ true → part_passes is_sound (part c.parts p) ≡ false → all_parts is_sound c ps ≡ false
 unsound_if c [] p there h = absurd (true≢false (sym there))
@@ -209,36 +251,3 @@ unsound_if c (q ∷ ps) p there h = by (nat_eq p q) refl there (unsound_if c ps 
         ap (λ b. if b then all_parts is_sound c ps else false) (ap (λ r. part_passes is_sound (part c.parts r)) (sym (eqb-true p q e)) ∙ h)
     by false e there later =
         ap (λ b. if part_passes is_sound (part c.parts q) then b else false) (later there h) ∙ rest (part_passes is_sound (part c.parts q))
-
-pub settled_sound : (n : ℕ) (c w : Core) (ps : List ℕ) (program : Program) → Settles (core_moves program n) c w → all_parts is_sound w ps ≡ true → all_parts is_sound c ps ≡ true
-settled_sound n c w ps program settles fine = by (all_parts is_sound c ps) refl
-  where
-    not_running : (a : Activity) → is_sound a ≡ false → is_running a ≡ false
-    not_running (machine.Faulted f) h = refl
-    not_running machine.Running h = absurd (true≢false h)
-    not_running machine.Waiting h = refl
-    not_running machine.NotBegun h = refl
-    not_running machine.Ended h = refl
-
-    on : (p : ℕ) → is_in p ps ≡ true → (x : Option PrivateState) → part c.parts p ≡ x → part_passes is_sound x ≡ false → ⊥
-    on p there None e h = true≢false h
-    on p there (Some o) e h =
-        let kept : part w.parts p ≡ Some o =
-        ap (λ (z : Core). part z.parts p) (sym settles.leads) ∙ stopped_lasts program n settles.made c p o e (not_running o.activity h) in
-        true≢false (sym fine ∙ unsound_if w ps p there (ap (part_passes is_sound) kept ∙ h))
-
-    by : (b : Bool) → all_parts is_sound c ps ≡ b → b ≡ true
-    by true e = refl
-    by false e = let r = one_unsound c ps e in absurd (on r.0 r.2 (part c.parts r.0) refl r.1)
-
-pub no_order_is_stuck : NoOrderIsStuck
-no_order_is_stuck program setup vs v rs F timeless closed known settles fine within =
-    let s = orders.replay setup (start setup) rs in
-    let n = process_count setup in
-    let r = orders_stay_within program setup vs v rs F timeless closed known settles within in
-    let sound = settled_sound n r.settles.core_of r.member (processes setup) program r.settles.settles (fine.sound r.member r.known) in (
-      sym (core_reports_sound setup s r.settles.core_of r.settles.represents) ∙ sound,
-      λ still.
-          let c = still_states_are_within program setup vs v rs F timeless closed known settles within still in
-          sym (core_reports_end setup s c.member c.represents) ∙ fine.ended c.member c.known (core_reports_still setup s c.member c.represents ∙ still),
-    )

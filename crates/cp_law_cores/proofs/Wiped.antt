@@ -37,7 +37,7 @@ use Rattle.cp_model_machine.proofs.Writing.{is_cell}
 use Rattle.cp_model_machine.specs.Beginning.{Begins}
 use Rattle.cp_law_cores.specs.Cores.{silent}
 use Rattle.cp_law_cores.specs.Laws.{WipedRepresents}
-use Rattle.cp_law_cores.specs.Schedules.{AreAwake, waits}
+use Rattle.cp_law_cores.specs.CoresOfStates.{AreAwake, waits}
 use Rattle.cp_law_cores.specs.Wiping.{arguments_are_free, cleared, temps_at, wiped, wiped_body, wiped_core, wiped_in}
 use Rattle.cp_law_cores.proofs.FreeArguments.{left_freed}
 

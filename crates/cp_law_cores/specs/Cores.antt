@@ -4,14 +4,12 @@
 -- No step reads what was written, nor the count of rounds. So a machine that displays forever, or
 -- whose rounds pass, comes back to cores that it had before.
 use Rattle.std.specs.Prelude.{Bool, List, None, Option, Some, [], false, if◌then◌else◌, map, slice_get, slice_set, suc, zero, ℕ}
-use Rattle.cp_model.specs.States.{numbers_from}
 use Rattle.cp_model_program.specs.Programs.{Program}
 use Rattle.cp_model_machine.specs.KernelSteps.{Kernel, Turning, is_due, kernel_step}
 use Rattle.cp_model_machine.specs.Machines.{Machine, begin_one, next_stage}
 use Rattle.cp_model_machine.specs.PrivateStates.{PrivateState, is_running}
 use Rattle.cp_model_machine.specs.Steps as steps
 use Rattle.cp_model_machine.specs.Steps.{operation_of, private_step}
-use Rattle.cp_law_cores.specs.Moves.{Moves}
 
 pub record Core : Type 0 where
   pub kernel : Kernel
@@ -68,15 +66,4 @@ abbrev pub close : Program → Core → Core
 close program c = record {
   kernel = record c.kernel { stages = map next_stage c.kernel.stages };
   parts = map (begin_one program c.kernel) c.parts;
-}
-
--- Cores of a program with `n` processes.
-abbrev pub core_moves : Program → ℕ → Moves Core
-core_moves program n = record {
-  processes = numbers_from 1 n;
-  private = private_at program;
-  kernel = kernel_at program;
-  close = close program;
-  is_private = λ c p. is_private_on program (part c.parts p);
-  is_kernel = λ c p. is_kernel_on program c.kernel (part c.parts p);
 }

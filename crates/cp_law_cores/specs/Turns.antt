@@ -1,6 +1,5 @@
 -- Private turns of cores.
-use Rattle.std.specs.Prelude.{None, Option, Some, ℕ, fold, ◌≡◌}
-use Rattle.cp_model.specs.States.{numbers_from}
+use Rattle.std.specs.Prelude.{None, Option, Some, ℕ, ◌≡◌}
 use Rattle.cp_model_program.specs.Programs.{Program}
 use Rattle.cp_model_machine.specs.KernelSteps.{Fresh, Kernel, stage_of}
 use Rattle.cp_model_machine.specs.PrivateStates.{PrivateState}
@@ -14,10 +13,6 @@ turn_on program t c p (Some o) = record c { parts = put c.parts p (silent (priva
 
 abbrev pub private_turn : Program → ℕ → Core → ℕ → Core
 private_turn program t c p = turn_on program t c p (part c.parts p)
-
--- Of each process, one after another.
-abbrev pub private_turns : Program → ℕ → ℕ → Core → Core
-private_turns program n t c = fold (private_turn program t) c (numbers_from 1 n)
 
 -- Nobody begins at the end of the round.
 pub record NoneFresh (k : Kernel) : Type 0 where

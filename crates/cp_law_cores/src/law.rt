@@ -1,54 +1,27 @@
-//! The laws of settled states and reduced orders, as functions with empty bodies.
+//! The laws of cores, as functions with empty bodies.
 
-ghost use Rattle.cp_law_cores.specs.Laws.{FaultsAreWithin, OrdersStayWithin, ReducedIsOrder, StatesAreReduced, StillStatesAreReduced, StillStatesAreWithin};
-ghost use Rattle.cp_law_cores.specs.Laws.{CoreReportsEnd, CoreReportsSound, CoreReportsStill, FoundIsReal, NobodyBegins, NoOrderIsStuck, NoOrderIsStuckUpTo, TurnsSettle, WipedRepresents};
-ghost use Rattle.cp_law_cores.specs.Laws.{SettlesOnce, StillSettles, StillIsSettled, RoundIsReduced, ReducedRoundIsRound, SettledRoundsAreReduced};
+ghost use Rattle.cp_law_cores.specs.Laws.{CoreReportsEnd, CoreReportsFaults, CoreReportsKind, CoreReportsSound, CoreReportsStill};
+ghost use Rattle.cp_law_cores.specs.Laws.{NobodyBegins, ReachedStatesHaveCores, RoundsKeepCores, StepsKeepCores, WipedRepresents};
 
-/// Private steps lead to one settled state at most, in whatever order they are made.
-pub fn settling()
-    ensures once { SettlesOnce }
-    ensures still { StillSettles }
-    ensures rests { StillIsSettled }
+/// Each state that rounds reach has a core, if the program doesn't use the clock. The steps of the
+/// core are those of the state.
+pub fn states()
+    ensures reached { ReachedStatesHaveCores }
+    ensures kind { CoreReportsKind }
+    ensures steps { StepsKeepCores }
+    ensures ends { RoundsKeepCores }
 {}
 
-/// Within a round, whatever its events lead to once it settles, a reduced round leads to, and the
-/// other way round. This holds for every text, since the clock is still within a round.
-pub fn rounds()
-    ensures reduced { RoundIsReduced }
-    ensures round { ReducedRoundIsRound }
-    ensures settled { SettledRoundsAreReduced }
-{}
-
-/// Where a program has nothing to do with the clock, a closed set of settled cores reports of all
-/// states that orders lead to: each settles as a member, each still one is a member, and each fault
-/// has occurred in a member. No turn length and no order of rounds leads to anything else.
-pub fn schedules()
-    ensures within { OrdersStayWithin }
-    ensures still { StillStatesAreWithin }
-    ensures faults { FaultsAreWithin }
-{}
-
-/// Reduced orders lead to each still state that orders lead to, and are orders themselves.
-pub fn reduced_orders()
-    ensures reduced { StillStatesAreReduced }
-    ensures settled { StatesAreReduced }
-    ensures order { ReducedIsOrder }
-    ensures real { FoundIsReal }
-{}
-
-/// What a core reports of its state. So if nobody has faulted in a member of the closed set, and
-/// all have ended in each still member, no order gets stuck or faults.
+/// A core reports whether its state is still, whether all have ended in it, and who has faulted.
 pub fn verdicts()
     ensures still { CoreReportsStill }
     ensures end { CoreReportsEnd }
     ensures sound { CoreReportsSound }
-    ensures none_stuck { NoOrderIsStuck }
-    ensures none_stuck_up_to { NoOrderIsStuckUpTo }
+    ensures faults { CoreReportsFaults }
 {}
 
-/// How a core is settled, when the end of a round needs not be tried, and which words may be wiped.
+/// When the end of a round changes no core, and which words of a core may be wiped.
 pub fn searching()
-    ensures settle { TurnsSettle }
     ensures nobody { NobodyBegins }
     ensures wiped { WipedRepresents }
 {}

@@ -8,7 +8,7 @@ use Rattle.cp_model_machine.specs.PrivateStates.{PrivateState}
 use Rattle.cp_law_calls.specs.Ways.{IsGood}
 use Rattle.cp_law_calls.proofs.Good.{count_good}
 use Rattle.cp_law_cores.specs.Cores.{Core}
-use Rattle.cp_law_cores.specs.Schedules.{IsCoreIn}
+use Rattle.cp_law_cores.specs.CoresOfStates.{IsCoreIn}
 
 module _ (m : Machine) (setup : Setup) (s : State) (n : ℕ) (I : IsIn m setup s) where
   part_again : (p : ℕ) (o : PrivateState) → PartRepresents m setup I.represents s p o → PartRepresents (record m { rounds = n }) setup I.represents (record s { rounds = n }) p o

@@ -11,8 +11,8 @@ use Rattle.cp_model_machine.specs.Machines.{first_machine}
 use Rattle.cp_law_calls.specs.Runs.{ByCalls, IsSettled, Machine, Settles}
 use Rattle.cp_law_calls.specs.Ways.{Eager, Idle, Late, Way}
 use Rattle.cp_law_cores.specs.Cores.{Core, core}
-use Rattle.cp_law_cores.specs.Schedules.{core_has_ended, core_is_sound, core_is_still}
-use Rattle.cp_law_cores.proofs.Runs.{numbered}
+use Rattle.cp_law_cores.specs.Verdicts.{core_has_ended, core_is_sound, core_is_still}
+use Rattle.cp_law_cores.proofs.Parts.{numbered}
 use Rattle.cp_law_search.specs.Calls.{core_machine, move_at, way_at}
 
 abbrev call : ℕ → Call

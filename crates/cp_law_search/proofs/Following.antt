@@ -2,11 +2,9 @@
 use Rattle.std.specs.Prelude.{Bool, List, [], false, if◌then◌else◌, refl, true, ℕ, ◌||◌, ◌∷◌, ◌≡◌}
 use Rattle.std.proofs.Common.{ap, arith, subst, sym, ◌∙◌}
 use Rattle.cp_model.specs.Actions.{action, is_kernel_action}
-use Rattle.cp_model.specs.Configurations as status
 use Rattle.cp_model.specs.Configurations.{Faulted, Ready, Status, holds_gate}
 use Rattle.cp_model.specs.Continuations.{Task}
-use Rattle.cp_model.specs.Parts as parts
-use Rattle.cp_model.specs.Parts.{PrivateStatus, SamePrivateState, private_status}
+use Rattle.cp_model.specs.Parts.{SamePrivateState, private_status}
 use Rattle.cp_model.specs.Rounds.{after_closing, close_round}
 use Rattle.cp_model.specs.States.{Setup, State, is_in, process_count, processes}
 use Rattle.cp_model.specs.Turns.{Kernel, Kind, NoStep, Private, if_kernel, if_private, kernel_step, kind, kind_of, private_step, step}
@@ -22,11 +20,11 @@ use Rattle.cp_law_calls.specs.Ways.{Eager, Idle, IsGood, Late, Way, is_late, way
 use Rattle.cp_law_calls.proofs.Movers.{eager_ready, late_ready}
 use Rattle.cp_law_calls.proofs.Good.{close_good, closed_good, kernel_good, private_good, step_good}
 use Rattle.cp_law_calls.proofs.Settling.{settles_more, still_settles}
-use Rattle.cp_law_cores.specs.Cores.{Core, close, core_moves, is_private_on, kernel_at, part, private_at}
-use Rattle.cp_law_cores.specs.Moves.{Act, AreOf, EndRound, KernelStep, PrivateStep, after}
-use Rattle.cp_law_cores.specs.Schedules.{IsCoreIn}
-use Rattle.cp_law_cores.specs.States.{is_private_kind}
-use Rattle.cp_law_cores.proofs.InStates.{closed_in, kernel_in, kinds_agree, private_in}
+use Rattle.cp_law_cores.specs.Cores.{Core, close, is_private_on, kernel_at, part, private_at}
+use Rattle.cp_law_cores.specs.CoresOfStates.{IsCoreIn, is_private_kind}
+use Rattle.cp_law_cores.proofs.Acts.{Act, AreOf, EndRound, KernelStep, PrivateStep, after}
+use Rattle.cp_law_cores.proofs.InStates.{close_in, kernel_in, kinds_agree, private_in}
+use Rattle.cp_law_cores.proofs.Verdicts.{faulted_is}
 use Rattle.cp_law_search.specs.Calls.{IsClosedByCalls, LeadsAs, LeadsByCalls, core_machine, step_at, way_at}
 use Rattle.cp_law_search.specs.Laws.{IsClockless}
 use Rattle.cp_law_search.proofs.Counts.{recount}
@@ -107,7 +105,7 @@ module _ (program : Program) (setup : Setup) (C : IsClockless program setup) whe
       (kernel_in program setup C.free p there x c h))
 
   pub shuts : (s : State) (c : Core) → IsGood setup s → IsCoreIn program setup s c → IsCoreIn program setup (closed s) (close program c)
-  shuts s c g h = recount program setup (close_round s) (close program c) 0 (close_good setup s C.represents.typed g) (closed_in program setup C.free s c h)
+  shuts s c g h = recount program setup (close_round s) (close program c) 0 (close_good setup s C.represents.typed g) (close_in program setup C.free s c h)
 
   pub moved : (s : State) (c : Core) (p : ℕ) → IsFine s → is_in p (processes setup) ≡ true → s.status p ≡ Ready → At s c → At (M.move s p) (K.move c p)
   moved s c p fine there ready h =
@@ -271,13 +269,13 @@ module _ (program : Program) (setup : Setup) (C : IsClockless program setup) whe
       (there, ready_no_idle (v.status p) (v.continuation p) ready, subst (λ z. Runs M z ps u) (sym (step_closed setup v p fine.count)) run)
 
   pub follows_acts : (acts : List Act) (v : State) (c : Core) → IsFine v → AreOf (processes setup) acts → IsCoreIn program setup v c
-      → Acted v (after (core_moves program (process_count setup)) c acts)
+      → Acted v (after program c acts)
   follows_acts [] v c fine within h = record { end = v; fine = fine; represents = h; made = []; run = refl }
   follows_acts (PrivateStep p ∷ rest) v c fine within h =
       by (kind v p) refl (follows_acts rest (private_step setup v p) (private_at program c p) (private_fine v p fine) within.1 (private_in program setup C.free p within.0 v c h))
     where
-      by : (k : Kind) → kind v p ≡ k → Acted (if_private k (step setup v p) v) (after (core_moves program (process_count setup)) (private_at program c p) rest)
-          → Acted v (after (core_moves program (process_count setup)) (private_at program c p) rest)
+      by : (k : Kind) → kind v p ≡ k → Acted (if_private k (step setup v p) v) (after program (private_at program c p) rest)
+          → Acted v (after program (private_at program c p) rest)
       by Private e r =
           let ready = (kind_private (v.status p) (v.continuation p) e).0 in
           record { end = r.end; fine = r.fine; represents = r.represents; made = p ∷ r.made; run = one_step v p r.made (closed r.end) fine within.0 ready r.run }
@@ -286,8 +284,8 @@ module _ (program : Program) (setup : Setup) (C : IsClockless program setup) whe
   follows_acts (KernelStep p ∷ rest) v c fine within h =
       by (kind v p) refl (follows_acts rest (kernel_step setup v p) (kernel_at program c p) (kernel_fine v p fine) within.1 (kernel_in program setup C.free p within.0 v c h))
     where
-      by : (k : Kind) → kind v p ≡ k → Acted (if_kernel k (step setup v p) v) (after (core_moves program (process_count setup)) (kernel_at program c p) rest)
-          → Acted v (after (core_moves program (process_count setup)) (kernel_at program c p) rest)
+      by : (k : Kind) → kind v p ≡ k → Acted (if_kernel k (step setup v p) v) (after program (kernel_at program c p) rest)
+          → Acted v (after program (kernel_at program c p) rest)
       by Kernel e r =
           let ready = kind_kernel setup (v.status p) (v.continuation p) e in
           record { end = r.end; fine = r.fine; represents = r.represents; made = p ∷ r.made; run = one_step v p r.made (closed r.end) fine within.0 ready r.run }
@@ -298,20 +296,6 @@ module _ (program : Program) (setup : Setup) (C : IsClockless program setup) whe
       record { end = r.end; fine = r.fine; represents = r.represents; made = r.made; run = subst (λ z. Runs M z r.made (closed r.end)) (closed_again v) r.run }
 
   -- ---- Faults last
-
-  pub failed_is : (x : Status) (n : ℕ) → private_status x ≡ parts.Failed n → x ≡ Faulted n
-  failed_is (Faulted k) n e = ap Faulted (ap number e)
-    where
-      number : PrivateStatus → ℕ
-      number (parts.Failed k) = k
-      number _ = 0
-  failed_is status.Unstarted n e = absurd (cc)
-  failed_is status.Fresh n e = absurd (cc)
-  failed_is status.Ready n e = absurd (cc)
-  failed_is status.Ended n e = absurd (cc)
-  failed_is status.Waiting n e = absurd (cc)
-  failed_is (status.Asking m) n e = absurd (cc)
-  failed_is (status.Delayed m q) n e = absurd (cc)
 
   other_private : (s : State) (p q : ℕ) → (q ≡ p → ⊥) → IsFine s → Which setup s q → SamePrivateState p s (step setup s q)
   other_private s p q d fine (OfItself e f) = subst (SamePrivateState p s) f (private_step_other_parts setup p q s d fine.good.in_order.invariant)
@@ -324,7 +308,7 @@ module _ (program : Program) (setup : Setup) (C : IsClockless program setup) whe
       let d : q ≡ p → ⊥ = λ f. clash (sym here ∙ (ap s.status f ∙ e)) in
       let same = other_private s p q d fine (which setup s q here) in
       fault_lasts ps (M.move s q) u p n (move_fine_here s q fine run.0 here) run.2
-      (ap after_closing (failed_is ((step setup s q).status p) n (same.status ∙ ap private_status e)))
+      (ap after_closing (faulted_is ((step setup s q).status p) n (same.status ∙ ap private_status e)))
     where
       clash : Ready ≡ Faulted n → ⊥
       clash g = grind arith

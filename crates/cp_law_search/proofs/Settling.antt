@@ -1,5 +1,5 @@
 -- How a search settles a core: by private turns, and by single steps of the kernel.
-use Rattle.std.specs.Prelude.{Bool, None, Option, Some, [], false, if◌then◌else◌, not, refl, replicate, suc, true, zero, ℕ, ◌∷◌, ◌≡◌}
+use Rattle.std.specs.Prelude.{Bool, None, Option, Some, [], false, if◌then◌else◌, not, refl, suc, true, zero, ℕ, ◌∷◌, ◌≡◌}
 use Rattle.std.proofs.Common.{ap, arith, subst, sym, ◌∙◌}
 use Rattle.std.proofs.lemmas.Bool.{true≢false}
 use Rattle.cp_model.proofs.Options.{same_some}
@@ -11,13 +11,10 @@ use Rattle.cp_model_machine.specs.Steps.{is_held, is_kernel_operation, is_privat
 use Rattle.cp_law_calls.specs.Runs.{Machine, Settles}
 use Rattle.cp_law_calls.specs.Ways.{Eager, Idle}
 use Rattle.cp_law_cores.specs.Clocks.{is_timeless}
-use Rattle.cp_law_cores.specs.Cores.{Core, close, core_moves, is_private_on, kernel_at, part, private_at, put, silent, turned}
-use Rattle.cp_law_cores.specs.Moves.{steps}
+use Rattle.cp_law_cores.specs.Cores.{Core, close, is_private_on, kernel_at, part, private_at, put, silent, turned}
 use Rattle.cp_law_cores.specs.Turns.{AreSilent, NoneFresh}
-use Rattle.cp_law_cores.proofs.Begun.{step_number}
-use Rattle.cp_law_cores.proofs.Independent.{idle}
 use Rattle.cp_law_cores.proofs.Parts.{part_here}
-use Rattle.cp_law_cores.proofs.Turns.{close_nobody, turn_is, turn_silent}
+use Rattle.cp_law_cores.proofs.Turns.{close_nobody, idle, private_steps_at, step_number, turn_is, turn_silent}
 use Rattle.cp_law_search.specs.Calls.{core_machine, is_late_at, move_at, step_at, way_at, way_by, way_on}
 use Rattle.cp_law_search.specs.Laws.{EagerStepSettles, PrivateTurnSettles, SettledSettles, StepsOfKinds}
 use Rattle.cp_law_search.proofs.Ways.{late_operation}
@@ -85,28 +82,28 @@ module _ (program : Program) (n : ℕ) where
 
   module _ (timeless : is_timeless program ≡ true) where
     private_silent : (c : Core) (p : ℕ) → AreSilent c → AreSilent (private_at program c p)
-    private_silent c p quiet = subst AreSilent (sym (turn_is program timeless n 1 c p quiet)) (turn_silent program timeless n 1 c p quiet)
+    private_silent c p quiet = subst AreSilent (sym (turn_is program timeless 1 c p quiet)) (turn_silent program timeless 1 c p quiet)
 
     steps_settle : (t : ℕ) (c w : Core) (p : ℕ) → AreSilent c → NoneFresh c.kernel → is_in p (numbers_from 1 n) ≡ true → HasBegun c p
-        → Settles K (steps (core_moves program n) c (replicate t p)) w → Settles K c w
+        → Settles K (private_steps_at program timeless t c p) w → Settles K c w
     steps_settle zero c w p quiet calm there begun h = h
     steps_settle (suc t) c w p quiet calm there begun h =
         by (is_private_on program (part c.parts p)) refl (steps_settle t c w p quiet calm there begun)
         (steps_settle t (private_at program c p) w p (private_silent c p quiet) calm there (still_begun c p begun) h)
       where
-        by : (b : Bool) → is_private_on program (part c.parts p) ≡ b → (Settles K (steps (core_moves program n) c (replicate t p)) w → Settles K c w)
+        by : (b : Bool) → is_private_on program (part c.parts p) ≡ b → (Settles K (private_steps_at program timeless t c p) w → Settles K c w)
             → Settles K (private_at program c p) w → Settles K c w
         by true e more done =
             let step : step_at program c p ≡ private_at program c p = ap (λ b. if b then private_at program c p else kernel_at program c p) e in
             let is : move_at program c p ≡ private_at program c p = ap (close program) step ∙ close_nobody program (private_at program c p) calm in
             settles_more c w p there (private_eager c p begun e) (subst (λ z. Settles K z w) (sym is) done)
         by false e more done =
-            more (subst (λ z. Settles K (steps (core_moves program n) z (replicate t p)) w) (idle program c p e) h)
+            more (subst (λ z. Settles K (private_steps_at program timeless t z p) w) (idle program c p e) h)
 
 pub private_turn_settles : PrivateTurnSettles
 private_turn_settles program n t c w p timeless quiet calm there eager h =
     steps_settle program n timeless t c w p quiet calm there (eager_has_begun program n c p eager)
-    (subst (λ z. Settles (core_machine program n) z w) (sym (turn_is program timeless n t c p quiet)) h)
+    (subst (λ z. Settles (core_machine program n) z w) (sym (turn_is program timeless t c p quiet)) h)
 
 pub eager_step_settles : EagerStepSettles
 eager_step_settles program n c w p there eager h = settles_more program n c w p there eager h

@@ -28,9 +28,7 @@ use Rattle.cp_model_machine.proofs.PrivateSteps.{IsRunning, running_is, still_is
 use Rattle.cp_model_machine.proofs.Stepping.{is_start}
 use Rattle.cp_law_calls.specs.Ways.{Idle, Way, is_late, way, way_of}
 use Rattle.cp_law_cores.specs.Cores.{Core, core, silent}
-use Rattle.cp_law_cores.proofs.Parts.{map_got}
-use Rattle.cp_law_cores.proofs.Runs.{in_range}
-use Rattle.cp_law_cores.proofs.Schedules.{got}
+use Rattle.cp_law_cores.proofs.Parts.{got, in_range, map_got}
 use Rattle.cp_law_search.specs.Calls.{is_late_at, is_late_operation, way_at, way_by, way_on}
 use Rattle.cp_law_search.specs.Laws.{CoreReportsWay}
 

@@ -13,7 +13,7 @@ use Rattle.cp_model_machine.specs.Steps.{is_monitor, operation_of}
 use Rattle.cp_law_calls.specs.Runs.{Machine, Settles}
 use Rattle.cp_law_calls.specs.Ways.{Eager, Idle, Late, Way}
 use Rattle.cp_law_cores.specs.Cores.{Core, close, is_private_on, kernel_at, part, private_at}
-use Rattle.cp_law_cores.specs.Schedules.{IsCoreIn, IsCoveredBy}
+use Rattle.cp_law_cores.specs.CoresOfStates.{IsCoreIn, IsCoveredBy}
 
 -- ---- Ways
 

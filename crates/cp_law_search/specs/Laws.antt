@@ -15,8 +15,9 @@ use Rattle.cp_law_calls.specs.Ways.{Eager, way}
 use Rattle.cp_law_cores.specs.Clocks.{is_timeless}
 use Rattle.cp_law_cores.specs.Cores.{Core, close, is_private_on, kernel_at, part, private_at}
 use Rattle.cp_law_cores.specs.Laws.{AreFine, first_core}
-use Rattle.cp_law_cores.specs.Schedules.{HasFault, IsCoreIn, all_pass, core_has_ended, core_is_sound, core_is_still, has_ended, has_no_fault, with_one}
+use Rattle.cp_law_cores.specs.CoresOfStates.{IsCoreIn, with_one}
 use Rattle.cp_law_cores.specs.Turns.{AreSilent, NoneFresh, private_turn}
+use Rattle.cp_law_cores.specs.Verdicts.{HasFault, all_pass, core_has_ended, core_is_sound, core_is_still, has_ended, has_no_fault}
 use Rattle.cp_law_search.specs.Calls.{IsClosedByCalls, IsFound, LeadsByCalls, SettlesByCalls, core_machine, move_at, way_at}
 
 -- The program represents the text, and has nothing to do with the clock.

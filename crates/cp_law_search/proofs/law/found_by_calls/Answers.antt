@@ -1,4 +1,4 @@
-use Rattle.cp_law_search.proofs.Searched.{found_by_calls_is_real, found_is_exact, run_is_real}
+use Rattle.cp_law_search.proofs.Found.{found_by_calls_is_real, found_is_exact, run_is_real}
 use Rattle.cp_law_search.proofs.law.found_by_calls.Goals as goal
 
 pub returns : goal.returns
