@@ -48,7 +48,7 @@ module _ (p : Place) where
   may_perform (At d e) NoExpression h n = λ none. subst (λ o. IsProcedureCall p o (At d e) NoExpression) none h
 
   mutual
-    calm_typed : (s : Statement) → TypedStatement p s → statement_is_timeless s ≡ true → Calm p.env s
+    pub calm_typed : (s : Statement) → TypedStatement p s → statement_is_timeless s ≡ true → Calm p.env s
     calm_typed Nothing h k = tt
     calm_typed (Seq a b) h k =
         let e = both (statement_is_timeless a) (statement_is_timeless b) k in
@@ -85,12 +85,12 @@ no_place x e = grind arith
 some_same : {A : Type 0} (x y : A) → Some x ≡ Some y → x ≡ y
 some_same x y e = Prim.cc
 
-system_at : (ss : List System) (i : ℕ) (s : System) → systems_are_timeless ss ≡ true → slice_get ss i ≡ Some s → system_is_timeless s ≡ true
+pub system_at : (ss : List System) (i : ℕ) (s : System) → systems_are_timeless ss ≡ true → slice_get ss i ≡ Some s → system_is_timeless s ≡ true
 system_at [] i s h e = absurd (no_place s e)
 system_at (x ∷ ss) zero s h e = subst (λ y. system_is_timeless y ≡ true) (some_same x s e) (both (system_is_timeless x) (systems_are_timeless ss) h).0
 system_at (x ∷ ss) (suc i) s h e = system_at ss i s (both (system_is_timeless x) (systems_are_timeless ss) h).1 e
 
-routine_at : (rs : List Routine) (i : ℕ) (r : Routine) → routines_are_timeless rs ≡ true → slice_get rs i ≡ Some r → statement_is_timeless r.body ≡ true
+pub routine_at : (rs : List Routine) (i : ℕ) (r : Routine) → routines_are_timeless rs ≡ true → slice_get rs i ≡ Some r → statement_is_timeless r.body ≡ true
 routine_at [] i r h e = absurd (no_place r e)
 routine_at (x ∷ rs) zero r h e = subst (λ (y : Routine). statement_is_timeless y.body ≡ true) (some_same x r e) (both (statement_is_timeless x.body) (routines_are_timeless rs) h).0
 routine_at (x ∷ rs) (suc i) r h e = routine_at rs i r (both (statement_is_timeless x.body) (routines_are_timeless rs) h).1 e

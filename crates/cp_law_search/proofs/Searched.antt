@@ -15,6 +15,7 @@ use Rattle.cp_model.specs.Orders.{replay}
 use Rattle.cp_model.specs.Rounds.{Event, after_closing}
 use Rattle.cp_model.specs.Start.{start}
 use Rattle.cp_model.specs.States.{Setup, State, is_in, process_count, processes}
+use Rattle.cp_model_program.specs.Compile.{compile}
 use Rattle.cp_model_program.specs.Programs.{Program}
 use Rattle.cp_law_stillness.specs.Stillness.{AreAllOfProcesses, is_still}
 use Rattle.cp_law_calls.specs.Clocks.{text_is_timeless}
@@ -30,8 +31,9 @@ use Rattle.cp_law_cores.specs.Verdicts.{HasFault, all_parts, all_pass, core_has_
 use Rattle.cp_law_cores.proofs.Reached.{acts, acts_are_of, first_in, last_core, last_in}
 use Rattle.cp_law_cores.proofs.Verdicts.{unsound_if}
 use Rattle.cp_law_search.specs.Calls.{SettlesByCalls}
-use Rattle.cp_law_search.specs.Laws.{FaultsAreInMembers, IsClockless, IsSearched, NoOrderIsStuckByCalls, OrdersSettleByCalls, StillStatesAreMembers, VerdictsAreOfMembers}
+use Rattle.cp_law_search.specs.Laws.{CompiledStillStatesAreMembers, FaultsAreInMembers, IsClockless, IsSearched, NoOrderIsStuckByCalls, OrdersSettleByCalls, StillStatesAreMembers, VerdictsAreOfMembers}
 use Rattle.cp_law_search.proofs.Verdicts.{closed_ended, closed_sound, closed_still, fault_is, has_fault, reports_end, reports_sound, reports_still, still_settled}
+use Rattle.cp_law_search.proofs.CompiledTexts.{compiled_texts_are_clockless}
 use Rattle.cp_law_search.proofs.Following.{Acted, IsFine, M, Near, fault_lasts, follows_acts, follows_to, near, shuts, stays_near}
 
 -- ---- Orders
@@ -161,6 +163,10 @@ faults_are_in_members program setup vs rounds p number C searched within there e
 
 pub still_states_are_members : StillStatesAreMembers
 still_states_are_members program setup vs rounds C free searched within still = still_member program setup C vs searched free rounds within still
+
+pub compiled_still_states_are_members : CompiledStillStatesAreMembers
+compiled_still_states_are_members setup vs rounds represents free searched within still =
+    still_states_are_members (compile setup.tree) setup vs rounds (compiled_texts_are_clockless setup represents free) free searched within still
 
 -- ---- The verdict on all orders
 

@@ -1,11 +1,14 @@
 -- The laws of searches by calls.
 use Rattle.std.specs.Prelude.{Contains, List, false, true, ℕ, ◌≡◌}
 use Rattle.cp_model.specs.Configurations.{Faulted}
+use Rattle.cp_model.specs.Erase as erase
 use Rattle.cp_model.specs.Orders.{replay}
 use Rattle.cp_model.specs.Rounds.{Event}
 use Rattle.cp_model.specs.Start.{start}
 use Rattle.cp_model.specs.States.{Setup, State, is_in, numbers_from, process_count, processes}
+use Rattle.cp_model.specs.Syntax as s
 use Rattle.cp_law_stillness.specs.Stillness.{AreAllOfProcesses, is_still}
+use Rattle.cp_model_program.specs.Compile.{compile}
 use Rattle.cp_model_program.specs.Programs.{Program}
 use Rattle.cp_model_program.specs.IsProgramFor.{IsProgramFor}
 use Rattle.cp_law_calls.specs.Clocks.{text_is_timeless}
@@ -24,6 +27,18 @@ use Rattle.cp_law_search.specs.Calls.{IsClosedByCalls, IsFound, LeadsByCalls, Se
 pub record IsClockless (program : Program) (setup : Setup) : Type 0 where
   pub represents : IsProgramFor program setup
   pub free : is_timeless program ≡ true
+
+-- The compiled program of a text without the clock doesn't use the clock. So one test of the text is
+-- enough.
+abbrev pub CompiledTextsAreClockless : Type 0
+CompiledTextsAreClockless =
+    (setup : Setup)
+    → IsProgramFor (compile setup.tree) setup → text_is_timeless setup.tree ≡ true → IsClockless (compile setup.tree) setup
+
+-- The same of an accepted tree, whose compiled program represents its text.
+abbrev pub TextIsClockless : s.Tree → Type 0
+TextIsClockless t =
+    (setup : Setup) → setup.tree ≡ erase.abstract t → text_is_timeless setup.tree ≡ true → IsClockless (compile setup.tree) setup
 
 -- ---- Ways
 
@@ -82,6 +97,15 @@ abbrev pub StillStatesAreMembers : Type 0
 StillStatesAreMembers =
     (program : Program) (setup : Setup) (vs : List Core) (rounds : List (ℕ × List Event))
     → IsClockless program setup → text_is_timeless setup.tree ≡ true → IsSearched program setup vs → AreAllOfProcesses setup rounds
+    → let s = replay setup (start setup) rounds in
+    is_still setup s ≡ true → (w : Core) × Contains vs w × IsCoreIn program setup (closed s) w
+
+-- So it is for the compiled program, and one test of the text is asked.
+abbrev pub CompiledStillStatesAreMembers : Type 0
+CompiledStillStatesAreMembers =
+    (setup : Setup) (vs : List Core) (rounds : List (ℕ × List Event))
+    → let program = compile setup.tree in
+    IsProgramFor program setup → text_is_timeless setup.tree ≡ true → IsSearched program setup vs → AreAllOfProcesses setup rounds
     → let s = replay setup (start setup) rounds in
     is_still setup s ≡ true → (w : Core) × Contains vs w × IsCoreIn program setup (closed s) w
 

@@ -1,7 +1,27 @@
 //! The laws of searches by calls, as functions with empty bodies.
 
+ghost use Rattle.cp_model.specs.Rules.{Accepted};
+ghost use Rattle.cp_model.specs.View as view;
+ghost use Rattle.cp_law_search.specs.Laws.{CompiledStillStatesAreMembers, CompiledTextsAreClockless, TextIsClockless};
 ghost use Rattle.cp_law_search.specs.Laws.{EagerStepSettles, PrivateTurnSettles, SettledSettles, StepsOfKinds};
 ghost use Rattle.cp_law_search.specs.Laws.{CoreReportsWay, FaultsAreInMembers, FoundByCallsIsReal, FoundIsExact, NoOrderIsStuckByCalls, OrdersSettleByCalls, RunIsReal, StillStatesAreMembers, VerdictsAreOfMembers};
+
+use cp_model::tree::Tree;
+use cp_model_program::law::accepted_tree_has_program;
+
+/// The compiled program of a text without `realtime` and `wait` doesn't use the clock.
+pub fn clockless_texts()
+    ensures { CompiledTextsAreClockless }
+{}
+
+/// The same for an accepted tree. The test of its text is all that the laws below ask of it.
+pub fn accepted_tree_is_clockless(tree: &Tree)
+    requires { Accepted (view.tree tree.now) }
+    ensures { TextIsClockless (view.tree tree.now) }
+{
+    accepted_tree_has_program(tree);
+    clockless_texts();
+}
 
 /// The way of a process is read off each core of the state.
 pub fn ways()
@@ -15,6 +35,7 @@ pub fn ways()
 pub fn closed_by_calls()
     ensures settles { OrdersSettleByCalls }
     ensures still { StillStatesAreMembers }
+    ensures compiled { CompiledStillStatesAreMembers }
     ensures verdict { VerdictsAreOfMembers }
     ensures faults { FaultsAreInMembers }
     ensures none_stuck { NoOrderIsStuckByCalls }
