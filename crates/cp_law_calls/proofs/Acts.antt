@@ -12,7 +12,8 @@ use Rattle.cp_model.proofs.Lists.{in_head}
 use Rattle.cp_model.proofs.StateMaps.{state_is, with_at_here, with_at_same, with_at_there}
 use Rattle.cp_law_gates.specs.Gates.{IsStoppedAt}
 use Rattle.cp_law_calls.proofs.Changes.{AtAll, Change, act, act_is, acts_swap, at_more, change, changed, delays, enters, gate_is, hands, passes, puts, puts_past_one, puts_there}
-use Rattle.cp_law_calls.proofs.Footing.{AskersAsk, Footed, IsNewTo, IsLateResult, Mine, ResultFooted, ResultTouches, change_same, eager_holds, gates_touched, held_apart, mine_apart, starts_fresh, statuses_mine, stays_started}
+use Rattle.cp_law_calls.proofs.Footing.{AskersAsk, Footed, IsLateResult, Mine, ResultFooted, ResultTouches, change_same, held_apart, mine_apart, statuses_mine}
+use Rattle.cp_law_calls.proofs.Touched.{IsNewTo, eager_holds, gates_touched, starts_fresh, stays_started}
 
 -- ---- What effects touch
 

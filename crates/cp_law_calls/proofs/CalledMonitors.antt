@@ -20,7 +20,8 @@ use Rattle.cp_model.specs.Invariant.{EnvironmentIn}
 use Rattle.cp_model.proofs.ActionReach.{ActionIn}
 use Rattle.cp_model.proofs.MixedStores.{mix}
 use Rattle.cp_law_calls.specs.Ways.{called_by, called_of}
-use Rattle.cp_law_calls.proofs.Footing.{IsOpening, ResultTouches}
+use Rattle.cp_law_calls.proofs.Footing.{ResultTouches}
+use Rattle.cp_law_calls.proofs.Touched.{IsOpening}
 use Rattle.cp_law_calls.proofs.Known.{IsInitial}
 use Rattle.cp_law_calls.proofs.Tags.{action_tag, call_tag}
 

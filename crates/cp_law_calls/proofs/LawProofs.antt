@@ -1,5 +1,5 @@
 -- The laws of eager steps and of orders of calls, from what is proved of good states and of machines.
-use Rattle.std.specs.Prelude.{Bool, List, None, Option, Some, [], false, if◌then◌else◌, nat_eq, not, refl, true, ℕ, ◌∷◌, ◌||◌, ◌≡◌}
+use Rattle.std.specs.Prelude.{Bool, Contains, List, None, Option, Some, [], false, if◌then◌else◌, nat_eq, not, refl, true, ℕ, ◌∷◌, ◌||◌, ◌≡◌}
 use Rattle.std.proofs.Common.{ap, arith, subst, sym, ◌∙◌}
 use Rattle.std.proofs.lemmas.Bool.{eqb-true, true≢false}
 use Rattle.cp_model.specs.Abstract.{Class, Init, Monitor, Process, Sort}
@@ -19,14 +19,16 @@ use Rattle.cp_law_gates.specs.InOrder.{world}
 use Rattle.cp_law_gates.proofs.Texts.{text_is_ordered}
 use Rattle.cp_law_stillness.specs.Stillness.{AreAllOfProcesses, can_move, is_still, none_can_move}
 use Rattle.cp_law_typing.specs.WellTyped.{WellTyped}
-use Rattle.cp_law_calls.specs.Laws.{AcceptedByCallsIsOrder, AcceptedCallsDetermineEnd, AcceptedStillIsByCalls, ByCallsIsOrder, CallsDetermineEnd, DifferentCallsCommute, DifferentCallsSwap, EagerStepPastLateStep, EagerStepsCommute, LateIsOfKernel, OrderIsByCalls, OrderIsRun, PrivateIsEager, ReachedAreGood, RoundKeepsGood, RunIsOrder, SameCallersSameEnd, SettlesOnce, StartIsGood, StepKeepsGood, StepPastClosing, StepsOfKindsKeepGood, StillIsByCalls, TimelessTexts}
+use Rattle.cp_law_calls.specs.Laws.{AcceptedByCallsIsOrder, AcceptedCallsDetermineEnd, AcceptedStillIsByCalls, ByCallsIsOrder, CallsDetermineEnd, DifferentCallsCommute, DifferentCallsSwap, TakingMovesLater, EagerStepsCommute, LateIsOfKernel, LeavingMovesEarlier, OrderIsByCalls, OrderIsRun, OrdersStayWithin, PrivateIsEager, ReachedAreGood, RoundKeepsGood, RunIsOrder, SameCallersSameEnd, SettlesOnce, StartIsGood, StepKeepsGood, StepPastClosing, StepsOfKindsKeepGood, StillIsByCalls, TimelessTexts}
 use Rattle.cp_law_calls.specs.Orders.{IsTimeless, closed, machine}
 use Rattle.cp_law_calls.specs.Runs.{IsSettled, Runs}
 use Rattle.cp_law_calls.specs.Ways.{Eager, Idle, Late, is_late, way_of}
 use Rattle.cp_law_calls.proofs.Good.{close_good, kernel_good, private_good, round_good, rounds_good, start_good, step_good, wake_good}
-use Rattle.cp_law_calls.proofs.Movers.{called_stays, calls_change_places, changes_places, eager_is, eager_ready, late_ready, way_stays}
-use Rattle.cp_law_calls.proofs.Ordering.{CallDifferent, Fine, Led, different_calls, movers, rounds_led, start_fine, step_closed}
-use Rattle.cp_law_calls.proofs.Settling.{by_calls_runs, calls_determine, calls_swap, eager_runs, run_by_calls, runs_on, same_callers_same_end, settles_here, settles_once}
+use Rattle.cp_law_calls.proofs.Movers.{called_stays, calls_change_places, changes_places, eager_is, eager_ready, late_ready, way_ready, way_stays}
+use Rattle.cp_law_calls.proofs.Ordering.{CallDifferent, Fine, Led, different_calls, movers, orders_stay_within, rounds_led, start_fine, step_closed}
+use Rattle.cp_law_calls.proofs.Runs.{by_calls_runs, eager_runs, runs_on, settles_here}
+use Rattle.cp_law_calls.proofs.Settling.{calls_determine, calls_swap, run_by_calls, same_callers_same_end, settles_once}
+use Rattle.cp_law_calls.proofs.Still.{still_settled}
 
 -- ---- Good states
 
@@ -57,14 +59,24 @@ eager_steps_commute setup s p q typed good d ep eq =
       way_stays (world setup) O setup s good.in_order good.holds q p (λ e. d (sym e)) rq rp ∙ ep,
     )
 
-pub eager_past_late : EagerStepPastLateStep
-eager_past_late setup s p q typed good d lp eq =
+pub taking_moves_later : TakingMovesLater
+taking_moves_later setup s p q typed good d lp eq =
     let O = text_is_ordered setup typed in
     let rp = late_ready s p lp in
     let rq = eager_ready s q eq in (
       changes_places (world setup) O setup s good.in_order good.holds p q d rp rq (eager_is s q eq),
       way_stays (world setup) O setup s good.in_order good.holds p q d rp rq ∙ eq,
       way_stays (world setup) O setup s good.in_order good.holds q p (λ e. d (sym e)) rq rp ∙ lp,
+    )
+
+pub leaving_moves_earlier : LeavingMovesEarlier
+leaving_moves_earlier setup s p q typed good d awake eq =
+    let O = text_is_ordered setup typed in
+    let rp = way_ready (s.status p) (s.continuation p) awake in
+    let rq = eager_ready s q eq in (
+      changes_places (world setup) O setup s good.in_order good.holds p q d rp rq (eager_is s q eq),
+      way_stays (world setup) O setup s good.in_order good.holds p q d rp rq,
+      way_stays (world setup) O setup s good.in_order good.holds q p (λ e. d (sym e)) rq rp,
     )
 
 pub different_calls_commute : DifferentCallsCommute
@@ -105,48 +117,18 @@ once setup rounds u v typed T a h k =
 pub order_is_by_calls : OrderIsByCalls
 order_is_by_calls setup rounds u typed T a h =
     let L = reached setup typed T rounds a in
-    let r = runs_on (machine setup) (Fine setup typed T) (movers setup typed T) L.run.0 h.made (closed (start setup)) _ u L.run.1
-    (eager_runs (machine setup) (Fine setup typed T) (movers setup typed T) h.made _ u h.run) in
+    let r = runs_on (machine setup) L.run.0 h.made (closed (start setup)) _ u L.run.1
+    (eager_runs (machine setup) h.made _ u h.run) in
     (_, run_by_calls (machine setup) (Fine setup typed T) (movers setup typed T) r.0 (closed (start setup)) u (start_fine setup typed T) r.1 h.settled)
-
--- A still state is settled.
-cannot_move : (s : State) (ps : List ℕ) (p : ℕ) → none_can_move s ps ≡ true → is_in p ps ≡ true → can_move (s.status p) ≡ false
-cannot_move s [] p h there = absurd (true≢false (sym there))
-cannot_move s (q ∷ ps) p h there = by (can_move (s.status q)) refl h (nat_eq p q) refl there (cannot_move s ps p)
-  where
-    by : (c : Bool) → can_move (s.status q) ≡ c → (if c then false else none_can_move s ps) ≡ true → (b : Bool) → nat_eq p q ≡ b → (if b then true else is_in p ps) ≡ true
-        → (none_can_move s ps ≡ true → is_in p ps ≡ true → can_move (s.status p) ≡ false) → can_move (s.status p) ≡ false
-    by true e h b f there more = absurd (true≢false (sym h))
-    by false e h true f there more = ap (λ x. can_move (s.status x)) (eqb-true p q f) ∙ e
-    by false e h false f there more = more h there
-
-rests : (x : Status) (k : List Task) → can_move x ≡ false → way_of (after_closing x) k ≡ Eager → ⊥
-rests x k h = by x h
-  where
-    idle_no_eager : Idle ≡ Eager → ⊥
-    idle_no_eager e = grind arith
-
-    by : (x : Status) → can_move x ≡ false → way_of (after_closing x) k ≡ Eager → ⊥
-    by Unstarted h e = idle_no_eager e
-    by Fresh h e = true≢false h
-    by Ready h e = true≢false h
-    by Ended h e = idle_no_eager e
-    by Waiting h e = true≢false h
-    by (Asking m) h e = idle_no_eager e
-    by (Delayed m l) h e = idle_no_eager e
-    by (Faulted n) h e = idle_no_eager e
-
-still_settled : (setup : Setup) (s : State) → is_still setup s ≡ true → IsSettled (machine setup) (closed s)
-still_settled setup s h = record { none = λ p there e. rests (s.status p) (s.continuation p) (cannot_move s (processes setup) p h there) e }
 
 pub still_is_by_calls : StillIsByCalls
 still_is_by_calls setup rounds typed T a h =
     order_is_by_calls setup rounds (closed (replay setup (start setup) rounds)) typed T a
-    (settles_here (machine setup) (Fine setup typed T) (movers setup typed T) (closed (replay setup (start setup) rounds)) (still_settled setup (replay setup (start setup) rounds) h))
+    (settles_here (machine setup) (closed (replay setup (start setup) rounds)) (still_settled setup (replay setup (start setup) rounds) h))
 
 pub by_calls_is_order : ByCallsIsOrder
 by_calls_is_order setup calls u typed T h =
-    let r = by_calls_runs (machine setup) (Fine setup typed T) (movers setup typed T) calls (closed (start setup)) u h in
+    let r = by_calls_runs (machine setup) calls (closed (start setup)) u h in
     run_is_order setup r.0 u typed T r.1
 
 pub calls_determine_end : CallsDetermineEnd
@@ -161,6 +143,9 @@ pub different_calls_swap : DifferentCallsSwap
 different_calls_swap setup rounds p q m n calls u typed T a h late d cp cq other =
     calls_swap (machine setup) (Fine setup typed T) (movers setup typed T) (CallDifferent setup typed T) (different_calls setup typed T)
     (closed (replay setup (start setup) rounds)) u p q calls (reached setup typed T rounds a).fine h late d (m, n, cp, cq, other)
+
+pub orders_within : OrdersStayWithin
+orders_within setup vs v rounds typed T closed_set known h a = orders_stay_within setup typed T (Contains vs) closed_set v known h rounds a
 
 -- ---- Kinds
 

@@ -19,9 +19,11 @@ use Rattle.cp_model.proofs.ReturnReach.{result_mixed}
 use Rattle.cp_model.proofs.StateMaps.{state_is, with_at_same, with_at_swap, with_at_there}
 use Rattle.cp_law_gates.specs.InOrder.{InOrder, IsOrdered, World}
 use Rattle.cp_law_calls.specs.Ways.{Eager, HoldsMarked, Idle, Late, called, called_by, is_late, way, way_of}
-use Rattle.cp_law_calls.proofs.Reading.{ActionNeeds, SortNeeds, monitor_number_same, step_same}
+use Rattle.cp_law_calls.proofs.Needs.{ActionNeeds, SortNeeds}
+use Rattle.cp_law_calls.proofs.Reading.{monitor_number_same, step_same}
 use Rattle.cp_law_calls.proofs.Changes.{AtAll, Change, act, act_is, at_more, change, changed, puts_past_one, puts_there}
-use Rattle.cp_law_calls.proofs.Footing.{AskersAsk, IsLateResult, IsNewTo, Mine, Itself, ResultFooted, ResultTouches, mine_apart, same_set, same_started, set_kept, starts_fresh, statuses_mine}
+use Rattle.cp_law_calls.proofs.Footing.{AskersAsk, IsLateResult, Mine, Itself, ResultFooted, ResultTouches, mine_apart, statuses_mine}
+use Rattle.cp_law_calls.proofs.Touched.{IsNewTo, same_set, same_started, set_kept, starts_fresh}
 use Rattle.cp_law_calls.proofs.Acts.{acts_commute, apart}
 use Rattle.cp_law_calls.proofs.CalledMonitors.{EntersAt, called_same, enters_open_none, enters_touches, step_enters}
 use Rattle.cp_model.proofs.ActionReach.{action_in}

@@ -23,7 +23,8 @@ use Rattle.cp_law_calls.specs.Ways.{Eager, Idle, IsGood, Late, called, is_late, 
 use Rattle.cp_law_calls.proofs.Closing.{closed_round, closed_twice, shut_step}
 use Rattle.cp_law_calls.proofs.Good.{closed_good, start_good, step_good}
 use Rattle.cp_law_calls.proofs.Movers.{calls_change_places, changes_places, eager_is, eager_ready, late_ready, same_for, stepped, way_ready, way_stays}
-use Rattle.cp_law_calls.proofs.Settling.{runs_on, stays_within}
+use Rattle.cp_law_calls.proofs.Runs.{runs_on}
+use Rattle.cp_law_calls.proofs.Settling.{stays_within}
 
 -- Nobody is fresh.
 abbrev pub IsFlat : State → Type 0
@@ -226,7 +227,7 @@ module _ (setup : Setup) (typed : WellTyped setup) (T : IsTimeless setup) where
   led_on : (x y z : State) → Led x y → Led y z → Led x z
   led_on x y z a b = record {
     fine = b.fine;
-    run = runs_on (machine setup) Fine movers a.run.0 b.run.0 (closed x) (closed y) (closed z) a.run.1 b.run.1;
+    run = runs_on (machine setup) a.run.0 b.run.0 (closed x) (closed y) (closed z) a.run.1 b.run.1;
   }
 
   ready_not_idle : (x : Status) (k : List Task) → x ≡ Ready → way_of x k ≡ Idle → ⊥

@@ -1,5 +1,5 @@
 -- The laws of eager steps and of orders of calls.
-use Rattle.std.specs.Prelude.{List, Some, true, ℕ, ◌∷◌, ◌≡◌, ◌≢◌}
+use Rattle.std.specs.Prelude.{Contains, List, Some, true, ℕ, ◌∷◌, ◌≡◌, ◌≢◌}
 use Rattle.cp_model.specs.Configurations.{Ready}
 use Rattle.cp_model.specs.Orders.{replay}
 use Rattle.cp_model.specs.Rounds.{Event, close_round, replay_round, wake}
@@ -13,8 +13,8 @@ use Rattle.cp_law_stillness.specs.Stillness.{AreAllOfProcesses, is_still}
 use Rattle.cp_law_typing.specs.WellTyped.{WellTyped}
 use Rattle.cp_law_calls.specs.Clocks.{text_is_timeless}
 use Rattle.cp_law_calls.specs.Orders.{IsTimeless, closed, machine}
-use Rattle.cp_law_calls.specs.Runs.{ByCalls, CallsLead, IsSettled, Runs, Settles, callers}
-use Rattle.cp_law_calls.specs.Ways.{Eager, IsGood, Late, called, way}
+use Rattle.cp_law_calls.specs.Runs.{ByCalls, CallsLead, IsClosedByCalls, IsSettled, Runs, Settles, callers}
+use Rattle.cp_law_calls.specs.Ways.{Eager, Idle, IsGood, Late, called, way}
 
 -- ---- Good states
 
@@ -40,7 +40,7 @@ ReachedAreGood = (setup : Setup) (rounds : List (ℕ × List Event)) → WellTyp
 
 -- ---- Eager steps
 
--- Two eager steps of different processes change places, and neither changes the way of the other.
+-- Eager steps of two processes change places, and neither changes the way of the other.
 abbrev pub EagerStepsCommute : Type 0
 EagerStepsCommute =
     (setup : Setup) (s : State) (p q : ℕ)
@@ -48,14 +48,23 @@ EagerStepsCommute =
     → (step setup (step setup s p) q ≡ step setup (step setup s q) p)
     × (way (step setup s p) q ≡ Eager) × (way (step setup s q) p ≡ Eager)
 
--- An eager step of `q` changes places with a late step of `p`, whether `p` then enters, asks or faults, and
--- whether or not `q` passes on the gate that `p` asks for.
-abbrev pub EagerStepPastLateStep : Type 0
-EagerStepPastLateStep =
+-- Taking a gate may be moved later: the call of `p` may come after an eager step of `q`. So it is whether
+-- `p` enters, asks or faults, and whether or not `q` leaves the monitor that `p` calls.
+abbrev pub TakingMovesLater : Type 0
+TakingMovesLater =
     (setup : Setup) (s : State) (p q : ℕ)
     → WellTyped setup → IsGood setup s → p ≢ q → way s p ≡ Late → way s q ≡ Eager
     → (step setup (step setup s p) q ≡ step setup (step setup s q) p)
     × (way (step setup s p) q ≡ Eager) × (way (step setup s q) p ≡ Late)
+
+-- Leaving may be moved earlier: an eager step of `q`, which may give a gate back, may come before any step
+-- of `p`.
+abbrev pub LeavingMovesEarlier : Type 0
+LeavingMovesEarlier =
+    (setup : Setup) (s : State) (p q : ℕ)
+    → WellTyped setup → IsGood setup s → p ≢ q → (way s p ≡ Idle → ⊥) → way s q ≡ Eager
+    → (step setup (step setup s p) q ≡ step setup (step setup s q) p)
+    × (way (step setup s p) q ≡ way s q) × (way (step setup s q) p ≡ way s p)
 
 -- Calls of different monitors change places as well, and each calls the same monitor afterwards.
 abbrev pub DifferentCallsCommute : Type 0
@@ -155,6 +164,17 @@ DifferentCallsSwap =
     → let v = closed (replay setup (start setup) rounds) in
     CallsLead (machine setup) v (p ∷ q ∷ calls) u → way v q ≡ Late → p ≢ q → called v p ≡ Some m → called v q ≡ Some n → m ≢ n
     → ByCalls (machine setup) v (q ∷ p ∷ calls) u
+
+-- ---- Closed sets
+
+-- Let the start settle as a member of a closed list of settled states. Then each state that rounds in any
+-- order reach settles as a member.
+abbrev pub OrdersStayWithin : Type 0
+OrdersStayWithin =
+    (setup : Setup) (vs : List State) (v : State) (rounds : List (ℕ × List Event))
+    → WellTyped setup → IsTimeless setup → IsClosedByCalls (machine setup) (Contains vs) → Contains vs v
+    → Settles (machine setup) (closed (start setup)) v → AreAllOfProcesses setup rounds
+    → (w : State) × Contains vs w × Settles (machine setup) (closed (replay setup (start setup) rounds)) w
 
 -- ---- Accepted texts
 

@@ -1,7 +1,7 @@
 //! The laws of eager steps and of orders of calls, as functions with empty bodies.
 
-ghost use Rattle.cp_law_calls.specs.Laws.{EagerStepPastLateStep, EagerStepsCommute, DifferentCallsCommute, LateIsOfKernel, PrivateIsEager, ReachedAreGood, RoundKeepsGood, StartIsGood, StepKeepsGood, StepsOfKindsKeepGood};
-ghost use Rattle.cp_law_calls.specs.Laws.{ByCallsIsOrder, CallsDetermineEnd, DifferentCallsSwap, OrderIsByCalls, OrderIsRun, RunIsOrder, SameCallersSameEnd, SettlesOnce, StepPastClosing, StillIsByCalls, TimelessTexts};
+ghost use Rattle.cp_law_calls.specs.Laws.{DifferentCallsCommute, EagerStepsCommute, LateIsOfKernel, LeavingMovesEarlier, PrivateIsEager, ReachedAreGood, RoundKeepsGood, StartIsGood, StepKeepsGood, StepsOfKindsKeepGood, TakingMovesLater};
+ghost use Rattle.cp_law_calls.specs.Laws.{ByCallsIsOrder, CallsDetermineEnd, DifferentCallsSwap, OrderIsByCalls, OrderIsRun, OrdersStayWithin, RunIsOrder, SameCallersSameEnd, SettlesOnce, StepPastClosing, StillIsByCalls, TimelessTexts};
 ghost use Rattle.cp_law_calls.specs.Exclusion.{HolderIsInside, InsideHolds, NoTwoInside};
 ghost use Rattle.cp_law_calls.specs.Laws.{AcceptedByCallsIsOrder, AcceptedCallsDetermineEnd, AcceptedStillIsByCalls};
 
@@ -19,7 +19,8 @@ pub fn good_states()
 /// the other.
 pub fn eager_steps()
     ensures both { EagerStepsCommute }
-    ensures late { EagerStepPastLateStep }
+    ensures taking { TakingMovesLater }
+    ensures leaving { LeavingMovesEarlier }
     ensures calls { DifferentCallsCommute }
     ensures private { PrivateIsEager }
     ensures kernel { LateIsOfKernel }
@@ -49,6 +50,7 @@ pub fn orders_of_calls()
     ensures end { CallsDetermineEnd }
     ensures callers { SameCallersSameEnd }
     ensures swap { DifferentCallsSwap }
+    ensures within { OrdersStayWithin }
 {}
 
 /// The same for accepted texts without `realtime` and `wait`.

@@ -19,7 +19,8 @@ use Rattle.cp_law_calls.specs.Runs.{AreMovers, IsSettled, Machine, Runs, RunsEag
 use Rattle.cp_law_calls.specs.Ways.{Eager, Idle, IsGood, Late, Way, is_late, way, way_of}
 use Rattle.cp_law_calls.proofs.Movers.{eager_ready, late_ready}
 use Rattle.cp_law_calls.proofs.Good.{close_good, closed_good, kernel_good, private_good, step_good}
-use Rattle.cp_law_calls.proofs.Settling.{settles_more, still_settles}
+use Rattle.cp_law_calls.proofs.Runs.{settles_on}
+use Rattle.cp_law_calls.proofs.Settling.{late_past, still_settles}
 use Rattle.cp_law_cores.specs.Cores.{Core, close, is_private_on, kernel_at, part, private_at}
 use Rattle.cp_law_cores.specs.CoresOfStates.{IsCoreIn, is_private_kind}
 use Rattle.cp_law_cores.proofs.Acts.{Act, AreOf, EndRound, KernelStep, PrivateStep, after}
@@ -31,34 +32,11 @@ use Rattle.cp_law_search.proofs.Counts.{recount}
 use Rattle.cp_law_search.proofs.Representing.{Sound, closed_again, move_sound, movers, step_closed}
 use Rattle.cp_law_search.proofs.Ways.{core_reports_way}
 
-eager_no_late : Eager ≡ Late → ⊥
-eager_no_late e = grind arith
-
 eager_no_idle : Eager ≡ Idle → ⊥
 eager_no_idle e = grind arith
 
 late_no_idle : Late ≡ Idle → ⊥
 late_no_idle e = grind arith
-
--- ---- A late step past eager ones
-
-module _ {S : Type 0} (M : Machine S) (Good : S → Type 0) (A : AreMovers M Good) where
-  awake_way : (s : S) (p : ℕ) (x : Way) → M.way s p ≡ x → (x ≡ Idle → ⊥) → M.way s p ≡ Idle → ⊥
-  awake_way s p x e h f = h (sym e ∙ f)
-
-  pub late_past : (ps : List ℕ) (s u : S) (p : ℕ) → Good s → is_in p M.processes ≡ true → M.way s p ≡ Late → RunsEagerly M s ps u
-      → (M.way u p ≡ Late) × RunsEagerly M (M.move s p) ps (M.move u p)
-  late_past [] s u p g there late run = (ap (λ z. M.way z p) (sym run) ∙ late, ap (λ z. M.move z p) run)
-  late_past (q ∷ ps) s u p g there late run =
-      let d : p ≡ q → ⊥ = λ e. eager_no_late (sym run.1 ∙ (ap (M.way s) (sym e) ∙ late)) in
-      let moves_p = awake_way s p Late late late_no_idle in
-      let moves_q = awake_way s q Eager run.1 eager_no_idle in
-      let r = late_past ps (M.move s q) u p (A.good s q g run.0 moves_q) there (A.stays s q p g (λ e. d (sym e)) moves_q moves_p ∙ late) run.2 in
-      (r.0, (run.0, A.stays s p q g d moves_p moves_q ∙ run.1, subst (λ z. RunsEagerly M z ps (M.move u p)) (sym (A.swap s p q g there run.0 d moves_p run.1)) r.1))
-
-  pub settles_on : (ps : List ℕ) (s u w : S) → RunsEagerly M s ps u → Settles M u w → Settles M s w
-  settles_on [] s u w run h = subst (λ z. Settles M z w) (sym run) h
-  settles_on (p ∷ ps) s u w run h = settles_more M Good A s w p run.0 run.1 (settles_on ps (M.move s p) u w run.2 h)
 
 -- ---- The step of a ready process
 
@@ -203,7 +181,7 @@ module _ (program : Program) (setup : Setup) (C : IsClockless program setup) whe
           (closed_set.late h.member p h.known there (ways h.at h.member p h.represents there ∙ past.0)) in
           record {
             at = w.at;
-            settles = settles_on M IsFine A h.settles.made (M.move s p) (M.move h.at p) w.at past.1 w.settles;
+            settles = settles_on M h.settles.made (M.move s p) (M.move h.at p) w.at past.1 w.settles;
             fine = w.fine;
             member = w.member;
             known = w.known;

@@ -21,6 +21,7 @@ use Rattle.cp_law_cores.specs.CoresOfStates.{IsCoreIn, with_one}
 use Rattle.cp_law_cores.specs.Verdicts.{HasFault, core_has_ended, core_is_sound, core_is_still}
 use Rattle.cp_law_cores.proofs.InStates.{close_in, kernel_in, private_in, wake_in}
 use Rattle.cp_law_cores.proofs.Reached.{first_in}
+use Rattle.cp_law_calls.proofs.Runs.{by_calls_runs}
 use Rattle.cp_law_search.specs.Calls.{LeadOn, core_machine, move_at}
 use Rattle.cp_law_search.specs.Laws.{FoundByCallsIsReal, FoundIsExact, IsClockless, IsReal, RunIsReal}
 use Rattle.cp_law_search.proofs.Searched.{closed_fine, first_at, first_fine}
@@ -64,35 +65,6 @@ run_is_real program setup ps c C run =
       sound = sym (reports_sound program setup s c r.represents);
       fault = λ p number there h. fault_is program setup s c r.represents p number there h;
     }
-
--- ---- Runs by calls are runs
-
-module _ {S : Type 0} (K : Machine S) where
-  runs_on : (ps qs : List ℕ) (s v u : S) → Runs K s ps v → Runs K v qs u → (rs : List ℕ) × Runs K s rs u
-  runs_on [] qs s v u h k = (qs, subst (λ x. Runs K x qs u) (sym h) k)
-  runs_on (p ∷ ps) qs s v u h k = let r = runs_on ps qs (K.move s p) v u h.2 k in (p ∷ r.0, (h.0, h.1, r.1))
-
-  eager_runs : (ps : List ℕ) (s u : S) → RunsEagerly K s ps u → Runs K s ps u
-  eager_runs [] s u h = h
-  eager_runs (p ∷ ps) s u h = (h.0, (λ e. clash (sym h.1 ∙ e)), eager_runs ps (K.move s p) u h.2)
-    where
-      clash : Eager ≡ Idle → ⊥
-      clash e = grind arith
-
-  lead_runs : (calls : List ℕ) (s u : S) → CallsLead K s calls u → (rs : List ℕ) × Runs K s rs u
-  lead_runs [] s u h = ([], h)
-  lead_runs (p ∷ calls) s u h =
-      let later = lead_runs calls h.2 u h.4 in
-      let r = runs_on h.3.made later.0 (K.move s p) h.2 u (eager_runs h.3.made (K.move s p) h.2 h.3.run) later.1 in
-      (p ∷ r.0, (h.0, (λ e. clash (sym h.1 ∙ e)), r.1))
-    where
-      clash : Late ≡ Idle → ⊥
-      clash e = grind arith
-
-  by_calls_runs : (calls : List ℕ) (s u : S) → ByCalls K s calls u → (rs : List ℕ) × Runs K s rs u
-  by_calls_runs calls s u h =
-      let later = lead_runs calls h.first u h.lead in
-      runs_on h.settles.made later.0 s h.first u (eager_runs h.settles.made s h.first h.settles.run) later.1
 
 pub found_by_calls_is_real : FoundByCallsIsReal
 found_by_calls_is_real program setup calls c C run =

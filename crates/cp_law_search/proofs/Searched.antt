@@ -23,6 +23,8 @@ use Rattle.cp_law_calls.specs.Orders.{closed}
 use Rattle.cp_law_calls.specs.Runs.{IsSettled, Runs, RunsEagerly}
 use Rattle.cp_law_calls.proofs.Good.{closed_good, start_good}
 use Rattle.cp_law_calls.proofs.LawProofs.{order_is_run}
+use Rattle.cp_law_calls.proofs.Runs.{settled_is}
+use Rattle.cp_law_calls.proofs.Still.{still_settled}
 use Rattle.cp_law_calls.proofs.TimelessTexts.{text_timeless}
 use Rattle.cp_law_cores.specs.Cores.{Core, close}
 use Rattle.cp_law_cores.specs.Laws.{first_core}
@@ -32,7 +34,7 @@ use Rattle.cp_law_cores.proofs.Reached.{acts, acts_are_of, first_in, last_core, 
 use Rattle.cp_law_cores.proofs.Verdicts.{unsound_if}
 use Rattle.cp_law_search.specs.Calls.{SettlesByCalls}
 use Rattle.cp_law_search.specs.Laws.{CompiledStillStatesAreMembers, FaultsAreInMembers, IsClockless, IsSearched, NoOrderIsStuckByCalls, OrdersSettleByCalls, StillStatesAreMembers, VerdictsAreOfMembers}
-use Rattle.cp_law_search.proofs.Verdicts.{closed_ended, closed_sound, closed_still, fault_is, has_fault, reports_end, reports_sound, reports_still, still_settled}
+use Rattle.cp_law_search.proofs.Verdicts.{closed_ended, closed_sound, closed_still, fault_is, has_fault, reports_end, reports_sound, reports_still}
 use Rattle.cp_law_search.proofs.CompiledTexts.{compiled_texts_are_clockless}
 use Rattle.cp_law_search.proofs.Following.{Acted, IsFine, M, Near, fault_lasts, follows_acts, follows_to, near, shuts, stays_near}
 
@@ -54,11 +56,6 @@ module _ (program : Program) (setup : Setup) (C : IsClockless program setup) whe
 
   pub first_at : IsCoreIn program setup (closed (start setup)) (first_core program setup)
   first_at = subst (λ (z : State). IsCoreIn program setup z (first_core program setup)) (sym (start_is setup)) (first_in program setup C.represents C.free)
-
-  -- Nothing settled has eager steps.
-  resting : (ps : List ℕ) (s u : State) → IsSettled (M program setup C) s → RunsEagerly (M program setup C) s ps u → s ≡ u
-  resting [] s u settled run = run
-  resting (p ∷ ps) s u settled run = absurd (settled.none p run.0 run.1)
 
   module _ (rounds : List (ℕ × List Event)) (within : AreAllOfProcesses setup rounds) where
     abbrev reached : State
@@ -84,7 +81,7 @@ module _ (program : Program) (setup : Setup) (C : IsClockless program setup) whe
     near_run ps u run = stays_near program setup C (Contains vs) searched.closed ps (closed (start setup)) u (closed_fine (start setup) first_fine) run near_first
 
     still_is : (u : State) (h : Near program setup C (Contains vs) (closed u)) → is_still setup u ≡ true → closed u ≡ h.at
-    still_is u h still = resting h.settles.made (closed u) h.at (still_settled setup program C u still) h.settles.run
+    still_is u h still = settled_is (M program setup C) h.settles.made (closed u) h.at (still_settled setup u still) h.settles.run
 
     module _ (rounds : List (ℕ × List Event)) (within : AreAllOfProcesses setup rounds) where
       twin : Acted program setup C (start setup) (its_core rounds within)

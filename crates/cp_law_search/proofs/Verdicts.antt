@@ -96,21 +96,3 @@ module _ (setup : Setup) (s : State) where
 
   pub closed_sound : all_pass has_no_fault (closed s) (processes setup) ≡ all_pass has_no_fault s (processes setup)
   closed_sound = pass_closing has_no_fault sound_closing s (processes setup)
-
--- ---- Still states are settled
-
-pub still_settled : (setup : Setup) (program : Program) (C : IsClockless program setup) (s : State) → is_still setup s ≡ true → IsSettled (M program setup C) (closed s)
-still_settled setup program C s still = record { none = λ p there e. by (s.status p) (s.continuation p) (rests setup s still p there) e }
-  where
-    idle_no_eager : Idle ≡ Eager → ⊥
-    idle_no_eager e = grind arith
-
-    by : (x : Status) (k : List Task) → can_move x ≡ false → way_of (after_closing x) k ≡ Eager → ⊥
-    by status.Unstarted k h e = idle_no_eager e
-    by status.Fresh k h e = true≢false h
-    by status.Ready k h e = true≢false h
-    by status.Ended k h e = idle_no_eager e
-    by status.Waiting k h e = true≢false h
-    by (status.Asking m) k h e = idle_no_eager e
-    by (status.Delayed m l) k h e = idle_no_eager e
-    by (status.Faulted n) k h e = idle_no_eager e
