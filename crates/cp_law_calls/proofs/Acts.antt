@@ -1,5 +1,9 @@
--- What an eager step does to gates and statuses changes places with what a step of another process does
--- to them: also where one asks for the gate that the other passes on.
+-- What an eager step does to gates and statuses changes places with what a step of another ready process
+-- does to them.
+--
+-- At different gates the two change different things. The eager step touches only a gate that its process
+-- holds. So the other step touches the same gate only if it calls the monitor. Then the caller asks first
+-- and the gate is passed on, or it is passed on first and the caller enters or asks. Both leave the same.
 use Rattle.std.specs.Prelude.{Bool, List, None, Option, Some, [], false, if◌then◌else◌, nat_eq, refl, true, ℕ, ◌++◌, ◌∷◌, ◌≡◌, ◌≢◌}
 use Rattle.std.proofs.Common.{ap, subst, sym, ◌∙◌}
 use Rattle.std.proofs.lemmas.Bool.{eqb-false, eqb-true, ne_eqb, true≢false}
@@ -115,7 +119,7 @@ module _ (p q : ℕ) (u : State) (d : p ≢ q) (ready_p : u.status p ≡ Ready) 
       state_is _ _ refl refl refl refl (puts_past_one p (Asking m) bs u.status h)
       (with_at_again m _ _ u.gates ∙ sym (with_at_again m _ _ u.gates)) refl
 
-  -- Where q hands on the gate as `given` says, to which p has asked or not.
+  -- q passes on the gate, and p asks for it before or afterwards.
   module _ (m : ℕ) (held : (u.gates m).holder ≡ HeldBy q) (config : Configuration) where
     abbrev asked_status : ℕ → Status
     asked_status = with_at p (Asking m) u.status

@@ -1,4 +1,5 @@
--- The monitor that a step calls is the one that it enters or asks for.
+-- The monitor that a step calls is the one whose gate it takes or asks for. A step of another process
+-- doesn't change which it is.
 use Rattle.std.specs.Prelude.{Bool, List, None, Option, Some, [], false, if◌then◌else◌, refl, true, ℕ, ◌≡◌}
 use Rattle.std.proofs.Common.{ap, arith, subst, sym}
 use Rattle.cp_model.specs.Abstract.{Class, Monitor, Process, Sort}
@@ -88,7 +89,7 @@ called_initial store (Calls u k) m e h = by (is_monitor_call u.callee) h
     by false h = h
 called_initial store (Acts i k) m e h = none_some m e
 
--- Elsewhere it is the same monitor.
+-- In a store that differs only elsewhere it is the same monitor.
 pub called_same : (t : Owner → Bool) (a b : Store) (x : Action) → ActionIn t x → ((env : Environment) (n : Component) → EnvironmentIn t env → monitor_number env (mix t a b) n ≡ monitor_number env a n)
     → called_by (mix t a b) x ≡ called_by a x
 called_same t a b Rests h same = refl

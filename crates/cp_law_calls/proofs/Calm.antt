@@ -1,5 +1,7 @@
--- What is left to do has nothing to do with the clock: the calls in it and what takes their place, what a
--- statement unfolds to, and what is left after a return.
+-- Statements and tasks that don't use the clock are calm, and stay so.
+--
+-- A calm task has calm calls in it. It is calm with a value in place of a call, it unfolds to calm
+-- tasks, and what is left after a return is calm.
 use Rattle.std.specs.Prelude.{Bool, List, None, Option, Some, [], false, if◌then◌else◌, refl, true, ℕ, ◌∷◌, ◌≡◌}
 use Rattle.std.proofs.Common.{sym}
 use Rattle.std.proofs.lemmas.Bool.{true≢false}

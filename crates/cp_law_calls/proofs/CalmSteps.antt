@@ -1,4 +1,7 @@
--- A step leaves tasks that have nothing to do with the clock, and nobody comes to wait for it.
+-- A step of a calm process leaves all processes calm, and nobody waits for the clock after it.
+--
+-- What is left to do comes from the statement, from a routine or body of the text, or from an older task.
+-- Only `wait` has the effect of waiting.
 use Rattle.std.specs.Prelude.{Bool, List, None, Option, Some, [], codes, false, if◌then◌else◌, nat_eq, refl, slice_get, true, ℕ, ℤ, ◌∷◌, ◌≡◌, ◌≢◌, ◌⊎◌}
 use Rattle.std.proofs.Common.{arith, inl, inr, subst}
 use Rattle.std.specs.Str.{bytes_eq}
@@ -36,7 +39,7 @@ use Rattle.cp_law_calls.proofs.Calm.{AllCalm, ArmsCalm, Calm, EndCalm, TaskCalm,
 use Rattle.cp_law_calls.proofs.Known.{before}
 use Rattle.cp_law_calls.proofs.Unclocked.{ActionCalm, action_calm}
 
--- The bodies and routines of the text have nothing to do with the clock.
+-- The bodies and routines of the text are calm.
 pub record IsCalmWorld (w : World) : Type 0 where
   pub bodies : (env : Environment) → env.globals ≡ w.globals → w.IsInner env.system → env.frame ≡ None → Calm env env.system.body
   pub routines : (env : Environment) (f : Frame) (j : ℕ) → env.globals ≡ w.globals → (env.system ≡ w.initial) ⊎ w.IsInner env.system
@@ -257,7 +260,7 @@ module _ (w : World) (O : IsOrdered w) (C : IsCalmWorld w) (c : Context) (config
 
 -- ---- States
 
--- All that is left to do has nothing to do with the clock, and nobody waits for it.
+-- All that is left to do is calm, and nobody waits for the clock.
 pub record CalmState (s : State) : Type 0 where
   pub tasks : (q : ℕ) → AllCalm (s.continuation q)
   pub awake : (q : ℕ) → s.status q ≢ Waiting

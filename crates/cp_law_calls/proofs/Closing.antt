@@ -1,4 +1,7 @@
--- The end of a round may come before a step or after it: the states differ in the count of rounds alone.
+-- The end of a round may come before a step or after it: only the count of rounds differs.
+--
+-- Closing makes fresh processes ready. No step reads whether another process is fresh or ready. It reads
+-- whether the other is started, and closing doesn't change that.
 use Rattle.std.specs.Prelude.{Bool, List, None, Option, Some, [], false, if◌then◌else◌, nat_eq, refl, true, ℕ, ◌++◌, ◌∷◌, ◌≡◌}
 use Rattle.std.proofs.Common.{ap, subst, sym, ◌∙◌}
 use Rattle.cp_model.specs.Outcomes.{Fault, Gives}

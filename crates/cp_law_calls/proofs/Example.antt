@@ -1,8 +1,11 @@
--- Two processes and one monitor, computed. Process 2 is in the monitor and about to leave, process 3 calls
--- it: whether 3 asks before 2 leaves, or enters afterwards, the same is left.
+-- Processes and a monitor, computed. Process 2 is in the monitor and about to leave, and process 3 calls it.
+-- If 3 asks before 2 leaves, or enters afterwards, the same is left.
+--
+-- The steps that count as late don't change places with each other: two calls of one monitor, and a call of
+-- a monitor and its `init`.
 use Rattle.std.specs.Prelude.{List, None, [], codes, false, refl, true, ℕ, ◌∷◌, ◌≡◌}
 use Rattle.cp_model.specs.Abstract.{Expressions, Group, Init, Monitor, MoreExpressions, Name, NoExpression, Nothing, Part, Perform, Plain, Process, Seq, System, SystemDef, TypeName, Use}
-use Rattle.cp_model.specs.Configurations.{Asking, Ended, Ready}
+use Rattle.cp_model.specs.Configurations.{Asking, Ended, Faulted, Ready, Waiting}
 use Rattle.cp_model.specs.Start.{start}
 use Rattle.cp_model.specs.States.{Free, HeldBy, Setup, State}
 use Rattle.cp_model.specs.Turns.{step}
@@ -99,3 +102,55 @@ text = refl
 pub callers_are
     : (callers (machine visits) begun (2 ∷ 3 ∷ 2 ∷ 3 ∷ []) ≡ 2 ∷ 3 ∷ []) × (callers (machine visits) begun (2 ∷ 2 ∷ 3 ∷ 3 ∷ []) ≡ 2 ∷ 3 ∷ [])
 callers_are = (refl, refl)
+
+-- ---- Two calls of one monitor don't change places
+
+-- Who calls first is inside.
+pub first_is_inside
+    : (((step visits (step visits begun 2) 3).gates 1).holder ≡ HeldBy 2) × (((step visits (step visits begun 3) 2).gates 1).holder ≡ HeldBy 3)
+first_is_inside = (refl, refl)
+
+-- ---- Nor do `init` of a monitor and a call of it
+
+-- The process is started before its monitor is initialised.
+abbrev early : Setup
+early = record {
+  tree = record {
+    definitions = SystemDef (codes "m") m ∷ SystemDef (codes "p") p ∷ [];
+    initial = record {
+      sort = Process;
+      parameters = [];
+      variables = group (codes "g" ∷ []) (codes "m") ∷ group (codes "b" ∷ []) (codes "p") ∷ [];
+      routines = [];
+      body = Seq (Init (codes "b") (with_one (codes "g"))) (Seq (Init (codes "g") NoExpression) Nothing);
+    };
+  };
+  inputs = λ r. [];
+  tick = 1;
+}
+
+abbrev started : State
+started = closed (step early (closed (start early)) 1)
+
+pub both_late : (way started 1 ≡ Late) × (way started 2 ≡ Late)
+both_late = (refl, refl)
+
+-- After the `init` process 2 asks for the gate. Before it the call faults.
+pub init_matters : ((step early (step early started 1) 2).status 2 ≡ Asking 1) × ((step early (step early started 2) 1).status 2 ≡ Faulted 6)
+init_matters = (refl, refl)
+
+-- ---- A text that uses the clock
+
+abbrev waiting : Setup
+waiting = record {
+  tree = record {
+    definitions = [];
+    initial = record { sort = Process; parameters = []; variables = []; routines = []; body = Seq (Perform (Plain (codes "wait")) NoExpression) Nothing };
+  };
+  inputs = λ r. [];
+  tick = 3;
+}
+
+-- Its process waits after one eager step, and no calls lead on.
+pub waits : (text_is_timeless waiting.tree ≡ false) × (way (start waiting) 1 ≡ Eager) × ((step waiting (start waiting) 1).status 1 ≡ Waiting)
+waits = (refl, refl, refl)

@@ -1,4 +1,8 @@
--- A process is in a monitor exactly where it holds its gate.
+-- A process is in a monitor exactly if it holds its gate.
+--
+-- In a good state a process holds the gates that its end marks name, except the one at which it is
+-- stopped, and a gate is named by its holder. The end marks of a process name a monitor only once, by the
+-- hierarchy. So a process that is stopped at a gate doesn't hold it.
 use Rattle.std.specs.Prelude.{Bool, List, [], drop, false, if◌then◌else◌, nat_eq, refl, true, ℕ, ◌∷◌, ◌≡◌}
 use Rattle.std.proofs.Common.{ap, subst, sym, ◌∙◌}
 use Rattle.std.proofs.lemmas.Bool.{eqb-true, true≢false}

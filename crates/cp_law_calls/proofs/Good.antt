@@ -1,4 +1,6 @@
 -- Good states: the start is good, and steps, wakings and ends of rounds keep states good.
+--
+-- A turn is a number of steps, and a round a number of turns. So all follows from one step.
 use Rattle.std.specs.Prelude.{Bool, List, [], false, fold, if◌then◌else◌, nat_eq, refl, suc, true, zero, ℕ, ◌%◌, ◌∷◌, ◌≡◌}
 use Rattle.std.proofs.Common.{subst}
 use Rattle.cp_model.specs.Continuations.{Task}

@@ -1,6 +1,8 @@
--- The grasp of a process: what a step of it may read or write of the store. It is its reach and, for the
--- first process, which alone initialises monitors and processes, also what isn't initialised yet. Two
--- ready processes have nothing in their grasp together.
+-- The grasp of a process: what a step of it may read or write in the store.
+--
+-- It is the reach of the process. Process 1 also has in its grasp what isn't initialised yet, since only
+-- process 1 initialises monitors and processes. Two ready processes have nothing in their grasp in common:
+-- a gate has one holder, and what isn't initialised is in nobody's reach.
 use Rattle.std.specs.Prelude.{Bool, List, None, Option, Some, [], false, if◌then◌else◌, nat_eq, not, refl, true, ℕ, ◌∷◌, ◌≡◌, ◌≢◌, ◌⊎◌}
 use Rattle.std.proofs.Common.{ap, inl, inr, subst, sym, ◌∙◌}
 use Rattle.std.proofs.lemmas.Bool.{eq-eqb, eqb-true, true≢false}

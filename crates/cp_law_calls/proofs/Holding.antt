@@ -1,5 +1,8 @@
--- Each gate that a process's end marks name, but for the one at which it is stopped, is held by it: at
--- the start, and after each step of a ready process.
+-- A process holds each gate that its end marks name, except the one at which it is stopped.
+--
+-- At the start there are no such marks. A step adds a mark only with the gate that it takes, or stops at
+-- that gate. It gives a gate away only with the mark, or stops at it. A process that is handed a gate was
+-- stopped there, and has the mark already.
 use Rattle.std.specs.Prelude.{Bool, List, None, Option, Some, [], drop, false, if◌then◌else◌, nat_eq, refl, true, ℕ, ◌++◌, ◌∷◌, ◌≡◌, ◌≢◌, ◌⊎◌}
 use Rattle.std.proofs.Common.{ap, arith, inl, inr, subst, sym, ◌∙◌}
 use Rattle.std.proofs.lemmas.Bool.{eq-eqb, eqb-false, eqb-true, ne_eqb, true≢false}
@@ -84,7 +87,7 @@ module _ (s : State) (p : ℕ) (h : HoldsMarked s) (ready : s.status p ≡ Ready
   itself : (q n : ℕ) (x : Status) → p ≡ q → is_in n (held (moved x) q) ≡ true → is_in n (held_gates x c.continuation) ≡ true
   itself q n x d e = subst (λ b. is_in n (held_gates (if b then x else s.status q) (if b then c.continuation else s.continuation q)) ≡ true) (eq-eqb p q d) e
 
-  -- No gate changes hands.
+  -- No gate changes its holder.
   keeps : (u : State) → ((n : ℕ) → (u.gates n).holder ≡ (s.gates n).holder)
       → ((q n : ℕ) → p ≢ q → is_in n (held u q) ≡ true → is_in n (held s q) ≡ true)
       → ((n : ℕ) → is_in n (held u p) ≡ true → is_in n (marked_monitors (s.continuation p)) ≡ true) → HoldsMarked u

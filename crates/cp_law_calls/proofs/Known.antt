@@ -1,4 +1,7 @@
--- What is known of the next step of a ready process, where gates are in order.
+-- What is known of the next step of a ready process, if gates are in order.
+--
+-- Its process holds the gate that it leaves or at which it delays. A process that it continues is stopped
+-- at that gate. Only process 1 opens monitors and starts processes.
 use Rattle.std.specs.Prelude.{Bool, List, None, Option, Some, [], false, refl, true, ℕ, ◌∷◌, ◌≡◌}
 use Rattle.std.proofs.Common.{ap, arith, inl, inr, subst, sym, ◌∙◌}
 use Rattle.std.proofs.lemmas.Bool.{eqb-true}

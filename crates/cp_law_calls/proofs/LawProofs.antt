@@ -1,4 +1,4 @@
--- The laws of eager steps and of orders of calls, from what is proved of good states and of machines.
+-- The laws of eager steps and of orders of calls, from the lemmas on good states and on machines.
 use Rattle.std.specs.Prelude.{Bool, Contains, List, None, Option, Some, [], false, if◌then◌else◌, nat_eq, not, refl, true, ℕ, ◌∷◌, ◌||◌, ◌≡◌}
 use Rattle.std.proofs.Common.{ap, arith, subst, sym, ◌∙◌}
 use Rattle.std.proofs.lemmas.Bool.{eqb-true, true≢false}

@@ -1,4 +1,8 @@
 -- An eager step changes places with every step of another ready process.
+--
+-- A step reads and writes its grasp, and then acts on gates and statuses. The grasps of two ready
+-- processes have nothing in common. So each step does the same after the other, they write in different
+-- places, and their acts on gates and statuses change places.
 use Rattle.std.specs.Prelude.{Bool, List, None, Option, Some, false, if◌then◌else◌, nat_eq, not, refl, suc, true, ℕ, ◌≡◌, ◌≢◌}
 use Rattle.std.proofs.Common.{ap, arith, subst, sym, ◌∙◌}
 use Rattle.std.proofs.lemmas.Bool.{ne_eqb, true≢false}
@@ -137,7 +141,7 @@ module _ (w : World) (O : IsOrdered w) (setup : Setup) (s : State) (i : InOrder 
   new_process : (p : ℕ) → p ≡ 1 → (r : ℕ) → is_started (s.status r) ≡ false → grasp s p (OfProcess r) ≡ true
   new_process p e r f = grasp_new s p (OfProcess r) e (ap not f)
 
-  -- Where what p reads is the same, its step has the same outcome.
+  -- If what p reads is the same, its step has the same outcome.
   same_outcome : (p : ℕ) (s' : State) → IsSameFor (grasp s p) p s s'
       → ActionNeeds (grasp s p) (context setup s p) (λ r. is_started (s'.status r)) (λ m. is_set (s'.gates m).holder) (action (s.continuation p))
       → outcome setup s' p ≡ result_mixed (grasp s p) s'.store (outcome setup s p)

@@ -1,5 +1,7 @@
--- The states of the meaning, closed after each step, as a machine whose eager steps may come first; and
--- rounds in any order as runs of it.
+-- Rounds in any order are runs of a machine whose states are closed after each step.
+--
+-- If nothing uses the clock, a step may come before the end of a round or after it. So an event is a
+-- number of moves, and the end of a round is none. Conversely, a move is a round of one event.
 use Rattle.std.specs.Prelude.{Bool, List, Some, [], false, fold, if◌then◌else◌, nat_eq, refl, suc, true, zero, ℕ, ◌%◌, ◌++◌, ◌∷◌, ◌||◌, ◌≡◌, ◌≢◌}
 use Rattle.std.proofs.Common.{ap, arith, subst, sym, ◌∙◌}
 use Rattle.cp_model.specs.Continuations.{Task}

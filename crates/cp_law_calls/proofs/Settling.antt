@@ -46,7 +46,7 @@ module _ {S : Type 0} (M : Machine S) (Good : S → Type 0) (A : AreMovers M Goo
 
   -- ---- Settling
 
-  -- Where a state settles, it settles after each eager step.
+  -- After an eager step a state settles as it did before.
   pub still_settles : (s u : S) (p : ℕ) → Good s → is_in p M.processes ≡ true → M.way s p ≡ Eager → Settles M s u → Settles M (M.move s p) u
   still_settles s u p g there e h =
       let r = forward h.made s u p g there e (eager_runs M h.made s u h.run) h.settled in
@@ -166,7 +166,7 @@ module _ {S : Type 0} (M : Machine S) (Good : S → Type 0) (A : AreMovers M Goo
         ),
       )
 
-  -- Where a state settles as a member of a closed set, so does each state that a run leads to.
+  -- If a state settles as a member of a closed set, so does each state that a run reaches from it.
   module _ (V : S → Type 0) (closed : IsClosedByCalls M V) where
     pub stays_within : (ps : List ℕ) (s u v : S) → Good s → Runs M s ps u → V v → Settles M s v → (w : S) × V w × Settles M u w
     stays_within [] s u v g run known h = (v, known, subst (λ x. Settles M x v) run h)

@@ -1,5 +1,7 @@
--- A well-typed text without `realtime` and `wait` has nothing to do with the clock, in any state that rounds
--- reach.
+-- A well-typed text without `realtime` and `wait` doesn't use the clock, in any state that rounds reach.
+--
+-- In a typed text a statement without arguments calls a procedure, unless it is `wait`. So all bodies and
+-- routines are calm, and steps keep processes calm.
 use Rattle.std.specs.Prelude.{Bool, List, None, Some, [], codes, false, fold, if◌then◌else◌, nat_eq, refl, slice_get, suc, take, true, zero, ℕ, ℤ, ◌∷◌, ◌≡◌, ◌≢◌, ◌⊎◌}
 use Rattle.std.proofs.Common.{ap, arith, inl, inr, subst, sym, ◌∙◌}
 use Rattle.std.proofs.lemmas.Bool.{true≢false}

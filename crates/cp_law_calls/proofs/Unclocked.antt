@@ -1,4 +1,6 @@
--- A step of a process whose tasks have nothing to do with the clock does the same at any time.
+-- A step of a calm process does the same at any time.
+--
+-- Only `realtime` reads the clock. So each value, each place and each list of writes is the same.
 use Rattle.std.specs.Prelude.{Bool, List, None, Option, Some, [], codes, false, if◌then◌else◌, neg_ℤ, not, pos, refl, true, ℤ, ◌++◌, ◌∷◌, ◌≡◌}
 use Rattle.std.proofs.Common.{ap, sym, ◌∙◌}
 use Rattle.std.proofs.lemmas.Bool.{true≢false}

@@ -34,7 +34,7 @@ RoundKeepsGood =
     (setup : Setup) (t : ℕ) (s : State) (events : List Event)
     → WellTyped setup → IsGood setup s → IsGood setup (wake setup s) × IsGood setup (close_round s) × IsGood setup (replay_round setup t s events)
 
--- Each state that rounds reach, in any orders, lawful or not.
+-- Each state that rounds reach, in any order, lawful or not.
 abbrev pub ReachedAreGood : Type 0
 ReachedAreGood = (setup : Setup) (rounds : List (ℕ × List Event)) → WellTyped setup → IsGood setup (replay setup (start setup) rounds)
 
@@ -48,8 +48,8 @@ EagerStepsCommute =
     → (step setup (step setup s p) q ≡ step setup (step setup s q) p)
     × (way (step setup s p) q ≡ Eager) × (way (step setup s q) p ≡ Eager)
 
--- Taking a gate may be moved later: the call of `p` may come after an eager step of `q`. So it is whether
--- `p` enters, asks or faults, and whether or not `q` leaves the monitor that `p` calls.
+-- Taking a gate may be moved later: the late step of `p` may come after an eager step of `q`. That is so
+-- whether `p` enters, asks or faults, and whether or not `q` leaves the monitor that `p` calls.
 abbrev pub TakingMovesLater : Type 0
 TakingMovesLater =
     (setup : Setup) (s : State) (p q : ℕ)
@@ -66,7 +66,7 @@ LeavingMovesEarlier =
     → (step setup (step setup s p) q ≡ step setup (step setup s q) p)
     × (way (step setup s p) q ≡ way s q) × (way (step setup s q) p ≡ way s p)
 
--- Calls of different monitors change places as well, and each calls the same monitor afterwards.
+-- Calls of different monitors change places, too, and each still calls the same monitor.
 abbrev pub DifferentCallsCommute : Type 0
 DifferentCallsCommute =
     (setup : Setup) (s : State) (p q m n : ℕ)
@@ -83,7 +83,7 @@ LateIsOfKernel = (s : State) (p : ℕ) → way s p ≡ Late → kind s p ≡ Ker
 
 -- ---- Ends of rounds
 
--- The end of a round may come before a step of a ready process as well, but for the count.
+-- The end of a round may come before a step or after it, except for the count.
 abbrev pub StepPastClosing : Type 0
 StepPastClosing =
     (setup : Setup) (rounds : List (ℕ × List Event)) (x : State) (p : ℕ)
@@ -95,9 +95,9 @@ StepPastClosing =
 abbrev pub TimelessTexts : Type 0
 TimelessTexts = (setup : Setup) → WellTyped setup → text_is_timeless setup.tree ≡ true → IsTimeless setup
 
--- ---- Orders of a text that has nothing to do with the clock
+-- ---- Orders of a text that doesn't use the clock
 
--- From the start, what orders of rounds reach, and what runs of closed states reach, is the same.
+-- Rounds and runs of closed states reach the same from the start.
 abbrev pub OrderIsRun : Type 0
 OrderIsRun =
     (setup : Setup) (rounds : List (ℕ × List Event))
@@ -118,7 +118,7 @@ SettlesOnce =
     → let s = closed (replay setup (start setup) rounds) in
     Settles (machine setup) s u → Settles (machine setup) s v → u ≡ v
 
--- What settles from any order, is reached by calls: all that is chosen is who calls next.
+-- What a reached state settles as, calls reach: all that is chosen is who calls next.
 abbrev pub OrderIsByCalls : Type 0
 OrderIsByCalls =
     (setup : Setup) (rounds : List (ℕ × List Event)) (u : State)
@@ -132,7 +132,7 @@ StillIsByCalls =
     → let s = replay setup (start setup) rounds in
     is_still setup s ≡ true → (calls : List ℕ) × ByCalls (machine setup) (closed (start setup)) calls (closed s)
 
--- And what is reached by calls, an order reaches.
+-- Conversely, rounds reach what calls reach.
 abbrev pub ByCallsIsOrder : Type 0
 ByCallsIsOrder =
     (setup : Setup) (calls : List ℕ) (u : State)
@@ -147,7 +147,7 @@ CallsDetermineEnd =
     → WellTyped setup → IsTimeless setup → ByCalls (machine setup) (closed (start setup)) calls u → ByCalls (machine setup) (closed (start setup)) calls v
     → u ≡ v
 
--- Two runs that end settled, in which the same processes call in the same order, end in the same state.
+-- If two runs end settled, and the same processes call in the same order, they end in the same state.
 abbrev pub SameCallersSameEnd : Type 0
 SameCallersSameEnd =
     (setup : Setup) (ps qs : List ℕ) (u v : State)
@@ -155,8 +155,8 @@ SameCallersSameEnd =
     WellTyped setup → IsTimeless setup → Runs (machine setup) s ps u → IsSettled (machine setup) u → Runs (machine setup) s qs v → IsSettled (machine setup) v
     → callers (machine setup) s ps ≡ callers (machine setup) s qs → u ≡ v
 
--- Two calls of different monitors one after another, of which the second was to come before the first one
--- already, may change places in the order of calls.
+-- Let two calls of different monitors come one after another, and let the second one have been due before
+-- the first. Then they may change places in the order of calls.
 abbrev pub DifferentCallsSwap : Type 0
 DifferentCallsSwap =
     (setup : Setup) (rounds : List (ℕ × List Event)) (p q m n : ℕ) (calls : List ℕ) (u : State)
@@ -178,8 +178,8 @@ OrdersStayWithin =
 
 -- ---- Accepted texts
 
--- Of an accepted text without `realtime` and `wait`, each still state that rounds in any orders reach is
--- reached by calls, but for the count of rounds; and what is reached by calls, rounds reach.
+-- Let an accepted text have neither `realtime` nor `wait`. Calls reach each still state that rounds in any
+-- order reach, except for the count of rounds. Rounds reach what calls reach.
 abbrev pub AcceptedStillIsByCalls : Type 0
 AcceptedStillIsByCalls =
     (t : s.Tree) (setup : Setup) (rounds : List (ℕ × List Event))

@@ -1,8 +1,8 @@
--- Orders of the meaning, up to the ends of rounds.
+-- Rounds of the meaning, without their ends.
 --
--- At the end of a round the processes that were started in it become ready, and the count grows. Where
--- nothing has to do with the clock, that may be done after each step as well, and the count may be left
--- out: a state is closed where nobody is fresh and no round is counted.
+-- At the end of a round the processes that were started in it become ready, and the count grows. If nothing
+-- uses the clock, that may happen after each step, too, and the count may be left out. A state is closed if
+-- nobody is fresh and no round is counted.
 use Rattle.std.specs.Prelude.{List, true, ℕ, ◌≡◌, ◌≢◌}
 use Rattle.cp_model.specs.Configurations.{Waiting}
 use Rattle.cp_model.specs.Orders.{replay}
@@ -21,8 +21,8 @@ closed s = record s { status = λ p. after_closing (s.status p); rounds = 0 }
 abbrev pub machine : Setup → Machine State
 machine setup = record { processes = processes setup; move = λ s p. closed (step setup s p); way = way }
 
--- In no state that rounds of the text's processes reach, does a step depend on the count of rounds, or is a
--- process waiting for the clock. So it is for a text without `realtime` and `wait`.
+-- Nothing uses the clock: in each state that rounds of the text's processes reach, no step depends on the
+-- count of rounds, and nobody waits. A text without `realtime` and `wait` is such a text.
 pub record IsTimeless (setup : Setup) : Type 0 where
   pub count : (rounds : List (ℕ × List Event)) (p n : ℕ) → AreAllOfProcesses setup rounds → is_in p (processes setup) ≡ true
       → closed (step setup (record (replay setup (start setup) rounds) { rounds = n }) p) ≡ closed (step setup (replay setup (start setup) rounds) p)

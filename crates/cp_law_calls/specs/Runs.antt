@@ -1,8 +1,8 @@
 -- Runs, and runs that are ordered by calls, on any kind of state.
 --
--- A state is settled where no process has an eager step. A run by calls first settles, and then makes one
--- late step after another, each followed by eager steps until the state is settled. So all that is chosen
--- in it is who calls next.
+-- A state is settled if no process has an eager step. A run by calls first settles. Then it makes one late
+-- step after another, each followed by eager steps until the state is settled. So all that is chosen in it
+-- is who calls next.
 --
 -- Nothing here knows the language.
 use Rattle.std.specs.Prelude.{List, [], true, ℕ, ◌∷◌, ◌≡◌}
@@ -60,22 +60,22 @@ pub record ByCalls {S : Type 0} (M : Machine S) (s : S) (calls : List ℕ) (u : 
 
 -- ---- Closed sets
 
--- Of a set of settled states, each late step leads to a member again, once the state is settled.
+-- The members of the set are settled. Each late step of a member leads to a member again, by eager steps.
 pub record IsClosedByCalls {S : Type 0} (M : Machine S) (V : S → Type 0) : Type 0 where
   pub settled : (v : S) → V v → IsSettled M v
   pub calls : (v : S) (p : ℕ) → V v → is_in p M.processes ≡ true → M.way v p ≡ Late → (w : S) × V w × Settles M (M.move v p) w
 
 -- ---- What steps of different processes have to do with each other
 
--- The states that matter pass `Good`. An eager step changes places with each step of another process, and
--- no step changes the way of another process that has a next step.
+-- Let `Good` hold for the states that matter. An eager step changes places with each step of another
+-- process, and no step changes the way of another process that has a next step.
 pub record AreMovers {S : Type 0} (M : Machine S) (Good : S → Type 0) : Type 0 where
   pub good : (s : S) (p : ℕ) → Good s → is_in p M.processes ≡ true → (M.way s p ≡ Idle → ⊥) → Good (M.move s p)
   pub swap : (s : S) (p q : ℕ) → Good s → is_in p M.processes ≡ true → is_in q M.processes ≡ true → (p ≡ q → ⊥) → (M.way s p ≡ Idle → ⊥) → M.way s q ≡ Eager
       → M.move (M.move s p) q ≡ M.move (M.move s q) p
   pub stays : (s : S) (p q : ℕ) → Good s → (p ≡ q → ⊥) → (M.way s p ≡ Idle → ⊥) → (M.way s q ≡ Idle → ⊥) → M.way (M.move s p) q ≡ M.way s q
 
--- Late steps that pass `Apart` change places.
+-- Late steps of two processes change places if `Apart` holds for them.
 pub record CallsChangePlaces {S : Type 0} (M : Machine S) (Good : S → Type 0) (Apart : S → ℕ → ℕ → Type 0) : Type 0 where
   pub swap : (s : S) (p q : ℕ) → Good s → is_in p M.processes ≡ true → is_in q M.processes ≡ true → (p ≡ q → ⊥) → M.way s p ≡ Late → M.way s q ≡ Late → Apart s p q
       → M.move (M.move s p) q ≡ M.move (M.move s q) p

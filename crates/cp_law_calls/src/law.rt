@@ -5,8 +5,8 @@ ghost use Rattle.cp_law_calls.specs.Laws.{ByCallsIsOrder, CallsDetermineEnd, Dif
 ghost use Rattle.cp_law_calls.specs.Exclusion.{HolderIsInside, InsideHolds, NoTwoInside};
 ghost use Rattle.cp_law_calls.specs.Laws.{AcceptedByCallsIsOrder, AcceptedCallsDetermineEnd, AcceptedStillIsByCalls};
 
-/// The states in which the laws of eager steps hold: the start of a well-typed text, and all that steps
-/// and rounds make of it. In them no two processes hold a gate.
+/// The states in which the laws of eager steps hold: the start of a well-typed text, and what steps
+/// and rounds make of it. No two processes hold one gate in them.
 pub fn good_states()
     ensures start { StartIsGood }
     ensures step { StepKeepsGood }
@@ -15,8 +15,8 @@ pub fn good_states()
     ensures reached { ReachedAreGood }
 {}
 
-/// An eager step changes places with every step of another process, and neither step changes the way of
-/// the other.
+/// An eager step changes places with every step of another process. So taking a gate may be moved
+/// later, and leaving a monitor earlier. Calls of different monitors change places, too.
 pub fn eager_steps()
     ensures both { EagerStepsCommute }
     ensures taking { TakingMovesLater }
@@ -26,22 +26,21 @@ pub fn eager_steps()
     ensures kernel { LateIsOfKernel }
 {}
 
-/// A well-typed text without `realtime` and `wait` has nothing to do with the clock.
+/// A well-typed text without `realtime` and `wait` doesn't use the clock.
 pub fn timeless()
     ensures { TimelessTexts }
 {}
 
-/// Where nothing has to do with the clock, rounds in any order are runs of steps, up to who is fresh and the
-/// count of rounds.
+/// If nothing uses the clock, rounds in any order are runs of steps, except for the count of rounds
+/// and for who is fresh.
 pub fn rounds()
     ensures closing { StepPastClosing }
     ensures run { OrderIsRun }
     ensures order { RunIsOrder }
 {}
 
-/// Where nothing has to do with the clock, whatever settles from any order is reached by calls alone, each
-/// followed by eager steps until there are none: so is each still state. And the order of calls determines
-/// what is reached.
+/// If nothing uses the clock, calls reach what reached states settle as, and so each still state.
+/// The order of calls determines what is reached. A closed list of states has all of it.
 pub fn orders_of_calls()
     ensures once { SettlesOnce }
     ensures calls { OrderIsByCalls }
@@ -60,8 +59,8 @@ pub fn accepted_texts()
     ensures end { AcceptedCallsDetermineEnd }
 {}
 
-/// Mutual exclusion, of accepted texts and each state that rounds in any orders reach: a process is in a
-/// monitor exactly where it holds its gate, so no two processes are in one monitor.
+/// Mutual exclusion, for an accepted text and each state that rounds in any order reach. A process
+/// is in a monitor exactly if it holds its gate, so no two processes are in one monitor.
 pub fn mutual_exclusion()
     ensures holds { InsideHolds }
     ensures inside { HolderIsInside }

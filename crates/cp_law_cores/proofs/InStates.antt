@@ -1,5 +1,7 @@
--- Cores in states: their steps are those of the states, and a state reports which steps are
--- private.
+-- The steps of a core are those of its states, and a state reports which of them are private.
+--
+-- A core is that of a machine in the state. A step of the machine leads to the state's next, and its core
+-- makes the same step. So the next core is that of the next state.
 use Rattle.std.specs.Prelude.{Bool, List, None, Option, Some, [], false, if◌then◌else◌, length, not, refl, slice_get, suc, true, zero, ℕ, ◌-◌, ◌||◌, ◌∷◌, ◌≡◌, ◌≤◌}
 use Rattle.std.proofs.Common.{ap, arith, subst, sym, ◌∙◌}
 use Rattle.std.proofs.lemmas.Bool.{true≢false}

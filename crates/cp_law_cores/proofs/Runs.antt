@@ -1,4 +1,7 @@
--- Rounds in any orders, of machines and of their cores.
+-- Rounds in any order, as a machine makes them, and its core with it.
+--
+-- A kernel turn of several steps is as many turns of one step. So rounds are a list of acts, and the core
+-- of the machine after the rounds is its first core after the acts.
 use Rattle.std.specs.Prelude.{List, [], fold, refl, suc, true, zero, ℕ, ◌∷◌, ◌≡◌, ◌≤◌}
 use Rattle.std.proofs.Common.{ap, arith, subst, sym, ◌∙◌}
 use Rattle.cp_model.specs.Orders as orders

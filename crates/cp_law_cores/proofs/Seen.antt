@@ -1,5 +1,7 @@
--- The core of a machine after each step is what the core's step makes of the core before, if the program
--- has nothing to do with the clock.
+-- A step changes the core of a machine as it changes the core itself, if the program doesn't use the clock.
+--
+-- The core makes the step at clock 0, and without output. The machine's step reads neither, so it does the
+-- same except for what it writes. Nobody begins to wait, so waking changes nothing.
 use Rattle.std.specs.Prelude.{Bool, List, None, Option, Some, [], drop, false, if◌then◌else◌, length, map, nat_eq, refl, slice_get, slice_set, suc, take, true, zero, ℕ, ◌%◌, ◌-◌, ◌++◌, ◌∷◌, ◌≡◌}
 use Rattle.std.proofs.Common.{ap, arith, subst, sym, ◌∙◌}
 use Rattle.std.proofs.lemmas.Bool.{true≢false}
@@ -245,7 +247,7 @@ all_awake (o ∷ os) h =
 
 -- ---- Machines
 
--- A machine of a program that has nothing to do with the clock, in which nobody waits for it.
+-- A machine of a program that doesn't use the clock, in which nobody waits for it.
 pub record IsTimeless (program : Program) (m : Machine) : Type 0 where
   pub program_is : m.program ≡ program
   pub timeless : is_timeless m.program ≡ true

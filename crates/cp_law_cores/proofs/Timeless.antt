@@ -1,5 +1,7 @@
--- Steps of a program that has nothing to do with the clock: they read neither the clock nor what was
--- written, and nobody begins to wait.
+-- An operation of a program that doesn't use the clock does the same at any time and with any output.
+--
+-- This is read off each operation: it has the same effect and leaves the same words. A process begins to
+-- wait only by the operation that such a program doesn't have.
 use Rattle.std.specs.Prelude.{◌≡◌, refl, ℕ, ◌+◌, ◌*◌, neg_ℤ, ℤ, Bool, true, false, not, if◌then◌else◌, List, [], ◌∷◌, length, int_le, nat_lt, pos, Option, Some, None, Result, Ok, Err, slice_get}
 use Rattle.std.proofs.Common.{ap, subst, sym}
 use Rattle.std.proofs.lemmas.Bool.{true≢false}
@@ -72,7 +74,7 @@ module _ (W : Activity → Bool) (faulted : (f : Fault) → W (Faulted f) ≡ fa
   abbrev moved : PrivateState → PrivateState
   moved o = record o { output = written }
 
-  -- Both do the same, but for what was written, and nobody comes to pass the test.
+  -- Both do the same, except for what was written, and nobody begins to pass the test.
   pub record Alike (r' r : Acting) : Type 0 where
     pub same : silent r'.0 ≡ silent r.0
     pub effect : r'.1 ≡ r.1

@@ -28,7 +28,7 @@ module _ (program : Program) where
       by true false = refl
       by false b = refl
 
-  -- Where the next step isn't private, there is no private step.
+  -- If the next step isn't private, a private step changes nothing.
   pub idle : (c : Core) (p : ℕ) → is_private_on program (part c.parts p) ≡ false → private_at program c p ≡ c
   idle c p h = by (part c.parts p) h
     where

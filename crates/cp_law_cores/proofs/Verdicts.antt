@@ -1,4 +1,6 @@
--- What a core reports of the states that it is a core of.
+-- What a core reports of its states: whether they are still, whether all have ended, and who has faulted.
+--
+-- All that is read off the status of a process. It can be read off the stage and the activity, too.
 use Rattle.std.specs.Prelude.{Bool, List, None, Option, Some, [], false, if◌then◌else◌, nat_eq, refl, slice_get, suc, true, zero, ℕ, ◌-◌, ◌∷◌, ◌≡◌, ◌≤◌}
 use Rattle.std.proofs.Common.{ap, arith, subst, sym, ◌∙◌}
 use Rattle.std.proofs.lemmas.Bool.{eqb-true, true≢false}

@@ -1,4 +1,7 @@
--- A machine whose dead words are wiped is in whatever state it was in.
+-- A core whose dead words are wiped is a core of the same states.
+--
+-- What a process has left to do reads only words of its component, and temps that its next call keeps. So
+-- the machine stays in its state if the other words become 0.
 use Rattle.std.proofs.Common.{◌≡◌, ◌⊎◌, inl, inr, ℕ, zero, suc, ◌+◌, ◌-◌, ◌≤◌, ◌<◌, ℤ, List, [], ◌∷◌, Bool, true, false, Option, Some, None, length, map, refl, ap, sym, subst, ◌∙◌, arith}
 use Rattle.std.specs.Prelude.{if◌then◌else◌, slice_get}
 use Rattle.std.proofs.lemmas.List.{length-map}
@@ -174,7 +177,7 @@ module _ (program : Program) (setup : Setup) (G : Ground) (sight : G.sight ≡ O
   running_on : RunsOn G s.store o (s.continuation G.p)
   running_on = part.runs_on (subst IsActive (sym runs) tt)
 
-  -- The words alone.
+  -- The words.
   words_part : o.frames ≡ [] → PartOf G s before (record o { words = cleared o.base o.words })
   words_part bare = record {
     number = part.number;

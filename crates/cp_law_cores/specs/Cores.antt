@@ -1,5 +1,5 @@
--- What matters of a machine to its further steps, where the program has nothing to do with the
--- clock: its kernel and its private states without what is written.
+-- A core is what matters of a machine to its further steps, if the program doesn't use the clock: its
+-- kernel, and its private states without what they have written.
 --
 -- No step reads what was written, nor the count of rounds. So a machine that displays forever, or
 -- whose rounds pass, comes back to cores that it had before.
@@ -42,7 +42,9 @@ abbrev pub is_kernel_on : Program → Kernel → Option PrivateState → Bool
 is_kernel_on program k None = false
 is_kernel_on program k (Some o) = is_due program (record { kernel = k; own = o })
 
--- ---- Steps. The clock doesn't matter, so it is 0
+-- ---- Steps
+
+-- The clock doesn't matter, so it is 0.
 
 abbrev pub turned : Program → List PrivateState → ℕ → Option PrivateState → List PrivateState
 turned program os p None = os

@@ -44,7 +44,7 @@ StepsKeepCores =
     → IsCoreIn program setup (private_step setup s p) (private_at program c p)
     × IsCoreIn program setup (kernel_step setup s p) (kernel_at program c p)
 
--- So it is at the end of a round, and waking changes no core.
+-- The same holds for the end of a round. Waking changes no core.
 abbrev pub RoundsKeepCores : Type 0
 RoundsKeepCores =
     (program : Program) (setup : Setup) (s : State) (c : Core)

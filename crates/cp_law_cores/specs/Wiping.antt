@@ -1,7 +1,7 @@
 -- Wiping dead words: what a callee leaves behind, and nothing reads again.
 --
--- Where a process runs in its body, its words after its component are dead. Where it calls a procedure there,
--- and no argument holds the value of a call, so are its temps after those that the call keeps.
+-- If a process runs in its body, its words after its component are dead. If it calls a procedure there, and
+-- no argument holds the value of a call, its temps after those that the call keeps are dead, too.
 use Rattle.std.specs.Prelude.{Bool, List, Option, Some, [], false, if◌then◌else◌, map, pos, suc, true, zero, ℕ, ℤ, ◌+◌, ◌∷◌}
 use Rattle.cp_model_program.specs.Programs as op
 use Rattle.cp_model_program.specs.Programs.{Operation, Program}

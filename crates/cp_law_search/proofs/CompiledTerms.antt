@@ -1,5 +1,7 @@
--- The compiler reads the clock only for the name `realtime`: terms, places and arguments of expressions
--- without that name are timeless, and so are the calls that are made before them.
+-- The compiler reads the clock only for the name `realtime`.
+--
+-- So the terms, places and arguments of expressions without that name are timeless, and so are the calls
+-- that are made before them.
 use Rattle.std.specs.Prelude.{Bool, List, None, Option, Some, [], codes, false, if◌then◌else◌, not, refl, true, ℕ, ◌+◌, ◌++◌, ◌∷◌, ◌≡◌}
 use Rattle.std.proofs.Common.{subst, sym, ◌∙◌}
 use Rattle.std.proofs.lemmas.Bool.{true≢false}

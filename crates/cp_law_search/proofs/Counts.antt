@@ -1,4 +1,4 @@
--- A core of a state is one of the state with any other count of rounds.
+-- A core of a state is also one of the state with any other count of rounds.
 use Rattle.std.specs.Prelude.{refl, ℕ}
 use Rattle.cp_model.specs.States.{Setup, State}
 use Rattle.cp_model_program.specs.Programs.{Program}

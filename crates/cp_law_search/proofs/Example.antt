@@ -1,6 +1,6 @@
--- A lost signal, found by calls, and computed: process 1 delays in a queue of the monitor, and process 2
--- continues it. Where process 2 calls first, its `continue` finds nobody, and process 1 is stuck. Where
--- process 1 calls first, both end. The order of three calls is all that is chosen.
+-- A lost signal, found by calls and computed. Process 1 delays in a queue of the monitor, and process 2
+-- continues it. If process 2 calls first, its `continue` finds nobody, and process 1 is stuck. If process 1
+-- calls first, both end. Only the order of three calls is chosen.
 use Rattle.std.specs.Prelude.{[], false, refl, suc, true, zero, ℕ, ◌∷◌, ◌≡◌}
 use Rattle.std.proofs.Common.{arith, sym, ◌∙◌}
 use Rattle.cp_model.specs.States.{is_in}
@@ -149,7 +149,16 @@ gets_to_end = record {
 all_end : (core_is_still 2 ended ≡ true) × (core_has_ended 2 ended ≡ true)
 all_end = (refl, refl)
 
--- So these six cores are all that calls lead to: in `stuck` and `ended` nobody has a step, and in each other
--- one the processes with a late step are those that were tried.
+-- So calls lead to these six cores only. In `stuck` and `ended` nobody has a step. In each other one the
+-- processes with a late step are those that were tried.
 nobody_else : (way_at program first 2 ≡ Idle) × (way_at program signalled 2 ≡ Idle) × (way_at program waiting 1 ≡ Idle)
 nobody_else = (refl, refl, refl)
+
+-- ---- A set that leaves out a late step
+
+-- `first`, `started`, `waiting` and `ended` lead to each other by all late steps but that of process 2 in
+-- `started`. In the only still one of them all have ended. Yet calls lead to `stuck`.
+left_out
+    : (way_at program started 2 ≡ Late) × (core_is_still 2 first ≡ false) × (core_is_still 2 started ≡ false) × (core_is_still 2 waiting ≡ false)
+    × (core_is_still 2 ended ≡ true) × (core_has_ended 2 ended ≡ true) × (core_is_still 2 stuck ≡ true) × (core_has_ended 2 stuck ≡ false)
+left_out = (refl, refl, refl, refl, refl, refl, refl, refl)

@@ -1,4 +1,9 @@
--- States follow their cores, step by step, and stay near a closed set.
+-- States follow their cores step by step, and cores follow their states. What runs reach is near a closed
+-- set.
+--
+-- A state is near the set if it settles as one that has a member as its core. After an eager step it still
+-- settles as the same state. A late step may be made after settling, too. There it is a late step of the
+-- member, so it leads near the set again.
 use Rattle.std.specs.Prelude.{Bool, List, [], false, if◌then◌else◌, refl, true, ℕ, ◌||◌, ◌∷◌, ◌≡◌}
 use Rattle.std.proofs.Common.{ap, arith, subst, sym, ◌∙◌}
 use Rattle.cp_model.specs.Actions.{action, is_kernel_action}
@@ -29,7 +34,7 @@ use Rattle.cp_law_cores.proofs.Verdicts.{faulted_is}
 use Rattle.cp_law_search.specs.Calls.{IsClosedByCalls, LeadsAs, LeadsByCalls, core_machine, step_at, way_at}
 use Rattle.cp_law_search.specs.Laws.{IsClockless}
 use Rattle.cp_law_search.proofs.Counts.{recount}
-use Rattle.cp_law_search.proofs.Representing.{Sound, closed_again, move_sound, movers, step_closed}
+use Rattle.cp_law_search.proofs.ClosedStates.{Sound, closed_again, move_sound, movers, step_closed}
 use Rattle.cp_law_search.proofs.Ways.{core_reports_way}
 
 eager_no_idle : Eager ≡ Idle → ⊥
@@ -111,7 +116,7 @@ module _ (program : Program) (setup : Setup) (C : IsClockless program setup) whe
   settled_like : (s : State) (c : Core) → At s c → IsSettled K c → IsSettled M s
   settled_like s c h settled = record { none = λ p there e. settled.none p there (ways s c p h there ∙ e) }
 
-  -- Where a core of the state leads, the state settles.
+  -- As a core of the state settles, so does the state.
   pub record Arrives (s : State) (w : Core) : Type 0 where
     pub end : State
     pub settles : Settles M s end

@@ -76,7 +76,7 @@ module _ (program : Program) (setup : Setup) (C : IsClockless program setup) whe
     near_first : Near program setup C (Contains vs) (closed (start setup))
     near_first = near program setup C (Contains vs) (closed (start setup)) (first_core program setup) (closed_fine (start setup) first_fine) first_at searched.first
 
-    -- Where a run from the start leads.
+    -- What a run from the start reaches.
     near_run : (ps : List ℕ) (u : State) → Runs (M program setup C) (closed (start setup)) ps u → Near program setup C (Contains vs) u
     near_run ps u run = stays_near program setup C (Contains vs) searched.closed ps (closed (start setup)) u (closed_fine (start setup) first_fine) run near_first
 

@@ -1,4 +1,7 @@
 -- How a search settles a core: by private turns, and by single steps of the kernel.
+--
+-- Each private step of a turn is an eager move of its own, since the end of a round changes nothing if
+-- nobody is fresh.
 use Rattle.std.specs.Prelude.{Bool, None, Option, Some, [], false, if◌then◌else◌, not, refl, suc, true, zero, ℕ, ◌∷◌, ◌≡◌}
 use Rattle.std.proofs.Common.{ap, arith, subst, sym, ◌∙◌}
 use Rattle.std.proofs.lemmas.Bool.{true≢false}

@@ -1,4 +1,7 @@
--- The way of a process is read off each core of the state.
+-- A core of a state reports the way of each process.
+--
+-- The stage and the activity of a process report whether it is ready. The operation at its counter reports
+-- whether its next step is late.
 use Rattle.std.specs.Prelude.{Bool, None, Option, Some, false, if◌then◌else◌, length, not, refl, slice_get, suc, true, zero, ℕ, ◌-◌, ◌≡◌, ◌≤◌}
 use Rattle.std.proofs.Common.{ap, arith, subst, sym, ◌∙◌}
 use Rattle.cp_model.specs.Abstract.{Class, Init, Monitor, Process, Sort}

@@ -1,8 +1,8 @@
 -- Runs of cores by calls.
 --
--- The next step of a process is late if it is a call of a monitor's entry or `init` of a monitor, and
--- otherwise eager. A core is settled where no process has an eager step. A search by calls settles the
--- first core, and from each settled core tries the late step of each process, and settles again.
+-- The next step of a process is late if it is a call of a monitor's entry or `init` of a monitor, else
+-- eager. A core is settled if no process has an eager step. A search by calls settles the first core. From
+-- each settled core it tries the late step of each process, and settles again.
 use Rattle.std.specs.Prelude.{Bool, List, None, Option, Some, [], false, if◌then◌else◌, true, ℕ, ◌∷◌, ◌≡◌}
 use Rattle.cp_model.specs.States.{Setup, State, is_in, numbers_from, process_count, processes}
 use Rattle.cp_model_program.specs.Programs as op

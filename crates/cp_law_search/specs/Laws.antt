@@ -23,7 +23,7 @@ use Rattle.cp_law_cores.specs.Turns.{AreSilent, NoneFresh, private_turn}
 use Rattle.cp_law_cores.specs.Verdicts.{HasFault, all_pass, core_has_ended, core_is_sound, core_is_still, has_ended, has_no_fault}
 use Rattle.cp_law_search.specs.Calls.{IsClosedByCalls, IsFound, LeadsByCalls, SettlesByCalls, core_machine, move_at, way_at}
 
--- The program represents the text, and has nothing to do with the clock.
+-- The program represents the text, and doesn't use the clock.
 pub record IsClockless (program : Program) (setup : Setup) : Type 0 where
   pub represents : IsProgramFor program setup
   pub free : is_timeless program ≡ true
@@ -35,7 +35,7 @@ CompiledTextsAreClockless =
     (setup : Setup)
     → IsProgramFor (compile setup.tree) setup → text_is_timeless setup.tree ≡ true → IsClockless (compile setup.tree) setup
 
--- The same of an accepted tree, whose compiled program represents its text.
+-- For an accepted tree this test is enough, since its compiled program represents its text.
 abbrev pub TextIsClockless : s.Tree → Type 0
 TextIsClockless t =
     (setup : Setup) → setup.tree ≡ erase.abstract t → text_is_timeless setup.tree ≡ true → IsClockless (compile setup.tree) setup
@@ -91,8 +91,8 @@ NoOrderIsStuckByCalls =
     → let s = replay setup (start setup) rounds in
     (all_pass has_no_fault s (processes setup) ≡ true) × (is_still setup s ≡ true → all_pass has_ended s (processes setup) ≡ true)
 
--- Where the text has nothing to do with the clock either, each still state has a member as its core, but for
--- the count of rounds.
+-- If the text doesn't use the clock either, each still state has a member as its core, except for the count
+-- of rounds.
 abbrev pub StillStatesAreMembers : Type 0
 StillStatesAreMembers =
     (program : Program) (setup : Setup) (vs : List Core) (rounds : List (ℕ × List Event))
@@ -100,7 +100,7 @@ StillStatesAreMembers =
     → let s = replay setup (start setup) rounds in
     is_still setup s ≡ true → (w : Core) × Contains vs w × IsCoreIn program setup (closed s) w
 
--- So it is for the compiled program, and one test of the text is asked.
+-- For the compiled program, one test of the text is enough.
 abbrev pub CompiledStillStatesAreMembers : Type 0
 CompiledStillStatesAreMembers =
     (setup : Setup) (vs : List Core) (rounds : List (ℕ × List Event))
@@ -120,13 +120,13 @@ pub record IsReal (setup : Setup) (c : Core) : Type 0 where
   pub sound : all_pass has_no_fault (replay setup (start setup) (with_one rounds)) (processes setup) ≡ core_is_sound (process_count setup) c
   pub fault : (p number : ℕ) → is_in p (processes setup) ≡ true → HasFault c p number → (replay setup (start setup) (with_one rounds)).status p ≡ Faulted number
 
--- So it is for each run of cores, as for one that breaks off before it settles,
+-- Each run of cores is real, even one that breaks off before it settles,
 abbrev pub RunIsReal : Type 0
 RunIsReal =
     (program : Program) (setup : Setup) (ps : List ℕ) (c : Core)
     → IsClockless program setup → Runs (core_machine program (process_count setup)) (first_core program setup) ps c → IsReal setup c
 
--- and for each run by calls.
+-- and so is each run by calls.
 abbrev pub FoundByCallsIsReal : Type 0
 FoundByCallsIsReal =
     (program : Program) (setup : Setup) (calls : List ℕ) (c : Core)
@@ -148,22 +148,21 @@ FoundIsExact =
 
 -- ---- How a core is settled
 
--- A step of a process is a private step, or one of the kernel, and then the end of a round; which changes
--- nothing where nobody is fresh.
+-- A move of a process is a private step or one of the kernel, and then the end of a round.
 abbrev pub StepsOfKinds : Type 0
 StepsOfKinds =
     (program : Program) (c : Core) (p : ℕ)
     → (is_private_on program (part c.parts p) ≡ true → move_at program c p ≡ close program (private_at program c p))
     × (is_private_on program (part c.parts p) ≡ false → move_at program c p ≡ close program (kernel_at program c p))
 
--- What a core settles as after an eager step, it settles as.
+-- A core settles as what it settles as after an eager step,
 abbrev pub EagerStepSettles : Type 0
 EagerStepSettles =
     (program : Program) (n : ℕ) (c w : Core) (p : ℕ)
     → is_in p (numbers_from 1 n) ≡ true → way_at program c p ≡ Eager
     → Settles (core_machine program n) (move_at program c p) w → Settles (core_machine program n) c w
 
--- So it is after a private turn of any length, where nothing is written in the core and nobody is fresh.
+-- and as what it settles as after a private turn of any length, if it has no output and nobody is fresh.
 abbrev pub PrivateTurnSettles : Type 0
 PrivateTurnSettles =
     (program : Program) (n t : ℕ) (c w : Core) (p : ℕ)

@@ -1,4 +1,5 @@
-//! The laws of searches by calls, as functions with empty bodies.
+//! The laws of searches by calls, as functions with empty bodies. Only `accepted_tree_is_clockless`
+//! has one, which calls other laws.
 
 ghost use Rattle.cp_model.specs.Rules.{Accepted};
 ghost use Rattle.cp_model.specs.View as view;
@@ -23,15 +24,14 @@ pub fn accepted_tree_is_clockless(tree: &Tree)
     clockless_texts();
 }
 
-/// The way of a process is read off each core of the state.
+/// A core of a state reports the way of each process.
 pub fn ways()
     ensures { CoreReportsWay }
 {}
 
-/// Where the program has nothing to do with the clock, a set of cores that is closed by calls, and
-/// as a member of which the first core settles, reports of all states that orders lead to: each
-/// settles as a member, the verdict of each still one is that of a member, and each fault has
-/// occurred in a member.
+/// Let a set of cores be closed by calls, let the first core settle as a member, and let the program
+/// not use the clock. Then each state that rounds in any order reach settles as a member. The
+/// verdict of each still state is that of a member, and each fault has occurred in a member.
 pub fn closed_by_calls()
     ensures settles { OrdersSettleByCalls }
     ensures still { StillStatesAreMembers }
@@ -41,7 +41,7 @@ pub fn closed_by_calls()
     ensures none_stuck { NoOrderIsStuckByCalls }
 {}
 
-/// What a run of cores leads to, rounds of turns of one step lead to.
+/// Rounds of one-step turns reach what a run of cores reaches.
 pub fn found_by_calls()
     ensures run { RunIsReal }
     ensures calls { FoundByCallsIsReal }

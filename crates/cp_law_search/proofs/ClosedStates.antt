@@ -1,5 +1,6 @@
--- Closed states, in which the clock is still, are those of a machine with movers, whatever the
--- text.
+-- Closed states make a machine whose eager steps change places with all others, whatever the text.
+--
+-- The count of rounds is 0 in all of them, so each step reads the same clock.
 use Rattle.std.specs.Prelude.{refl, ℕ, ◌≡◌}
 use Rattle.std.proofs.Common.{ap, sym, ◌∙◌}
 use Rattle.cp_model.specs.Configurations.{Ready}
