@@ -31,7 +31,7 @@ abbrev pub hierarchy_and_access_rights_4 : Type 0
 hierarchy_and_access_rights_4 = run_answer 1 100 1 false [] (codes "\"A test of the class fifo alone: four arrivals and departures in a ring of three.\"\n\ntype fifo = class(limit: integer);\n  var head, tail, length: integer;\n\n  function entry arrival: integer;\n  begin\n    arrival := tail;\n    tail := tail mod limit + 1;\n    length := length + 1\n  end;\n\n  function entry departure: integer;\n  begin\n    departure := head;\n    head := head mod limit + 1;\n    length := length - 1\n  end;\n\n  function entry nobody: boolean;\n  begin nobody := length = 0 end;\n\n  begin head := 1; tail := 1; length := 0 end;\n\nvar f: fifo;\n\nbegin\n  init f(3);\n  display(f.arrival);\n  display(f.arrival);\n  display(f.departure);\n  display(f.arrival);\n  display(f.departure);\n  display(f.arrival);\n  display(f.departure);\n  display(f.departure);\n  display(f.nobody)\nend.\n") ≡ (codes "rounds 1\nprocess 1 initial ended\nout '121321311'\nvar f.limit = 3\nvar f.head = 2\nvar f.tail = 2\nvar f.length = 0\n")
 
 abbrev pub hierarchy_and_access_rights_5 : Type 0
-hierarchy_and_access_rights_5 = run_answer 4 100 1 true [] (codes "\"The store mended: a sleeper rests when it has left the store.\"\n\ntype lock = monitor;\n  var sleepers: queue;\n\n  procedure entry rest;\n  begin delay(sleepers) end;\n\n  procedure entry wake;\n  begin continue(sleepers) end;\n\n  begin end;\n\nstore = monitor;\n  var visits: integer;\n\n  procedure entry look;\n  begin visits := visits + 1 end;\n\n  begin visits := 0 end;\n\nsleeper = process(s: store; k: lock);\n  begin s.look; k.rest end;\n\nvisitor = process(s: store; k: lock);\n  begin s.look; k.wake end;\n\nvar k: lock; s: store; a: sleeper; b, c: visitor;\n\nbegin init k, s, a(s, k), b(s, k), c(s, k) end.\n") ≡ (codes "rounds 4\nprocess 1 initial ended\nout ''\nprocess 2 a ended\nout ''\nprocess 3 b ended\nout ''\nprocess 4 c ended\nout ''\nmonitor k free askers -\nqueue sleepers = -\nmonitor s free askers -\nvar visits = 3\n")
+hierarchy_and_access_rights_5 = run_answer 4 100 1 true [] (codes "\"The store mended: a sleeper rests when it has left the store.\n The lock remembers a wakeup that comes before the sleeper rests.\"\n\ntype lock = monitor;\n  var sleepers: queue; woken: boolean;\n\n  procedure entry rest;\n  begin\n    if woken then woken := false else delay(sleepers)\n  end;\n\n  procedure entry wake;\n  begin\n    if empty(sleepers) then woken := true else continue(sleepers)\n  end;\n\n  begin woken := false end;\n\nstore = monitor;\n  var visits: integer;\n\n  procedure entry look;\n  begin visits := visits + 1 end;\n\n  begin visits := 0 end;\n\nsleeper = process(s: store; k: lock);\n  begin s.look; k.rest end;\n\nvisitor = process(s: store; k: lock);\n  begin s.look; k.wake end;\n\nvar k: lock; s: store; a: sleeper; b, c: visitor;\n\nbegin init k, s, a(s, k), b(s, k), c(s, k) end.\n") ≡ (codes "rounds 4\nprocess 1 initial ended\nout ''\nprocess 2 a ended\nout ''\nprocess 3 b ended\nout ''\nprocess 4 c ended\nout ''\nmonitor k free askers -\nqueue sleepers = -\nvar woken = 1\nmonitor s free askers -\nvar visits = 3\n")
 
 abbrev pub hierarchy_and_access_rights_6 : Type 0
 hierarchy_and_access_rights_6 = run_answer 5 100 1 false [] (codes "\"Three speakers share one sheet of paper without asking for it. Their words mix.\"\n\ntype paper = monitor;\n  var text: array [1..9] of char; used: integer;\n\n  procedure entry print(c: char);\n  begin\n    used := used + 1;\n    text[used] := c\n  end;\n\n  begin used := 0 end;\n\nterminal = class(sheet: paper);\n\n  procedure entry write(c: char);\n  var i: integer;\n  begin\n    for i := 1 to 3 do sheet.print(c)\n  end;\n\n  begin end;\n\nspeaker = process(sheet: paper; letter: char);\n  var t: terminal;\n  begin\n    init t(sheet);\n    t.write(letter)\n  end;\n\nvar sheet: paper; x, y, z: speaker;\n\nbegin init sheet, x(sheet, 'x'), y(sheet, 'y'), z(sheet, 'z') end.\n") ≡ (codes "rounds 5\nprocess 1 initial ended\nout ''\nprocess 2 x ended\nout ''\nvar letter = 120\nprocess 3 y ended\nout ''\nvar letter = 121\nprocess 4 z ended\nout ''\nvar letter = 122\nmonitor sheet free askers -\nvar text[1] = 120\nvar text[2] = 121\nvar text[3] = 122\nvar text[4] = 120\nvar text[5] = 121\nvar text[6] = 122\nvar text[7] = 120\nvar text[8] = 121\nvar text[9] = 122\nvar used = 9\n")

@@ -1,15 +1,20 @@
-"The store mended: a sleeper rests when it has left the store."
+"The store mended: a sleeper rests when it has left the store.
+ The lock remembers a wakeup that comes before the sleeper rests."
 
 type lock = monitor;
-  var sleepers: queue;
+  var sleepers: queue; woken: boolean;
 
   procedure entry rest;
-  begin delay(sleepers) end;
+  begin
+    if woken then woken := false else delay(sleepers)
+  end;
 
   procedure entry wake;
-  begin continue(sleepers) end;
+  begin
+    if empty(sleepers) then woken := true else continue(sleepers)
+  end;
 
-  begin end;
+  begin woken := false end;
 
 store = monitor;
   var visits: integer;
