@@ -7,7 +7,7 @@ use Rattle.cp_rounds.specs.Ahead.{IsReadyAhead, IsTime, PartsAhead}
 use Rattle.cp_rounds.proofs.AheadPasses.{has_made, one_more, round_is}
 use Rattle.cp_rounds.proofs.Made.{parts_count}
 use Rattle.cp_rounds.proofs.Rounds.{turned_count}
-use Rattle.cp_rounds.proofs.ahead.finish_one_by_one.Goals as goal
+use Rattle.cp_rounds.proofs.run_ahead.finish_one_by_one.Goals as goal
 
 pub loop-next-init : goal.loop-next-init
 loop-next-init g c =

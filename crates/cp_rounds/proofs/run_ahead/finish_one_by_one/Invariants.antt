@@ -3,7 +3,7 @@ use Rattle.cp_model_machine.specs.Machines.{Machine, phased_rounds}
 use Rattle.cp_model.specs.States.{numbers_from}
 use Rattle.cp_rounds_handoff.specs.Turned.{with_turn_taken}
 use Rattle.cp_rounds.specs.Ahead.{IsReadyAhead, IsTime, PartsAhead}
-use Rattle.cp_rounds.proofs.ahead.finish_one_by_one.Given as goal
+use Rattle.cp_rounds.proofs.run_ahead.finish_one_by_one.Given as goal
 
 abbrev pub invariant-loop-next : goal.invariant-loop-next
 invariant-loop-next g l = record {

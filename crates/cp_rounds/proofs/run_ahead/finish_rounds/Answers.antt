@@ -7,7 +7,7 @@ use Rattle.cp_rounds.specs.Ahead.{IsTime, PartsAhead}
 use Rattle.cp_rounds.proofs.AheadPasses.{has_made}
 use Rattle.cp_rounds.proofs.Made.{parts_count}
 use Rattle.cp_rounds.proofs.Rounds.{rounds_after, turned_count}
-use Rattle.cp_rounds.proofs.ahead.finish_rounds.Goals as goal
+use Rattle.cp_rounds.proofs.run_ahead.finish_rounds.Goals as goal
 
 pub returns-clause-made : goal.returns-clause-made
 returns-clause-made g c = λ m program tick rounds before.

@@ -7,7 +7,7 @@ use Rattle.cp_rounds.specs.MachineOf.{machine_with}
 use Rattle.cp_rounds.specs.Made.{IsReadyFor}
 use Rattle.cp_rounds.proofs.AheadPasses.{all_rounds_made}
 use Rattle.cp_rounds.proofs.AheadTurns.{back_ahead, back_ready}
-use Rattle.cp_rounds.proofs.ahead.run_ahead.Goals as goal
+use Rattle.cp_rounds.proofs.run_ahead.run_ahead.Goals as goal
 
 pub finish_rounds-computed-requires-clause-ready : goal.finish_rounds-computed-requires-clause-ready
 finish_rounds-computed-requires-clause-ready g c κs within =

@@ -9,7 +9,7 @@ use Rattle.cp_rounds.specs.Ahead.{turns_ahead}
 use Rattle.cp_rounds.proofs.AheadPasses.{past_all, set_turns, set_turns_here}
 use Rattle.cp_rounds.proofs.AheadTurns.{begun_is}
 use Rattle.cp_model_machine.proofs.AheadTurns.{set_apart, set_length}
-use Rattle.cp_rounds.proofs.ahead.take_all_back.Goals as goal
+use Rattle.cp_rounds.proofs.run_ahead.take_all_back.Goals as goal
 
 pub loop-i-init : goal.loop-i-init
 loop-i-init g c = record {

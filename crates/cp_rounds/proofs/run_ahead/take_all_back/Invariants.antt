@@ -4,7 +4,7 @@ use Rattle.cp_kernel.specs.KernelOf.{kernel_of}
 use Rattle.cp_private.specs.declared.private.Private.{Private}
 use Rattle.cp_rounds_handoff.specs.Tasks.{AreInPlace, AreMade, AreTaken}
 use Rattle.cp_rounds.specs.Ahead.{turns_ahead}
-use Rattle.cp_rounds.proofs.ahead.take_all_back.Given as goal
+use Rattle.cp_rounds.proofs.run_ahead.take_all_back.Given as goal
 
 abbrev pub invariant-loop-i : goal.invariant-loop-i
 invariant-loop-i g l = record {

@@ -6,7 +6,7 @@ use Rattle.cp_program.specs.View as view
 use Rattle.cp_rounds_handoff.specs.Quiet.{needs_no_kernel}
 use Rattle.cp_rounds_handoff.specs.Turned.{take_turn}
 use Rattle.cp_rounds.proofs.AheadTurns.{idle_taken}
-use Rattle.cp_rounds.proofs.ahead.take_back.Goals as goal
+use Rattle.cp_rounds.proofs.run_ahead.take_back.Goals as goal
 
 pub returns-then-is_idle_forever-clause-taken : goal.returns-then-is_idle_forever-clause-taken
 returns-then-is_idle_forever-clause-taken g c =
