@@ -2,7 +2,7 @@
 
 ghost use Rattle.std.specs.Prelude.{◌≡◌, ◌<◌, ◌+◌, ◌-◌, ◌^◌, IfErr, IfOk, OnOk};
 ghost use Rattle.cp_rounds.specs.InStates.{MakesRounds};
-ghost use Rattle.cp_trace.specs.WalkOutput.{Adds};
+ghost use Rattle.cp_trace.specs.Reporting.{Adds};
 ghost use Rattle.cp_trace.specs.Tracers.{IsPart, form_of};
 ghost use Rattle.cp_execute_observe.specs.Writing.{Extends, IsMemoryOrWrite, Moves, WritesTrace};
 ghost use Rattle.cp_frontend.specs.declared.refusal.Refusal.TheVariants as refusal;

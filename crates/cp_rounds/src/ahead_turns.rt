@@ -8,7 +8,7 @@ ghost use Rattle.cp_private.specs.States.{private_of};
 ghost use Rattle.cp_program.specs.View as view;
 ghost use Rattle.cp_rounds_handoff.specs.Inputs.{input_at};
 ghost use Rattle.cp_rounds_handoff.specs.Turned.{take_turn, with_turn_taken};
-ghost use Rattle.cp_rounds.specs.RunAheadTurns.{IsReadyAhead, IsTime, PartsAhead, turns_ahead};
+ghost use Rattle.cp_rounds.specs.Ahead.{IsReadyAhead, IsTime, PartsAhead, turns_ahead};
 
 use crate::closing::close_round;
 use crate::finishing::kernel_turn_of;

@@ -16,7 +16,7 @@ ghost use Rattle.cp_private.specs.Resting.{is_idle};
 ghost use Rattle.cp_program.specs.View as view;
 ghost use Rattle.cp_rounds_handoff.specs.Tasks.{AreInPlace, AreMade, AreTaken};
 ghost use Rattle.cp_rounds_handoff.specs.Turned.{with_turn_taken};
-ghost use Rattle.cp_rounds.specs.RunAheadTurns.{AreBack, IsReadyAhead, IsTime, PartsAhead, turns_ahead};
+ghost use Rattle.cp_rounds.specs.Ahead.{AreBack, IsReadyAhead, IsTime, PartsAhead, turns_ahead};
 ghost use Rattle.cp_rounds.specs.Runs.{PartsAfter};
 
 use crate::ahead_turns::{RunAheadTurns, finish_round, make_turns, pass_rounds};

@@ -1,7 +1,7 @@
 //! Changes as lines for people.
 
 ghost use Rattle.std.specs.Prelude.{OnOk};
-ghost use Rattle.cp_trace.specs.WalkOutput.{Adds, IsRound};
+ghost use Rattle.cp_trace.specs.Reporting.{Adds, IsRound};
 
 use crate::changes::{Change, Changes, Output, Step, Value, VariableChange};
 use cp_base_digits::decimal::{push_integer, push_natural};

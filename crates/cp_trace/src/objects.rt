@@ -1,7 +1,7 @@
 //! Changes as objects for programs, a line each.
 
 ghost use Rattle.std.specs.Prelude.{OnOk};
-ghost use Rattle.cp_trace.specs.WalkOutput.{Adds, AreObjects};
+ghost use Rattle.cp_trace.specs.Reporting.{Adds, AreObjects};
 
 use crate::changes::{Change, Changes};
 use cp_inspect::component_table::Owner;

@@ -4,7 +4,7 @@
 //! are in pixels.
 
 ghost use Rattle.std.specs.Prelude.{OnOk};
-ghost use Rattle.cp_trace.specs.WalkOutput.{Adds, IsAnything, IsSomething};
+ghost use Rattle.cp_trace.specs.Reporting.{Adds, IsAnything, IsSomething};
 
 use crate::bars::{Bar, bars};
 use crate::colours::{LEGEND_HEIGHT, LEGEND_WIDTH, STYLE, colour, push_legend};

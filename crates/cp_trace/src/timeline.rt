@@ -1,7 +1,7 @@
 //! A grid as text: a row a process or monitor, a character a round.
 
 ghost use Rattle.std.specs.Prelude.{OnOk};
-ghost use Rattle.cp_trace.specs.WalkOutput.{Adds, IsAnything, IsSomething};
+ghost use Rattle.cp_trace.specs.Reporting.{Adds, IsAnything, IsSomething};
 
 use crate::grid::{Cell, Grid, Row};
 use cp_inspect::component_table::Owner;

@@ -1,7 +1,7 @@
 //! Following a machine round by round, and reporting of it in the form that is asked for.
 
 ghost use Rattle.std.specs.Prelude.{◌≡◌, IfOk, OnOk};
-ghost use Rattle.cp_trace.specs.WalkOutput.{Adds};
+ghost use Rattle.cp_trace.specs.Reporting.{Adds};
 
 use crate::grid::Grid;
 use crate::lines::push_round;

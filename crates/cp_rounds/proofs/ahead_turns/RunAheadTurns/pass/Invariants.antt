@@ -1,6 +1,6 @@
 use Rattle.std.proofs.Common.{◌≡◌, ◌≤◌, ◌<◌, ◌-◌, ℕ, length}
 use Rattle.cp_rounds.specs.Ahead.{turns_ahead}
-use Rattle.cp_rounds.proofs.ahead_turns.Ahead.pass.Given as goal
+use Rattle.cp_rounds.proofs.ahead_turns.RunAheadTurns.pass.Given as goal
 
 abbrev pub invariant-loop-i : goal.invariant-loop-i
 invariant-loop-i l = record {
