@@ -17,7 +17,7 @@ pub is_after : (t n : ℕ) (old new : Machine)
     → machine_of new ≡ plain.phased_rounds t (numbers_from 1 (processes_of old)) n (machine_of old) → processes_of new ≡ processes_of old
     → KeepsText old new → IsAfter t n old new
 is_after t n old new made processes text =
-    let all = parts_count (input_of old.setting.inputs.items) 1 old.parts.privates.items in
+    let all = parts_count (input_of old.config.inputs.items) 1 old.parts.privates.items in
     record {
       made = made;
       processes = processes;
@@ -32,7 +32,7 @@ put_back t old mid new copy is first parts rounds then =
     let text = text_kept_more old mid new first then in
     let count = is.rounds in
     record {
-      made = (λ i. machine_with (text.setting i) (rounds i) (parts i).privates.items (parts i).kernel) ∙ is.machine;
+      made = (λ i. machine_with (text.config i) (rounds i) (parts i).privates.items (parts i).kernel) ∙ is.machine;
       processes = ap (λ (p : Parts). length p.privates.items) parts ∙ is.processes;
       rounds = Prim.omega (arith, rounds, count);
       text = text;

@@ -21,7 +21,7 @@ returns c =
     let m = machine_in s in
     let g = globals setup.tree in
     let p = c.args.number in
-    let input = input_of s.machine.now.setting.inputs.items p in
+    let input = input_of s.machine.now.config.inputs.items p in
     let o = private_of c.in-Some.private.now input in
     let there : slice_get m.parts (p - 1) ≡ Some o = sym c.private.ensures ∙ ap (option_map (λ x. private_of x.now input)) c.in-Some.is in
     process_reported setup m p c.args.name.now (head_of g t) (component_members t) o c.args.out.now.items c.push_front.new.out.items c.component.new.out.items there
