@@ -1,0 +1,2 @@
+pub mod SearchStates
+pub mod Sameness
