@@ -148,14 +148,24 @@ def try_random_schedules(what, rng, brute, file):
         replayed(what, brute, file, random_schedule(rng, processes))
 
 
-def searched(file):
-    """What `cpm search` finds: the least number of late steps before a state of each kind, or None
-    if it stops before the end."""
+def try_search(what, file, least):
+    """Compares `cpm search` with the least numbers of late steps: it finds the same kinds of states.
+
+    It prints the calls of entries only. So a schedule has at most as many late steps more as the
+    program has monitors, of which each is initialised by a late step.
+    """
     status, out, _ = run(['search', file, '--json'], timeout=600)
-    if EXITS.get(status, 'running') == 'running':
-        return None
     found = json.loads(out)
-    return {kind: found[kind]['late_steps'] for kind in KINDS if found.get(kind)}
+    if 'stopped' in found:
+        return
+    kinds = {'ended': found['ended'], 'stuck': found['stuck'], 'faulted': found['fault']}
+    expect(f'{what}: kinds of cpm search', {kind for kind in kinds if kinds[kind]},
+           set(least) & set(kinds))
+    expect(f'{what}: exit of cpm search', status, 6 if found['fault'] else 5 if found['stuck'] else 0)
+    calls = {kind: len(kinds[kind]['calls']) for kind in ('stuck', 'faulted') if kinds[kind]}
+    monitors = len(set(re.findall(r'\bv\d+\b', file.read_text(encoding='latin-1'))))
+    for kind, count in calls.items():
+        expect(f'{what}: calls until {kind}', count <= least[kind] <= count + monitors, True)
 
 
 def try_program(number, source, brute, folder, asked):
@@ -176,7 +186,7 @@ def try_program(number, source, brute, folder, asked):
     try_found_schedules(what, brute, file, least, states)
     try_random_schedules(what, random.Random(number), brute, file)
     if asked.search:
-        expect_one_of(f'{what}: cpm search', searched(file), [least, None])
+        try_search(what, file, least)
     return ' or '.join(verdicts) or 'never still'
 
 
