@@ -31,11 +31,11 @@ IsFirstOut turn workers chunk wave field.Tick = ⊥
 
 -- ---- How a round is divided
 
--- So many parts of at most `size` items hold all items, and one part fewer doesn't.
+-- This many parts of at most `size` items hold all items, and one part fewer doesn't.
 abbrev pub AreParts : ℕ → ℕ → ℕ → Type 0
 AreParts count size all = (all ≤ count * size) × (count * size < all + size)
 
--- How many processes the wave at an index has, in a round of so many processes.
+-- How many processes the wave at an index has, in a round of this many processes.
 abbrev pub wave_size : ℕ → ℕ → ℕ → ℕ
 wave_size wave index processes = min (processes - index * wave) wave
 

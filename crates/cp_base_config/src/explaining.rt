@@ -1,12 +1,12 @@
-//! What an explanation is asked for.
+//! The parameters of explanations.
 
 /// How much is reported of a refused text.
 #[derive(Clone, Copy)]
 pub enum Extent {
     /// The first refusal.
     First,
-    /// All violations, in short. Of a text without a tree the first refusal, and what the language
-    /// of the book has and this one hasn't.
+    /// All violations, in short. For a text without a tree: the first refusal, and what the
+    /// language of the book has and this one doesn't.
     All,
 }
 
@@ -19,7 +19,7 @@ pub enum Form {
     Dot,
 }
 
-/// What `explain` writes of a text.
+/// What `explain` writes about a text.
 #[derive(Clone, Copy)]
 pub enum Explaining {
     /// The access graph of an accepted text in this form, or the first refusal.

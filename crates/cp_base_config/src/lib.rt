@@ -1,6 +1,5 @@
-//! How a run is made, and what is asked for it and of explanations: numbers and forms, each within
-//! its range, which the command line reads and the crates above obey. Nothing here knows the
-//! machine.
+//! The parameters of runs and of explanations: numbers, each within its range, and forms of what is
+//! written. Nothing here depends on the machine.
 //!
 //! - `turn`, `tick`, `plan`: how many steps a turn has, when the clock ticks, and how a round is
 //!   divided among workers (`specs/Plans.antt`). `limits`: which number is out of its range.

@@ -1,10 +1,10 @@
-//! What an outcome is asked for.
+//! The parameters of outcomes.
 
 use crate::plan::Plan;
 use crate::tick::Tick;
 
-/// The parameters of a run that ends when nothing can move: the largest number of rounds, how each
-/// is made, and how often the clock ticks.
+/// The parameters of a run that ends when nothing can move: the largest number of rounds, the plan
+/// of each, and how often the clock ticks.
 #[derive(Clone, Copy)]
 pub struct UntilStill {
     pub limit: u32,
@@ -12,7 +12,7 @@ pub struct UntilStill {
     pub tick: Tick,
 }
 
-/// What is written of an outcome. A `P` says which process is meant.
+/// What is written of an outcome. `P` is the type that says which process is meant.
 #[derive(Clone, Copy)]
 pub enum OutcomeForm<P> {
     /// The verdict, and why each process that hasn't ended is where it is.

@@ -7,8 +7,8 @@ use crate::limits::{L1, MAX_CHUNK_PROCESSES, MAX_WORKERS};
 use crate::turn::Turn;
 
 /// How a round is made: a turn has at most `turn` steps, and `workers` workers draw chunks of
-/// consecutive processes, wave by wave. Processes at rest are passed over, and don't count, unless
-/// the gate has to be called for them.
+/// consecutive processes, wave by wave. Processes at rest are skipped, and don't count, unless the
+/// hook has to be called for them.
 #[derive(Clone, Copy)]
 pub struct Plan {
     pub turn: Turn,
@@ -29,7 +29,7 @@ fn is_within(number: u32, most: u32) -> bool
     1 <= number && number <= most
 }
 
-// Returns how many parts of at most `size` items `all` items have.
+// The number of parts of at most `size` items that `all` items have.
 fn parts_of(all: usize, size: usize) -> usize
     requires some { 0 < size }
     ensures parts { AreParts result size all }
@@ -70,7 +70,7 @@ impl Plan {
         })
     }
 
-    /// How many waves a round of `processes` processes has.
+    /// The number of waves that a round of `processes` processes has.
     pub fn waves(&self, processes: usize) -> usize
         ensures parts { AreParts result self.now.wave processes }
         ensures most { result ≤ processes }
@@ -78,7 +78,7 @@ impl Plan {
         parts_of(processes, self.wave as usize)
     }
 
-    /// How many chunks the wave at this index has, in a round of `processes` processes.
+    /// The number of chunks that the wave at this index has, in a round of `processes` processes.
     pub fn chunks(&self, wave: usize, processes: usize) -> usize
         ensures parts { AreParts result self.now.chunk
             (wave_size self.now.wave wave processes) }
@@ -91,9 +91,9 @@ impl Plan {
         parts_of(size, self.chunk as usize)
     }
 
-    /// How many threads make the rounds of `processes` processes: at most one for each
-    /// chunk of a wave, and one more if there are several waves, because the calling thread makes
-    /// the kernel turns of a wave alongside the next one.
+    /// The number of threads that make the rounds of `processes` processes: at most one for each
+    /// chunk of a wave. If there are several waves there is one more, because the calling thread
+    /// makes the kernel turns of a wave alongside the next one.
     pub fn threads(&self, processes: usize) -> usize
         ensures count { AreThreads self.now.workers self.now.chunk self.now.wave processes result }
         ensures most { result ≤ self.now.workers }

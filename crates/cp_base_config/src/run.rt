@@ -1,10 +1,10 @@
-//! What a run and a replay are asked for.
+//! The parameters of runs and replays.
 
 use crate::plan::Plan;
 use crate::tick::Tick;
 use crate::turn::Turn;
 
-/// The parameters of a run: the number of rounds, how each is made, how often the clock ticks, and
+/// The parameters of a run: the number of rounds, the plan of each, how often the clock ticks, and
 /// whether the report has the chains of askers.
 #[derive(Clone, Copy)]
 pub struct Run {
@@ -14,8 +14,8 @@ pub struct Run {
     pub chains: bool,
 }
 
-/// The parameters of a replay: how many steps a kernel turn has at most, how often the clock ticks,
-/// and whether the report has the chains of askers.
+/// The parameters of a replay: the most steps of a kernel turn, how often the clock ticks, and
+/// whether the report has the chains of askers.
 #[derive(Clone, Copy)]
 pub struct Replay {
     pub turn: Turn,

@@ -1,4 +1,4 @@
-//! What a search is asked for.
+//! The parameters of searches.
 
 /// The parameters of a search: the largest number of states, how much memory they may take, in MB,
 /// and what is written.
@@ -14,6 +14,6 @@ pub struct Searching {
 pub enum SearchForm {
     /// Lines: the shortest schedules, call by call, and how much was seen.
     Lines,
-    /// The same as a JSON object.
+    /// The same content, as a JSON object.
     Json,
 }

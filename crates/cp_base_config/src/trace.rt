@@ -1,4 +1,4 @@
-//! What a trace is asked for.
+//! The parameters of traces.
 
 use crate::plan::Plan;
 use crate::tick::Tick;
@@ -8,16 +8,17 @@ use crate::tick::Tick;
 pub enum TraceForm {
     /// What each round changed, as a line for each process or monitor.
     Lines,
-    /// What each round changed, as a JSON object for each change, a line each.
+    /// What each round changed: a JSON object for each change, each on a line.
     Json,
-    /// What each process and monitor is after each round, as text: a row each, a character a round.
+    /// The state of each process and monitor after each round, as text: a row for each of them, and
+    /// a character for each round.
     Timeline,
-    /// The same as a picture.
+    /// The timeline as a picture.
     Svg,
 }
 
-/// The parameters of a trace: the number of rounds, the first round that is reported, in which
-/// form, how each is made, and how often the clock ticks.
+/// The parameters of a trace: the number of rounds, the first round that is reported, the form, the
+/// plan of each round, and how often the clock ticks.
 #[derive(Clone, Copy)]
 pub struct Tracing {
     pub rounds: u32,

@@ -3,7 +3,7 @@
 ghost use Rattle.std.specs.Prelude.{◌≡◌, ◌<◌};
 ghost use Rattle.cp_model.specs.Report.{hex_digit};
 
-/// A hexadecimal digit, in lower case.
+/// The hexadecimal digit of a number from 0 to 15, in lower case.
 pub fn hex(byte: u8) -> u8
     requires { byte < 16 }
     ensures { result ≡ hex_digit byte }

@@ -9,7 +9,7 @@ use Rattle.cp_base_names.specs.declared.name.Name.{Name}
 abbrev pub entry_view : {A : Type 0} → Bor Text × A → Text × A
 entry_view p = (p.0.now, p.1)
 
--- The same for an entry of the map.
+-- An entry of the map, in the same form.
 abbrev pub named : {A : Type 0} → Name × A → Text × A
 named p = (p.0.letters.now, p.1)
 
@@ -18,7 +18,7 @@ abbrev pub AreDistinct : {A : Type 0} → List (Text × A) → Type 0
 AreDistinct {A} names =
     (i j : ℕ) (e f : Text × A) → i < j → slice_get names i ≡ Some e → slice_get names j ≡ Some f → bytes_eq f.0 e.0 ≡ false
 
--- With a name at the end, unless it represents something already.
+-- The list with a name added at its end, unless the name represents something already.
 abbrev pub with_new : {A : Type 0} → Text → A → List (Text × A) → Option A → List (Text × A)
 with_new x v es None = es ++ (x, v) ∷ []
 with_new x v es (Some old) = es

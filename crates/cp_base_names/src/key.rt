@@ -1,8 +1,9 @@
 //! The key of the hashes of a text's names.
 //!
 //! Whoever writes a text can compute the hashes of its names. The key is a digest of all names that
-//! the text declares, so other names that would collide have another key, and no one can choose the
-//! key before the names. No clause speaks of it: it decides how long a search takes, and no answer.
+//! the text declares. So other names that would collide have another key, and no one can choose the
+//! key before the names. No clause mentions the key: it decides how long a search takes, and no
+//! answer.
 
 ghost use Rattle.std.specs.Hash as fed;
 ghost use Rattle.std.specs.Hash.DefaultHasher as sip;

@@ -9,7 +9,7 @@ ghost use Rattle.std.specs.Cmp.Lexicographic.{bytes_decides, nat_list_eq_equiv};
 use indexmap::Equivalent;
 use std::hash::{Hash, Hasher};
 
-/// A name. The letters of a slice would be hashed one by one.
+/// A name. It is hashed as a whole: the letters of a slice would be hashed one by one.
 #[derive(Clone, Copy)]
 pub struct Name<'t> {
     pub(crate) letters: &'t [u8],
@@ -41,7 +41,7 @@ impl Hash for Name<'_> {
     }
 }
 
-// A name of a text represents the same name of another.
+// A name of one text equals the same name of another.
 impl<'q, 't> Equivalent<Name<'t>> for Name<'q> {
     ghost equivalent = { λ q k. bytes_eq q.letters.now k.letters.now };
 

@@ -11,7 +11,7 @@ use indexmap::IndexMap;
 use std::alloc::{AllocError, Global};
 use std::marker::Model;
 
-// Among so few names one is found by comparing it with each, which takes less than its hash.
+// With at most this many names, comparing a name with each of them is faster than hashing it.
 const MAX_COMPARED_NAMES: usize = 8;
 
 /// Names and what they represent. Contracts see the list of them, in the order in which they were
@@ -20,7 +20,7 @@ pub struct NameTable<'t, A: Copy> {
     entries: IndexMap<Name<'t>, A, Key>,
 }
 
-// A derived one would make proofs slower (docs/CI.md).
+// A derived `Drop` would make proofs slower (docs/CI.md).
 impl<A: Copy> Drop for NameTable<'_, A> {
     fn drop(self) {
         let NameTable { entries: _ } = self;
@@ -51,7 +51,7 @@ impl<'t, A: Copy> NameTable<'t, A> {
         self.entries.len()
     }
 
-    /// Makes room for so many more names, so that the table isn't moved while they are added. Fails
+    /// Makes room for `count` more names, so that the table isn't moved while they are added. Fails
     /// only if memory runs out.
     pub fn reserve(&mut self, count: usize) -> Result<(), AllocError>
         ensures { self.new ≡ self.old }
@@ -110,14 +110,14 @@ impl<'t, A: Copy> NameTable<'t, A> {
         match first {
             None => Ok(true),
             Some(first) => {
-                // The name represents what it did.
+                // The name represents what it did before.
                 self.entries[number] = first;
                 Ok(false)
             }
         }
     }
 
-    /// Lets the names from number `from` on represent `value` from now on.
+    /// Makes the names from number `from` on represent `value`.
     pub fn set_from(&mut self, from: usize, value: A)
         ensures { self.new ≡ with_values_from from value self.old }
     {
@@ -126,7 +126,8 @@ impl<'t, A: Copy> NameTable<'t, A> {
         }
     }
 
-    /// Lets a name represent `value` from now on. Fails only if memory runs out.
+    /// Makes a name represent `value`, whether or not it is in the table. Fails only if memory runs
+    /// out.
     pub fn set(&mut self, name: &'t [u8], value: A) -> Result<(), AllocError>
         ensures { OnOk result
             ((x : Text) → lookup x self.new ≡ lookup x ((name.now, value) ∷ self.old)) }

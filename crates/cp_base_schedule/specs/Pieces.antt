@@ -2,8 +2,8 @@
 use Rattle.std.specs.Prelude.{ℕ, List, [], ◌∷◌}
 use Rattle.cp_model.specs.OrderText.{split_at_byte}
 
--- The further pieces, if the first one ends before these bytes, of which the first is the byte that
--- parts the pieces.
+-- The pieces after the first one, if these bytes follow it. The first of these bytes is the
+-- separator.
 abbrev pub pieces_after : ℕ → List ℕ → List (List ℕ)
 pieces_after b [] = []
 pieces_after b (_ ∷ text) = split_at_byte b text

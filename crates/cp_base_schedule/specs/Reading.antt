@@ -6,7 +6,7 @@ use Rattle.cp_model_machine.specs.Replays.{AreWithin}
 use Rattle.cp_base_schedule.specs.declared.reading.OrderError.{OrderError}
 use Rattle.cp_base_schedule.specs.declared.reading.OrderError.TheVariants as error
 
--- A text for n processes, which is refused at the limit if it is longer.
+-- A text for n processes. If it is too long, it is refused at the limit.
 abbrev pub judged : ℕ → List ℕ → OrderText
 judged n text = if nat_le (length text) 1048576 then order_text n text else NotALine 1048576
 
@@ -26,7 +26,7 @@ abbrev pub appended : List Event → Option (List Event) → Option (List Event)
 appended before None = None
 appended before (Some events) = Some (before ++ events)
 
--- The line, which begins at this place, isn't one, unless memory ran out.
+-- The line, which begins at this place, isn't well formed, unless memory ran out.
 abbrev pub FailsAt : ℕ → Option (List Event) → OrderError → Type 0
 FailsAt at events (error.Line place) = (place ≡ at) × (events ≡ None)
 FailsAt at events error.Memory = Unit {0}

@@ -19,8 +19,8 @@ pub const MAX_SCHEDULE_BYTES: usize = 1_048_576;
 /// Why an order text was not read.
 #[derive(Clone, Copy)]
 pub enum OrderError {
-    /// O1: the line that begins at this byte isn't one of an order text, or the text is longer than
-    /// this many bytes.
+    /// O1: the line that begins at this byte isn't well formed, or the text is longer than this
+    /// many bytes.
     Line { at: usize },
     /// M: memory was refused. This says nothing about the text.
     Memory,
@@ -125,8 +125,8 @@ fn read_lines(alloc: Global, text: &[u8], processes: usize) -> Result<Orders, Or
 ///
 /// # Errors
 ///
-/// `Line` at the first byte of the first line that isn't one, or at [`MAX_SCHEDULE_BYTES`] if the text
-/// is too long, whatever it contains. `Memory` only says that memory was refused.
+/// `Line` at the first byte of the first line that isn't well formed, or at [`MAX_SCHEDULE_BYTES`]
+/// if the text is too long, whatever it contains. `Memory` says only that memory was refused.
 pub fn read_orders(alloc: Global, text: &[u8], processes: usize) -> Result<Orders, OrderError>
     ensures ok { IfOk result (λ orders. judged processes text.now ≡ TextOrders (rounds_of orders)) }
     ensures within { IfOk result (λ orders. AllWithin processes (rounds_of orders)) }

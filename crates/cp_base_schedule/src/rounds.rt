@@ -1,4 +1,4 @@
-//! What can be read of orders.
+//! Reading orders: the number of rounds, and the events of each.
 
 ghost use Rattle.std.specs.Prelude.{◌≡◌, ◌≤◌, length, option_map, slice_get, slice_range};
 ghost use Rattle.cp_base_schedule.specs.Events.{events_of};
@@ -8,7 +8,7 @@ ghost use Rattle.cp_base_schedule.specs.Rounds.{rounds_of};
 use crate::event::Event;
 use crate::orders::Orders;
 
-// Returns where the part at an index begins and ends, if there is one.
+// Where the part at an index begins and ends, if there is one.
 fn bounds(ends: &[usize], index: usize) -> Option<(usize, usize)>
     ensures { result ≡ bounds_at 0 ends.now index }
 {
@@ -19,7 +19,7 @@ fn bounds(ends: &[usize], index: usize) -> Option<(usize, usize)>
     Some((ends[index - 1], end))
 }
 
-// Returns the events between two places.
+// The events between two places.
 fn part(events: &[Event], from: usize, end: usize) -> &[Event]
     requires order { from ≤ end }
     requires within { end ≤ length events.now }

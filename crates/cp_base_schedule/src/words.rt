@@ -7,8 +7,7 @@ ghost use Rattle.cp_base_schedule.specs.Events.{event_of};
 
 use crate::event::Event;
 
-// Appends a digit to a number. The answer is none if the byte isn't a digit or the number is too
-// large.
+// A number with one more digit, or `None` if the byte isn't a digit or the number is too large.
 fn with_digit(value: usize, byte: u8) -> Option<usize>
     ensures digit { IfSome result (λ n. (is_digit byte ≡ true)
         × (n ≡ 10 * value + (byte - 48))) }
@@ -20,7 +19,7 @@ fn with_digit(value: usize, byte: u8) -> Option<usize>
     value.checked_mul(10)?.checked_add(usize::from(byte - b'0'))
 }
 
-// Returns the number that the digits spell, if it is at most `most`.
+// The number that the digits spell, if it is at most `most`.
 fn number(digits: &[u8], most: usize) -> Option<usize>
     ensures { result ≡ at_most most (number_from 0 digits.now) }
 {
@@ -31,7 +30,7 @@ fn number(digits: &[u8], most: usize) -> Option<usize>
     (value <= most).then_some(value)
 }
 
-// The same for digits without leading zeros, which spell a number above 0.
+// The number above 0 that digits without leading zeros spell, if it is at most `most`.
 fn numeral(digits: &[u8], most: usize) -> Option<usize>
     ensures { result ≡ at_most most (definition.numeral digits.now) }
 {
@@ -41,7 +40,7 @@ fn numeral(digits: &[u8], most: usize) -> Option<usize>
     number(digits, most)
 }
 
-/// The event that a word names, of the processes 1 to `processes`.
+/// The event that a word names, if it is one of the processes 1 to `processes`.
 pub(crate) fn event(word: &[u8], processes: usize) -> Option<Event>
     ensures { option_map event_of result ≡ event_named processes word.now }
 {

@@ -1,17 +1,17 @@
 //! The shape of a board, and what a seat knows. The functions on views are in `specs/Views.antt`.
 use std::collections::LinkedList;
 
-/// How many numbers a board may have at most.
+/// The most numbers that a board may have.
 pub const MAX_TICKETS: usize = 255;
 
-/// How many stripes a board may spread its numbers over at most.
+/// The most stripes over which a board may spread its numbers.
 pub const MAX_STRIPES: usize = 64;
 
 /// The allowance of a board's first seat, which is the number of seats that it may be split into.
 pub const FULL_ALLOWANCE: usize = 64;
 
-/// How far apart the words of a board are, so that each has a cache line of 64 bytes to itself: a
-/// thread that draws from its own stripe then waits for no other thread.
+/// The distance between the words of a board, in words. Each has a cache line of 64 bytes to
+/// itself, so a thread that draws from its own stripe waits for no other thread.
 pub(crate) const WORDS_APART: usize = 8;
 
 /// How many numbers a board has, and how many ticket words they are spread over.

@@ -14,7 +14,7 @@ AreWhole vs = (i : ℕ) (v : Bytes) → slice_get vs i ≡ Some v → front_part
 abbrev pub is_input : ℕ → Bool
 is_input b = nat_le b 127 && not (nat_eq b 28)
 
--- The place of the first byte that is none of an input. It is counted from `at`.
+-- The place of the first byte that can't be in an input. It is counted from `at`.
 abbrev pub misplaced_from : ℕ → List ℕ → Option ℕ
 misplaced_from at [] = None
 misplaced_from at (b ∷ bs) = if is_input b then misplaced_from (suc at) bs else Some at

@@ -1,4 +1,4 @@
--- Why a text or an input is refused, where its bytes are known.
+-- Why a text or an input is refused, if its bytes are known.
 use Rattle.std.specs.Prelude.{◌≡◌, ◌⊎◌, List, ℕ, Option, Some, Err, IfSome}
 use Rattle.cp_model.specs.Syntax as s
 use Rattle.cp_frontend.specs.declared.refusal.Refusal.{Refusal}

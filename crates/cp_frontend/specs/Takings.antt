@@ -1,4 +1,4 @@
--- How much of a reader a command takes, and what a writer gets, where their bytes are known. A text,
+-- How much of a reader a command takes, and what a writer gets, if their bytes are known. A text,
 -- an input and an order are read to their end, or through one byte more than they may have.
 use Rattle.std.specs.Prelude.{◌≤◌, ℕ, List, Option, Result, MatchResult, IfSome, length, take}
 use Rattle.std.specs.Io.KnownBytes.{Appends, Consumes, Keeps}
@@ -39,7 +39,8 @@ concern refusal.Read = Fault
 concern refusal.Memory = Fault
 concern e = Text
 
--- Who reads a text alone reports a refusal about that, and so for an input and an order.
+-- A function that reads only a text reports a refusal about that. The same holds for an input and
+-- for an order.
 abbrev pub IsAboutText : Concern → Type 0
 IsAboutText Text = Unit {0}
 IsAboutText Fault = Unit {0}

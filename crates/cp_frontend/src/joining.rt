@@ -8,7 +8,7 @@ use crate::cutting::SEPARATOR;
 use cp_model::ordinals::LAST_CHARACTER;
 use std::alloc::{AllocError, Global};
 
-/// The place of the first byte that is none of a process's input: a byte above 127, or byte 28,
+/// The place of the first byte that can't be in a process's input: a byte above 127, or byte 28,
 /// which separates inputs.
 pub fn misplaced(input: &[u8]) -> Option<usize>
     ensures place { result ≡ misplaced_from 0 input.now }

@@ -38,7 +38,7 @@ pub enum Refusal {
     /// I4: the input is longer than 1,048,576 bytes.
     #[error("refused I4 at 1048576")]
     InputSize,
-    /// O1: a line of the order isn't one, or the order is longer than 1,048,576 bytes.
+    /// O1: a line of the order isn't well formed, or the order is longer than 1,048,576 bytes.
     #[error("refused O1 at {at}")]
     Order { at: usize },
     /// M: memory was refused.

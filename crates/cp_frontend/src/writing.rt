@@ -1,4 +1,4 @@
-//! Writing all bytes of a slice, where each write may take only some of them.
+//! Writing all bytes of a slice, although each write may take only some of them.
 
 ghost use Rattle.std.specs.Prelude.{◌≡◌, ◌<◌, ◌≤◌, IfErr, IfOk, OnErr, OnOk, length, take};
 ghost use Rattle.std.specs.Io.KnownBytes.{Appends, Keeps};

@@ -1,4 +1,4 @@
--- A round of a still state is its waking and its closing, and both change the count alone.
+-- A round of a still state is its waking and its closing, and both change only the count.
 --
 -- After the waking the state is still, so no turn changes it, in whatever order turns come.
 use Rattle.std.specs.Prelude.{Bool, List, [], false, fold, if◌then◌else◌, length, nat_eq, refl, suc, true, zero, ℕ, ◌%◌, ◌+◌, ◌∷◌, ◌≡◌}

@@ -44,7 +44,7 @@ StillReplayChangesNothing =
 abbrev pub StaysStill : Type 0
 StaysStill = (setup : Setup) (n : ℕ) (s u : State) → OnlyCountGrows setup n s u → is_still setup u ≡ is_still setup s
 
--- The first still state of a run is followed by still ones alone.
+-- The first still state of a run is followed only by still ones.
 abbrev pub StillAfterMoreRounds : Type 0
 StillAfterMoreRounds =
     (setup : Setup) (t m n : ℕ) (s : State) → is_still setup (run setup t m s) ≡ true → is_still setup (run setup t (m + n) s) ≡ true

@@ -1,4 +1,4 @@
--- Still states, in which no process can move, and states that differ in the count of rounds alone.
+-- Still states, in which no process can move, and states that differ only in the count of rounds.
 use Rattle.std.specs.Prelude.{Bool, List, [], false, if◌then◌else◌, true, ℕ, ◌+◌, ◌∷◌, ◌≡◌}
 use Rattle.cp_model.specs.Configurations.{Fresh, Ready, Status, Waiting}
 use Rattle.cp_model.specs.States.{Setup, State, is_in, processes}
@@ -32,7 +32,7 @@ AreOfProcesses setup [] = Unit {0}
 AreOfProcesses setup (PrivateStep p ∷ es) = (is_in p (processes setup) ≡ true) × AreOfProcesses setup es
 AreOfProcesses setup (KernelTurn p ∷ es) = (is_in p (processes setup) ≡ true) × AreOfProcesses setup es
 
--- So are those of all rounds. Each round has its turn length.
+-- The events of all rounds are of processes of the text. Each round has its turn length.
 abbrev pub AreAllOfProcesses : Setup → List (ℕ × List Event) → Type 0
 AreAllOfProcesses setup [] = Unit {0}
 AreAllOfProcesses setup (r ∷ rs) = AreOfProcesses setup r.1 × AreAllOfProcesses setup rs

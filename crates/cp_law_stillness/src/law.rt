@@ -1,4 +1,4 @@
-//! What happens in still states as laws: functions with empty bodies, whose contracts are the laws.
+//! The laws of still states, as functions with empty bodies: their contracts are the laws.
 
 ghost use Rattle.cp_law_stillness.specs.Laws.{StillEventsChangeNothing, StillHasNoStep, StillPhasedRoundChangesNothing, StillReplayChangesNothing, StillRoundChangesNothing, StillRunChangesNothing, StillTurnsChangeNothing};
 ghost use Rattle.cp_law_stillness.specs.Laws.{ReportOfCount, StaysStill, StillAfterMoreRounds};
@@ -19,14 +19,14 @@ pub fn rounds()
     ensures replay { StillReplayChangesNothing }
 {}
 
-/// Where only the count of rounds has grown, a still state is still, and one that isn't is not. So
-/// once a run is still it stays still, however many rounds follow.
+/// If only the count of rounds has grown, a still state is still, and one that isn't still isn't.
+/// So once a run is still it stays still, however many rounds follow.
 pub fn lasting()
     ensures stays { StaysStill }
     ensures more { StillAfterMoreRounds }
 {}
 
-/// Where only the count of rounds has grown, the report differs in its first line alone.
+/// If only the count of rounds has grown, the report differs only in its first line.
 pub fn report()
     ensures { ReportOfCount }
 {}

@@ -1,5 +1,5 @@
 -- What `init` passes on in a body in which nothing is broken: a right to a component has the row of
--- its parameter, and the row of a parameter is below that of the system type that has it. So where
+-- its parameter, and the row of a parameter is below that of the system type that has it. So if
 -- monitors of lower rows have earlier places, each right that a monitor gets is to an earlier one.
 use Rattle.std.proofs.Common.{◌≡◌, ◌<◌, ◌++◌, ℕ, Bool, true, false, List, [], ◌∷◌, Option, Some, nat_eq, eqb-true, if◌then◌else◌, refl, ap, sym, subst, ◌∙◌}
 use Rattle.std.proofs.lemmas.Bool.{true≢false}

@@ -1,9 +1,9 @@
 -- Static types: the type of a designator's place and of an expression's value, wherever they are
 -- evaluated.
 --
--- They are functions of the environment of the meaning alone. A value has exactly the type that is
--- given here (the `full_range` of a base if it is computed), so it keeps its type when a call is
--- replaced by its value.
+-- They depend only on the environment of the meaning. A value has exactly the type that is given
+-- here (the `full_range` of a base if it is computed), so it keeps its type when a call is replaced
+-- by its value.
 use Rattle.std.specs.Prelude.{codes, if◌then◌else◌, Option, None, Some, Bool}
 use Rattle.std.specs.Str.{bytes_eq}
 use Rattle.cp_model.specs.Abstract.{Add, At, Binary, Boolean, Call, Char, Designator, Divide, Expression, Expressions, Integer, Known, Letter, Literal, Modulo, MoreExpressions, Multiply, Name, Negative, NoExpression, Not, Operator, Part, Plain, Positive, Subtract, Use}

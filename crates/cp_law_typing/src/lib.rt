@@ -10,8 +10,8 @@
 //! Where to find a fact about an accepted text:
 //!
 //! - **Names.** A variable's name means its declared variable, and a constant's name its value
-//!   (`Judgement.NamesVariable`, `NamesValue`). Where the variable is is
-//!   `law::names_mean_declarations`. No name is declared twice (`TypedRoutine.distinct`,
+//!   (`Judgement.NamesVariable`, `NamesValue`). A variable is where it is declared
+//!   (`law::names_mean_declarations`). No name is declared twice (`TypedRoutine.distinct`,
 //!   `TypedBodies.distinct`), and nothing else has a routine's name (`TypedRoutine.found`, `alone`,
 //!   `TypedBodies.no_routine`). No variable is the clock (`no_clock`). A function's name is its
 //!   result only on the left of an assignment (`law::results_are_assigned_alone`).

@@ -1,6 +1,6 @@
 -- The abstract syntax of a text: its tree, by names and without places.
 --
--- The meaning refers to this tree alone. `Erase` makes it from the tree that the parser returns, so
+-- The meaning refers only to this tree. `Erase` makes it from the tree that the parser returns, so
 -- no step of a program can depend on where something is written.
 use Rattle.std.specs.Prelude.{Bool, List, Option, ℕ, ℤ}
 

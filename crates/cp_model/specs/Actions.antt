@@ -24,8 +24,8 @@ action (i ∷ k) =
 abbrev pub is_init_of_class : Environment → Name → Bool
 is_init_of_class env x = elim (component_named env x) [ None ↦ true | Some c ↦ same_sort Class c.system.sort ]
 
--- Calls of a monitor, and `init` of a monitor or a process, belong to the kernel. This depends on
--- the type of the component alone.
+-- Calls of a monitor, and `init` of a monitor or a process, belong to the kernel. This depends only
+-- on the type of the component.
 abbrev pub is_kernel_action : Action → Bool
 is_kernel_action Rests = false
 is_kernel_action (Calls u k) = is_monitor_call u.callee

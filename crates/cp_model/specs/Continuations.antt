@@ -8,7 +8,7 @@ use Rattle.cp_model.specs.Abstract.{Expression, Name, Nothing, Repeat, Seq, Stat
 use Rattle.cp_model.specs.Environments.{Environment}
 
 -- A task is a statement in its environment, a test, or an end mark. The test of a `while` or
--- `repeat` keeps the whole test beside `now`, in which some calls may already have been made. The
+-- `repeat` keeps the whole test next to `now`, in which some calls may already have been made. The
 -- next test of a `for` has its counter, which is kept apart from the variable. There are end marks
 -- of a routine, of the body of a class or monitor, and of the body of a process. An end mark of a
 -- monitor's entry or body names that monitor, whose gate is held until then.

@@ -1,7 +1,8 @@
 -- Expressions: the value of an expression in which no user call is left, and the place of a
 -- designator.
 --
--- Evaluation goes from left to right, operands before their operator, and indices where they are.
+-- Evaluation goes from left to right: operands before their operator, and indices in the order in
+-- which they are written.
 use Rattle.std.specs.Prelude.{[], codes, if◌then◌else◌, neg_ℤ, pos}
 use Rattle.cp_model.specs.Abstract.{At, Binary, Call, Char, Designator, Expression, Expressions, Integer, Known, Letter, Literal, MoreExpressions, Name, Negative, NoExpression, Not, Part, Plain, Positive, Use}
 use Rattle.std.specs.Str.{bytes_eq}

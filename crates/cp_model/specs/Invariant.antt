@@ -1,10 +1,10 @@
 -- The invariant of states, which each step, waking and closing of a round keeps, whatever the text
 -- and the order of events.
 --
--- That each `var` parameter of a process refers into its reach follows from the invariant, but
--- isn't preserved by itself: when an entry of a monitor returns, its end mark disappears, and one
--- has to know that no older activation referred to that monitor. So the invariant says it of each
--- activation, with the reach that its caller has.
+-- Each `var` parameter of a process refers into the process's reach. This follows from the
+-- invariant, but isn't preserved by itself: when an entry of a monitor returns, its end mark
+-- disappears, and no older activation may then refer to that monitor. So the invariant says it of
+-- each activation, with the reach of its caller.
 use Rattle.std.specs.Prelude.{Bool, List, None, Option, Some, [], true, ℕ, ◌∷◌, ◌≡◌, ◌≢◌, ◌≤◌}
 use Rattle.cp_model.specs.Locations.{Location, OfActivation, Owner}
 use Rattle.cp_model.specs.Stores.{ClassRight, Reference, Store}

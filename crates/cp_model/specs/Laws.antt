@@ -27,7 +27,8 @@ abbrev pub PhasedRoundIsSequential : Type 0
 PhasedRoundIsSequential =
     (setup : Setup) (t : ℕ) (s : State) → Invariant s → phased_round setup t s ≡ sequential_round setup t s
 
--- The same for each state that rounds reach from the start, in any orders, lawful or not.
+-- Lawful rounds are rounds of one processor in each state that rounds reach from the start, in any
+-- orders, lawful or not.
 abbrev pub LawfulRoundIsSequentialFromStart : Type 0
 LawfulRoundIsSequentialFromStart =
     (setup : Setup) (past : List (ℕ × List Event)) (t : ℕ) (events : List Event)

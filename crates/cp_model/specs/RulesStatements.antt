@@ -160,8 +160,8 @@ c12_component env x e = also (c4_c9_named env x e) (breaks C12 x.at)
 abbrev pub c12_count : Environment → Identifier → ℕ → ℕ → Judged SystemRow
 c12_count env x n y = guard (nat_eq (system_row env y).count n) C12 x.at (system_row env y)
 
--- an argument of which nothing is wanted, or only the name of a component: what it represents isn't
--- judged as a value
+-- an argument without requirements, or one that must be the name of a component: what it represents
+-- isn't judged as a value
 abbrev pub surplus_name : Environment → s.Designator → Entity → Judged ℕ
 surplus_name env d e = also (c4_c9_named env (last_name d) e) (Sound integer)
 

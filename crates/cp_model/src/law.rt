@@ -1,7 +1,7 @@
 //! The laws of rounds, as functions with empty bodies.
 //!
-//! A caller obtains a law as a fact by calling its function: `one_processor` within a round,
-//! `invariant` where states pass from round to round. The laws are stated in `specs/Laws.antt`,
+//! A caller obtains a law as a fact by calling its function: `one_processor` for a single round,
+//! and `invariant` to pass from one round to the next. The laws are stated in `specs/Laws.antt`,
 //! over the invariant of `specs/Invariant.antt`, and described in docs/meaning.md, "Laws".
 
 ghost use Rattle.cp_model.specs.Laws.{LawfulRoundIsSequential, PhasedRoundIsSequential, LawfulRoundIsSequentialFromStart, PhasedRoundIsSequentialFromStart};
@@ -68,8 +68,8 @@ pub fn changing_places()
     ensures shared_turns { SharedTurnsAreLawful }
 {}
 
-/// A process has at most one asking chain, and a chain or report that is computed within a bound is
-/// the one that the definition gives.
+/// A process has at most one asking chain. A chain or report that is computed within a bound is the
+/// one that the definition gives.
 pub fn chains()
     ensures chain { ChainWithinIsAskingChain }
     ensures one { AskingChainIsOne }

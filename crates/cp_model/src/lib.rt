@@ -1,5 +1,5 @@
-//! The types of a Concurrent Pascal text, and the definitions that everything else is proved
-//! against.
+//! The types for Concurrent Pascal texts, and the definitions against which everything else is
+//! proved.
 //!
 //! The types are plain: tokens (`token`, `short`), the syntax tree (`tree`), what the rules refer to
 //! (`rules`), and why a process stops (`state`). `places` says where parts of a tree begin, and

@@ -7,7 +7,7 @@ ghost use Rattle.cp_model.specs.View.{expression};
 use crate::tree::{Expression, Statement};
 
 impl Expression {
-    /// The place of its first token.
+    /// The place of the expression's first token.
     pub fn first_token(&self) -> usize
         ensures { result ≡ names.first_token (expression self.now) }
     {
@@ -25,8 +25,8 @@ impl Expression {
 }
 
 impl Statement {
-    /// The place of its first token, or of the one after a word such as `while`, whose place the
-    /// tree doesn't have. An empty statement has none.
+    /// The place of the statement's first token. The tree doesn't have the place of a word such as
+    /// `while`: then it is the place of the token after it. An empty statement has none.
     #[cycle(begins)]
     pub fn first_place(&self) -> Option<usize> {
         match self {

@@ -124,7 +124,7 @@ pub struct SystemRow {
     pub count: usize,
     pub words: usize,
     pub body_need: usize,
-    /// The number of its table of members, which are its routines.
+    /// The number of the table of its members, which are its routines.
     pub members: usize,
 }
 

@@ -4,10 +4,10 @@ ghost use Rattle.std.specs.Prelude.{◌≡◌, ◌≤◌, length, map, take};
 ghost use Rattle.cp_model.specs.Characters.{lower};
 ghost use Rattle.cp_model.specs.declared.short.TheConstants.{MAX_SHORT_BYTES};
 
-/// The most letters of a short name: as many as let a kind of token, with them, take 16 bytes.
+/// The most letters of a short name. With so many, a kind of token takes 16 bytes.
 pub const MAX_SHORT_BYTES: usize = 14;
 
-/// As many letters as the front of a text is looked at together: two words of the machine.
+/// How many letters at the front of a text are read at once: two machine words, in bytes.
 pub const FRONT: usize = 16;
 
 /// The letters of a short name.
@@ -33,7 +33,7 @@ impl ShortWord {
         }
     }
 
-    /// The word of the first `length` of these letters.
+    /// The short name that is the first `length` of these letters.
     #[inline(always)]
     pub fn of_front(front: &[u8; FRONT], length: usize) -> ShortWord
         requires { length ≤ MAX_SHORT_BYTES }

@@ -10,36 +10,36 @@ ghost use Rattle.cp_model.specs.RulesTypes as types;
 use crate::tree::Sort;
 
 impl Sort {
-    /// Whether it is that of processes.
+    /// Whether this is the sort of processes.
     pub fn is_process(self) -> bool
         ensures { result ≡ environment.is_process self }
     {
         matches!(self, Sort::Process)
     }
 
-    /// Whether it is that of monitors.
+    /// Whether this is the sort of monitors.
     pub fn is_monitor(self) -> bool
         ensures { result ≡ environment.is_monitor self }
     {
         matches!(self, Sort::Monitor)
     }
 
-    /// Whether it is that of classes.
+    /// Whether this is the sort of classes.
     pub fn is_class(self) -> bool
         ensures { result ≡ types.is_class self }
     {
         matches!(self, Sort::Class)
     }
 
-    /// Whether such a component has words of its own: a process or a monitor. A class takes its
-    /// words from its owner.
+    /// Whether a component of this sort has words of its own: a process or a monitor. A class takes
+    /// its words from its owner.
     pub fn is_owner(self) -> bool
         ensures { result ≡ declarations.is_owner self }
     {
         !matches!(self, Sort::Class)
     }
 
-    /// Whether both are the same.
+    /// Whether two sorts are the same.
     pub fn is_same(self, other: Sort) -> bool
         ensures { result ≡ same_sort (sort_of self) (sort_of other) }
     {

@@ -25,7 +25,7 @@ pub struct Name {
     letters: Letters,
 }
 
-// A derived one would make proofs slower (docs/CI.md).
+// A derived `Drop` would make proofs slower (docs/CI.md).
 impl Drop for Name {
     fn drop(self) {
         let Name { letters: _ } = self;
@@ -42,8 +42,8 @@ impl Model for Name {
 }
 
 impl Name {
-    /// A word of letters, digits and underscores in lower case. Fails only if memory runs
-    /// out.
+    /// The name that these letters, digits and underscores spell in lower case. Fails only if
+    /// memory runs out.
     pub fn new(alloc: Global, word: &[u8]) -> Result<Name, AllocError>
         ensures { IfOk result (λ name. name ≡ map lower word.now) }
     {
@@ -75,7 +75,7 @@ impl Name {
         }
     }
 
-    /// A name of letters in lower case, in an allocation of its own. Fails only if memory
+    /// A name of letters that are in lower case, in an allocation of its own. Fails only if memory
     /// runs out.
     pub fn of_long(alloc: Global, letters: &[u8]) -> Result<Name, AllocError>
         ensures { IfOk result (λ name. name ≡ letters.now) }
@@ -168,8 +168,8 @@ pub enum Symbol {
     DotDot,
 }
 
-/// What a token is. The letters of a name are beside the other kinds, and not in a [`Name`], so
-/// that a token takes 24 bytes. Contracts see a kind of `specs/Tokens.antt`, where names are one.
+/// What a token is. The variants for names hold the letters and not a [`Name`], so that a token
+/// takes 24 bytes. Contracts see a kind of `specs/Tokens.antt`, which has one variant for names.
 #[derive(Drop)]
 pub enum Kind {
     /// A name of at most 14 letters.

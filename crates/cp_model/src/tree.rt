@@ -25,7 +25,7 @@ pub enum Constant {
 }
 
 /// A type as it is written. Enumerations and system types occur only in definitions, each with its
-/// own name. Bounds and lists are boxed, so that it takes 32 bytes: most types are a name.
+/// own name. Most types are a name, so bounds and lists are boxed: a type then takes 32 bytes.
 #[cycle(types)]
 pub enum TypeExpression {
     Named(Identifier),
@@ -212,8 +212,8 @@ pub struct ProcedureCall {
     pub arguments: Vec<Expression>,
 }
 
-/// A statement. Its parts and lists are boxed, so that it takes 24 bytes: an empty one takes as
-/// much as any other, and a text can have a million of them.
+/// A statement. Its parts and lists are boxed, so that it takes 24 bytes. An empty statement takes
+/// as much as any other, and a text can have a million of them.
 #[cycle(statements)]
 pub enum Statement {
     Empty,

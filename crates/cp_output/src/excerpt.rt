@@ -14,10 +14,10 @@ const WIDTH: usize = 100;
 /// How many bytes before the place are shown if the start of its line is cut off.
 const BEFORE: usize = 60;
 
-/// What is where a line is cut.
+/// The mark where a line is cut.
 const CUT: &[u8] = b"...";
 
-// Adds what begins these bytes, which is shown like this.
+// Adds the glyph that begins these bytes.
 fn show(page: &mut Page, bytes: &[u8], glyph: Glyph) {
     match (glyph, bytes) {
         (Glyph::Tab, _) => page.bytes(b"\t"),
@@ -27,7 +27,7 @@ fn show(page: &mut Page, bytes: &[u8], glyph: Glyph) {
     }
 }
 
-// Adds blanks as wide as what is shown like this.
+// Adds blanks as wide as a glyph.
 fn show_blank(page: &mut Page, glyph: Glyph) {
     match glyph {
         Glyph::Tab => page.bytes(b"\t"),
@@ -85,7 +85,7 @@ fn digits(number: usize) -> usize {
     buffer.format(number).len()
 }
 
-// Adds what the two lines of an excerpt begin with.
+// Adds the margin with which each of the two lines of an excerpt begins.
 fn margin(page: &mut Page, line: usize, is_blank: bool) {
     page.bytes(b"  ");
     if is_blank {

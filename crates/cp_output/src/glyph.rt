@@ -1,14 +1,14 @@
 //! How an editor shows bytes: a character of UTF-8 in one column, a tab as a tab, and neither the
 //! byte order mark nor a carriage return at all.
 
-/// How what begins some bytes is shown.
+/// How the first character of some bytes is shown.
 #[derive(Clone, Copy)]
 pub enum Glyph {
-    /// Not at all. It has this number of bytes.
+    /// Not at all. The character has this number of bytes.
     Hidden(usize),
     /// As a tab.
     Tab,
-    /// As itself, in one column. It has this number of bytes.
+    /// As itself, in one column. The character has this number of bytes.
     Character(usize),
     /// A byte that is no character, as `\` and two hexadecimal digits.
     Escaped,
@@ -24,7 +24,7 @@ impl Glyph {
     }
 }
 
-/// Whether a byte is one of a character of UTF-8 after its first.
+/// Whether a byte continues a character of UTF-8.
 pub fn is_continuation(byte: u8) -> bool {
     0x80 <= byte && byte <= 0xbf
 }
@@ -53,7 +53,7 @@ fn wide(bytes: &[u8], first: u8) -> usize {
     count
 }
 
-/// How what begins these bytes is shown.
+/// How the first character of these bytes is shown.
 pub fn first_glyph(bytes: &[u8]) -> Glyph {
     match bytes {
         [] => Glyph::Hidden(0),

@@ -1,8 +1,8 @@
 //! What cpm shows: pages of text, and forms that programs read.
 //!
-//! - `page`: text that grows. `message`: the messages that it reports. `excerpt`: the line of a
-//!   place with a caret under it. `position`: the line and the column of a place.
-//! - `object`: the line of an object of JSON. `specs/Json.antt` says of which form it is.
+//! - `page`: text that grows. `message`: messages on a page. `excerpt`: the line of a place with a
+//!   caret under it. `position`: the line and the column of a place.
+//! - `object`: a JSON object on one line (`specs/Json.antt`).
 //! - `graphviz`: graphs for Graphviz: the names of nodes, and arrows.
 //!
 //! The position of a place is proved (`specs/Positions.antt`); how a line is shown is tested.

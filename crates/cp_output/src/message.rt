@@ -1,17 +1,17 @@
-//! Messages: what is wrong and how to fix it, and the names that they report of.
+//! Messages: what is wrong and how to fix it, and the names in them.
 
 use crate::excerpt::excerpt;
 use crate::page::Page;
 use crate::position::Position;
 
-/// What is wrong, and how to fix it. `$` and `%` represent the names that it reports of.
+/// What is wrong, and how to fix it. `$` and `%` represent the names that the message is about.
 #[derive(Clone, Copy)]
 pub struct Message {
     pub head: &'static str,
     pub advice: &'static str,
 }
 
-/// The names that a message reports of: `$` represents the first, and `%` for the second.
+/// The names that a message is about: `$` represents the first, and `%` the second.
 #[derive(Clone, Copy)]
 pub struct About<'a> {
     pub name: Option<&'a [u8]>,

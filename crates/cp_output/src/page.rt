@@ -10,8 +10,8 @@ use cp_model::tree::Identifier;
 use std::alloc::{AllocError, Global};
 use std::marker::Model;
 
-/// Text that grows at its end. If memory runs out, the page takes no more, and `finish` fails: so
-/// what writes to a page needs no test.
+/// Text that grows at its end. If memory runs out, the page takes no more, and `finish` fails. So
+/// code that writes to a page needs no checks.
 #[derive(Drop)]
 pub struct Page {
     bytes: Vec<u8>,

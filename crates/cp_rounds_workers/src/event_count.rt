@@ -4,9 +4,9 @@ use std::hint;
 use std::sync::Wait;
 use std::sync::atomic::{AtomicU64, Ordering};
 
-// How many times a thread looks for a change before it sleeps: for 50 to 250 microseconds, in which
-// the calling thread makes the kernel turns of a large round and begins the next one, so that no
-// thread has to be woken for it.
+// How many times a thread checks for a change before it sleeps: for 50 to 250 microseconds. In that
+// time the calling thread makes the kernel turns of a large round and begins the next one, so that
+// no thread has to be woken for it.
 const LOOKS: u32 = 50_000;
 
 /// How often something has happened, for threads that wait until it happens again.
@@ -17,7 +17,7 @@ pub struct EventCount {
 }
 
 impl EventCount {
-    /// The signal of what hasn't happened yet.
+    /// A count of what hasn't happened yet.
     pub fn new() -> EventCount {
         EventCount {
             count: AtomicU64::new(0),
@@ -25,7 +25,7 @@ impl EventCount {
         }
     }
 
-    /// How often it has happened.
+    /// The number of times that it has happened.
     pub fn count(&self) -> u64 {
         self.count.load(Ordering::SeqCst)
     }

@@ -4,8 +4,9 @@
 //! The calling thread makes a `Wave` with a board of the wave's chunks and a lease for each helper.
 //! `Wave::begin` publishes the leases in the places of a `Mailboxes`. A thread that wakes takes the
 //! lease out of its place, draws until no chunk is left or it sees a stop, and puts the lease back.
-//! The calling thread draws too, in `Wave::finish`. Then it takes back all leases, also those that
-//! nobody took, so a thread that sleeps holds no wave up, and it has the whole board again.
+//! The calling thread draws too, in `Wave::finish`. Then it takes back all leases, including those
+//! that no thread took. So a thread that sleeps delays no wave, and the calling thread has the
+//! whole board again.
 //!
 //! Everything that can fail is done before a wave begins: `Wave::new`, `Mailboxes::new` and `start`
 //! are the only calls that take memory or start a thread. A last wave without chunks ends the

@@ -19,7 +19,7 @@ struct Place<'a, C: Sheets> {
 }
 
 impl<'a, C: Sheets> Place<'a, C> {
-    // Returns where the lease of a wave is.
+    // Where the lease of a wave is.
     fn of(&self, wave: usize) -> &Mutex<Option<SeatLease<'a, C>>> {
         if wave % 2 == 0 { &self.even } else { &self.odd }
     }
@@ -41,7 +41,7 @@ pub(crate) struct Sweep {
 }
 
 impl<'a, C: Sheets> Mailboxes<'a, C> {
-    /// A mailboxes with this many places, all of them empty.
+    /// Mailboxes with this many places, all of them empty.
     ///
     /// # Errors
     ///
@@ -70,7 +70,7 @@ impl<'a, C: Sheets> Mailboxes<'a, C> {
         self.places.len()
     }
 
-    /// The signal that a lease has come back.
+    /// The count of the leases that have come back.
     pub fn back(&self) -> &EventCount {
         &self.back
     }

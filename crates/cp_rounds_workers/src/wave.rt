@@ -14,8 +14,8 @@ use std::marker::PhantomData;
 use std::snapshot::Snapshot;
 use std::sync::{Arc, OnceLock, OnceToken, Wait};
 
-/// The board of a wave with the calling thread's seat, and a lease for each helper. Making it takes
-/// memory, and nothing that is done with it afterwards does.
+/// The board of a wave with the calling thread's seat, and a lease for each helper. Only making a
+/// wave takes memory: nothing that is done with it afterwards does.
 #[derive(Drop)]
 pub struct Wave<'a, C: Sheets> {
     /// The number of the wave among those that share their threads.
@@ -96,7 +96,7 @@ fn collect<'a, C: Sheets, R: Wait>(
     unreachable!()
 }
 
-// Returns a board that nobody else draws from any more.
+// The board, when no other thread holds it any more.
 fn owned<R: Wait>(rt: &R, board: Arc<Board, Global>) -> Board
     ensures { result ≡ arc_value board }
 {

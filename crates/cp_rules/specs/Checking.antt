@@ -39,7 +39,7 @@ with_set s mark e = record s { env = with_names (with_values_from mark e s.env.n
 abbrev pub Judges : {A : Type 0} → State → State → Result A Violation → Judged A → Type 0
 Judges old new answer j = (new ≡ reporting old (violations_of j)) × (answer ≡ first_of j)
 
--- The same, if types are made too.
+-- What `Judges` says, if types are made too.
 abbrev pub Makes : {A : Type 0} → State → State → Result A Violation → Made (Judged A) → Type 0
 Makes old new answer m =
     (new ≡ record { env = m.env; diagnostics = least old.diagnostics (violations_of m.of) }) × (answer ≡ first_of m.of)

@@ -33,7 +33,7 @@ around vs k (Ok x) = outer_of (k x)
 around [] k (Err v) = broken_before v
 around (w ∷ ws) k (Err v) = record { violations = w ∷ ws; of = Err w }
 
--- The same around two parts, without further violations.
+-- Two parts that are judged together with `k`, unless one of them is broken.
 abbrev pub around_both : {A B C : Type 0} → Result A Violation → Result B Violation → (A → B → Judged C) → Outer C
 around_both (Ok x) (Ok y) k = outer_of (k x y)
 around_both (Ok x) (Err w) k = broken_before w

@@ -18,7 +18,7 @@ use Rattle.cp_rules.specs.Outer.{Known}
 
 -- ---- names of fields
 
--- The first field with a name counts.
+-- A field with a name that is there already adds nothing: the first one counts.
 abbrev pub with_field : Members → Identifier → ℕ → Members
 with_field ms x t = with_new x.name (member.Field t) ms (lookup x.name ms)
 

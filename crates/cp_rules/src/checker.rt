@@ -89,8 +89,7 @@ impl<'t> Checker<'t> {
         self.environment.name_count()
     }
 
-    /// Lets the names that were declared after the first `mark` ones represent `entity` from now
-    /// on.
+    /// Makes the names that were declared after the first `mark` ones represent `entity`.
     pub fn set_from(&mut self, mark: usize, entity: Entity)
         ensures { self.new ≡ with_set self.old mark entity }
     {

@@ -73,7 +73,7 @@ fn is_environment_later(first: Violation, environment: &Environment) -> bool
 
 impl<'t> Checker<'t> {
     /// Whether what was reported stays the earliest, whatever is reported of the rest of the text.
-    /// Where all violations are listed nothing is decided before the end.
+    /// If all violations are listed, nothing is decided before the end.
     pub fn is_decided(&self, left: &Remaining) -> bool
         ensures { IsTrue result → (reported_with self.now (rest_of left.now) ≡ self.now.diagnostics) }
     {

@@ -28,7 +28,7 @@ impl<'t> Checker<'t> {
         Ok(())
     }
 
-    /// Declares each of these names as the entity beside it, unless it is already visible. Fails
+    /// Declares each of these names as the entity next to it, unless it is already visible. Fails
     /// only if memory runs out.
     pub fn add_each(&mut self, names: &[(&'t Identifier, Entity)]) -> Result<(), AllocError>
         ensures { OnOk result

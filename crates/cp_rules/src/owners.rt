@@ -60,8 +60,8 @@ impl<'t> Checker<'t> {
         }
     }
 
-    /// Counts the processes or monitors that variables of this type are, if the initial process
-    /// declares them. C13: one is too many, or has too many words.
+    /// Counts the processes or monitors that these variables are, if the initial process declares
+    /// them. C13: one is too many, or has too many words.
     pub fn owners(&mut self, position: Position, of: Judged<usize>, names: &[Identifier])
         ensures { self.new ≡ after self.old (owners_of_type self.old.env position of names.now) }
     {

@@ -9,7 +9,7 @@ use crate::checker::{Checker, Judged};
 use cp_model::rules::{Part, Returns, Rule};
 use cp_model::tree::{Identifier, Sort};
 
-/// Which part the body of a routine is, depending on the word `entry`.
+/// The part that the body of a routine is, depending on the word `entry`.
 pub fn part(entry: Option<usize>) -> Part
     ensures { result ≡ d.part_of entry }
 {

@@ -31,7 +31,7 @@ pub enum RuleError {
 }
 
 impl<'t> Checker<'t> {
-    // What is reported of these statements alone.
+    // What is reported only of these statements.
     fn reported_inside(&self, list: &[Statement]) -> Result<Diagnostics, AllocError>
         ensures { IfOk result
             (λ diagnostics. diagnostics ≡ least None
@@ -118,7 +118,7 @@ pub fn judge(alloc: Global, key: Key, tree: &Tree) -> Result<(), RuleError>
 ///
 /// # Errors
 ///
-/// Memory runs out.
+/// `AllocError` if memory runs out.
 pub fn violations(alloc: Global, key: Key, tree: &Tree) -> Result<Vec<Violation>, AllocError>
     ensures { IfOk result (λ list. Lists (view.tree tree.now) list.items) }
 {

@@ -27,7 +27,7 @@ callee_if env (Some c) = Some (callee env c)
 abbrev pub ReportsCallee : r.Environment → Option Violation → Option Violation → Option Callee → Judged n.Callee → Type 0
 ReportsCallee env old new answer j = (new ≡ least old (violations_of j)) × (callee_if env answer ≡ meaning_of j)
 
--- The same in every environment.
+-- What `ReportsCallee` says, in every environment.
 abbrev pub ReportsWherever : Option Violation → Option Violation → Option Callee → (r.Environment → Judged n.Callee) → Type 0
 ReportsWherever old new answer k = (env : r.Environment) → ReportsCallee env old new answer (k env)
 

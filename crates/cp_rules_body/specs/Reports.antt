@@ -12,7 +12,7 @@ abbrev pub first_of : {A : Type 0} → Judged A → Result A Violation
 first_of (Sound x) = Ok x
 first_of (Broken v vs) = Err v
 
--- The same, for an answer that is the meaning or the first violation.
+-- What `Reports` says, for an answer that is the meaning or the first violation.
 abbrev pub ReportsFirst : {A : Type 0} → Option Violation → Option Violation → Result A Violation → Judged A → Type 0
 ReportsFirst old new answer j = (new ≡ least old (violations_of j)) × (answer ≡ first_of j)
 

@@ -118,14 +118,14 @@ fn judge_procedure_call(
     report_violation(diagnostics, Rule::C2, name.at)
 }
 
-// C5: a routine without `entry` is after a component's `.`.
+/// C5: a routine without `entry` is after a component's `.`.
 pub fn has_entry(diagnostics: &mut Diagnostics, name: &Identifier, row: RoutineRow) -> bool
     ensures { ReportsOf diagnostics.old diagnostics.new result (n.c5_without_entry name.now row) }
 {
     unless_holds(diagnostics, row.entry, Rule::C5, name.at)
 }
 
-// C5: an entry routine is called by its name alone.
+// C5: an entry routine is called by its bare name.
 fn by_name(diagnostics: &mut Diagnostics, name: &Identifier, row: RoutineRow) -> bool
     ensures { ReportsOf diagnostics.old diagnostics.new result (n.c5_by_name name.now row) }
 {

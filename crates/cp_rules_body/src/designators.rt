@@ -54,7 +54,7 @@ fn no_indexed_type(
     unless_holds(diagnostics, !wrong, first_rule(mode), designated.root.at)
 }
 
-// The member named `y` of what `x` represents, if there is one.
+// The member with the name `identifier` of what `name` represents, if there is one.
 fn find_member(env: &Environment, name: &Identifier, identifier: &Identifier) -> Option<Member>
     ensures { result ≡ n.member_selected env.now identifier.now.name (r.c1_named env.now name.now) }
 {

@@ -1,5 +1,5 @@
-//! What is reported while a part of a text is judged: violations, of which the earliest is the one
-//! by its place in the text, and among those at one place by the number of the rule.
+//! What is reported while a part of a text is judged: violations. The earliest is the first by its
+//! place in the text, and at one place the one with the lowest number of the rule.
 
 ghost use Rattle.std.specs.Prelude.{◌≡◌, IfOk, None, OnOk, slice_get};
 ghost use Rattle.cp_model.specs.RulesJudged.{breaks, earlier, is_before, unless};
@@ -9,7 +9,7 @@ use cp_model::rules::{Rule, Violation};
 use std::alloc::{AllocError, Global};
 use std::marker::Model;
 
-// The violations that are kept beside the earliest.
+// The violations that are kept in addition to the earliest.
 #[derive(Drop)]
 enum Kept {
     None,
@@ -38,7 +38,7 @@ impl Model for Diagnostics {
 }
 
 impl Diagnostics {
-    /// Nothing is reported yet. The earliest violation alone will be kept.
+    /// Diagnostics without a violation. Only the earliest will be kept.
     pub fn earliest() -> Diagnostics
         ensures { result ≡ None }
     {
@@ -48,7 +48,7 @@ impl Diagnostics {
         }
     }
 
-    /// Nothing is reported yet. All violations will be listed.
+    /// Diagnostics without a violation. All of them will be listed.
     pub fn all(alloc: Global) -> Diagnostics
         ensures { result ≡ None }
     {
@@ -65,13 +65,12 @@ impl Diagnostics {
         self.earliest
     }
 
-    /// Whether each violation is listed, and not the earliest alone kept.
+    /// Whether all violations are listed, and not only the earliest is kept.
     pub fn lists_all(&self) -> bool {
         !matches!(&self.kept, Kept::None)
     }
 
-    /// A place for what is reported of a part, which keeps as much as this one. Nothing is reported
-    /// there yet.
+    /// Diagnostics for a part, which keep as much as these. Nothing is reported there yet.
     pub fn part(&self, alloc: Global) -> Diagnostics
         ensures { result ≡ None }
     {
@@ -137,7 +136,7 @@ impl Diagnostics {
     ///
     /// # Errors
     ///
-    /// Memory runs out, or has run out for one of the violations.
+    /// `AllocError` if memory runs out, or has run out for one of the violations.
     pub fn into_list(self, alloc: Global) -> Result<Vec<Violation>, AllocError>
         ensures { IfOk result (λ list. slice_get list.items 0 ≡ self) }
     {

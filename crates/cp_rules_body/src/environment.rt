@@ -35,7 +35,7 @@ pub struct Environment<'t> {
     region: Region,
 }
 
-// A derived one would make proofs slower (docs/CI.md).
+// A derived `Drop` would make proofs slower (docs/CI.md).
 impl Drop for Environment<'_> {
     fn drop(self) {
         let Environment {
@@ -259,14 +259,14 @@ impl<'t> Environment<'t> {
         }
     }
 
-    /// Makes room for so many more names.
+    /// Makes room for `count` more names.
     pub fn reserve_names(&mut self, count: usize) -> Result<(), AllocError>
         ensures { self.new ≡ self.old }
     {
         self.names.reserve(count)
     }
 
-    /// Makes room for so many more types, tables of members and system types.
+    /// Makes room for `count` more types, tables of members and system types.
     pub fn reserve_types(&mut self, count: usize) -> Result<(), AllocError>
         ensures { self.new ≡ self.old }
     {
@@ -275,7 +275,7 @@ impl<'t> Environment<'t> {
         self.systems.reserve(count)
     }
 
-    /// Makes room for so many more routines.
+    /// Makes room for `count` more routines.
     pub fn reserve_routines(&mut self, count: usize) -> Result<(), AllocError>
         ensures { self.new ≡ self.old }
     {
@@ -291,8 +291,7 @@ impl<'t> Environment<'t> {
         self.names.add_if_new(name.name.as_bytes(), entity)
     }
 
-    /// Lets the names that were declared after the first `mark` ones represent `entity` from now
-    /// on.
+    /// Makes the names that were declared after the first `mark` ones represent `entity`.
     pub fn set_from(&mut self, mark: usize, entity: Entity)
         ensures { self.new ≡ r.with_names (with_values_from mark entity self.old.names) self.old }
     {

@@ -1,8 +1,8 @@
 //! Expressions: their types, and the rules inside them.
 //!
-//! Expressions, designators and arguments are judged by mutual recursion. What isn't part of it is
-//! in other modules. `specs/ExpressionParts.antt` names the parts of the definition that single
-//! functions compute.
+//! Expressions, designators and arguments are judged by mutual recursion. What doesn't take part in
+//! it is in other modules. `specs/ExpressionParts.antt` names the parts of the definition that
+//! single functions compute.
 
 ghost use Rattle.std.specs.Prelude.{◌≡◌, ℕ, ◌+◌, ◌*◌, ◌<◌, ◌++◌, [], ◌∷◌, map, drop, length, Option, None, Some, slice_get};
 ghost use Rattle.cp_model.specs.Syntax as s;

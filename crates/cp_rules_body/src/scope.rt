@@ -2,7 +2,7 @@
 //!
 //! A table finds a name by comparisons, whose number grows with the logarithm of the number of
 //! names. Most names are found by a hint instead: the length and three letters of a name lead to
-//! the number of a name with the same ones. If that is another name, the table is asked.
+//! the number of a name with the same ones. If that is another name, the table is searched.
 
 ghost use Rattle.std.specs.Prelude.{◌≡◌, ◌++◌, ◌∷◌, [], None, Some, IfOk, IfSome, OnOk, is_some, length, not, option_map, slice_get, take};
 ghost use Rattle.cp_model.specs.Names.{lookup};
@@ -16,7 +16,7 @@ use std::marker::Model;
 // The number of hints.
 const HINT_SLOTS: usize = 512;
 
-// So many names, the first ones, keep their hints: the standard names are among them.
+// This many names, the first ones, keep their hints. The standard names are among them.
 const MAX_KEPT_HINTS: usize = 32;
 
 /// The visible names and what they represent, in the order of their declarations. No name occurs
@@ -46,7 +46,7 @@ fn hint_of(name: &[u8]) -> usize {
     }
 }
 
-// Lets the hint of a name lead to this number, unless it leads to a name that keeps its hint.
+// Makes the hint of a name lead to this number, unless it leads to a name that keeps its hint.
 fn set_hint(hints: &mut Vec<usize>, name: &[u8], number: usize) {
     let at = hint_of(name);
     if at < hints.len() && hints[at] >= MAX_KEPT_HINTS {
@@ -75,7 +75,7 @@ impl<'t> Scope<'t> {
         self.table.len()
     }
 
-    /// Makes room for so many more names. Fails only if memory runs out.
+    /// Makes room for `count` more names. Fails only if memory runs out.
     pub fn reserve(&mut self, count: usize) -> Result<(), AllocError>
         ensures { self.new ≡ self.old }
     {
@@ -126,7 +126,7 @@ impl<'t> Scope<'t> {
         Ok(is_new)
     }
 
-    /// Lets the names from number `from` on represent `entity` from now on.
+    /// Makes the names from number `from` on represent `entity`.
     pub fn set_from(&mut self, from: usize, entity: Entity)
         ensures { self.new ≡ with_values_from from entity self.old }
     {

@@ -156,8 +156,8 @@ pub fn designates_variable(
     )
 }
 
-/// Whether a variable of the type may represent itself alone where it is used: it has no queues,
-/// and isn't a component that is used as a value.
+/// Whether a variable of the type may be used by its name alone: it has no queues, and isn't a
+/// component that is used as a value.
 pub fn is_plain(env: &Environment, mode: Mode, t: usize) -> bool
     ensures { result ≡ is_plain env.now mode t }
 {

@@ -1,4 +1,4 @@
--- Parts that occur in lists of the tree alone: the definitions see the whole list.
+-- Parts that occur only in lists of the tree: the definitions see the whole list.
 use Rattle.std.specs.Prelude.{Bool, nat_lt, ℕ, ◌&&◌}
 use Rattle.cp_model.specs.Syntax as s
 use Rattle.cp_model.specs.View.{LabelledStatement, PlacedIndex}

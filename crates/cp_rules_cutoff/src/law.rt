@@ -1,4 +1,4 @@
-//! The law, as a function with an empty body whose contract is the law.
+//! The law of what is later in a text, as a function with an empty body whose contract is the law.
 
 ghost use Rattle.cp_rules_cutoff.specs.Laws.{RestReportsNothingEarlier};
 

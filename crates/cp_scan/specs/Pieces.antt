@@ -13,8 +13,8 @@ use Rattle.cp_model.specs.Tokens.{Token}
 use Rattle.cp_scan.specs.declared.refusal.Cause.{Cause}
 use Rattle.cp_scan.specs.declared.refusal.Cause.TheVariants as cause
 
--- The kind of a token, or `None` for a separator, and the length. Or else the cause why no piece
--- begins here.
+-- The kind of a token, or `None` for a separator, and the length. If no piece begins here, it is
+-- the cause.
 abbrev pub Piece : Type 0
 Piece = Result (Option Kind × ℕ) Cause
 
@@ -121,7 +121,7 @@ abbrev pub with_token : Option Kind → ℕ → ℕ → List Token → List Toke
 with_token None from to found = found
 with_token (Some k) from to found = found ++ record { kind = k; span = record { from = from; to = to } } ∷ []
 
--- The place after a piece, and the tokens up to there. Or the cause and its place.
+-- The place after a piece and the tokens up to there, or the cause and its place.
 abbrev pub Step : Type 0
 Step = Result (ℕ × List Token) (Cause × ℕ)
 

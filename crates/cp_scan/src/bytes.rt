@@ -5,8 +5,10 @@ ghost use Rattle.std.specs.Prelude.{◌≡◌, ◌≤◌, ◌<◌, drop, length,
 ghost use Rattle.cp_model.specs.Characters as character;
 ghost use Rattle.cp_scan.specs.Pieces.{run, head_or_zero};
 
+/// The byte that begins and ends a comment.
 pub const QUOTE: u8 = b'"';
 
+/// The byte that begins and ends a character constant.
 pub const APOSTROPHE: u8 = b'\'';
 
 /// A tab, a line feed, a carriage return or a space.
@@ -16,12 +18,14 @@ pub fn is_blank(byte: u8) -> bool
     matches!(byte, b'\t' | b'\n' | b'\r' | b' ')
 }
 
+/// A decimal digit.
 pub fn is_digit(byte: u8) -> bool
     ensures { result ≡ character.is_digit byte }
 {
     byte.is_ascii_digit()
 }
 
+/// A letter, in upper or lower case.
 pub fn is_letter(byte: u8) -> bool
     ensures { result ≡ character.is_letter byte }
 {

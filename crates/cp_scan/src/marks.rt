@@ -1,6 +1,5 @@
-//! Marks, where the longest that fits is read. `Spelling` of cp_model defines their spellings.
-//! `mark` and `longer_mark` of `specs/Pieces.antt` find them by the first byte and the one after
-//! it.
+//! Marks: the longest that fits is read. `Spelling` of cp_model defines their spellings. `mark` and
+//! `longer_mark` of `specs/Pieces.antt` find them by the first byte and the one after it.
 
 ghost use Rattle.std.specs.Prelude.{◌≡◌};
 ghost use Rattle.cp_model.specs.Tokens as plain;

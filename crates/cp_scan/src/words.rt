@@ -156,7 +156,7 @@ fn lower_end(text: &[u8]) -> [u8; FRONT]
 fn front_in_lower_case(text: &[u8]) -> [u8; FRONT]
     ensures { IsFront text.now result }
 {
-    // So many at once take no longer than one.
+    // Converting this many letters at once takes no longer than converting one.
     if FRONT <= text.len() {
         lower_front(text)
     } else {

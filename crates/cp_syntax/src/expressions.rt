@@ -1,7 +1,7 @@
 //! From terms to lists of expressions, given a reader of factors.
 //!
-//! What reads one part of an expression is inlined into what reads the whole, so that a factor
-//! alone isn't copied from one to the next.
+//! The readers of the parts of an expression are inlined into the reader of the whole. So an
+//! expression that is a single factor isn't copied from one reader to the next.
 
 ghost use Rattle.std.specs.Prelude.{◌≡◌, map, IfOk, Option};
 ghost use Rattle.std.specs.Option.{is_some};
@@ -139,7 +139,7 @@ fn chain<O: Operators>(
     ensures { Gives view.expression result
         (spec.chain_from O.operators (O.operands class) (view.expression first) tokens.now) }
 {
-    // Most operands are alone.
+    // Most operands have no operator after them.
     if O::operator(tokens).is_none() {
         return Ok((first, tokens));
     }
@@ -229,7 +229,7 @@ impl<F: Fn(Global, usize, &[Token]) -> Read<'_, Expression> + Copy> Node<Level<F
 
     ghost reader = { λ x. spec.expression_of (spec.factor_at x.room) };
 
-    /// Reads two simple expressions with a relation between them, or one alone.
+    /// Reads two simple expressions with a relation between them, or a single one.
     #[tactic(auto, unfolding(cp_model_grammar::specs::Expressions::expression_of))]
     fn read(level: Level<F>, tokens: &[Token]) -> Read<'_, Expression> {
         let (left, rest) = simple(level, tokens)?;

@@ -49,7 +49,7 @@ pub fn read_at<X: Nested, F: Fn(Global, usize, &[Token]) -> Read<'_, X>>(
     (level.read)(level.alloc, level.room, tokens)
 }
 
-/// The rules one level deeper, or stops if the next token may not open a level.
+/// The rules one level deeper, or the reason to stop if the next token may not open a level.
 #[tactic(auto, using(crate::proofs::Rooms::no_factor, crate::proofs::Rooms::some_factor, crate::proofs::Rooms::no_type, crate::proofs::Rooms::some_type, crate::proofs::Rooms::no_statement, crate::proofs::Rooms::some_statement))]
 pub fn inner<X: Nested, F: Fn(Global, usize, &[Token]) -> Read<'_, X>>(
     level: Level<F>,

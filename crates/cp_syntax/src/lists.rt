@@ -10,9 +10,9 @@ use cp_model::token::{Symbol, Token};
 use std::alloc::{AllocError, Global};
 use std::mem::size_of_val;
 
-// When a block of so many bytes is freed, the C library joins all blocks that were freed before it,
-// and a tree has up to half a million. At first it maps blocks of twice as many bytes by themselves,
-// and to free one of those joins nothing.
+// When a block of this size is freed, the C library joins all blocks that were freed before it, and
+// a tree has up to half a million. Blocks of twice this size are at first mapped one by one, and
+// freeing such a block joins nothing.
 const MAX_JOINED_BYTES: usize = 64 * 1024;
 
 /// A part of the syntax tree that occurs in lists, and how the rules `R` read it.
@@ -40,8 +40,8 @@ pub trait Item<R>: Node<R> {
         ensures { result ≡ begins (kind_at tokens.now) };
 }
 
-// Makes room in a full list that is about to become a block of `MAX_JOINED_BYTES` to twice as many bytes for
-// four times as many items, not twice.
+// Makes room in a full list that would otherwise become a block of `MAX_JOINED_BYTES` to twice as
+// many bytes. It gets room for four times as many items, not for twice as many.
 #[cold]
 #[inline(never)]
 fn widen<X: Drop>(list: &mut Vec<X>) -> Result<(), AllocError>
@@ -89,7 +89,7 @@ pub fn read_while<X: Item<R>, R: Copy>(
     Ok((found, rest))
 }
 
-/// A list of one item. Most lists have no more, so it has room for that one alone.
+/// A list of one item. Most lists have no more, so it has room only for that one.
 pub fn lone<X: Drop>(alloc: Global, item: X) -> Result<Vec<X>, AllocError>
     ensures { IfOk result (λ list. list.items ≡ item ∷ []) }
 {

@@ -18,7 +18,8 @@ pub fn identifier(alloc: Global, tokens: &[Token]) -> Read<'_, Identifier>
 {
     let at = place(tokens);
     match peek(tokens) {
-        // Were the two joined before the result is made, each short name would be copied once more.
+        // The arms stay apart: joined before the result is made, they would copy each short name
+        // once more.
         Some(Kind::Short(word)) => {
             let name = Name::of_short(word);
             Ok((Identifier { name, at }, after(tokens)))

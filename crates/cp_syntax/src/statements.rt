@@ -36,7 +36,7 @@ impl<F: Fn(Global, usize, &[Token]) -> Read<'_, Statement> + Copy> Node<Level<F>
 
     ghost reader = { λ x. spec.statement_at x.room };
 
-    // A statement before a semicolon that is nothing is reported without a call.
+    // An empty statement before a semicolon is read without a call.
     #[inline(always)]
     #[tactic(auto, unfolding(cp_model_grammar::specs::Statements::statement_of, cp_model_grammar::specs::Statements::statement_by))]
     fn read(level: Level<F>, tokens: &[Token]) -> Read<'_, Statement> {
