@@ -19,7 +19,7 @@ pub struct MadeTerm {
 }
 
 /// Adds a call, which is at the place `at` of the text and whose value goes to the temp `into`.
-/// The term for its value.
+/// Returns the term for its value.
 pub fn make_call(
     alloc: Global,
     calls: &mut Vec<CodedCall>,

@@ -121,7 +121,7 @@ impl Emitter {
     }
 
     /// Emits an operation that comes from the place `at` of the text, and the calls of its terms.
-    /// The place where they are entered.
+    /// Returns the place where they are entered.
     pub fn emit(
         &mut self,
         calls: Vec<CodedCall>,

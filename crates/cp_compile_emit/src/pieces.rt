@@ -7,7 +7,7 @@ ghost use Rattle.cp_program.specs.View as code_view;
 
 use cp_program::program::StartPiece;
 
-// A plan of at most so many pieces is put among those of the whole.
+// The most pieces of a plan whose pieces are put among those of the whole.
 const SHORT: usize = 8;
 
 // The value with which all `size` words start, if a piece is a fill of them.

@@ -48,7 +48,7 @@ pub struct Planner<'a, 't> {
     pub(crate) plans: Vec<StartPlan>,
 }
 
-// A derived one would make proofs slower (docs/CI.md).
+// A derived `Drop` would make proofs slower (docs/CI.md).
 impl Drop for Planner<'_, '_> {
     fn drop(self) {
         let Planner {

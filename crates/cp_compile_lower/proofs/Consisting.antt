@@ -93,7 +93,7 @@ no_variable s (a.Negative e) low bare = refl
 no_variable s (a.Positive e) low bare = refl
 no_variable s (a.Binary o e f) low bare = refl
 
--- The spot of any other expression.
+-- The place expression of any other expression.
 pub other_place_expression : (calls : List CodedCall) (made : MadePlaceExpression) (s : Scope) (e x : Expression) (low : ℕ) → e ≡ x → IsNoUse (meant x)
     → IsPlaceExpression (map coded_call calls) calls made (lone_place_expression (Rooted (Local 0)) low)
     → IsPlaceExpression (map coded_call calls) calls made (coded_variable s (meant e) low)

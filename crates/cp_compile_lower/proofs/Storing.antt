@@ -28,7 +28,7 @@ part_no_result s (a.Plain x) part = absurd (cc)
 part_no_result s (a.Part d x) part = refl
 part_no_result s (a.At d e) part = refl
 
--- The spot and the type that are made are those of the designator.
+-- The place expression and the type that are made are those of the designator.
 pub stored : (old new : Emitter) (place : ℕ) (g : GlobalScope) (at next : ℕ) (c : CodedPlaceExpression) (e : ℕ → CodedTerm) (f : ℕ → CodedPlaceExpression) (n : ℕ)
     (t u : ResolvedType) → n ≡ c.temps → u ≡ t → Enters old new place (store g u c (e n) (f n) at next)
     → Enters old new place (store g t c (e c.temps) (f c.temps) at next)

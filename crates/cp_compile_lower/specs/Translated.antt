@@ -1,4 +1,4 @@
--- When the code makes terms, spots and arguments as the compiler's definition does.
+-- When the code makes terms, place expressions and arguments as the compiler's definition does.
 use Rattle.std.specs.Prelude.{◌≡◌, ℕ, List, ◌++◌, Option, None, Some, map}
 use Rattle.cp_model.specs.Abstract as a
 use Rattle.cp_model.specs.Abstract.{Name}
@@ -48,7 +48,7 @@ pub record AreArguments (before : List coded.CodedCall) (after : List CodedCall)
   pub calls : map coded_call after ≡ before ++ t.calls
   pub temps : made.temps ≡ t.temps
 
--- The spot of a designator and the type of its place.
+-- The place expression of a designator and the type of its place.
 pub record IsPlace (scope : Scope) (s : code.Scope) (low : ℕ) (before : List coded.CodedCall) (after : List CodedCall)
     (d : a.Designator) (made : MadePlaceExpression) : Type 0 where
   pub place_expression : IsPlaceExpression before after made (coded_place_expression s d low)
@@ -66,7 +66,7 @@ abbrev pub TermOf : Scope → List CodedCall → List CodedCall → a.Expression
 TermOf scope old new e low made =
     (s : code.Scope) → IsScope scope s → IsTerm (map coded_call old) new made (coded_term s e low)
 
--- The spot of an argument that is a variable.
+-- The place expression of an argument that is a variable.
 abbrev pub VariableOf : Scope → List CodedCall → List CodedCall → a.Expression → ℕ → MadePlaceExpression → Type 0
 VariableOf scope old new e low made =
     (s : code.Scope) → IsScope scope s → IsPlaceExpression (map coded_call old) new made (coded_variable s e low)
@@ -75,7 +75,7 @@ abbrev pub PlaceExpressionOf : Scope → List CodedCall → List CodedCall → a
 PlaceExpressionOf scope old new d low made =
     (s : code.Scope) → IsScope scope s → IsPlace scope s low (map coded_call old) new d made
 
--- The spot of a part of a place, if `of` is the spot of that place.
+-- The place expression of a part of a place, if `of` is the place expression of that place.
 abbrev pub PartOf : Scope → List CodedCall → List CodedCall → MadePlaceExpression → (a.Designator → a.Designator) → MadePlaceExpression
     → Type 0
 PartOf scope old new of part made =

@@ -135,7 +135,7 @@ impl<'s, 't> Translator<'s, 't> {
         self.item(made)
     }
 
-    /// Makes the spot of a designator.
+    /// Makes the place expression of a designator.
     #[cycle(terms)]
     pub fn place_expression(
         &self,
@@ -153,7 +153,7 @@ impl<'s, 't> Translator<'s, 't> {
         Ok(made)
     }
 
-    // Makes the spot of a part of the place so far.
+    // Makes the place expression of a part of the place so far.
     #[cycle(terms)]
     fn select(
         &self,
@@ -187,7 +187,7 @@ impl<'s, 't> Translator<'s, 't> {
         Ok(made)
     }
 
-    // Makes the spot of the element at an index.
+    // Makes the place expression of the element at an index.
     #[cycle(terms)]
     fn select_element(
         &self,
@@ -207,8 +207,8 @@ impl<'s, 't> Translator<'s, 't> {
         }
     }
 
-    /// Makes the spot of an argument that is a variable. That of any other expression is the first
-    /// word of the activation.
+    /// Makes the place expression of an argument that is a variable. That of any other expression
+    /// is the first word of the activation.
     #[cycle(terms)]
     pub fn argument_place_expression(
         &self,

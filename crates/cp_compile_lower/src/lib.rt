@@ -4,7 +4,7 @@
 //! that of a function of `cp_model_program`'s definitions (`CodedTerms.antt`,
 //! `CodedStatements.antt`), in each scope that its tables represent:
 //!
-//! - `expressions`: terms and spots, and the calls to make before them, in order
+//! - `expressions`: terms and place expressions, and the calls to make before them, in order
 //!   (`specs/Translated.antt`). Expressions, designators and arguments contain one another.
 //!   `names`, `parts`, `operators`, `standard`, `calls` and `arguments` have the steps that aren't
 //!   part of this recursion.
@@ -13,10 +13,10 @@
 //!   the statements that contain no statements, and `components` has what they need of named
 //!   components.
 //!
-//! Recursion follows nesting alone, and lists are handled by loops. Each part of a tree is visited
+//! Recursion follows only nesting, and lists are handled by loops. Each part of a tree is visited
 //! once, except that `succ`, `pred`, `display` and `accept` also look for the type of their
-//! argument. What no accepted text has, as a part of something without parts or a name that means
-//! nothing, represents what the definitions say. The only error is want of room.
+//! argument. The definitions also say what is made of trees that no accepted text has, such as a
+//! part of something without parts, or a name that means nothing. The only error is a lack of room.
 #![tactic(auto)]
 
 mod arguments;

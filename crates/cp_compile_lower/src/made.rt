@@ -7,8 +7,8 @@ use cp_program::operation::Argument;
 use cp_program::term::PlaceExpression;
 use std::alloc::Global;
 
-/// The spot of a designator, the first temp after the values of its calls, and the number of the
-/// type of its place, if it has one.
+/// The place expression of a designator, the first temp after the values of its calls, and the
+/// number of the type of its place, if it has one.
 #[derive(Drop)]
 pub struct MadePlaceExpression {
     pub(crate) place_expression: PlaceExpression,

@@ -25,7 +25,7 @@ use cp_program::term::{PlaceExpression, Term};
 use std::alloc::AllocError;
 
 impl<'s, 't> Translator<'s, 't> {
-    /// The spot of the variable with this name, and the type of its place.
+    /// The place expression of the variable with this name, and the type of its place.
     pub fn variable(&self, name: &[u8], low: u32) -> Result<MadePlaceExpression, AllocError>
         ensures { IfOk result (λ made. (s : code.Scope) (calls : List CodedCall)
             → IsScope self.now.scope s

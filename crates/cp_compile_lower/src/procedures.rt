@@ -63,8 +63,8 @@ impl<'s, 't> Translator<'s, 't> {
         emitter.emit(calls, display, origin)
     }
 
-    // Makes the spot of the variable that is passed to a standard procedure, and the calls before
-    // it.
+    // Makes the place expression of the variable that is passed to a standard procedure, and the
+    // calls before it.
     fn passed_place_expression(
         &self,
         expression: &Expression,

@@ -215,7 +215,7 @@ impl<'s, 't> Scope<'s, 't> {
     ///
     /// # Errors
     ///
-    /// If the last value of an enumeration has no ordinal of 32 bits.
+    /// `AllocError` if the last value of an enumeration has no ordinal of 32 bits.
     pub fn expression_type(&self, expression: &Expression) -> Result<Option<Simple<'t>>, AllocError>
         ensures { IfOk result (λ of. (s : code.Scope) → IsScope self.now s
             → ValueIs s of (view.expression expression.now)) }

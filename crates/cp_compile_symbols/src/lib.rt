@@ -14,7 +14,7 @@
 //!   designators and calls mean there (`specs/Scopes.antt`), the types of places and values
 //!   (`specs/Places.antt`, `specs/Expressions.antt`), and the numbers of units.
 //!
-//! Names are borrowed from the tree and found by comparison, in logarithmic time. Look-ups alone
+//! Names are borrowed from the tree and found by comparison, in logarithmic time. Only look-ups
 //! define what names and numbers represent (`specs/Representing.antt`, and `specs/Texts.antt` for a
 //! whole text). Sizes and offsets that don't fit their fields are `None`, and an error only when
 //! they are used, because a text may declare a type that is far larger than any variable.

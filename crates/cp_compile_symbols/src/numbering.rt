@@ -52,7 +52,7 @@ impl<'t> Types<'t> {
         }
     }
 
-    // Returns 1 for a component of this sort and 0 otherwise.
+    // The number of components of this sort that a variable of the type is: 1 or 0.
     fn component_count(&self, sort: Sort, number: usize) -> usize
         ensures most { result ≤ 1 }
         ensures count { (t : ResolvedType) → Represents self.now number t → result ≡

@@ -15,9 +15,9 @@ use cp_base_names::Key;
 use cp_model::tree::Tree;
 use std::alloc::{AllocError, Global};
 
-/// What the compiler asks of a text: the names and types of its outermost scope, the layouts of its
-/// types, its system types by their numbers in text order, and the initial process. The key is that
-/// of its names.
+/// What the compiler needs to know of a text: the names and types of its outermost scope, the
+/// layouts of its types, its system types by their numbers in text order, and the initial process.
+/// The key is that of its names.
 pub struct Tables<'t> {
     pub key: Key,
     pub names: Names<'t>,
@@ -27,7 +27,7 @@ pub struct Tables<'t> {
     pub initial: SystemTable<'t>,
 }
 
-// A derived one would make proofs slower (docs/CI.md).
+// A derived `Drop` would make proofs slower (docs/CI.md).
 impl Drop for Tables<'_> {
     fn drop(self) {
         let Tables {
@@ -80,7 +80,7 @@ impl<'t> Tables<'t> {
         let mut layouts = Layouts::new(alloc, key);
         let systems = layouts.systems(&names, &mut types)?;
         let initial = layouts.system(&names, &mut types, &[], &tree.variables, &tree.routines)?;
-        // Whatever has no layout yet gets one.
+        // Types that have no layout yet get one.
         layouts.extend(&names, &types)?;
         Ok(Tables {
             key,

@@ -49,7 +49,7 @@ pub enum TypeRow<'t> {
         system: usize,
         members: Vec<Field<'t>>,
     },
-    /// No type, which is what a name that means none and other invalid types represent.
+    /// No type: the row of a name that means none, and of other invalid types.
     Unknown,
 }
 

@@ -10,7 +10,7 @@ ghost use Rattle.cp_kernel.specs.ChainOf.{processes_left};
 use crate::kernel::Kernel;
 use cp_private::kernel_view::{Holder, SchedulingState};
 
-/// The processes of a chain that are still to come, in order. Nothing of it takes memory.
+/// The processes of a chain that are still to come, in order. It takes no memory.
 #[derive(Drop)]
 pub struct Chain<'a> {
     kernel: &'a Kernel,

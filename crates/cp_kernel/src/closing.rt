@@ -61,7 +61,7 @@ fn close_stages(stages: &mut [SchedulingState])
     }
 }
 
-// Returns whether a process was started in the round.
+// Whether a process was started in the round.
 fn has_fresh(stages: &[SchedulingState]) -> bool
     ensures { result ≡ false → HasNoFresh stages.now }
 {

@@ -16,7 +16,7 @@ use crate::kernel::Kernel;
 use cp_private::effect::Effect;
 use cp_private::kernel_view::{Holder, SchedulingState};
 
-// Returns the index of the monitor or process with this number. The number 0 is read as 1.
+// The index of the monitor or process with this number. The number 0 is read as 1.
 fn index(number: u32) -> usize
     ensures { result ≡ number - 1 }
 {

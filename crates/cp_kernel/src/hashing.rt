@@ -1,4 +1,4 @@
-//! Hashes of kernels, and how much memory they take. Both are hints: no clause speaks of them.
+//! Hashes of kernels, and how much memory they take. Both are hints: no clause mentions them.
 
 use crate::kernel::Kernel;
 use cp_private::hashing::{mix, mix_words};

@@ -22,7 +22,7 @@ pub struct Kernel {
     ghost fresh: { may_have_fresh ≡ false → HasNoFresh stages.items },
 }
 
-// A derived one would make proofs slower (docs/CI.md).
+// A derived `Drop` would make proofs slower (docs/CI.md).
 impl Drop for Kernel {
     fn drop(self) {
         let Kernel {

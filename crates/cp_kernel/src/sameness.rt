@@ -48,7 +48,8 @@ fn are_same_words(ones: &[i32], others: &[i32]) -> bool
 }
 
 impl Kernel {
-    /// Whether both have the same content, but for transcripts. If it says so, they have.
+    /// Whether both have the same content, apart from transcripts. Only the answer `true` is proved
+    /// to be right.
     pub fn is_same(&self, other: &Kernel) -> bool
         ensures { result ≡ true → kernel_of self.now ≡ kernel_of other.now }
     {

@@ -72,7 +72,7 @@ fn unset_gates(alloc: Global, count: usize) -> Result<Vec<Gate>, AllocError>
     Ok(all)
 }
 
-// Returns the stages of `count` processes, of which only the first, the initial process, has begun.
+// The stages of `count` processes, of which only the first, the initial process, has begun.
 fn first_stages(alloc: Global, count: usize) -> Result<Vec<SchedulingState>, AllocError>
     ensures stages { IfOk result (λ all. (processes : List code.Process) → length processes ≡ count
         → map states.stage all.items ≡ plain.first_stages processes) }

@@ -39,8 +39,8 @@ pub fn rounds()
     ensures order { RunIsOrder }
 {}
 
-/// If nothing uses the clock, calls reach what reached states settle as, and so each still state.
-/// The order of calls determines what is reached. A closed list of states has all of it.
+/// If nothing uses the clock, calls reach whatever a reached state settles as, and so each still
+/// state. The order of calls determines what is reached. A closed list of states has all of it.
 pub fn orders_of_calls()
     ensures once { SettlesOnce }
     ensures calls { OrderIsByCalls }
@@ -52,7 +52,8 @@ pub fn orders_of_calls()
     ensures within { OrdersStayWithin }
 {}
 
-/// The same for accepted texts without `realtime` and `wait`.
+/// For accepted texts without `realtime` and `wait`: calls reach each still state that rounds
+/// reach, and rounds reach what calls reach. The order of calls determines the end.
 pub fn accepted_texts()
     ensures still { AcceptedStillIsByCalls }
     ensures order { AcceptedByCallsIsOrder }

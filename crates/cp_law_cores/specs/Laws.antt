@@ -53,19 +53,19 @@ RoundsKeepCores =
 
 -- ---- What cores report
 
--- A core reports whether nobody can move in its state,
+-- A core reports whether nobody can move in its state.
 abbrev pub CoreReportsStill : Type 0
 CoreReportsStill = (setup : Setup) (s : State) (c : Core) → IsCoreOf setup s c → core_is_still (process_count setup) c ≡ is_still setup s
 
--- whether all have ended,
+-- A core reports whether all have ended.
 abbrev pub CoreReportsEnd : Type 0
 CoreReportsEnd = (setup : Setup) (s : State) (c : Core) → IsCoreOf setup s c → core_has_ended (process_count setup) c ≡ all_pass has_ended s (processes setup)
 
--- whether nobody has faulted,
+-- A core reports whether nobody has faulted.
 abbrev pub CoreReportsSound : Type 0
 CoreReportsSound = (setup : Setup) (s : State) (c : Core) → IsCoreOf setup s c → core_is_sound (process_count setup) c ≡ all_pass has_no_fault s (processes setup)
 
--- and who has faulted, with which number.
+-- A core reports who has faulted, and with which number.
 abbrev pub CoreReportsFaults : Type 0
 CoreReportsFaults =
     (setup : Setup) (s : State) (c : Core) (p number : ℕ)

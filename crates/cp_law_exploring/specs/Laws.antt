@@ -21,7 +21,7 @@ use Rattle.cp_law_exploring.specs.Exploring.{AreExpanded, IsQuiescent, IsBefore,
 
 -- ---- Steps that a search makes
 
--- After a private turn.
+-- A private turn: what the core settles as after it, the core settles as before it.
 abbrev pub TurnIsBefore : Type 0
 TurnIsBefore =
     (program : Program) (t : ℕ) (c : Core) (p : ℕ) (o : PrivateState)
@@ -29,7 +29,7 @@ TurnIsBefore =
     → let d : Core = record { kernel = c.kernel; parts = put c.parts p (silent (private_steps program 0 t o)) } in
     IsBefore program c d × IsQuiescent d
 
--- A kernel turn of one step.
+-- A kernel turn of one step is a kernel step of the core.
 abbrev pub TurnIsKernelStep : Type 0
 TurnIsKernelStep =
     (program : Program) (c : Core) (p : ℕ) (o : PrivateState)
@@ -38,21 +38,22 @@ TurnIsKernelStep =
     let d : Core = record { kernel = x.kernel; parts = put c.parts p (silent x.own) } in
     (d ≡ kernel_at program c p) × AreSilent d
 
--- After an eager step of the kernel and the end of a round.
+-- An eager step of the kernel and the end of a round: what the core settles as after them, it
+-- settles as before them.
 abbrev pub KernelStepIsBefore : Type 0
 KernelStepIsBefore =
     (program : Program) (c : Core) (p : ℕ)
     → 1 ≤ p → p ≤ count program → way_at program c p ≡ Eager → is_private_on program (part c.parts p) ≡ false
     → IsBefore program c (close program (kernel_at program c p))
 
--- A late step is one of the kernel.
+-- A move by a late step is a step of the kernel, and then the end of a round.
 abbrev pub LateIsOfKernel : Type 0
 LateIsOfKernel = (program : Program) (c : Core) (p : ℕ) → way_at program c p ≡ Late → move_at program c p ≡ close program (kernel_at program c p)
 
 abbrev pub ClosedIsQuiescent : Type 0
 ClosedIsQuiescent = (program : Program) (c : Core) → AreSilent c → IsQuiescent (close program c)
 
--- Where no process has an eager step, the core is settled.
+-- If no process has an eager step, the core is settled.
 abbrev pub NoneEagerSettles : Type 0
 NoneEagerSettles =
     (program : Program) (c d : Core)

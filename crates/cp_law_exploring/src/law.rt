@@ -12,7 +12,7 @@ pub fn settling()
     ensures none { NoneEagerSettles }
 {}
 
-/// What a list of cores reports whose late steps lead into the list.
+/// What a list of cores shows if their late steps lead into the list.
 pub fn expanding()
     ensures first { FirstIsClosed }
     ensures reports { ExpandedReports }

@@ -1,5 +1,5 @@
 -- `init`. Only the initial process passes rights on to monitors, and those it passes descend. It
--- holds no gate then, so that of the new monitor is alone.
+-- holds no gate then, so the gate of the new monitor is its only one.
 use Rattle.std.proofs.Common.{◌≡◌, ℕ, ◌<◌, ◌≤◌, List, [], ◌∷◌, true, false, Option, Some, None, refl, ap, sym, subst, ◌∙◌, inr}
 use Rattle.std.specs.Prelude.{if◌then◌else◌}
 use Rattle.cp_model.specs.Abstract.{At, Binary, Call, Class, Expression, Expressions, Known, Letter, Literal, Monitor, Name, Negative, Not, Part, Plain, Positive, Process, Sort, Use}

@@ -6,7 +6,7 @@ use Rattle.cp_model.specs.Continuations.{marked_monitors}
 use Rattle.cp_model.specs.Configurations.{Configuration, Continues, Delays, Effect, Ends, Enters, Leaves, Opens, Own, Starts, Waits}
 use Rattle.cp_law_gates.specs.Gates.{IsInnermost}
 
--- No process is in a queue where it didn't are before.
+-- No process is in a queue in which it wasn't before.
 abbrev pub NoNewQueue : Store → Store → Type 0
 NoNewQueue store after = (l : Location) (r : ℕ) → after l ≡ QueueHolds (Some r) → store l ≡ QueueHolds (Some r)
 

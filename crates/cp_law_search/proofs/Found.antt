@@ -1,4 +1,5 @@
--- What a search finds is real: rounds lead to a state of which the found core reports.
+-- What a search finds is real: rounds lead to a state for which the found core reports the right
+-- verdict.
 --
 -- Each move of a core is a round of one event. If a search keeps other cores of the same states, the
 -- same calls are made once more from the first core, and lead to a core of a state that has the found

@@ -45,7 +45,7 @@ way_at program c p = way_on program c.kernel (part c.parts p)
 abbrev pub step_at : Program → Core → ℕ → Core
 step_at program c p = if is_private_on program (part c.parts p) then private_at program c p else kernel_at program c p
 
--- And then the end of a round.
+-- The next step of a process, and then the end of a round.
 abbrev pub move_at : Program → Core → ℕ → Core
 move_at program c p = close program (step_at program c p)
 
@@ -81,7 +81,7 @@ LeadOn program setup v [] u = v ≡ u
 LeadOn program setup v (p ∷ ps) u =
     (is_in p (processes setup) ≡ true) × (way_at program v p ≡ Late) × (w : Core) × LeadsAs program setup (move_at program v p) w × LeadOn program setup w ps u
 
--- So a search that begins with `c` finds `u`.
+-- A search that begins with `c` finds `u` by these calls.
 pub record IsFound (program : Program) (setup : Setup) (c : Core) (calls : List ℕ) (u : Core) : Type 0 where
   pub first : Core
   pub begins : LeadsAs program setup c first

@@ -55,8 +55,9 @@ pub record IsSearched (program : Program) (setup : Setup) (vs : List Core) : Typ
   pub closed : IsClosedByCalls program setup (Contains vs)
   pub first : LeadsByCalls program setup (Contains vs) (first_core program setup)
 
--- Then each state that rounds in any orders lead to has a core that settles by eager steps, after the end of
--- the round, as a core that has a state in common with a member.
+-- If a list has been searched so, each state that rounds in any orders lead to has a core that
+-- settles by eager steps, after the end of the round, as a core that has a state in common with a
+-- member.
 abbrev pub OrdersSettleByCalls : Type 0
 OrdersSettleByCalls =
     (program : Program) (setup : Setup) (vs : List Core) (rounds : List (ℕ × List Event))
@@ -111,7 +112,7 @@ CompiledStillStatesAreMembers =
 
 -- ---- What is found is real
 
--- Rounds of turns of one step lead to a state of which the core reports.
+-- Rounds of turns of one step lead to a state for which the core reports the right verdict.
 pub record IsReal (setup : Setup) (c : Core) : Type 0 where
   pub rounds : List (List Event)
   pub within : AreAllOfProcesses setup (with_one rounds)
@@ -120,13 +121,13 @@ pub record IsReal (setup : Setup) (c : Core) : Type 0 where
   pub sound : all_pass has_no_fault (replay setup (start setup) (with_one rounds)) (processes setup) ≡ core_is_sound (process_count setup) c
   pub fault : (p number : ℕ) → is_in p (processes setup) ≡ true → HasFault c p number → (replay setup (start setup) (with_one rounds)).status p ≡ Faulted number
 
--- Each run of cores is real, even one that breaks off before it settles,
+-- Each run of cores is real, even one that breaks off before it settles.
 abbrev pub RunIsReal : Type 0
 RunIsReal =
     (program : Program) (setup : Setup) (ps : List ℕ) (c : Core)
     → IsClockless program setup → Runs (core_machine program (process_count setup)) (first_core program setup) ps c → IsReal setup c
 
--- and so is each run by calls.
+-- Each run by calls is real.
 abbrev pub FoundByCallsIsReal : Type 0
 FoundByCallsIsReal =
     (program : Program) (setup : Setup) (calls : List ℕ) (c : Core)
@@ -155,14 +156,15 @@ StepsOfKinds =
     → (is_private_on program (part c.parts p) ≡ true → move_at program c p ≡ close program (private_at program c p))
     × (is_private_on program (part c.parts p) ≡ false → move_at program c p ≡ close program (kernel_at program c p))
 
--- A core settles as what it settles as after an eager step,
+-- A core settles as what it settles as after an eager step.
 abbrev pub EagerStepSettles : Type 0
 EagerStepSettles =
     (program : Program) (n : ℕ) (c w : Core) (p : ℕ)
     → is_in p (numbers_from 1 n) ≡ true → way_at program c p ≡ Eager
     → Settles (core_machine program n) (move_at program c p) w → Settles (core_machine program n) c w
 
--- and as what it settles as after a private turn of any length, if it has no output and nobody is fresh.
+-- A core settles as what it settles as after a private turn of any length, if it has no output and
+-- nobody is fresh.
 abbrev pub PrivateTurnSettles : Type 0
 PrivateTurnSettles =
     (program : Program) (n t : ℕ) (c w : Core) (p : ℕ)

@@ -15,7 +15,8 @@ pub fn clockless_texts()
     ensures { CompiledTextsAreClockless }
 {}
 
-/// The same for an accepted tree. The test of its text is all that the laws below ask of it.
+/// The compiled program of an accepted tree doesn't use the clock, if its text has neither
+/// `realtime` nor `wait`. The laws below require only this test of the text.
 pub fn accepted_tree_is_clockless(tree: &Tree)
     requires { Accepted (view.tree tree.now) }
     ensures { TextIsClockless (view.tree tree.now) }

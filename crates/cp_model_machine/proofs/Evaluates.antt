@@ -1,4 +1,4 @@
--- Terms and spots over words have the values and places of expressions and designators.
+-- Terms and place expressions over words have the values and places of expressions and designators.
 --
 -- By induction on the expression, along the code that represents it: operands are evaluated in
 -- the same order, so the first fault is the same, and a name is read where `Here` says that it

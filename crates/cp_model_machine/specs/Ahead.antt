@@ -3,7 +3,7 @@
 -- A process that has written nothing and whose next step isn't the kernel's, if it has one, has no
 -- kernel turn to make, whatever the kernel is. So its private turns of the next rounds can be made
 -- one after another, before the other processes have made their kernel turns: no kernel turn of
--- another process can report.
+-- another process can observe this.
 use Rattle.std.specs.Prelude.{◌≡◌, ◌≢◌, ◌%◌, ◌/◌, ℕ, zero, suc, true, false, List, [], Some, length, if◌then◌else◌, get_or, map, nat_eq, slice_get}
 use Rattle.cp_model_program.specs.Programs.{Program}
 use Rattle.cp_model_machine.specs.KernelSteps.{Begun, Kernel, needs_kernel}
@@ -55,8 +55,9 @@ pub record HaveTurned (program : Program) (tick t rounds : ℕ) (n : ℕ → ℕ
 
 -- ---- The machine
 
--- A kernel, transcripts and private states are those of the machine m, but for the turns that processes
--- are ahead. The next private turns of m are those of the round after the first `rounds` rounds.
+-- A kernel, transcripts and private states are those of the machine m, apart from the turns that
+-- processes are ahead. The next private turns of m are those of the round after the first `rounds`
+-- rounds.
 pub record AreRunAhead (t rounds : ℕ) (m : Machine) (n : ℕ → ℕ) (k : Kernel) (ts : List (List ℕ)) (ys : List PrivateState) : Type 0 where
   pub kernel : k ≡ m.kernel
   pub transcripts : ts ≡ m.transcripts

@@ -22,7 +22,8 @@ holder_asked k _ = None
 abbrev pub waits_for : Kernel → ℕ → Option ℕ
 waits_for k p = holder_asked k (stage_of k.stages p)
 
--- At most `n` processes: this one, if any, and as long as the last one waits for another, that one.
+-- At most `n` processes: this one, if any, and then, as long as the last one waits for another,
+-- that other one.
 abbrev pub chain_within : ℕ → Kernel → Option ℕ → List ℕ
 chain_within n k None = []
 chain_within zero k (Some p) = []
@@ -81,7 +82,7 @@ HasReportWithChains m setup s =
 abbrev pub ReportHasChains : Type 0
 ReportHasChains = (m : Machine) (setup : Setup) (s : State) → IsIn m setup s → NoneFresh s → HasReportWithChains m setup s
 
--- So it is, `rounds` rounds after the start, that of one processor.
+-- So `rounds` rounds after the start, that report is the one of one processor.
 abbrev pub RunHasChains : Type 0
 RunHasChains =
     (program : Program) (setup : Setup) (n rounds : ℕ) → IsProgramFor program setup

@@ -27,7 +27,7 @@ abbrev pub is_shared : Owner → Bool
 is_shared (OfMonitor m) = true
 is_shared _ = false
 
--- What the kernel knows of the status of a process. A queue is given by the place of its word.
+-- What the kernel knows of the status of a process. A queue is given by the address of its word.
 abbrev pub StageMeans : Ground → Status → SchedulingState → Type 0
 StageMeans G status.Unstarted Unstarted = Unit {0}
 StageMeans G status.Fresh Fresh = Unit {0}

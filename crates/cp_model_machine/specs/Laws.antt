@@ -39,7 +39,8 @@ PrivateStepIsStep =
     Invariant s → PartOf G s before o
     → PartOf G (meaning.private_step setup s p) before (private_step program (realtime (running_clock setup s)) o)
 
--- The same for a turn of `n` steps, which ends early if the next step isn't private.
+-- What `PrivateStepIsStep` says, for a turn of `n` steps. The turn ends early if the next step
+-- isn't private.
 abbrev pub PrivateTurnIsTurn : Type 0
 PrivateTurnIsTurn =
     (program : Program) (setup : Setup) (F : IsProgramFor program setup) (p own n : ℕ)
@@ -72,8 +73,8 @@ pub record TurningOf (program : Program) (setup : Setup) (F : IsProgramFor progr
   pub part : PartOf (ground_of program setup F p own) s before x.own
   pub kernel : KernelOf program F.texts setup s x.kernel
 
--- If they are so in a state with the invariant, they are so again after the kernel steps of the
--- machine and of the meaning, even if neither has one.
+-- If they are so in a state with the invariant, they are so again after the kernel step of the
+-- machine and that of the meaning, even if neither has one.
 abbrev pub KernelStepIsStep : Type 0
 KernelStepIsStep =
     (program : Program) (setup : Setup) (F : IsProgramFor program setup) (p own : ℕ)
@@ -82,7 +83,7 @@ KernelStepIsStep =
     → TurningOf program setup F p own (meaning.kernel_step setup s p) before
     (kernel_step program (realtime (running_clock setup s)) x)
 
--- The same for a turn.
+-- What `KernelStepIsStep` says, for a turn.
 abbrev pub KernelTurnIsTurn : Type 0
 KernelTurnIsTurn =
     (program : Program) (setup : Setup) (F : IsProgramFor program setup) (p own n : ℕ)

@@ -53,7 +53,8 @@ ReferenceMeans lies v n t = (j : Location) × (v ≡ Reference j) × (lies j ≡
 
 -- ---- Where code runs
 
--- Everything that terms and spots read is what the meaning finds in the environment and the store.
+-- Everything that terms and place expressions read is what the meaning finds in the environment and
+-- the store.
 pub record Here (env : Environment) (clock : Clock) (store : Store) (v : View) (K : Knowns) (lies : Lying) : Type 0 where
   pub clock_is : v.clock ≡ realtime clock
   pub locals : (f : Frame) (x : Name) (at : ℕ) (d : declared.Variable) → env.frame ≡ Some f

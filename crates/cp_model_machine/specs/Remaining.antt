@@ -63,7 +63,7 @@ pub record Runs (G : Ground) (temps limit : ℕ) (R : Running) (fs : List machin
 abbrev pub temps_hold : List ℤ → ℕ → Knowns
 temps_hold temps temp t n = word temps (temp + t) ≡ n
 
--- The same, for the first `live` temps, which are in use.
+-- What the first `live` temps hold, which are in use.
 abbrev pub held_below : ℕ → List ℤ → ℕ → Knowns
 held_below live temps temp t n = (t < live) × temps_hold temps temp t n
 

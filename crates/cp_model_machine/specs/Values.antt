@@ -1,4 +1,4 @@
--- The values of terms, and the places of spots, over words.
+-- The values of terms, and the places of place expressions, over words.
 use Rattle.std.specs.Prelude.{Bool, ℕ, ℤ, pos, neg_ℤ, not, ◌&&◌, ◌||◌, ◌+◌, ◌*◌, ◌+ℤ◌, ◌-ℤ◌, ◌*ℤ◌, int_div, int_rem, int_le, int_lt, List, Result, Ok, Err, if◌then◌else◌}
 use Rattle.cp_model.specs.Abstract as operator
 use Rattle.cp_model.specs.Abstract.{Operator}

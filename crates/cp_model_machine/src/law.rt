@@ -50,7 +50,7 @@ pub fn start()
 
 /// The first machine is in the start of the meaning. A phased round leads a machine to the state
 /// that the meaning's phased round leads to, and any number of rounds to the state that one
-/// processor reaches. The end of a round alone is the meaning's too.
+/// processor reaches. The end of a round is that of the meaning, too.
 pub fn rounds()
     ensures start { StartIsIn }
     ensures round { RoundIsRound }

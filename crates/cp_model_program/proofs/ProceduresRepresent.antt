@@ -114,7 +114,7 @@ module _ (scope : Scope) (program : Program) (texts : List UnitText) (systems : 
   char_as (a.Positive e) h te = absurd h
   char_as (a.Binary q e f) h te = absurd h
 
-  -- the spot of an argument that is a bare variable
+  -- the place expression of an argument that is a bare variable
   place_expression_of : (d : a.Designator) (t : ResolvedType) (low place next : ℕ) → callee env d ≡ None → place_type env d ≡ t → is_component t ≡ false → TypedPlace p d → low ≤ unit.temps
       → Chain (coded_place_expression scope d low).calls place next → AllBelow unit.temps (coded_place_expression scope d low).calls
       → PlaceExpressionFor site nothing_known d (coded_place_expression scope d low).place_expression t place next low unit.temps

@@ -1,4 +1,4 @@
--- Terms, spots and arguments use temps from the first free one on.
+-- Terms, place expressions and arguments use temps from the first free one on.
 use Rattle.std.proofs.Common.{ℕ, ◌≤◌, ◌+◌, List, [], ◌∷◌, Option, Some, None, Bool, true, false, if◌then◌else◌, arith, bytes_eq, codes}
 use Rattle.cp_model.specs.Abstract as a
 use Rattle.cp_model.specs.Abstract.{BaseType, Name}

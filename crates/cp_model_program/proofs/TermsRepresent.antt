@@ -1,5 +1,5 @@
--- The compiled terms, spots and arguments represent the typed expressions, designators and
--- arguments.
+-- The compiled terms, place expressions and arguments represent the typed expressions, designators
+-- and arguments.
 --
 -- The proof is a single induction over expressions. Whether something is a call is decided by the
 -- meaning's own look-up, both in the compiler and in the judgement. So each case is split by the

@@ -1,5 +1,5 @@
--- The terms, spots and arguments of expressions, designators and actual arguments, with the calls
--- that are made before them.
+-- The terms, place expressions and arguments of expressions, designators and actual arguments, with
+-- the calls that are made before them.
 --
 -- The values of calls go to consecutive temps from `low` on. A call keeps the temps below `low` for
 -- its caller.
@@ -180,7 +180,7 @@ abbrev mutual
       let s = coded_place_expression scope d low in
       element_part scope.globals (place_type (environment scope) d) s (coded_term scope e s.temps)
 
-  -- The spot of an argument that is a variable.
+  -- The place expression of an argument that is a variable.
   pub coded_variable : Scope → a.Expression → ℕ → CodedPlaceExpression
   coded_variable scope (a.Use d) low = coded_place_expression scope d low
   coded_variable scope e low = lone_place_expression (Rooted (Local 0)) low

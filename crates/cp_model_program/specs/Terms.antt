@@ -1,7 +1,7 @@
 -- Terms: what a step evaluates, as expressions over words.
 --
--- A variable is a spot: where it begins, and how far its indices lead from there. A call isn't part
--- of a term: it has been made before, and its value is in a temp.
+-- A variable is a place expression: where it begins, and how far its indices lead from there. A
+-- call isn't part of a term: it has been made before, and its value is in a temp.
 use Rattle.std.specs.Prelude.{ℕ, ℤ}
 use Rattle.cp_model.specs.Abstract.{Operator}
 

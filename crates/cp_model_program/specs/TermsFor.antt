@@ -1,4 +1,5 @@
--- When terms, spots and passed arguments represent expressions, designators and arguments.
+-- When terms, place expressions and passed arguments represent expressions, designators and
+-- arguments.
 --
 -- The user calls of an expression are operations before the statement's own, in the order in which
 -- they are made. `place` is the place of the first call that is still to be made, and `next` is
@@ -38,14 +39,14 @@ Knowns = ℕ → ℤ → Type 0
 abbrev pub nothing_known : Knowns
 nothing_known t n = ⊥
 
--- ---- Parts of a spot
+-- ---- Parts of a place expression
 
 abbrev pub move_root : ℕ → Root → Root
 move_root n (Local at) = Local (at + n)
 move_root n (Member at) = Member (at + n)
 move_root n (Through at plus) = Through at (plus + n)
 
--- The spot `n` words further on.
+-- The place expression `n` words further on.
 abbrev pub move_place_expression : ℕ → PlaceExpression → PlaceExpression
 move_place_expression n (Rooted r) = Rooted (move_root n r)
 move_place_expression n (Element s low high size plus e) = Element s low high size (plus + n) e

@@ -40,7 +40,7 @@ pub record ChangesOnlyWords (old : Private) (before : List ℤ) (new : Private) 
   pub gate : new.gate ≡ old.gate
   pub kept : new.frames ≡ old.frames
 
--- ---- The same, where output may be written
+-- ---- What is kept if output may be written
 
 pub record KeepsOwnButOutput (old new : Private) : Type 0 where
   pub room : KeepsRoom old new

@@ -31,7 +31,7 @@ MakesStep program x y input clock =
     Invariant s → clock ≡ realtime (running_clock setup s) → PartOf G s before (private_of x input)
     → PartOf G (meaning.private_step setup s p) before (private_of y input) × Invariant (meaning.private_step setup s p)
 
--- The same for a turn.
+-- What `MakesStep` says, for a turn.
 abbrev pub MakesTurn : Program → ℕ → Private → Private → List ℕ → ℕ → Type 0
 MakesTurn program n x y input clock =
     (setup : Setup) (F : IsProgramFor (view.program program) setup) (p own : ℕ) (s : State) (before : List ℕ)

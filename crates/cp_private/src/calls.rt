@@ -118,8 +118,8 @@ impl Private {
         Ok(enters(callee.gate))
     }
 
-    /// Does the same as `call`. It is inlined: where there are no shared words, nothing asks for
-    /// them, and so many registers are left that the frame is written first. What it keeps then
+    /// Calls a routine, as `call` does. It is inlined. Without shared words nothing looks for them,
+    /// which leaves so many registers that the frame is written first. What the frame keeps then
     /// needs no registers while arguments are passed.
     #[inline(always)]
     pub(crate) fn call_here(

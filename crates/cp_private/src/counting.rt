@@ -17,7 +17,7 @@ use cp_program::operation::Counting;
 use cp_program::term::Term;
 
 impl Private {
-    // Returns the temp at a place, or 0 if it is missing.
+    // The temp at a place, or 0 if it is missing.
     #[inline(always)]
     pub(crate) fn temp_at(&self, at: usize) -> i32
         ensures { result ≡ word self.now.memory.temps.items at }
@@ -112,7 +112,7 @@ fn is_past(down: bool, n: i32, last: i32) -> bool
     if down { n < last } else { last < n }
 }
 
-// Returns the next counter, if it fits in 32 bits.
+// The next counter, if it fits in 32 bits.
 #[inline(always)]
 pub(crate) fn next_counter(down: bool, n: i32) -> Option<i32>
     ensures { MatchOption result (FitsSigned w32 (statements.next_counter down n) → ⊥)

@@ -1,7 +1,7 @@
 //! The commonest steps, made in registers.
 //!
-//! A step that isn't made here, since it faults or since its terms go deeper, has changed nothing,
-//! and is made as any other step is. `W` says whether shared words are looked for.
+//! A step that isn't made here, because it faults or its terms go deeper, has changed nothing. It
+//! is then made like any other step. `W` says whether shared words are looked for.
 
 ghost use Rattle.std.specs.Prelude.{◌≡◌, ◌+◌, false, true, None, IfSome, pos, if◌then◌else◌};
 ghost use Rattle.cp_private.specs.Assigning.{assign};

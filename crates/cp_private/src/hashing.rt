@@ -1,4 +1,4 @@
-//! Hashes of private states, and how much memory they take. Both are hints: no clause speaks of
+//! Hashes of private states, and how much memory they take. Both are hints: no clause mentions
 //! them.
 
 use crate::private::{Activity, Frame, Private};

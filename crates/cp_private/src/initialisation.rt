@@ -16,7 +16,7 @@ use cp_model::state::Fault;
 use cp_program::operation::{Argument, Call};
 use cp_program::program::Program;
 
-// Returns where the parameters of the process wait among the shared words.
+// Where the parameters of the process wait among the shared words.
 fn parameters_start(program: &Program, process: u32) -> u32
     ensures { result ≡ plain.parameters_start (view.program program.now) process }
 {

@@ -1,5 +1,5 @@
-//! The private state of a process, and its steps: private steps, which no other process can report,
-//! and what the process itself does in a step of the kernel.
+//! The private state of a process, and its steps: private steps, which no other process can
+//! observe, and what the process itself does in a step of the kernel.
 //!
 //! For any program and any private state, a step is the function on plain data that
 //! cp_model_machine defines; `specs/States.antt` says for which plain data a private state is.

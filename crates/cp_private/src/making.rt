@@ -57,7 +57,7 @@ fn needs_of(program: &Program, body: u32) -> Needs
     }
 }
 
-// Returns the words of a process at the start.
+// The words of a process at the start.
 fn first_words(
     alloc: Global,
     program: &Program,

@@ -77,7 +77,7 @@ impl Private {
         Ok(())
     }
 
-    // Returns an address as a word, or 0 if it is beyond all words.
+    // An address as a word, or 0 if it is beyond all words.
     fn reference_word(&self, shared: &[i32], at: usize) -> i32
         requires { IsAddressable shared.now }
         ensures { (input : List ℕ) (place : ℕ) → cap_place place ≡ at

@@ -18,7 +18,7 @@ pub enum Activity {
     Faulted(Fault),
 }
 
-/// So many frames are within a private state, and take no memory of their own.
+/// The number of frames that are within a private state, and take no memory of their own.
 pub(crate) const FRAMES_WITHIN: usize = 1;
 
 /// What a call keeps for its caller.

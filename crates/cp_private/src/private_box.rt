@@ -9,7 +9,7 @@ use std::alloc::{AllocError, Global};
 use std::marker::Model;
 
 /// A private state that stays where it is in memory while threads hand it to each other: they
-/// exchange its place alone. Contracts see the private state.
+/// exchange only its place. Contracts see the private state.
 #[derive(Drop)]
 pub struct PrivateBox {
     private: Box<Private>,
@@ -28,7 +28,7 @@ impl PrivateBox {
     ///
     /// # Errors
     ///
-    /// `AllocError` if memory runs out. The private state is then given up.
+    /// `AllocError` if memory runs out. The private state is then lost.
     pub fn new(alloc: Global, private: Private) -> Result<PrivateBox, AllocError>
         ensures { IfOk result (λ r. r ≡ private) }
     {

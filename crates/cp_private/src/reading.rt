@@ -91,7 +91,7 @@ impl Private {
         }
     }
 
-    /// The address of a spot. An address beyond all words may be capped to the largest
+    /// The address of a place expression. An address beyond all words may be capped to the largest
     /// `usize`.
     #[inline(always)]
     pub(crate) fn place(

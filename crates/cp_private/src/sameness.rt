@@ -68,7 +68,7 @@ impl Private {
             && are_same_bytes(&self.output, &other.output)
     }
 
-    /// Whether both have the same content. If it says so, they have.
+    /// Whether both have the same content. Only the answer `true` is proved to be right.
     pub fn is_same(&self, other: &Private) -> bool
         ensures { result ≡ true → (input : List ℕ)
             → private_of self.now input ≡ private_of other.now input }

@@ -18,14 +18,14 @@ use cp_program::bounds::Bounds;
 use cp_program::term::{PlaceExpression, Term};
 use itoa::Buffer;
 
-// Returns a character as its byte.
+// A character as its byte.
 fn byte(n: i32) -> u8
     ensures { result ≡ standard.byte n }
 {
     if n < 0 { 0 } else { (n % 256) as u8 }
 }
 
-// Returns the number of the next character of the input, or 25 at its end.
+// The number of the next character of the input, or 25 at its end.
 fn next_input(input: &[u8], consumed: usize) -> i32
     ensures { result ≡ standard.next_input input.now consumed }
 {
@@ -35,7 +35,7 @@ fn next_input(input: &[u8], consumed: usize) -> i32
     }
 }
 
-// Returns the position after that character. At the end of the input it stays the same.
+// The position after that character. At the end of the input it stays the same.
 fn next_place(input: &[u8], consumed: usize) -> usize
     ensures { result ≡ standard.next_place input.now consumed }
 {

@@ -207,7 +207,8 @@ impl Private {
         self.is_ready()
     }
 
-    // The same out of line, so that the loop over steps holds no registers for rare operations.
+    // Makes such a step out of line, so that the loop over steps holds no registers for rare
+    // operations.
     #[inline(never)]
     fn take_rare_step(
         &mut self,
@@ -232,7 +233,7 @@ impl Private {
         self.take_step_of(operation, program, outside)
     }
 
-    // The same for an operation that calls.
+    // Makes such a step of an operation that calls a routine.
     #[inline(always)]
     fn take_call_of(
         &mut self,

@@ -44,14 +44,14 @@ impl<'a> StepContext<'a> {
     }
 }
 
-// Returns a word as a natural number, or 0 if it is negative.
+// A word as a natural number, or 0 if it is negative.
 fn natural(n: i32) -> u32
     ensures { result ≡ layout.natural n }
 {
     if n < 0 { 0 } else { n as u32 }
 }
 
-// Returns the address at the distance `far` from `place`.
+// The address at the distance `far` from `place`.
 fn displace(place: usize, far: i32) -> usize
     requires { place < 2 ^ 34 }
     ensures place { result ≡ layout.natural (pos place +ℤ far) }
@@ -72,7 +72,7 @@ impl Private {
         self.memory.component + at as usize
     }
 
-    // Returns the address of the class to which a word of the component holds a right.
+    // The address of the class to which a word of the component holds a right.
     fn class_right(&self, shared: &[i32], at: u32) -> usize
         requires { IsAddressable shared.now }
         ensures place { (input : List ℕ) → result ≡ plain.class_right
@@ -141,7 +141,7 @@ impl Private {
         }
     }
 
-    // Returns the distance from the word at `from` to the class at `at`, or 0 if either address is
+    // The distance from the word at `from` to the class at `at`, or 0 if either address is
     // missing.
     fn distance_word(&self, shared: &[i32], at: usize, from: usize) -> i32
         requires { IsAddressable shared.now }
@@ -174,7 +174,7 @@ impl Private {
     }
 }
 
-// Returns the number of a monitor as a word, or 0 if it doesn't fit in 31 bits.
+// The number of a monitor as a word, or 0 if it doesn't fit in 31 bits.
 fn monitor_word(monitor: u32) -> i32
     ensures { result ≡ plain.monitor_word monitor }
 {

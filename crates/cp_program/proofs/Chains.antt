@@ -1,4 +1,5 @@
--- Chains of operands and of indices: what they are as terms and spots, and their values.
+-- Chains of operands and of indices: what they are as terms and place expressions, and their
+-- values.
 use Rattle.std.proofs.Math.ListN.{get_or, set}
 use Rattle.std.proofs.Common.{arith, Bool, true, false, zero, suc, length, ◌≡◌, ◌+◌, ◌*◌, ℕ, ℤ, map, List, [], ◌∷◌, ◌++◌, Result, Ok, Err, Vec, Global, refl, ap, ◌∙◌}
 use Rattle.cp_model.specs.declared.state.Fault.{Fault}

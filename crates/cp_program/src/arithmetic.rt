@@ -83,7 +83,7 @@ pub(crate) fn apply(operator: Operator, a: i32, b: i32) -> Result<i32, Fault>
     }
 }
 
-// Returns `n` if it is within the bounds.
+// The number `n`, if it is within the bounds.
 fn check_range(n: i64, low: i32, high: i32) -> Result<i32, Fault>
     ensures { result ≡ functions.unless (within low high n) fault.Range n }
 {

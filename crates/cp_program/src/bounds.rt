@@ -11,8 +11,9 @@ pub struct Bounds {
 }
 
 impl Bounds {
-    /// Whether a number is within the bounds, which are themselves within.
-    // Bounds are in operations: by value, each step would copy them before it compares.
+    /// Whether a number is within the bounds, both included.
+    // The bounds are taken by reference, since they are parts of operations: by value, each step
+    // would copy them before it compares.
     #[inline(always)]
     pub fn contain(&self, n: i32) -> bool
         ensures { result ≡ within self.now.low self.now.high n }

@@ -1,4 +1,4 @@
-//! Evaluates terms and computes the places of spots, over words.
+//! Evaluates terms and computes the places of place expressions, over words.
 //!
 //! Words have 32 bits, which the ordinals of long enumerations and addresses need. The results of
 //! arithmetic are within -32768..32767.
@@ -246,8 +246,8 @@ impl Term {
         self.value_here(reach)
     }
 
-    /// The same as `value`. It is inlined, so operands that are numbers or words need no
-    /// call. Use it for the most common operations.
+    /// Evaluates a term, as `value` does. It is inlined, so operands that are numbers or words need
+    /// no call. Use it for the most common operations.
     ///
     /// # Errors
     ///
@@ -307,7 +307,7 @@ impl PlaceExpression {
         place_of_element(from, &self.indices, reach)
     }
 
-    // The word at the place of the spot.
+    // The word at the place of the place expression.
     #[cycle(value)]
     #[inline(never)]
     fn word(&self, reach: &Reach) -> Result<i32, Fault>

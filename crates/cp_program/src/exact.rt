@@ -1,5 +1,5 @@
-//! Arithmetic that finds a result in range, or nothing where there is a fault, so that it is found
-//! in registers.
+//! Arithmetic that finds a result in range, or nothing if there is a fault. Such a result fits
+//! registers.
 
 ghost use Rattle.std.specs.Prelude.{◌≡◌, IfSome, Ok};
 ghost use Rattle.cp_model_program.specs.Functions as functions;

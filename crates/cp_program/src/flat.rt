@@ -1,12 +1,13 @@
 //! Evaluates the commonest terms, and computes the commonest places, in registers.
 //!
 //! A flat operand is a number or a word of a variable, so a flat term is evaluated without a call.
-//! The indices of a flat spot are flat terms. A near operand is flat, a flat term in parentheses or
-//! its negation, the word at a flat spot or of a `var` parameter, or the value of a call.
+//! The indices of a flat place expression are flat terms. A near operand is flat, a flat term in
+//! parentheses or its negation, the word at a flat place expression or of a `var` parameter, or the
+//! value of a call.
 //!
-//! These functions find what those of `evaluation` find, in a result that fits registers, or find
-//! nothing where a term or spot goes deeper, has a fault or needs a word that `W` doesn't find:
-//! then `evaluation` is asked.
+//! These functions find what those of `evaluation` find, in a result that fits registers. They find
+//! nothing if a term or place expression goes deeper, has a fault, or needs a word that `W` doesn't
+//! find. Then `evaluation` is called.
 
 ghost use Rattle.std.specs.Prelude.{◌≡◌, ℕ, ◌+◌, ◌<◌, ◌^◌, ◌++◌, ◌∷◌, [], IfSome, Ok, map};
 ghost use Rattle.cp_model_program.specs.Terms as terms;
@@ -61,8 +62,8 @@ impl Operand {
         }
     }
 
-    // The same for the rarer ones. It isn't inlined, so that `fast_value` of terms is small enough
-    // to be.
+    // The value of one of the rarer near operands. It isn't inlined, so that `fast_value` of terms
+    // is small enough to be inlined.
     #[inline(never)]
     fn rarer_value<W: Words>(&self, memory: &Memory, shared: &[i32]) -> Option<i32>
         ensures { (clock : ℕ) → IfSome result (λ n. values.value_of
@@ -99,7 +100,8 @@ fn long_flat_value<W: Words>(
     Some(n)
 }
 
-// The same. Most chains have one operator, and need no loop.
+// The value of such a chain of flat operands, inlined. Most chains have one operator, and need no
+// loop.
 #[inline(always)]
 fn flat_value_of_chain<W: Words>(
     first: i32,
@@ -145,7 +147,7 @@ impl Term {
         flat_value_of_chain::<W>(first, &self.rest, memory, shared)
     }
 
-    // The same, found by a call.
+    // The value of a term whose operands are flat, found by a call.
     #[inline(never)]
     fn flat_value<W: Words>(&self, memory: &Memory, shared: &[i32]) -> Option<i32>
         ensures { (clock : ℕ) → IfSome result (λ n. values.value_of
@@ -181,8 +183,8 @@ impl Term {
         self.fast_value::<W>(memory, shared)
     }
 
-    // The same. Most such terms are flat and have one operator: these need no loop, and save no
-    // registers.
+    // The value of a term whose operands are near. Most such terms are flat and have one operator:
+    // these need no loop, and save no registers.
     #[inline(never)]
     fn value_apart<W: Words>(&self, memory: &Memory, shared: &[i32]) -> Option<i32>
         ensures { (clock : ℕ) → IfSome result (λ n. values.value_of
@@ -194,8 +196,8 @@ impl Term {
         }
     }
 
-    /// Does the same as `fast_value`. It takes less room where it is inlined, and a call if there
-    /// are operators.
+    /// Evaluates a term, as `fast_value` does. It takes less room where it is inlined, and makes a
+    /// call if there are operators.
     #[inline(always)]
     pub fn fast_argument<W: Words>(&self, memory: &Memory, shared: &[i32]) -> Option<i32>
         ensures { (clock : ℕ) → IfSome result (λ n. values.value_of
@@ -257,7 +259,7 @@ impl Index {
         self.place_at(from, n)
     }
 
-    // The same, if the index is flat.
+    // The place to which the index leads from another, if it is flat.
     #[inline(always)]
     fn flat_place<W: Words>(&self, from: usize, memory: &Memory, shared: &[i32]) -> Option<usize>
         ensures { (clock : ℕ) → IfSome result (λ at. elements_place
@@ -286,7 +288,8 @@ fn flat_place_of_element<W: Words>(
     Some(at)
 }
 
-// The same. Most indices are words, which need no call.
+// The place to which the indices lead, starting from the place `from`, if they are flat. Most
+// indices are words, which need no call.
 #[inline(always)]
 fn fast_place_of_element<W: Words>(
     from: usize,
@@ -327,7 +330,7 @@ impl PlaceExpression {
         self.place_of_indices::<W>(memory, shared)
     }
 
-    /// The place of a variable or of a part of one, if the spot is flat.
+    /// The place of a variable or of a part of one, if the place expression is flat.
     #[inline(always)]
     pub fn fast_place<W: Words>(&self, memory: &Memory, shared: &[i32]) -> Option<usize>
         ensures { (clock : ℕ) → IfSome result (λ at. values.place_of
@@ -339,7 +342,7 @@ impl PlaceExpression {
         self.flat_place::<W>(memory, shared)
     }
 
-    // The word at the place of the spot.
+    // The word at the place of the place expression.
     #[inline(never)]
     fn flat_word<W: Words>(&self, memory: &Memory, shared: &[i32]) -> Option<i32>
         ensures { (clock : ℕ) → IfSome result (λ n. values.value_of

@@ -1,16 +1,18 @@
 //! The form of a compiled program: operations that name those that follow them, flat enough that a
 //! step needs neither allocation nor hashing.
 //!
-//! - `term`, `divisor`: expressions, which are chains of operands, and spots, which are places of
-//!   variables.
+//! - `term`, `divisor`: expressions, which are chains of operands, and place expressions, which are
+//!   places of variables.
 //! - `operation`: operations, each of which is one step and holds the places to which it leads.
 //! - `bounds`: the numbers that a variable may hold.
 //! - `arm`, `arms`, `search`: where a `case` leads.
 //! - `program`: units of code, the words of components, and the program. What components of one
 //!   type share is kept once.
-//! - `evaluation`: the values of terms and the places of spots, over the words that `reach` has.
-//! - `flat`, `operators`: the same for the commonest terms and spots, in registers. `memory`: the
-//!   words that both read. `arithmetic`, `exact`: the operators, with their faults and without.
+//! - `evaluation`: the values of terms and the places of place expressions, over the words that
+//!   `reach` has.
+//! - `flat`, `operators`: the same for the commonest terms and place expressions, in registers.
+//!   `memory`: the words that both read. `arithmetic`, `exact`: the operators, with their faults
+//!   and without.
 //!
 //! `specs/View.antt` defines these forms as plain data of `cp_model_program`, which the definitions
 //! of steps are about.

@@ -132,7 +132,7 @@ impl Application {
         }
     }
 
-    // The same, if the operand is near.
+    // Any other operator with its operands, if the operand is near.
     #[inline(always)]
     fn fast_operands<W: Words>(
         &self,
@@ -171,7 +171,7 @@ impl Application {
         }
     }
 
-    // The same, if the operand is near.
+    // The value of the operator, if the value so far is `left` and the operand is near.
     #[inline(always)]
     pub(crate) fn fast_value_after<W: Words>(
         &self,

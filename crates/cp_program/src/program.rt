@@ -43,10 +43,14 @@ pub struct Monitor {
 /// from `parameters` on.
 #[derive(Clone, Copy)]
 pub struct Process {
+    /// The number of the unit of the process's body.
     pub body: u32,
+    /// The number of its own words.
     pub words: u32,
     pub parameters: u32,
+    /// The number of shared words that wait: a mark, and a word for each parameter.
     pub waiting: u32,
+    /// The number of its plan in the program.
     pub plan: u32,
 }
 
@@ -71,7 +75,7 @@ pub struct Program {
     shared: u32,
 }
 
-// A derived one would make proofs slower (docs/CI.md).
+// A derived `Drop` would make proofs slower (docs/CI.md).
 impl Drop for Program {
     fn drop(self) {
         let Program {

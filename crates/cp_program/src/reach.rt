@@ -35,7 +35,7 @@ pub trait Words {
         ensures { IfSome result (λ n. starts.word (own.now ++ shared.now) at ≡ n) };
 }
 
-/// A process's own words alone. A private step has no others.
+/// Only a process's own words. A private step has no others.
 #[derive(Clone, Copy)]
 pub struct OwnWords;
 

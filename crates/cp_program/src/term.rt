@@ -63,7 +63,7 @@ pub enum Operand {
 
 /// An operator with one of its operands, which is the right one but for the last two cases; the
 /// other operand is the chain before it. The commonest have cases of their own, so that one match
-/// reports operator and operand.
+/// finds operator and operand.
 #[cycle(terms)]
 #[derive(Drop)]
 pub enum Application {
@@ -119,7 +119,7 @@ pub struct Term {
     pub rest: Vec<Application>,
 }
 
-// A derived one would make proofs slower (docs/CI.md).
+// A derived `Drop` would make proofs slower (docs/CI.md).
 impl Drop for Term {
     #[cycle(terms)]
     fn drop(self) {
@@ -127,7 +127,7 @@ impl Drop for Term {
     }
 }
 
-// Adds an item. The first one takes room for itself alone, since most lists have no other.
+// Adds an item. The first one takes room only for itself, since most lists have no other.
 fn push_exactly<X: Drop>(list: &mut Vec<X>, item: X) -> Result<(), AllocError>
     ensures { OnOk result (list.new.items ≡ list.old.items ++ item ∷ []) }
 {
@@ -155,7 +155,7 @@ impl Root {
 }
 
 impl PlaceExpression {
-    /// The spot of a whole variable.
+    /// The place expression of a whole variable.
     pub fn variable(alloc: Global, root: Root) -> PlaceExpression
         ensures { view.place_expression result ≡ plain.Rooted (view.root root) }
     {
@@ -165,7 +165,7 @@ impl PlaceExpression {
         }
     }
 
-    /// The spot of an element of this spot.
+    /// The place expression of an element of this place expression.
     pub fn element(
         self,
         low: i32,
@@ -188,7 +188,7 @@ impl PlaceExpression {
         Ok(PlaceExpression { root, indices })
     }
 
-    /// The spot `words` words further on, if its offset fits in 32 bits.
+    /// The place expression `words` words further on, if its offset fits in 32 bits.
     pub fn advance(self, words: u32) -> Option<PlaceExpression>
         ensures { IfSome result (λ s. view.place_expression s ≡ move_place_expression words (view.place_expression self)) }
     {
@@ -268,6 +268,7 @@ impl Term {
         }
     }
 
+    /// A number.
     pub fn number(alloc: Global, n: i32) -> Term
         ensures { view.term result ≡ plain.Number n }
     {
@@ -281,6 +282,7 @@ impl Term {
         Term::lone(alloc, Operand::Made(temp))
     }
 
+    /// The standard function `realtime`, which reads the clock.
     pub fn realtime(alloc: Global) -> Term
         ensures { view.term result ≡ plain.Realtime }
     {

@@ -1,5 +1,5 @@
--- The rounds of several that are made at once, while some processes are ahead: kernel turns, the end of
--- a round, and the private turns of the next one.
+-- Rounds that are made at once, while some processes are ahead: kernel turns, the end of a round,
+-- and the private turns of the next one.
 use Rattle.std.specs.Prelude.{◌≡◌, ◌≢◌, ◌≤◌, ◌<◌, ◌+◌, ◌-◌, ◌*◌, refl, ℕ, zero, suc, true, List, [], ◌∷◌, ◌++◌, Some, length, map, slice_get, slice_set, Vec, vec_len, vec_capacity}
 use Rattle.std.specs.Global.{Global}
 use Rattle.std.proofs.Common.{sym, ◌∙◌, ap, subst, arith, ⊎_elim}

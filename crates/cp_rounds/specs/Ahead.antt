@@ -19,8 +19,8 @@ use Rattle.cp_rounds_handoff.specs.declared.config.MachineConfig.{MachineConfig}
 abbrev pub turns_ahead : List ℕ → ℕ → ℕ
 turns_ahead ns i = get_or ns i 0
 
--- Private states and a kernel are those of a machine, but for the turns that processes are ahead. The next
--- private turns are those of the round after the first `rounds` rounds.
+-- Private states and a kernel are those of a machine, apart from the turns that processes are
+-- ahead. The next private turns are those of the round after the first `rounds` rounds.
 abbrev pub PartsAhead : MachineConfig → (t rounds : ℕ) → Machine → List ℕ → List Private → Kernel → Type 0
 PartsAhead g t rounds m ns ys k =
     AreRunAhead t rounds m (turns_ahead ns) (kernel_of k) (transcripts_of k) (parts_of (input_of g.inputs.items) 1 ys)

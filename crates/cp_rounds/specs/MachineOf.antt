@@ -9,7 +9,8 @@ use Rattle.cp_program.specs.View as view
 use Rattle.cp_rounds_handoff.specs.Inputs.{input_of}
 use Rattle.cp_rounds_handoff.specs.declared.config.MachineConfig.{MachineConfig}
 
--- The machine with this setting after `rounds` rounds, with these private states by number, from 1.
+-- The machine with this configuration after `rounds` rounds, with these private states by number,
+-- from 1.
 abbrev pub machine_with : MachineConfig → ℕ → List Private → Kernel → plain.Machine
 machine_with g rounds xs k = record {
   program = view.program g.program;

@@ -14,8 +14,8 @@ pub record Represents (m : Machine) (inputs : List Bytes) (ys : List Private) (k
   pub transcripts : transcripts_of k ≡ m.transcripts
   pub parts : (i : ℕ) (y : Private) → slice_get ys i ≡ Some y → slice_get m.parts i ≡ Some (private_of y (input_at inputs i))
 
--- The same for m, whose private turns are made, after the kernel turns of the processes below index
--- `from`.
+-- The private turns of m are made, and so are the kernel turns of the processes below index `from`:
+-- the kernel and the first private states are then these.
 abbrev pub TurnsMade : ℕ → Machine → List Bytes → ℕ → List Private → Kernel → Type 0
 TurnsMade t m inputs from ys k = Represents (kernel_turns t m (numbers_from 1 from)) inputs ys k
 

@@ -22,7 +22,7 @@ EachWoken wakes xs ys =
     (i : ℕ) (y : Private) → slice_get ys i ≡ Some y
     → (x : Private) → slice_get xs i ≡ Some x → (input : List ℕ) → private_of y input ≡ woken wakes (private_of x input)
 
--- The same, and there are as many.
+-- There are as many, and each private state of ys is the one of xs, woken in such a round.
 pub record AreWoken (wakes : Bool) (xs ys : List Private) : Type 0 where
   pub count : length ys ≡ length xs
   pub each : EachWoken wakes xs ys

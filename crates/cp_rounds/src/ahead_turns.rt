@@ -1,4 +1,4 @@
-//! The rounds of several that are made at once, one by one, while some processes are ahead.
+//! Finishes rounds that are made at once: one by one, while some processes are ahead.
 
 ghost use Rattle.std.specs.Prelude.{◌≡◌, ◌≢◌, ◌≤◌, ◌<◌, ◌+◌, ◌-◌, ◌*◌, ℕ, IfOk, length, vec_capacity, vec_len};
 ghost use Rattle.cp_model.specs.States.{numbers_from};
@@ -31,7 +31,7 @@ pub(crate) struct RunAheadTurns {
 }
 
 impl RunAheadTurns {
-    /// That none of so many processes is ahead, in the first of several rounds.
+    /// The count before the first of several rounds: none of so many processes is ahead.
     ///
     /// # Errors
     ///
@@ -51,7 +51,7 @@ impl RunAheadTurns {
         Ok(RunAheadTurns { turns, later })
     }
 
-    // Returns how many turns all processes are ahead.
+    // How many turns all processes are ahead.
     fn of_all(&self) -> u32
         ensures few { result ≤ self.now.later }
         ensures all { (i : ℕ) → i < length self.now.turns.items
@@ -64,7 +64,7 @@ impl RunAheadTurns {
         least
     }
 
-    // Goes to the round that comes so many rounds later.
+    // Moves on to the round that comes so many rounds later.
     fn pass(&mut self, rounds: u32)
         requires later { rounds ≤ self.old.later }
         ensures later { self.new.later ≡ self.old.later - rounds }
@@ -79,15 +79,15 @@ impl RunAheadTurns {
     }
 }
 
-// Calls the gate for the kernel turns of a round in which they have nothing to do.
+// Calls the hook for the kernel turns of a round in which the processes have nothing to do.
 fn call_gate<'a, C: Course, G: TurnGate>(run: &Run<'a, C, G>, processes: usize) {
     for index in 0..processes {
         run.turns.gate.kernel(index + 1);
     }
 }
 
-/// Passes over the rounds in which all processes are ahead, once the private turns of the first one
-/// are made: nothing is left to do in them. Returns how many these are.
+/// Skips the rounds in which all processes are ahead, once the private turns of the first one are
+/// made: nothing is left to do in them. Returns how many these are.
 pub(crate) fn pass_rounds<'a, C: Course, G: TurnGate>(
     run: &Run<'a, C, G>,
     ahead: &mut RunAheadTurns,

@@ -123,7 +123,7 @@ impl<'a, C: Course> Coordinator<'a, C> {
         }
     }
 
-    // Goes to the next chunk. Where it is the first one of a wave, the threads may draw from the
+    // Moves on to the next chunk. If it is the first one of a wave, the threads may draw from the
     // wave after that one too.
     fn next_chunk<R: Wait, G: TurnGate>(&mut self, rt: &R, run: &Run<'a, C, G>) {
         if self.place.begins_wave() {

@@ -11,7 +11,7 @@ use cp_private::private::Private;
 use cp_private::private_box::PrivateBox;
 use std::alloc::{AllocError, Global};
 
-// Returns a copy of a private state. If `wakes`, a process that waits continues in it.
+// A copy of a private state. If `wakes`, a process that waits continues in it.
 fn woken_copy(alloc: Global, private: &Private, wakes: bool) -> Result<Private, AllocError>
     ensures { IfOk result
         (λ x. (input : List ℕ) → private_of x input ≡ woken wakes (private_of private.now input)) }

@@ -13,7 +13,7 @@ pub struct FinishedMachine {
     pub(crate) rounds: u64,
 }
 
-// A derived one would make proofs slower (docs/CI.md).
+// A derived `Drop` would make proofs slower (docs/CI.md).
 impl Drop for FinishedMachine {
     fn drop(self) {
         let FinishedMachine {

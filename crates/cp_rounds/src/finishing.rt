@@ -1,6 +1,6 @@
 //! How the calling thread finishes the turns of a round: it takes private states back from the
-//! desk, or makes the private turns itself if nobody else does, and makes the kernel turns, in
-//! order of process. A process that has nothing to do costs a few comparisons.
+//! handoff queue, or makes the private turns itself if nobody else does. It makes the kernel turns
+//! in order of process. A process that has nothing to do costs a few comparisons.
 
 ghost use Rattle.std.specs.Prelude.{◌≡◌, ◌≤◌, ◌<◌, ◌+◌, ◌-◌, ◌*◌, ℕ, List, true, Some, length, slice_get, take, vec_capacity, vec_len};
 ghost use Rattle.cp_kernel.specs.KernelOf.{HasRoomForAskers, HasRoomForBytes, IsAmong};
@@ -92,7 +92,7 @@ fn bring_back<'a, C: Course, R: Wait, G: TurnGate>(
     }
 }
 
-/// Makes the kernel turn of a process, and calls the gate before it.
+/// Makes the kernel turn of a process, and calls the hook before it.
 #[inline(always)]
 pub(crate) fn kernel_turn_of<'a, C: Course, G: TurnGate>(
     run: &Run<'a, C, G>,
@@ -170,7 +170,7 @@ fn finish_moving<'a, C: Course, R: Wait, G: TurnGate>(
     kernel_turn_of(run, round.round_time, process, private, kernel);
 }
 
-// Returns whether a process has no step to make in the round, nor output to move: then both of its
+// Whether a process has no step to make in the round, nor output to move: then both of its
 // turns leave everything as it is.
 #[inline(always)]
 fn makes_no_step<'a, C: Course, G: TurnGate>(
@@ -190,14 +190,15 @@ fn makes_no_step<'a, C: Course, G: TurnGate>(
         private.now private.now input }
 {
     let private = private.private();
-    // The output is asked for first, so that what `is_idle` finds is known where the kernel turn is
-    // asked for.
+    // The output is tested first, so that what `is_idle` finds is known when the kernel turn is
+    // tested.
     private.output().is_empty()
         && private.is_idle(round.round_time.wakes)
         && has_no_kernel_turn(&run.turns.config.program, kernel, private)
 }
 
-// Finishes the turns of the process at an index: of one that is still with a few comparisons.
+// Finishes the turns of the process at an index. If the process is still, a few comparisons are
+// enough.
 #[inline(always)]
 fn finish_next<'a, C: Course, R: Wait, G: TurnGate>(
     rt: &R,

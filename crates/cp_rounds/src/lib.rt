@@ -9,7 +9,7 @@
 //!   how a machine starts.
 //! - `state`: the state of a process, by what the kernel and it know of it. `inspect`: what a
 //!   trace reads of a machine.
-//! - `gate`, of cp_rounds_handoff: what is called before each turn.
+//! - `gate`, of cp_rounds_handoff: the hook that is called before each turn.
 //! - `parts`: what rounds change. `closing`: the end of a round.
 //! - `run`, `round`: rounds by threads that are kept, which draw the chunks of each wave from its
 //!   board and make their private turns at a handoff queue (cp_rounds_handoff).

@@ -31,7 +31,7 @@ const ROUNDS_AT_ONCE: usize = 16_384;
 // How many waves share their threads, if a round has no more. Each of these waves takes a cell.
 const WAVES_AT_ONCE: usize = 65_536;
 
-// Returns how many rounds of so many waves share their threads.
+// How many rounds of so many waves share their threads.
 fn rounds_at_once(waves: usize) -> u32
     ensures { 0 < result }
 {
@@ -50,7 +50,7 @@ pub struct Machine<'r, 't> {
     pub(crate) rounds: u64,
 }
 
-// A derived one would make proofs slower (docs/CI.md).
+// A derived `Drop` would make proofs slower (docs/CI.md).
 impl Drop for Machine<'_, '_> {
     fn drop(self) {
         let Machine {
@@ -105,9 +105,9 @@ impl<'r, 't> Machine<'r, 't> {
     }
 
     /// Makes one round. Workers make the private turns, wave by wave. The calling thread makes the
-    /// kernel turns, in order of process number, as soon as the private turns before them are made,
-    /// while the others work; where they aren't made yet, it is a worker too. At the end, the
-    /// processes that were started in the round begin. The gate is called before each turn.
+    /// kernel turns, in order of process number, as soon as the private turns before them are made.
+    /// While it waits for these, it is a worker too. At the end, the processes that were started in
+    /// the round begin. The hook is called before each turn.
     ///
     /// # Errors
     ///
@@ -226,7 +226,7 @@ impl<'r, 't> Machine<'r, 't> {
         self.run_in_batches(rt, rounds, plan, gate)
     }
 
-    /// Ends the rounds of the machine, and lets go of the tables of its text.
+    /// Ends the rounds of the machine, and releases the tables of its text.
     pub fn halt(self) -> FinishedMachine
         ensures { finished_machine_of result ≡ machine_of self.entry }
     {

@@ -19,7 +19,7 @@ use cp_model_machine::law;
 use cp_rounds_handoff::config::MachineConfig;
 use std::alloc::{AllocError, Global};
 
-// Returns what the round after the first `rounds` rounds makes of the parts of a machine, if it
+// What the round after the first `rounds` rounds makes of the parts of a machine, if it
 // consists of these events.
 fn replayed(
     alloc: Global,
@@ -49,7 +49,7 @@ fn replayed(
 impl<'r, 't> Machine<'r, 't> {
     /// Makes one round of these events, in their order, whether it is lawful or not: at first the
     /// processes that wait continue if it is time, and at the end those that were started begin. No
-    /// gate is called.
+    /// hook is called.
     ///
     /// # Errors
     ///

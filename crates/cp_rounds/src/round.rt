@@ -3,7 +3,7 @@
 //! Everything that can fail comes before the first turn of a round: reserving room for all output
 //! and for all askers, and the boards of all waves. The turns are then made in place, so the cost
 //! of a round is that of what happens in it, and no state is copied. A private state whose private
-//! turn has no step to make isn't even put at the handoff queue, unless the gate has to be called
+//! turn has no step to make isn't even put at the handoff queue, unless the hook has to be called
 //! for it.
 
 ghost use Rattle.std.specs.Prelude.{◌≡◌, ◌≢◌, ◌≤◌, ◌<◌, ◌+◌, ◌-◌, ◌*◌, ℕ, false, IfErr, IfOk, IfSome, length, vec_len};
@@ -36,8 +36,8 @@ use std::marker::PhantomData;
 use std::snapshot::Snapshot;
 use std::sync::{OnceToken, Wait};
 
-// How many rounds at once are many. Few take little room, and are made by programs that seldom
-// compute for long.
+// How many rounds made at once count as many. Fewer take little room, and are made by programs that
+// seldom compute for long.
 const MIN_BATCHED_ROUNDS: u32 = 8;
 
 // Reserves room for what a process writes in so many rounds, in its transcript, and for what it
@@ -91,9 +91,9 @@ fn reserve_room(
     Ok(())
 }
 
-// Returns how many private turns of a round are worth sharing: those of all processes if the gate
+// The number of private turns of a round that are worth sharing: those of all processes if the hook
 // has to be called for them, and otherwise of those that don't rest, if there are threads to help.
-// If that is reported wrongly, the calling thread makes the turns alone.
+// If this number is wrong, the calling thread makes the turns alone.
 fn turns_to_share<'a, C: Course, G: TurnGate>(
     run: &Run<'a, C, G>,
     coordinator: &Coordinator<'a, C>,
@@ -116,7 +116,7 @@ fn turns_to_share<'a, C: Course, G: TurnGate>(
     turns
 }
 
-// Returns how the private turns of so many rounds are shared out.
+// How the private turns of so many rounds are shared out.
 pub(crate) fn shares_of<'a, C: Course, G: TurnGate>(
     run: &Run<'a, C, G>,
     coordinator: &Coordinator<'a, C>,
@@ -138,7 +138,7 @@ pub(crate) fn shares_of<'a, C: Course, G: TurnGate>(
     }
 }
 
-// Returns the waves of a round of so many private turns, the first one last, for this many workers.
+// The waves of a round of so many private turns, the first one last, for this many workers.
 fn waves_of<'a, C: Course, R: Wait, G: TurnGate>(
     rt: &R,
     run: &Run<'a, C, G>,
@@ -224,8 +224,8 @@ fn let_draw<'a, C: Course, R: Wait, G: TurnGate>(
     Ok(Some(token))
 }
 
-// Returns for how many rounds room is reserved: for the largest number that is ever made at once,
-// as soon as many are, since room that grows little by little is copied each time.
+// The number of rounds for which room is reserved: the largest number that is ever made at once, as
+// soon as many are, since room that grows little by little is copied each time.
 fn rounds_of_room(run_ahead_size: &RunAheadSize, rounds: u32) -> u32
     ensures { rounds ≤ result }
 {

@@ -116,7 +116,7 @@ impl<'a, C: Course, G: TurnGate> Run<'a, C, G> {
     }
 }
 
-// Returns a last wave without chunks, whose stop ends the threads of a run.
+// A last wave without chunks, whose stop ends the threads of a run.
 fn ending<'a, C: Course, R: Wait, G: TurnGate>(
     rt: &R,
     run: &Run<'a, C, G>,
@@ -126,7 +126,7 @@ fn ending<'a, C: Course, R: Wait, G: TurnGate>(
     Wave::new(rt, run.alloc, cell_at(run.sheets, last), last, 0, workers)
 }
 
-// Returns how many processes a chunk has at most: no more than its wave.
+// How many processes a chunk has at most: no more than its wave.
 fn slots_of(plan: &Plan) -> usize {
     plan.chunk.min(plan.wave) as usize
 }
@@ -302,7 +302,7 @@ fn with_worker_pool<C: Course + Send + Sync, R: Threads + Wait + Sync, G: TurnGa
     in_thread_scope(rt, &run, parts)
 }
 
-// Returns this many cells, none of them written.
+// This many cells, none of them written.
 fn empty_cells<T: Drop>(alloc: Global, count: usize) -> Result<Vec<OnceLock<T>>, AllocError>
     ensures { IfOk result (λ cells. length cells.items ≡ count) }
 {
@@ -313,7 +313,7 @@ fn empty_cells<T: Drop>(alloc: Global, count: usize) -> Result<Vec<OnceLock<T>>,
     Ok(cells)
 }
 
-// Returns a cell for the sheet of each wave, and one more.
+// A cell for the sheet of each wave, and one more.
 fn empty_sheets(
     alloc: Global,
     rounds: usize,

@@ -1,10 +1,10 @@
 //! Several rounds at once.
 //!
 //! A process that has written nothing and whose next step isn't the kernel's, if it has one, has no
-//! kernel turn to make, whatever the others do (`specs/RunAheadTurns.antt` of cp_model_machine). So the
+//! kernel turn to make, whatever the others do (`specs/Ahead.antt` of cp_model_machine). So the
 //! threads make its private turns of several rounds one after another, and draw once for all of
-//! them. The calling thread takes all private states back, passes over the rounds in which all
-//! processes are ahead, and makes the others one by one, with the private turns that weren't made
+//! them. The calling thread takes all private states back, and skips the rounds in which all
+//! processes are ahead. It makes the others one by one, with the private turns that weren't made
 //! ahead.
 
 ghost use Rattle.std.specs.Prelude.{◌≡◌, ◌≤◌, ◌<◌, ◌+◌, ◌-◌, ℕ, false, true, length, slice_get, Some};
@@ -33,7 +33,7 @@ use cp_rounds_handoff::round_time::RoundTime;
 use cp_rounds_handoff::task::Course;
 use std::sync::Wait;
 
-// Returns how many turns of a process are taken back at most: only one that has begun may be ahead.
+// How many turns of a process are taken back at most: only one that has begun may be ahead.
 fn most_turns(kernel: &Kernel, process: usize, count: u32) -> u32
     requires count { 0 < count }
     ensures some { 0 < result }
@@ -181,9 +181,8 @@ fn finish_rounds<'a, C: Course, G: TurnGate>(
     finish_one_by_one(run, index, round_time, ahead, privates, kernel)
 }
 
-/// Makes `count` rounds of a run at once, from the one at this index on, if the gate does nothing
-/// and there are threads to help. Returns whether it did. Otherwise only reserved room has
-/// changed.
+/// Makes `count` rounds of a run at once, from the one at this index on, if the hook does nothing
+/// and there are threads to help. Returns whether it did. Otherwise only reserved room has changed.
 pub(crate) fn run_ahead<'a, C: Course, R: Wait, G: TurnGate>(
     rt: &R,
     run: &Run<'a, C, G>,

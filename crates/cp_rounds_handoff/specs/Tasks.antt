@@ -20,7 +20,8 @@ abbrev pub StaysWithoutKernel : (PrivateState → Bool) → (RoundTime → Priva
 StaysWithoutKernel without_kernel turned round_time round zero o y = y ≡ o
 StaysWithoutKernel without_kernel turned round_time round (suc n) o y = (without_kernel o ≡ true) × StaysWithoutKernel without_kernel turned round_time (suc round) n (turned (round_time round) o) y
 
--- The same, but that it needn't be quiet before the first of them.
+-- y is what o becomes by the turns of n rounds from `round` on. The process is quiet before each of
+-- them but the first.
 abbrev pub AreMade : (PrivateState → Bool) → (RoundTime → PrivateState → PrivateState) → (ℕ → RoundTime) → (round n : ℕ) → PrivateState → PrivateState → Type 0
 AreMade without_kernel turned round_time round zero o y = y ≡ o
 AreMade without_kernel turned round_time round (suc n) o y = StaysWithoutKernel without_kernel turned round_time (suc round) n (turned (round_time round) o) y
@@ -93,8 +94,8 @@ pub record AreTaken (leads : PrivateState → PrivateState → Type 0) (input : 
   pub short : IsShort most xs (process - 1) true y
   pub wide : IsWide most y
 
--- `without_kernel` reports whether a process is quiet, `turned` is the turn of t steps in this setting,
--- which writes at most `most` bytes, and `input` is the input at each index.
+-- `without_kernel` reports whether a process is quiet, `turned` is the turn of t steps in this
+-- configuration, which writes at most `most` bytes, and `input` is the input at each index.
 pub record IsCourseOf (without_kernel : PrivateState → Bool) (turned : RoundTime → PrivateState → PrivateState) (input : ℕ → List ℕ)
     (most : ℕ) (g : MachineConfig) (t : ℕ) : Type 0 where
   pub reports : (o : PrivateState) → without_kernel o ≡ needs_no_kernel (view.program g.program) o

@@ -15,7 +15,7 @@ pub struct MachineConfig {
     pub tick: Tick,
 }
 
-// A derived one would make proofs slower (docs/CI.md).
+// A derived `Drop` would make proofs slower (docs/CI.md).
 impl Drop for MachineConfig {
     fn drop(self) {
         let MachineConfig {

@@ -16,10 +16,10 @@ use std::alloc::{AllocError, Global};
 use std::mem;
 use std::sync::{Mutex, Wait};
 
-// Of which chunks the threads hear, if each has so many processes: of those before a number that
-// has none of these bits, so that some eight processes are published before they hear of them. Each time
-// they do, those that sleep are woken, and whoever counts up a number that others look at waits for
-// them.
+// The threads hear of chunks when the number of the next chunk has none of these bits, if each
+// chunk has so many processes. So some eight processes are published before the threads hear of
+// them. Each time, sleeping threads are woken, and whoever advances a count waits for those that
+// look at it.
 fn unheard(processes: usize) -> usize {
     match processes {
         0..=1 => 7,
@@ -212,7 +212,7 @@ impl<'a, C: Course> HandoffQueue<'a, C> {
     }
 
     /// Takes the tasks of a chunk in exchange for room for as many, if their turns are made.
-    /// Whether they are.
+    /// Returns whether they are.
     pub fn exchange(&self, chunk: usize, tasks: &mut Tasks<'a, C>) -> bool {
         let Some(batch) = self.batches.get(chunk) else {
             return false;

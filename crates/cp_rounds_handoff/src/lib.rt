@@ -4,12 +4,12 @@
 //! - `handoff`, `cursor`: the handoff queue with a batch for each chunk, and the places on it.
 //! - `slot`, `task`: the place of a process, and the turn that is there, whose type says which
 //!   private state it turns (`specs/Tasks.antt`). `open_round`: the round of these turns.
-//! - `handoff_turns`: how the threads make the turns of a chunk. `gate`: what is called before
-//!   each.
+//! - `handoff_turns`: how the threads make the turns of a chunk. `gate`: the hook that is called
+//!   before each.
 //! - `turns`, `kernel_need`: a private turn made in place (`specs/Turned.antt`), and processes that
 //!   have no kernel turn to make, so that their turns of several rounds are made one after another.
 //! - `config`, `round_time`: what no round changes, and the time of a round. `law`: threads may
-//!   share a setting.
+//!   share a configuration.
 //! - `sharing`, `run_ahead_size`: how the turns of a round are shared out, and how many rounds are
 //!   worth making at once.
 #![tactic(auto)]

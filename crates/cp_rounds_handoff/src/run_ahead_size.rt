@@ -3,7 +3,7 @@
 use cp_base_config::turn::Turn;
 use cp_program::program::Program;
 
-// How many steps of a process are worth making at once: what is spent on a draw then hardly counts.
+// How many steps of a process are worth making at once: the cost of a draw then hardly counts.
 const STEPS_AT_ONCE: u64 = 5_000;
 
 // The largest number of rounds made at once, of turns however short.
@@ -18,7 +18,7 @@ const FIRST_ROUNDS_ALONE: u32 = 8;
 // After how many rounds one by one, at most, two are tried at once again.
 const MAX_ROUNDS_ALONE: u32 = 64;
 
-// Returns how many bytes are reserved for a round: for what each process writes, and for all of
+// How many bytes are reserved for a round: for what each process writes, and for all of
 // them as askers of each gate.
 fn bytes_a_round(program: &Program, turn: Turn) -> u64 {
     let written = 22 * u64::from(turn.steps());

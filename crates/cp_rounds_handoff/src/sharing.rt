@@ -17,9 +17,9 @@ const STEPS_A_DRAW: usize = 800;
 // How often each worker draws in a round, at least, so that all end at about the same time.
 const DRAWS_A_WORKER: usize = 8;
 
-/// How many threads, besides the calling one, are worth waking for so many private turns in
-/// each of so many rounds: all of them if the gate has to be called for each process, none if there
-/// is one turn at most, and otherwise at least one.
+/// How many threads, besides the calling one, are worth waking for so many private turns in each of
+/// so many rounds: all of them if the hook has to be called for each process, none if there is one
+/// turn at most, and otherwise at least one.
 pub fn helpers(turns: usize, of_all: bool, turn: Turn, rounds: u32) -> usize {
     if of_all {
         return usize::MAX;
@@ -44,7 +44,7 @@ pub struct Shares {
     pub alone: bool,
 }
 
-// Returns how many chunks of a plan are drawn at once in rounds of so many processes.
+// How many chunks of a plan are drawn at once in rounds of so many processes.
 fn chunks_at_once(plan: &Plan, processes: usize) -> usize {
     let chunk = plan.chunk as usize;
     let steps = chunk.saturating_mul(plan.turn.steps() as usize);
@@ -54,9 +54,9 @@ fn chunks_at_once(plan: &Plan, processes: usize) -> usize {
     worth.min(most).max(1)
 }
 
-/// The plan by which threads draw in rounds of so many processes. Where the gate does
-/// nothing, nobody can report which thread makes a turn: chunks of few steps are then drawn several
-/// at once, as larger ones.
+/// The plan by which threads draw in rounds of so many processes. If the hook does nothing, nobody
+/// can observe which thread makes a turn: chunks of few steps are then drawn several at once, as
+/// larger ones.
 pub fn drawn_plan(plan: &Plan, processes: usize, allows_batching: bool) -> Plan
     ensures turn { result.turn ≡ plan.now.turn }
 {

@@ -29,7 +29,7 @@ use std::sync::OnceToken;
 /// The private states at the start of a round, for proofs only.
 pub type Start = Snapshot<Vec<PrivateBox>>;
 
-/// What is the same in all rounds of a run. Whoever begins the run chooses it.
+/// What is the same in all rounds of a run. The caller that begins the run chooses it.
 pub trait Course: Sheets {
     /// Whether a process has no kernel turn to make, whatever the kernel is.
     ghost without_kernel: { PrivateState → Bool };

@@ -1,5 +1,5 @@
--- Still machines: the code's test of its processes is that of the states, and where a state isn't
--- still, none before it was.
+-- Still machines: the code's test of its processes is that of the states, and if a state isn't
+-- still, no state before it was.
 use Rattle.std.proofs.Common.{◌≡◌, ◌≢◌, ◌≤◌, ◌<◌, ◌+◌, ◌-◌, ℕ, zero, suc, Bool, true, false, refl, ap, sym, ◌∙◌, arith}
 use Rattle.std.proofs.lemmas.Bool.{true≢false}
 use Rattle.std.proofs.lemmas.Bool.Decides.{nat_tests}

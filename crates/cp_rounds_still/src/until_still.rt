@@ -18,8 +18,8 @@ use cp_rounds::machine::{Machine, MemoryAt};
 use std::sync::Wait;
 use std::thread::Threads;
 
-// The longest gallop. The copy that is kept of the machine's parts costs little beside so many
-// rounds.
+// The longest gallop. Compared with so many rounds, the copy that is kept of the machine's parts
+// costs little.
 const MAX_GALLOP_ROUNDS: u32 = 65_536;
 
 // How many rounds are tried next.

@@ -1,5 +1,5 @@
 //! The first states of each kind. A schedule that leads to one of them is replayed, so no clause
-//! speaks of them.
+//! mentions them.
 
 use cp_program::program::Program;
 use cp_search_states::state::SearchState;

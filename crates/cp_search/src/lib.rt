@@ -2,8 +2,7 @@
 //! step of a process, which calls a monitor, with the eager steps that follow it.
 //!
 //! - `search`: expands states until each late step of each leads to a state of the list.
-//! - `states`: the list of states, each once as far as it is seen to be known.
-//! - `notes`: what a search notes besides: limits, hashes, and how each state was reached.
+//! - `states`: the list of states, without those that are seen to be known.
 //! - `kinds`: the first states of the list that have ended, are stuck, or have a fault.
 //!
 //! `specs/SearchResults.antt` defines what a search shows.

@@ -10,8 +10,8 @@ use std::collections::HashMap;
 /// How many hashes are tried for a state. A state that finds no room is kept without a hash.
 pub(crate) const MAX_PROBES: u64 = 16;
 
-/// What a state takes besides its content and half of it, which memory management takes at most:
-/// its hash and its origin, in bytes.
+/// The bytes that a state takes for its hash and its origin. It also takes its content and half of
+/// that, the most that memory management takes.
 const STATE_OVERHEAD: usize = 160;
 
 /// How far a search goes.
@@ -40,8 +40,8 @@ pub enum Stop {
     Defect,
 }
 
-/// Who called from which state to reach another one: the index of the state, and the number of the
-/// process. The first state has the process 0.
+/// Which call led to a state: the index of the state before it, and the number of the process. The
+/// first state has the process 0.
 #[derive(Clone, Copy)]
 pub struct Origin {
     pub parent: usize,
@@ -49,7 +49,7 @@ pub struct Origin {
 }
 
 impl Origin {
-    /// That of the first state.
+    /// The origin of the first state.
     pub(crate) const START: Origin = Origin {
         parent: 0,
         process: 0,

@@ -1,4 +1,4 @@
-//! Searching.
+//! Searches all schedules, breadth first.
 
 ghost use Rattle.std.specs.Prelude.{◌≡◌, ◌≤◌, ◌<◌, ◌+◌, IfOk, [], length, false, true};
 ghost use Rattle.cp_program.specs.View as view;
@@ -19,9 +19,9 @@ use cp_search_states::state::SearchState;
 use cp_search_states::ways::Way;
 use std::alloc::{AllocError, Global};
 
-/// Who is reported how far a search has come.
+/// An observer of how far a search has come.
 pub trait Watch {
-    /// So many of the states that were seen have been expanded.
+    /// Takes note that `expanded` of the `seen` states have been expanded.
     fn note(&self, expanded: usize, seen: usize);
 }
 

@@ -21,7 +21,8 @@ enum Sighting {
     Unhashed,
 }
 
-// Whether the state with an index has the same content. If it says so, it has.
+// Whether the state with an index has the same content. Only the answer `true` is proved to be
+// right.
 fn is_at(states: &[SearchState], index: usize, state: &SearchState) -> bool
     ensures { result ≡ true → IsKnown states.now state.now }
 {
@@ -82,7 +83,7 @@ pub(crate) fn add(
     }
 }
 
-/// Whether no state has a fault or is stuck. If it says so, none is.
+/// Whether no state has a fault or is stuck. Only the answer `true` is proved to be right.
 pub(crate) fn are_fine(program: &Program, states: &[SearchState]) -> bool
     ensures { result ≡ true → (inputs : ℕ → List ℕ)
         → AreFine (count (view.program program.now)) (cores_of inputs states.now) }

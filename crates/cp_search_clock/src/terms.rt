@@ -1,4 +1,5 @@
-//! Terms and spots that don't read the clock. What is said to read none reads none.
+//! Terms and place expressions that don't read the clock. Only the answer that one doesn't read it
+//! is proved to be right.
 
 ghost use Rattle.std.specs.Prelude.{◌≡◌, true, map};
 ghost use Rattle.cp_law_cores.specs.Clocks as plain;
@@ -88,7 +89,7 @@ fn path_is_timeless(indices: &[Index]) -> bool
     true
 }
 
-/// Whether a spot doesn't read the clock.
+/// Whether a place expression doesn't read the clock.
 #[cycle(clock)]
 pub(crate) fn place_expression_is_timeless(s: &PlaceExpression) -> bool
     ensures { result ≡ true → plain.place_expression_is_timeless (view.place_expression s.now) ≡ true }

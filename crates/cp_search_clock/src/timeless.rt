@@ -64,7 +64,8 @@ fn operation_is_timeless(x: &Operation) -> bool
     }
 }
 
-/// Whether a program has nothing to do with the clock. If it says so, that is so.
+/// Whether a program has nothing to do with the clock. Only the answer `true` is proved to be
+/// right.
 pub fn is_timeless(program: &Program) -> bool
     ensures { result ≡ true → plain.is_timeless (view.program program.now) ≡ true }
 {

@@ -5,7 +5,7 @@
 //! - `recording`: makes the calls again from the start, one step at a time, and records them.
 //! - `writing`: the order text. `noticing`: what a step has changed.
 //!
-//! No clause speaks of a schedule: what it leads to is found out by a replay.
+//! No clause mentions schedules: a replay finds out what a schedule leads to.
 #![tactic(auto)]
 
 mod noticing;

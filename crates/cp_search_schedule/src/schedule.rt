@@ -26,7 +26,7 @@ pub struct Call {
     pub effects: Vec<Effect>,
 }
 
-/// What a process does or meets.
+/// An effect of a call on a process.
 #[derive(Clone, Copy)]
 pub struct Effect {
     /// The number of the process, from 1.

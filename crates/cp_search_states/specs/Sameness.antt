@@ -1,4 +1,5 @@
--- SearchStates with the same content, first states, and states that are neither faulted nor stuck.
+-- States of a search with the same content, first states, and states that are neither faulted nor
+-- stuck.
 use Rattle.std.specs.Prelude.{Bool, List, Some, length, slice_get, suc, true, ℕ, ◌≡◌, ◌≤◌}
 use Rattle.cp_model_program.specs.Programs as code
 use Rattle.cp_model_program.specs.Programs.{Program}

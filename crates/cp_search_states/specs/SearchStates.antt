@@ -1,4 +1,4 @@
--- SearchStates as cores, and what the steps of a search make of them.
+-- The states of a search as cores, and what the steps of a search make of them.
 use Rattle.std.specs.Prelude.{List, None, Option, Some, Vec, [], slice_get, ℕ, ◌-◌, ◌≡◌}
 use Rattle.std.specs.Global.{Global}
 use Rattle.cp_model_program.specs.Programs.{Program}

@@ -49,7 +49,7 @@ impl SearchState {
         Ok(SearchState { privates, kernel })
     }
 
-    /// Whether both have the same content. If it says so, they have.
+    /// Whether both have the same content. Only the answer `true` is proved to be right.
     pub fn is_same(&self, other: &SearchState) -> bool
         ensures { result ≡ true
             → (inputs : ℕ → List ℕ) → core_of inputs other.now ≡ core_of inputs self.now }

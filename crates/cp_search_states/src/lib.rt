@@ -1,4 +1,5 @@
-//! SearchStates of a search: the private states of all processes and a kernel, without what was written.
+//! The states of a search: the private states of all processes and a kernel, without what was
+//! written.
 //!
 //! - `state`, `ways`: states, and the ways of their processes.
 //! - `steps`: a private turn, a kernel turn of one step, and the end of a round.

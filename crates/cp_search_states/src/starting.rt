@@ -14,7 +14,7 @@ use cp_private::private_box::PrivateBox;
 use cp_program::program::Program;
 use std::alloc::{AllocError, Global};
 
-// Returns the private states of all processes at the start.
+// The private states of all processes at the start.
 fn first_privates(alloc: Global, program: &Program) -> Result<Vec<PrivateBox>, AllocError>
     ensures first { IfOk result (λ xs. AreFirst (view.program program.now) xs.items) }
     ensures count { IfOk result

@@ -1,4 +1,4 @@
-//! SearchStates.
+//! The state of a search.
 
 use cp_kernel::kernel::Kernel;
 use cp_private::private_box::PrivateBox;

@@ -99,7 +99,7 @@ impl SearchState {
         }
     }
 
-    /// Whether nobody has a fault. If it says so, nobody has.
+    /// Whether nobody has a fault. Only the answer `true` is proved to be right.
     pub fn is_sound(&self, program: &Program) -> bool
         ensures { result ≡ true → AllPass plain.is_sound (count (view.program program.now))
             self.now }
@@ -112,7 +112,7 @@ impl SearchState {
         true
     }
 
-    /// Whether all have ended. If it says so, they have.
+    /// Whether all have ended. Only the answer `true` is proved to be right.
     pub fn has_ended(&self, program: &Program) -> bool
         ensures { result ≡ true → AllPass plain.is_end (count (view.program program.now))
             self.now }
@@ -125,7 +125,7 @@ impl SearchState {
         true
     }
 
-    /// Whether somebody can move. If it says so, somebody can.
+    /// Whether somebody can move. Only the answer `true` is proved to be right.
     pub fn proceeds(&self, program: &Program) -> bool
         ensures { result ≡ true → OneMoves (count (view.program program.now)) self.now }
     {
@@ -137,8 +137,8 @@ impl SearchState {
         false
     }
 
-    /// Whether nobody has a fault, and somebody can move or all have ended. If it says so, that is
-    /// so.
+    /// Whether nobody has a fault, and somebody can move or all have ended. Only the answer `true`
+    /// is proved to be right.
     pub fn is_acceptable(&self, program: &Program) -> bool
         ensures { result ≡ true → (inputs : ℕ → List ℕ)
             → IsFine (count (view.program program.now)) (core_of inputs self.now) }

@@ -1,5 +1,5 @@
 -- The turns at a handoff queue may be shared, since each of their fields may be. The search for it
--- is split by fields, because a setting holds operations, which have too many kinds.
+-- is split by fields, because a configuration holds operations, which have too many kinds.
 use denote.Param.{param}
 use denote.Param.Send.{IsSync, sendable}
 use denote.Param.SendFields.{as_row_sync, declared_sync}

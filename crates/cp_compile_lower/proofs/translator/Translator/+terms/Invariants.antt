@@ -24,7 +24,7 @@ invariant-chain-loop-o l =
     → (f : syntax.Expression) × IsTerm before l.calls.items l.left (coded_term s (erase.expression f) low)
     × (chain_of f (map tree.operation (drop l.o-index l.rest)) ≡ chain_of e (map tree.operation l.fn.rest))
 
--- The spot so far is that of the selectors so far.
+-- The place expression so far is that of the selectors so far.
 abbrev pub invariant-place_expression-loop-selector : goal.invariant-place_expression-loop-selector
 invariant-place_expression-loop-selector l =
     (s : code.Scope) → IsScope l.self.scope s
@@ -32,7 +32,7 @@ invariant-place_expression-loop-selector l =
     × (erase.with_selectors d (tree.selectors_of (map tree.selector (drop l.selector-index l.selector-items)))
     ≡ erase.designator (tree.designator l.fn.designator))
 
--- The spot so far is that of the indices so far.
+-- The place expression so far is that of the indices so far.
 abbrev pub invariant-select_elements-loop-i : goal.invariant-select_elements-loop-i
 invariant-select_elements-loop-i l =
     (s : code.Scope) (low : ℕ) (before : List coded.CodedCall) (d : a.Designator) → IsScope l.self.scope s

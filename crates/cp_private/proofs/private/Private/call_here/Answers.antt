@@ -1,7 +1,7 @@
 -- The call is the attempt with the callee that the code finds, which is the definition's (`named`).
--- The lemmas of `Calling` say how it ends: without a unit, by a fault, or by entering the unit. Passing
--- arguments and starting words write words alone, so the registers still have room for the unit, and the
--- frame that was kept is still there.
+-- The lemmas of `Calling` say how it ends: without a unit, by a fault, or by entering the unit.
+-- Passing arguments and starting words write only words, so the registers still have room for the
+-- unit, and the frame that was kept is still there.
 use Rattle.std.proofs.Common.{rules, arith, ◌≡◌, ◌+◌, true, false, Err, length, refl, ap, sym, ◌∙◌}
 use Rattle.cp_model_machine.specs.PrivateStates.{StepContext, PrivateState, fault_in}
 use Rattle.cp_model_machine.specs.Passing.{pass_all}
