@@ -18,8 +18,8 @@ use cp_rules::text::{RuleError, judge};
 use std::alloc::{AllocError, Global};
 
 /// An accepted text that was compiled: its program, and the tables of what its names represent,
-/// which borrow the names from its tree. The tables are made once, and serve all that comes after.
-/// They are in a box, since a proof follows each part of what a function owns.
+/// which borrow the names from its tree. The tables are made only once, for all later uses. They
+/// are in a box, since a proof follows each part of what a function owns.
 #[derive(Drop)]
 pub struct CompiledText<'t> {
     pub program: Program,

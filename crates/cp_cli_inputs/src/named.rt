@@ -1,5 +1,5 @@
-//! The processes and monitors of a text by name: which there are, the numbers of processes, and
-//! their joined input.
+//! The processes and monitors of a text by name: whether there are such, the numbers of processes,
+//! and their joined input.
 
 ghost use Rattle.std.specs.Prelude.{◌≡◌};
 ghost use Rattle.cp_frontend.specs.declared.refusal.Refusal.TheVariants as refusal;

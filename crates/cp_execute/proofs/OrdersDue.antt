@@ -1,4 +1,4 @@
--- What is due after a replay, where the text, the input or the order is known.
+-- What is due after a replay, if the text, the input or the order is known.
 use Rattle.std.proofs.Common.{◌≡◌, ◌≤◌, refl, ℕ, Bool, true, false, List, length, Option, None, Some, Ok, IfSome, subst, arith}
 use Rattle.std.proofs.lemmas.Bool.Decides.{nat_tests}
 use Rattle.std.specs.Prelude.{if◌then◌else◌, nat_le}

@@ -41,7 +41,7 @@ IsDue run t input bytes =
 abbrev pub AreTablesOf : tree.Tree → Tables → Type 0
 AreTablesOf t tables = TablesRepresent (globals (erase.abstract (view.tree t))) tables t
 
--- The same for every text of which this is the program, with these tables.
+-- The bytes are due for every text of which this is the program, with these tables.
 abbrev pub IsDueOf : Run → Program → Tables → List ℕ → List ℕ → Type 0
 IsDueOf run program tables input bytes = (t : tree.Tree) → IsProgramOf (view.tree t) program → AreTablesOf t tables → IsDue run (view.tree t) input bytes
 
@@ -60,7 +60,8 @@ Reports run text input old new =
     → (t : s.Tree) × IsAccepted xs t
     × ((ys : List ℕ) → input ≡ Some ys → (judge_input ys ≡ Ok tt) × (bytes : List ℕ) × IsDue run t ys bytes × Appends old new bytes)
 
--- After a write that failed: the same, and a prefix of the line or of the report was written.
+-- After a write that failed: if the text is known, it is accepted, and a prefix of the line was
+-- written.
 abbrev pub BeginsAcceptance : Option (List ℕ) → Option (List ℕ) → Option (List ℕ) → Type 0
 BeginsAcceptance text old new = (xs : List ℕ) → text ≡ Some xs → (t : s.Tree) × IsAccepted xs t × AppendsSome old new acceptance
 

@@ -1,4 +1,4 @@
-//! The jobs: read and check a text, run it on an input if that is asked for, and write the result.
+//! The jobs: read and check a text, run it on an input if it is to run, and write the result.
 
 ghost use Rattle.std.specs.Prelude.{◌≡◌, IfErr, IfSome, OnOk};
 ghost use Rattle.std.specs.Io.KnownBytes.{Keeps};

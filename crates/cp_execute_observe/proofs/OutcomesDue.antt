@@ -1,4 +1,4 @@
--- The outcome that was made is due, where the text or the input is known.
+-- The outcome that was made is due, if the text or the input is known.
 use Rattle.std.proofs.Common.{◌≡◌, ℕ, List, Ok, Option, Some, IfSome, subst}
 use Rattle.cp_model.specs.Syntax as s
 use Rattle.cp_outcome.specs.declared.verdict.Verdict.{Verdict}

@@ -18,6 +18,6 @@ Reports (form.Transcript p) setup s v rounds bytes = IsTranscript p setup s byte
 Reports form.Dot setup s v rounds bytes = 0 < length bytes
 Reports form.Json setup s v rounds bytes = IsJsonLine bytes
 
--- The same, of every state that the machine is in.
+-- It is written of every state that the machine is in, and of the verdict.
 abbrev pub IsOutcomeOf : OutcomeForm ℕ → Machine → Verdict → List ℕ → Type 0
 IsOutcomeOf form m v bytes = (setup : Setup) (s : State) → IsIn (machine_of m) setup s → Reports form setup s v m.rounds bytes

@@ -23,8 +23,8 @@ state_after how t input n = let setup = setup_of t input how.tick.rounds in run 
 abbrev pub is_still_after : UntilStill → s.Tree → List ℕ → ℕ → Bool
 is_still_after how t input n = is_still (setup_of t input how.tick.rounds) (state_after how t input n)
 
--- After so many rounds nothing can move or the limit is reached, and after no fewer. It is the
--- verdict on that state, and the bytes report of both in the form.
+-- After so many rounds nothing can move or the limit is reached, and after no fewer. The verdict is
+-- that on the state then, and the bytes report both in the form.
 pub record IsOutcome (how : UntilStill) (form : OutcomeForm ℕ) (t : s.Tree) (input : List ℕ) (v : Verdict) (bytes : List ℕ) : Type 0 where
   pub rounds : ℕ
   pub most : rounds ≤ how.limit

@@ -18,7 +18,7 @@ IsTraced how t input machine =
     let setup = setup_of t input how.tick.rounds in
     IsIn (finished_machine_of machine) setup (run setup how.plan.turn.steps how.rounds (start setup))
 
--- The same, if the machine was at its start.
+-- The machine is in that state, if it was at its start before.
 abbrev pub IsTracedFrom : Tracing → Machine → FinishedMachine → Type 0
 IsTracedFrom how first machine = (t : s.Tree) (input : List ℕ) → IsAtStart (setup_of t input how.tick.rounds) first → IsTraced how t input machine
 

@@ -10,7 +10,7 @@ use Rattle.cp_base_config.specs.declared.trace.TraceForm.{TraceForm}
 abbrev pub Extends : Option (List ℕ) → Option (List ℕ) → Type 0
 Extends old new = (bytes : List ℕ) × Appends old new bytes
 
--- What was held is written, or held on, in the same order.
+-- What was held is written or still held, in the same order.
 abbrev pub Moves : Option (List ℕ) → Option (List ℕ) → List ℕ → List ℕ → Type 0
 Moves old new held holds = (bytes : List ℕ) × Appends old new bytes × (held ≡ bytes ++ holds)
 

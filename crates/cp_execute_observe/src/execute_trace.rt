@@ -22,8 +22,8 @@ use std::thread::Threads;
 
 /// Runs the text of one reader on the input of another, and writes in the form of the trace what
 /// became of its processes and monitors, from the first round that is reported. Returns the machine
-/// after the last round. Reports of those with the names in `only`, or of all if there are none.
-/// Takes memory that doesn't grow with the rounds.
+/// after the last round. Only the processes and monitors with the names in `only` are reported, or
+/// all if it is empty. The memory that this takes doesn't grow with the rounds.
 ///
 /// # Errors
 ///

@@ -18,7 +18,7 @@ use cp_outcome_reasons::waits::waits;
 use cp_rounds::machine::Machine;
 use std::alloc::{AllocError, Global};
 
-// Returns the report of a machine with the verdict on it and the reasons for that.
+// The report of a machine with the verdict on it and the reasons for that.
 fn report_with_reasons(
     alloc: Global,
     source: Source<'_, '_>,
@@ -31,7 +31,7 @@ fn report_with_reasons(
     outcome(alloc, machine, verdict, &reasons)
 }
 
-// Returns the outcome of a machine with this verdict as a JSON object on a line.
+// The outcome of a machine with this verdict as a JSON object on a line.
 fn object_of(alloc: Global, source: Source<'_, '_>, verdict: Verdict) -> Result<Vec<u8>, AllocError>
     ensures { IfOk result (λ bytes. IsJsonLine bytes.items) }
 {

@@ -25,7 +25,7 @@ use std::thread::Threads;
 // As many bytes are written at once, or those of one round if they are more.
 const MAX_PENDING_BYTES: usize = 65_536;
 
-// Returns of what is reported in so many rounds of a machine, whose text has this tree.
+// The topic of a trace of so many rounds of a machine, whose text has this tree.
 fn topic_of<'a, 't>(
     alloc: Global,
     tree: &'t Tree,
@@ -44,7 +44,7 @@ fn topic_of<'a, 't>(
     })
 }
 
-// Returns who follows a machine.
+// The tracer that follows a machine.
 fn tracer_of<'t>(
     alloc: Global,
     form: TraceForm,
@@ -79,7 +79,7 @@ fn trace_round<'t, H: Threads + Wait + Sync, G: TurnGate>(
     Ok(())
 }
 
-// Writes the bytes if they are many, and then holds none.
+// Writes the bytes if there are many, and then holds none.
 fn write_if_long<W: Write>(out: &mut W, buffer: &mut Vec<u8>) -> Result<(), Refusal>
     ensures whole { OnOk result
         (Moves (W.contents out.old) (W.contents out.new) buffer.old.items buffer.new.items) }
@@ -125,8 +125,8 @@ fn trace_rounds<'t, H: Threads + Wait + Sync, W: Write, G: TurnGate>(
 }
 
 /// Makes all rounds of a machine at its start, and writes what is reported of each from the first
-/// that is reported. Reports of the processes and monitors with the names in `only`, or of all if
-/// there are none. The machine runs the program of a text with this tree.
+/// that is reported. Only the processes and monitors with the names in `only` are reported, or all
+/// if it is empty. The machine runs the program of a text with this tree.
 ///
 /// # Errors
 ///

@@ -45,8 +45,8 @@ fn trace_machine<'t, H: Threads + Wait + Sync, W: Write, G: TurnGate>(
 }
 
 /// Runs the program of an accepted text, writes what is reported of each round from the first that
-/// is reported, and returns the machine after the last round. Reports of the processes and monitors
-/// with the names in `only`, or of all if there are none.
+/// is reported, and returns the machine after the last round. Only the processes and monitors with
+/// the names in `only` are reported, or all if it is empty.
 ///
 /// # Errors
 ///

@@ -22,7 +22,7 @@ use std::alloc::Global;
 use std::sync::Wait;
 use std::thread::Threads;
 
-/// What became of a run, and the text that reports it.
+/// The verdict on a run, and the text that reports it.
 #[derive(Drop)]
 pub(crate) struct Outcome {
     pub(crate) verdict: Verdict,

@@ -42,7 +42,7 @@ state_text setup program (state.Faulted f) = fault_text f
 state_text setup program (state.Asking n) = codes "asking " ++ monitor_name setup n
 state_text setup program (state.Delayed n at) = codes "delayed " ++ (monitor_name setup n ++ (codes " " ++ queue_text setup program at))
 
--- It is added.
+-- The status of a process that is in this state is added.
 abbrev pub ReportsState : Tables → Program → List (Name × ℕ) → ProcState → Text → Text → Type 0
 ReportsState tables program es r out after =
     (setup : Setup) → ScopeRepresents tables.names tables.types (globals setup.tree) → AreListed tables.types es (components_of setup Monitor)

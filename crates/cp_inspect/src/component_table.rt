@@ -1,4 +1,4 @@
-//! Who there is: the processes and the monitors of a text by number, and their names.
+//! The processes and the monitors of a text by number, and their names.
 
 ghost use Rattle.std.specs.Prelude.{◌≡◌, ◌-◌, IfOk, map, option_map, slice_get};
 ghost use Rattle.cp_model.specs.Abstract.{Monitor, Process};
@@ -103,7 +103,7 @@ impl<'t> ComponentTable<'t> {
     ///
     /// # Errors
     ///
-    /// As `process`.
+    /// As for `process`.
     pub fn owner(&self, name: &[u8]) -> Result<Option<Owner>, AllocError> {
         if let Some(number) = number_of(&self.monitors, name, 1)? {
             return Ok(Some(Owner::Monitor(number)));

@@ -30,7 +30,8 @@ pub(crate) fn head_words(tables: &Tables, number: usize) -> Result<usize, AllocE
     }
 }
 
-/// The same for a class, and `None` for a process or a monitor, whose words are elsewhere.
+/// How many words the mark and the rights of a class of this system type take, and `None` for a
+/// process or a monitor, whose words are elsewhere.
 pub(crate) fn class_head(tables: &Tables, number: usize) -> Result<Option<usize>, AllocError>
     ensures { IfOk result (λ head. (g : GlobalScope) (y : Bor System)
         → ScopeRepresents tables.now.names tables.now.types g

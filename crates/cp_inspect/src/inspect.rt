@@ -7,14 +7,14 @@ use cp_compile_symbols::{Base, Field};
 use cp_private::kernel_view::Holder;
 use std::alloc::{AllocError, Global};
 
-/// What a trace reads of the machine of a text. A trait, so that traces are beside the rounds of
-/// machines and not above them: what names a machine names some ninety types, and is proved slowly
+/// What a trace reads of the machine of a text. It is a trait, so that traces don't depend on the
+/// rounds of machines: code that names a machine names some ninety types, and is proved slowly
 /// (docs/CI.md).
 pub trait Inspect {
     /// The state of a process.
     fn state_of(&self, process: u32) -> ProcState;
 
-    /// A state in the words of a report, where the monitors are these.
+    /// A state in the words of a report, given the monitors.
     ///
     /// # Errors
     ///

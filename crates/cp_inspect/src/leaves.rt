@@ -1,4 +1,4 @@
-//! The places of the variables of a component, in the order in which a report reports them.
+//! The places of the variables of a component, in the order of a report.
 
 ghost use Rattle.std.specs.Prelude.{◌≡◌};
 

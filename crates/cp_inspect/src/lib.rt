@@ -1,9 +1,8 @@
-//! Who there is in a text, and where their variables are: processes and monitors by number and by
-//! name, and a walk over the parts of their variables, which reports of each part or keeps its
-//! place.
+//! The components of a text, and where their variables are: processes and monitors by number and by
+//! name, and a walk over the parts of their variables, which reports each part or keeps its place.
 //!
-//! All of this is read off the tables of a text and the words of a state, so it is below the
-//! machine and its rounds. What is reported is that of cp_model_machine's `specs/Reports.antt`.
+//! All of this is read off the tables of a text and the words of a state, so it doesn't depend on
+//! the machine and its rounds. What is reported is that of cp_model_machine's `specs/Reports.antt`.
 //!
 //! - `state`, `place`: the state of a process; whose a variable is, where it is and its value.
 //! - `listing`, `component_table`: the processes or monitors by number, and all of them by name.
@@ -11,7 +10,7 @@
 //! - `heads`, `components`: how many words come before members, and the parts of whole components.
 //! - `leaves`: the places of the variables of a component.
 //! - `status`: the state of a process in words.
-//! - `inspect`: what a trace reads of a machine, which is above.
+//! - `inspect`: what a trace reads of a machine, which crates above define.
 //! - `text`: queues and bytes as text.
 #![tactic(auto)]
 

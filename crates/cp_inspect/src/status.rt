@@ -39,7 +39,7 @@ pub fn push_queue(
     Ok(())
 }
 
-// Returns the monitor with this number, from 1. The number 0 is read as 1.
+// The monitor with this number, from 1. The number 0 is read as 1.
 fn monitor_at<'m, 't>(monitors: &'m [Field<'t>], number: u32) -> Option<&'m Field<'t>>
     ensures { option_map (λ f. f.now) result ≡ slice_get monitors.now (number - 1) }
 {

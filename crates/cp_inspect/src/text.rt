@@ -1,4 +1,4 @@
-//! The process in a queue, and the bytes of a transcript, as text.
+//! The process in a queue and the bytes of a transcript, as text.
 
 ghost use Rattle.std.specs.Prelude.{◌≡◌, ◌++◌, OnOk, false, flat_map};
 ghost use Rattle.cp_model.specs.Report.{escape, occupant_text};

@@ -53,7 +53,7 @@ pub struct Walk {
     pub(crate) leaves: Vec<Leaf>,
 }
 
-// Returns the index of an element of an array.
+// The index of an element of an array.
 fn index_at(low: i32, next: usize) -> i64
     requires { next < 2 ^ 62 }
     ensures { result ≡ low +ℤ pos next }
@@ -85,7 +85,7 @@ impl Walk {
         }
     }
 
-    // Passes `count` words.
+    // Skips `count` words.
     fn pass(&mut self, count: usize) -> Result<(), AllocError>
         ensures place { OnOk result (self.new.at ≡ self.old.at + count) }
         ensures stack { self.new.stack ≡ self.old.stack }

@@ -12,7 +12,7 @@ use crate::text::push_occupant;
 use cp_base_digits::decimal::push_integer;
 use std::alloc::AllocError;
 
-// Returns the word at an address. A missing word reads as 0.
+// The word at an address. A missing word reads as 0.
 fn word_at(words: &[i32], at: usize) -> i32
     ensures { result ≡ word words.now at }
 {
@@ -22,7 +22,7 @@ fn word_at(words: &[i32], at: usize) -> i32
     }
 }
 
-// Returns the value of the variable of this kind at an address.
+// The value of the variable of this kind at an address.
 fn value_at(words: &[i32], kind: Kind, at: usize) -> Value
     ensures { result ≡ value_in kind (word words.now at) }
 {

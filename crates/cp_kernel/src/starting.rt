@@ -58,7 +58,7 @@ fn first_shared_words(alloc: Global, program: &Program) -> Result<Vec<i32>, Allo
     Ok(words)
 }
 
-// Returns `count` gates of monitors that aren't initialised.
+// The gates of `count` monitors that aren't initialised.
 fn unset_gates(alloc: Global, count: usize) -> Result<Vec<Gate>, AllocError>
     ensures { IfOk result (λ all. map states.gate all.items ≡ replicate count unset_gate) }
 {

@@ -9,6 +9,6 @@ use Rattle.cp_rounds.specs.declared.machine.Machine.{Machine}
 abbrev pub IsTranscript : ℕ → Setup → State → List ℕ → Type 0
 IsTranscript p setup s bytes = 1 ≤ p → p ≤ process_count setup → bytes ≡ s.transcript p
 
--- The same, of every state that the machine is in.
+-- The bytes are that transcript in every state that the machine is in.
 abbrev pub IsTranscriptOf : ℕ → Machine → List ℕ → Type 0
 IsTranscriptOf p m bytes = (setup : Setup) (s : State) → IsIn (machine_of m) setup s → IsTranscript p setup s bytes

@@ -27,7 +27,8 @@ abbrev pub all_pass : (Status → Bool) → State → List ℕ → Bool
 all_pass test s [] = true
 all_pass test s (p ∷ ps) = if test (s.status p) then all_pass test s ps else false
 
--- A fault is reported before all else: who waits for a process that has faulted isn't to blame.
+-- A fault is reported before all else: a process that waits for one that has faulted isn't to
+-- blame.
 abbrev pub verdict_of : Setup → State → Verdict
 verdict_of setup s =
     if is_still setup s

@@ -8,8 +8,8 @@
 //! - `queues`: which entries continue a queue. `rights`: who can call them. `starts`: which `init`
 //!   starts a process. They are read off the text, by the `parts` of its statements.
 //!
-//! All of this serves people, and is tested; `specs/Graphs.antt` says of which form a
-//! graph is.
+//! All of this is for people to read, and is tested. `specs/Graphs.antt` says which form a graph
+//! has.
 #![tactic(auto)]
 
 mod faults;

@@ -1,4 +1,4 @@
-//! What reasons are reported of, and its names: components, queues and places of the text.
+//! What reasons are about, and its names: components, queues and places of the text.
 
 use crate::parts::Parts;
 use crate::rights::Rights;
@@ -75,8 +75,7 @@ fn tokens_of(
 }
 
 impl<'r, 't> Subject<'r, 't> {
-    /// Collects what the reasons are reported of: the text of a machine. Fails only if memory runs
-    /// out.
+    /// Collects what the reasons are about: the text of a machine. Fails only if memory runs out.
     pub(crate) fn of(alloc: Global, source: Source<'r, 't>) -> Result<Subject<'r, 't>, AllocError> {
         let Source {
             bytes,

@@ -5,7 +5,7 @@ ghost use Rattle.std.specs.Prelude.{◌≤◌, ◌<◌, IfSome, length};
 use cp_model::token::{Kind, Symbol, Token};
 use cp_output::page::Page;
 
-/// The largest number of bytes that is shown of a piece. What is left is cut off.
+/// The largest number of bytes that is shown of a piece. The rest is cut off.
 const WIDTH: usize = 48;
 
 /// How far a piece reaches from its first token.
@@ -109,7 +109,7 @@ fn spelling<'t>(text: &'t [u8], token: &Token) -> &'t [u8] {
     &text[token.place().min(to)..to]
 }
 
-// Adds a piece. One blank is where something is between two tokens.
+// Adds a piece. If something is between two tokens, one blank is between them in the piece.
 fn push_tokens(page: &mut Page, text: &[u8], tokens: &[Token]) {
     let mut shown: usize = 0;
     let mut end = match tokens.first() {

@@ -10,7 +10,7 @@ use cp_output::page::Page;
 use cp_private::kernel_view::Holder;
 use std::alloc::{AllocError, Global};
 
-// What is before an item of a list with so many items, such as `a, b and c`.
+// The words before an item of a list with so many items, such as `a, b and c`.
 fn separator(index: usize, count: usize) -> &'static str {
     if index == 0 {
         ""

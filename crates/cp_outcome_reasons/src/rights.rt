@@ -1,5 +1,5 @@
-//! Who can call entries of a monitor: whom `init` hands a right to it, and who can call a monitor
-//! that has the right and calls them.
+//! Who can call entries of a monitor: the components to which `init` hands a right to it, and those
+//! that can call such a monitor, if it calls the entries.
 
 ghost use Rattle.std.specs.Prelude.{◌<◌, IfSome, length};
 
@@ -17,8 +17,8 @@ enum Component {
     Monitor(usize),
 }
 
-/// A component that is handed a right, its type, and the parameter by which it has the right, if it
-/// is one alone.
+/// A component that is handed a right, its type, and the parameter by which it has the right, if
+/// there is only one.
 #[derive(Clone, Copy)]
 struct Holder<'t> {
     component: Component,
@@ -26,11 +26,11 @@ struct Holder<'t> {
     parameter: Option<&'t [u8]>,
 }
 
-/// Whom `init` hands the rights to monitors.
+/// The components to which `init` hands the rights to monitors.
 #[derive(Drop)]
 pub(crate) struct Rights<'t> {
     alloc: Global,
-    /// For each monitor, by number from 1 on, who is handed a right to it.
+    /// For each monitor, by number from 1 on, the components that are handed a right to it.
     holders: Vec<Vec<Holder<'t>>>,
 }
 
@@ -215,8 +215,8 @@ fn mark(marks: &mut Vec<bool>, number: usize) -> bool {
     true
 }
 
-// Whether a designator names the parameter alone, as an argument does, or calls a routine of it:
-// one of the entries, or any if there are none.
+// Whether a designator names only the parameter, as an argument does, or calls a routine of it: one
+// of the entries, or any if there are none.
 fn calls(designator: &Designator, parameter: &[u8], entries: &[&Identifier]) -> bool {
     if designator.root.name.as_bytes() != parameter {
         return false;

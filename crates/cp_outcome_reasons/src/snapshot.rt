@@ -1,5 +1,5 @@
-//! Where the processes of a machine are, and who is at its monitors: plain data, which whoever
-//! has the machine makes of it, so that reasons are beside rounds and not above them.
+//! Where the processes of a machine are, and who is at its monitors. This is plain data, which code
+//! above makes of a machine, so that reasons don't depend on rounds.
 
 use cp_inspect::state::ProcState;
 use cp_private::kernel_view::Holder;
@@ -70,7 +70,7 @@ impl StatusSnapshot {
         self.processes.get((number as usize).saturating_sub(1))
     }
 
-    /// The holder of the gate of the monitor with a number. That of a missing one is unset.
+    /// The holder of the gate of the monitor with a number. The gate of a missing monitor is unset.
     pub(crate) fn holder_of(&self, number: u32) -> Holder {
         match self.monitors.get((number as usize).saturating_sub(1)) {
             Some(monitor) => monitor.holder,

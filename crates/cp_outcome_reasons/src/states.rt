@@ -1,4 +1,4 @@
-//! In which state a process is, in a word.
+//! The state of a process, in a word.
 
 use cp_inspect::state::ProcState;
 

@@ -14,7 +14,7 @@ use cp_private::kernel_view::Holder;
 use std::alloc::{AllocError, Global};
 
 impl<'t> Subject<'_, 't> {
-    // The node of a process. That of process 1 has a blank, which no name of a text has.
+    // The node of a process. The node of process 1 has a blank, which no name of a text has.
     fn node_of(&self, number: u32) -> &[u8] {
         if number == 1 {
             return b"initial process";
@@ -105,7 +105,7 @@ impl<'t> Subject<'_, 't> {
         }
     }
 
-    // Returns the nodes and the arrows.
+    // The nodes and the arrows.
     fn drawn(&self) -> Result<Vec<u8>, AllocError> {
         let mut page = Page::new(self.alloc);
         self.add_processes(&mut page);
@@ -116,7 +116,7 @@ impl<'t> Subject<'_, 't> {
     }
 }
 
-// Returns the graph with this body.
+// The graph with this body.
 fn graph_of(alloc: Global, body: &[u8]) -> Result<Vec<u8>, AllocError>
     ensures whole { IfOk result (λ bytes. bytes.items ≡ graph body.now) }
     ensures some { IfOk result (λ bytes. 0 < length bytes.items) }

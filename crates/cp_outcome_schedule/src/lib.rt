@@ -5,7 +5,7 @@
 //! - `findings`: what a search has found, as plain data.
 //! - `story`: the calls of a schedule, a line each. `names`: names and places in the text.
 //!
-//! All of this serves people, and is tested.
+//! All of this is for people to read, and is tested.
 #![tactic(auto)]
 
 pub mod findings;

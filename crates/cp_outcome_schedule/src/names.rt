@@ -8,7 +8,7 @@ use cp_output::page::Page;
 use cp_output::position::Position;
 use std::alloc::{AllocError, Global};
 
-/// What names are reported of.
+/// The text and the machine from which names are taken.
 #[derive(Drop)]
 pub(crate) struct Names<'r, 't> {
     pub(crate) alloc: Global,

@@ -10,7 +10,8 @@ use cp_output::page::Page;
 use cp_search::notes::Stop;
 use std::alloc::{AllocError, Global};
 
-// The limits of a search, as they were given.
+// The limits of a search, as they were given: the largest number of states, and the memory that
+// they may take.
 #[derive(Clone, Copy)]
 pub struct GivenLimits {
     pub states: u32,

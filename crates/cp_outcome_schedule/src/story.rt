@@ -20,7 +20,7 @@ pub(crate) fn count(calls: &[Call]) -> usize {
     count
 }
 
-// The process that does what an effect reports.
+// The process that acts in an effect.
 fn doer(effect: Effect) -> u32 {
     match effect.kind {
         EffectKind::Continued { by } => by,
@@ -80,7 +80,7 @@ impl Names<'_, '_> {
         Ok(())
     }
 
-    // Adds what follows from a call. The name of a process is added where it isn't the one that
+    // Adds what follows from a call. The name of a process is added if it isn't the process that
     // the words before are about.
     fn push_effects(&self, page: &mut Page, call: &Call) -> Result<(), AllocError> {
         let mut about = call.process;

@@ -1,4 +1,4 @@
--- What the report reports of a process is reported by its state.
+-- What the report says of a process follows from its state.
 use Rattle.std.proofs.Common.{◌≡◌, refl}
 use Rattle.cp_model.specs.States.{Setup}
 use Rattle.cp_model_program.specs.Programs.{Program}

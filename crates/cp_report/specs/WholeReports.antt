@@ -18,7 +18,7 @@ IsReport tables m bytes =
     (setup : Setup) (text : tree.Tree) → setup.tree ≡ erase.abstract (view.tree text) → TablesRepresent (globals setup.tree) tables text
     → bytes ≡ machine_report setup m
 
--- The same, with the lines of chains after the report.
+-- The bytes are that report, with the lines of chains after it.
 abbrev pub IsReportWithChains : Tables → plain.Machine → Text → Type 0
 IsReportWithChains tables m bytes =
     (setup : Setup) (text : tree.Tree) → setup.tree ≡ erase.abstract (view.tree text) → TablesRepresent (globals setup.tree) tables text

@@ -1,4 +1,4 @@
-//! The lines of chains of askers, which are after the report where they are wanted.
+//! The lines of chains of askers, which come after the report if they are wanted.
 
 ghost use Rattle.std.specs.Prelude.{◌≡◌, ◌++◌, OnOk, flat_map};
 ghost use Rattle.cp_model_machine.specs.Chains.{chain_line_of, is_asker, machine_chains};

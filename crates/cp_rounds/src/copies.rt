@@ -23,7 +23,7 @@ fn woken_copy(alloc: Global, private: &Private, wakes: bool) -> Result<Private, 
     Ok(copy)
 }
 
-/// Returns copies of private states. If `wakes`, the processes that wait continue in them.
+/// Copies of private states. If `wakes`, the processes that wait continue in them.
 ///
 /// # Errors
 ///

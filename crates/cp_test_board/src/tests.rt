@@ -89,7 +89,7 @@ fn two_threads_draw_each_number_once(rt: HostRuntime) -> Result<(), Fail> {
     Ok(())
 }
 
-// A gate where threads wait for one another, so that they draw at the same time.
+// A barrier at which threads wait for one another, so that they draw at the same time.
 #[derive(Drop)]
 struct Gate {
     arrived: AtomicU64,
@@ -144,7 +144,7 @@ fn draw_apart<R: Threads + Sync>(
     (board.join(first, second), both(some, others))
 }
 
-// Returns the elements of both lists.
+// The elements of both lists.
 fn both(
     some: Result<Vec<usize>, AllocError>,
     others: Result<Vec<usize>, AllocError>,

@@ -1,9 +1,9 @@
 //! What is tested of the program or the machine of a text.
 //!
 //! A case is a value and not a closure, since a closure is proved as four functions, which takes
-//! minutes where it gets a machine. A function that owns a tree, its program and tables or its
-//! machine has to stop all of them wherever it can fail, and takes minutes to prove: so each of
-//! these owns one, and lends it to the next.
+//! minutes if it gets a machine. A function that owns a tree, its program and tables or its machine
+//! has to drop all of them wherever it can fail, and takes minutes to prove. So each of these
+//! functions owns one of them, and lends it to the next.
 
 use crate::machines::machine_of;
 use crate::refusals::{count_by_replays, count_by_rounds, count_by_run, is_made, is_refused};
@@ -26,7 +26,7 @@ use std::thread::Threads;
 // What is tested of a machine.
 #[derive(Drop)]
 pub(crate) enum MachineCase<'g, G> {
-    // It makes rounds with a gate.
+    // It makes rounds with a hook.
     Rounds(Rounds<'g, G>),
     // It counts, by rounds, by a run, or by replays.
     ByRounds(Plan),

@@ -1,4 +1,4 @@
-//! Gates at which turns on several threads wait for each other, but not forever.
+//! Hooks at which turns on several threads wait for each other, but not forever.
 
 use cp_rounds::gate::TurnGate;
 use std::sync::atomic::{AtomicU64, Ordering};
@@ -158,7 +158,7 @@ impl TurnGate for EachWaits {
     }
 }
 
-// How many times the gate was called for a private and for a kernel turn of each number from 0 to
+// How many times the hook was called for a private and for a kernel turn of each number from 0 to
 // 3.
 #[derive(Drop)]
 pub(crate) struct Counting {

@@ -11,7 +11,7 @@ use cp_rounds::machine::Machine;
 use std::alloc::Global;
 use std::test::Fail;
 
-// Returns an empty input for each process.
+// An empty input for each process.
 pub(crate) fn inputs_for(alloc: Global, program: &Program) -> Result<Vec<Vec<u8>>, Fail>
     ensures { IfOk result
         (λ all. length all.items ≡ length (view.program program.now).processes) }
@@ -26,7 +26,7 @@ pub(crate) fn inputs_for(alloc: Global, program: &Program) -> Result<Vec<Vec<u8>
     Ok(all)
 }
 
-// Returns the machine of a compiled text, with a tick of one round and without input.
+// The machine of a compiled text, with a tick of one round and without input.
 pub(crate) fn machine_of<'r, 't>(
     alloc: Global,
     program: Program,

@@ -1,8 +1,8 @@
 //! The state of a machine after memory or a thread was refused.
 //!
 //! A program that is too large is always refused. Allocations and thread starts succeed in a plain
-//! run. If one is made to fail, as `trials/refusals.py` has a library do that is loaded before the
-//! C library, the last four tests report it and look at the machine.
+//! run. `trials/refusals.py` makes one of them fail, by a library that is loaded before the C
+//! library. The last four tests then report it and look at the machine.
 
 use crate::cases::{Case, MachineCase, passes};
 use crate::machines::{activity, has_written, inputs_for};
@@ -25,7 +25,7 @@ use std::sync::Wait;
 use std::test::Fail;
 use std::thread::Threads;
 
-// Returns a program that ends at once, with `words` words for its process and `shared` shared
+// A program that ends at once, with `words` words for its process and `shared` shared
 // words.
 fn ending_program(alloc: Global, words: u32, shared: u32) -> Result<Program, Fail> {
     let mut operations = Vec::new(alloc);
@@ -57,7 +57,7 @@ fn ending_program(alloc: Global, words: u32, shared: u32) -> Result<Program, Fai
     ))
 }
 
-// Returns the machine of a program without input, unless it is refused.
+// The machine of a program without input, unless it is refused.
 fn machine_unless_refused<'r, 't>(
     alloc: Global,
     program: Program,

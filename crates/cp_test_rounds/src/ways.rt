@@ -10,7 +10,7 @@ use std::sync::Wait;
 use std::test::Fail;
 use std::thread::Threads;
 
-// Whether it is one run, whose rounds share their threads, or rounds that each have threads of
+// A way to make rounds: in one run, whose rounds share their threads, or one by one with threads of
 // their own.
 #[derive(Clone, Copy)]
 pub(crate) struct Way {

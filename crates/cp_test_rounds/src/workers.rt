@@ -1,4 +1,4 @@
-//! Rounds by several threads: which turns are made at the same time, and when the gate is called.
+//! Rounds by several threads: which turns are made at the same time, and when the hook is called.
 
 use crate::cases::{Case, MachineCase, passes};
 use crate::gates::{
@@ -13,7 +13,7 @@ use std::sync::Wait;
 use std::test::Fail;
 use std::thread::Threads;
 
-// From round 4 on all processes have ended, and the gate is still called for each of them.
+// From round 4 on all processes have ended, and the hook is still called for each of them.
 const TWO: &str = "type p = process; begin display(7) end; var a, b: p; begin init a, b end.";
 
 const FOUR: &str =
@@ -23,7 +23,7 @@ const FOUR: &str =
 const COUNTERS: &str = "type p = process; var x: integer; begin cycle x := (x + 1) mod 100 end end;
     var a, b: p; begin init a, b end.";
 
-// Rounds of a machine with a gate.
+// Rounds of a machine with a hook.
 #[derive(Drop)]
 pub(crate) struct Rounds<'g, G> {
     way: Way,
@@ -33,7 +33,7 @@ pub(crate) struct Rounds<'g, G> {
 }
 
 impl<'g, G: TurnGate> Rounds<'g, G> {
-    // Makes them. Returns true.
+    // Makes the rounds. Returns true.
     pub(crate) fn make<R: Threads + Wait + Sync>(
         &self,
         rt: &R,
@@ -99,7 +99,7 @@ fn no_process_is_kept_for_one_worker(rt: HostRuntime) -> Result<(), Fail> {
     Ok(())
 }
 
-// The gate is called for turns without a step too: the processes are unstarted in round 1, and
+// The hook is called for turns without a step too: the processes are unstarted in round 1, and
 // ended from round 4 on.
 #[test]
 fn the_gate_is_called_once_for_each_turn(rt: HostRuntime) -> Result<(), Fail> {

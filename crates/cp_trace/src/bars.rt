@@ -1,4 +1,4 @@
-//! Stretches of rounds in which a process or a monitor is the same, and what is said of them.
+//! Stretches of rounds in which a process or a monitor stays the same, and the words for them.
 
 use crate::colours::colour;
 use crate::grid::Cell;
@@ -50,7 +50,7 @@ fn word_of(cell: Cell) -> &'static str {
     }
 }
 
-// The longest text of at most so many characters, or none.
+// The longer of two texts that has at most so many characters, or none.
 fn that_fits(long: String, short: String, most: usize) -> Option<String> {
     if long.len() <= most {
         Some(long)
@@ -77,8 +77,8 @@ impl Bar {
         }
     }
 
-    // Returns the name of the monitor that is asked for or delayed in, that of the holder of a
-    // gate, or the number of a fault. Other cells have nothing of the kind.
+    // The name of the monitor that is asked for or delayed in, the name of the holder of a gate, or
+    // the number of a fault. Other cells have none of these.
     fn about(
         &self,
         alloc: Global,
@@ -110,9 +110,9 @@ impl Bar {
         }
     }
 
-    /// What is written on it, in at most so many characters: of a gate the name or the number
-    /// of its holder, of other cells the words or what they are about. Nothing does if none is
-    /// short enough, or if the colour says all.
+    /// What is written on it, in at most so many characters. For a gate this is the name or the
+    /// number of its holder, for other cells the words or what they are about. It is nothing if
+    /// neither is short enough, or if the colour says all.
     pub(crate) fn caption(
         &self,
         alloc: Global,

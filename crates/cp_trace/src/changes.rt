@@ -1,4 +1,4 @@
-//! What changed of a process or a monitor.
+//! The changes of a process or a monitor.
 
 use cp_inspect::component_table::Owner;
 use serde::Serialize;
@@ -16,7 +16,7 @@ pub(crate) enum Value<'t> {
     Empty,
 }
 
-/// What was, and what is now.
+/// What was before, and what is now.
 #[derive(Drop, Serialize)]
 pub(crate) struct Step<T> {
     pub(crate) from: T,

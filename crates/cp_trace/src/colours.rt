@@ -28,7 +28,7 @@ text{font-family:'DejaVu Sans Mono',Menlo,Consolas,monospace;font-size:12px;fill
 <path d=\"M0 0V12\" stroke=\"#fff\" stroke-opacity=\".7\"/></pattern></defs>
 ";
 
-// So many processes have a colour of their own.
+// The number of processes that have a colour of their own.
 const COLOURS: usize = 12;
 
 // The classes of the colours of processes.
@@ -48,7 +48,7 @@ pub(crate) const LEGEND_WIDTH: usize = 640;
 
 const LINE: usize = 18;
 
-// The side of a colour, and from its top to the foot of the letters beside it.
+// The side of a colour, and the distance from its top to the foot of the letters next to it.
 const SIDE: usize = 12;
 
 const FOOT: usize = 11;
@@ -79,7 +79,7 @@ fn push_note(page: &mut String, x: usize, y: usize, text: &str) -> Result<(), Al
     push_text(page, "note", x, y.saturating_add(FOOT), text)
 }
 
-// Adds colours with what they mean, one behind the other.
+// Adds colours with what they mean, one after another.
 fn push_line(
     page: &mut String,
     y: usize,

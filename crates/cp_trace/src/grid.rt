@@ -33,8 +33,7 @@ pub(crate) struct Row<'t> {
     pub(crate) cells: Vec<Cell>,
 }
 
-/// The processes and monitors of which a trace reports, with what they are after each of some
-/// rounds.
+/// The processes and monitors that a trace reports, with what they are after each of some rounds.
 #[derive(Drop)]
 pub(crate) struct Grid<'t> {
     pub(crate) alloc: Global,
@@ -75,7 +74,7 @@ fn cell_of<M: Inspect>(machine: &M, owner: Owner) -> Cell {
 }
 
 impl<'t> Grid<'t> {
-    /// The grid, without cells, of the rounds of a topic.
+    /// The grid of the rounds of a topic, without cells.
     ///
     /// # Errors
     ///
@@ -102,7 +101,7 @@ impl<'t> Grid<'t> {
     ///
     /// # Errors
     ///
-    /// `AllocError` if memory runs out. The grid is then of no more use.
+    /// `AllocError` if memory runs out. The grid is then of no further use.
     pub(crate) fn see<M: Inspect>(&mut self, machine: &M) -> Result<(), AllocError> {
         for row in self.rows.iter_mut() {
             row.cells.push(cell_of(machine, row.owner))?;

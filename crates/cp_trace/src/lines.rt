@@ -115,7 +115,7 @@ fn push_line(out: &mut Vec<u8>, changes: &Changes<'_>) -> Result<(), AllocError>
     out.extend_from_slice(b"\n")
 }
 
-// Returns the lines of processes and monitors.
+// The lines of processes and monitors.
 fn lines(alloc: Global, all: &[Changes<'_>]) -> Result<Vec<u8>, AllocError> {
     let mut lines = Vec::new(alloc);
     for changes in all {

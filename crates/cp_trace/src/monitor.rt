@@ -1,4 +1,4 @@
-//! What was seen of a monitor, and what changed since.
+//! A monitor as it was seen last, and its changes since.
 
 use crate::changes::{Change, Step};
 use crate::values::Values;
@@ -9,7 +9,7 @@ use cp_inspect::leaves::Leaf;
 use cp_private::kernel_view::Holder;
 use std::alloc::{AllocError, Global};
 
-/// A monitor when it was seen last.
+/// A monitor as it was seen last.
 #[derive(Drop)]
 pub(crate) struct SeenMonitor {
     number: u32,
@@ -70,8 +70,8 @@ impl SeenMonitor {
         self.askers.extend_from_slice(askers)
     }
 
-    /// What changed since the monitor was seen last: its gate, its askers, and its
-    /// variables and queues at these places. It has then been seen.
+    /// The changes since the monitor was seen last: of its gate, its askers, and its variables and
+    /// queues at these places. It has then been seen.
     pub(crate) fn changes<'a, 't: 'a, M: Inspect>(
         &mut self,
         alloc: Global,

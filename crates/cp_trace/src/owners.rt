@@ -1,10 +1,10 @@
-//! The processes and monitors of which a trace reports, and their names.
+//! The processes and monitors that a trace reports, and their names.
 
 use cp_compile_symbols::small_number;
 use cp_inspect::component_table::{ComponentTable, Owner};
 use std::alloc::{AllocError, Global};
 
-/// Returns bytes of a name, a path or a transcript as a string. They are ASCII, as texts are.
+/// The bytes of a name, a path or a transcript as a string. They are ASCII, as texts are.
 pub(crate) fn word(bytes: &[u8]) -> &str {
     str::from_utf8(bytes).unwrap_or("")
 }
@@ -19,7 +19,7 @@ pub(crate) fn name_of<'t>(component_table: &ComponentTable<'t>, owner: Owner) ->
 
 // All processes by number, and then all monitors.
 fn all(alloc: Global, component_table: &ComponentTable<'_>) -> Result<Vec<Owner>, AllocError> {
-    // The roster has no initial process.
+    // The table has no initial process.
     let processes = small_number(component_table.processes.len().saturating_add(1))?;
     let monitors = small_number(component_table.monitors.len())?;
     (1..=processes)
@@ -28,8 +28,8 @@ fn all(alloc: Global, component_table: &ComponentTable<'_>) -> Result<Vec<Owner>
         .collect(alloc)
 }
 
-/// The processes by number, and then the monitors: those with names in `only`, or all if it
-/// has none. A name that no process or monitor has represents none.
+/// The processes by number, and then the monitors: those with names in `only`, or all if it is
+/// empty. A name that no process or monitor has selects none.
 ///
 /// # Errors
 ///

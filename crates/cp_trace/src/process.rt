@@ -1,4 +1,4 @@
-//! What was seen of a process, and what changed since.
+//! A process as it was seen last, and its changes since.
 
 use crate::changes::{Change, Output, Step};
 use crate::owners::word;
@@ -10,7 +10,7 @@ use cp_inspect::leaves::Leaf;
 use cp_inspect::state::ProcState;
 use std::alloc::{AllocError, Global};
 
-/// A process when it was seen last.
+/// A process as it was seen last.
 #[derive(Drop)]
 pub(crate) struct SeenProcess {
     number: u32,
@@ -86,8 +86,8 @@ impl SeenProcess {
         Ok(())
     }
 
-    /// What changed since the process was seen last: its status, what it wrote, and its
-    /// variables at these places. It has then been seen.
+    /// The changes since the process was seen last: of its status, its output, and its variables at
+    /// these places. It has then been seen.
     pub(crate) fn changes<'a, 't: 'a, M: Inspect>(
         &mut self,
         alloc: Global,

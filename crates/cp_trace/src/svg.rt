@@ -15,22 +15,23 @@ use cp_inspect::inspect::Inspect;
 use std::alloc::AllocError;
 use std::fmt::Write;
 
-// The width of a round, and the most rounds in a band.
+// The width of a round in pixels, and the most rounds in a band.
 const COLUMN: usize = 12;
 
 const BAND: usize = 100;
 
-// The height of a row, of the bars in it, and from its top to the foot of its letters.
+// The height of a row, that of the bars in it, and the distance from its top to the foot of its
+// letters.
 const ROW: usize = 18;
 
 const BAR: usize = 14;
 
 const FOOT: usize = 11;
 
-// Between the rows of the processes and those of the monitors.
+// The distance between the rows of the processes and those of the monitors.
 const GAP: usize = 6;
 
-// From the top of a band to its first row, and from its last row to the next band.
+// The distance from the top of a band to its first row, and from its last row to the next band.
 const ABOVE: usize = 24;
 
 const BELOW: usize = 16;
@@ -58,7 +59,7 @@ pub struct Picture<'t> {
 }
 
 impl<'t> Picture<'t> {
-    /// The picture that reports a grid of so many rounds.
+    /// The picture that shows a grid of so many rounds.
     pub(crate) fn of(grid: Grid<'t>, rounds: u32) -> Picture<'t> {
         let names = grid.longest_name().saturating_mul(NAME_CHARACTER);
         let columns = names.saturating_add(NAMES) / COLUMN;
@@ -157,7 +158,7 @@ viewBox=\"0 0 {width} {height}\">"
         Ok(())
     }
 
-    // Adds the name of a row and, of a process, its number on its colour.
+    // Adds the name of a row and, for a process, its number on its colour.
     fn push_name(&self, page: &mut String, row: &Row<'_>, y: usize) -> Result<(), AllocError> {
         let foot = y.saturating_add(FOOT);
         if let Owner::Process(number) = row.owner {
@@ -187,7 +188,7 @@ viewBox=\"0 0 {width} {height}\">"
         write!(page, "rounds {first} to {last}")
     }
 
-    // Adds a bar, with a title: of which it says what, and of which rounds.
+    // Adds a bar, with a title: what it says of which process or monitor, and the rounds.
     fn push_bar(
         &self,
         page: &mut String,
@@ -269,7 +270,7 @@ viewBox=\"0 0 {width} {height}\">"
         self.top(self.band).saturating_add(above)
     }
 
-    // Returns the band of the cells.
+    // The band of the cells.
     fn band(&self) -> Result<String, AllocError> {
         let mut page = String::new(self.grid.alloc);
         self.push_marks(&mut page, self.top(self.band))?;
@@ -296,7 +297,7 @@ viewBox=\"0 0 {width} {height}\">"
     ///
     /// # Errors
     ///
-    /// `AllocError` if memory runs out. The picture is then of no more use.
+    /// `AllocError` if memory runs out. The picture is then of no further use.
     pub(crate) fn follow<M: Inspect>(
         &mut self,
         machine: &M,

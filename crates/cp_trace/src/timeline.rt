@@ -1,4 +1,4 @@
-//! A grid as text: a row a process or monitor, a character a round.
+//! A grid as text: a row for each process or monitor, and a character for each round.
 
 ghost use Rattle.std.specs.Prelude.{OnOk};
 ghost use Rattle.cp_trace.specs.Reporting.{Adds, IsAnything, IsSomething};
@@ -12,7 +12,8 @@ use std::fmt::Write;
 // The longest line.
 const WIDTH: usize = 100;
 
-// A block has a multiple of so many rounds, and each round with such a number has it above it.
+// The number of rounds in a block is a multiple of this. Rounds whose numbers are multiples of it
+// have their numbers above them.
 const STEP: usize = 10;
 
 const LEGEND: &str =
@@ -21,7 +22,7 @@ monitor: . unset, - free, else the sign of the process that holds it
 ";
 
 // The sign of a process, which is before its name: a digit, or a letter from the tenth on. All
-// above the 61st have one.
+// processes above the 61st share one sign.
 fn sign(number: u32) -> char {
     char::from(match u8::try_from(number) {
         Ok(digit) if digit < 10 => b'0' + digit,
@@ -104,7 +105,7 @@ impl<'t> Timeline<'t> {
         page.push('\n')
     }
 
-    // Returns the cells as text.
+    // The cells as text.
     fn block(&self) -> Result<String, AllocError> {
         let mut page = String::new(self.grid.alloc);
         self.push_ruler(&mut page)?;
@@ -119,7 +120,7 @@ impl<'t> Timeline<'t> {
     ///
     /// # Errors
     ///
-    /// `AllocError` if memory runs out. The timeline is then of no more use.
+    /// `AllocError` if memory runs out. The timeline is then of no further use.
     pub(crate) fn follow<M: Inspect>(
         &mut self,
         machine: &M,

@@ -1,4 +1,4 @@
-//! What was seen of a machine, and what changed since.
+//! A machine as it was seen last, and its changes since.
 
 use crate::changes::{Change, Changes};
 use crate::monitor::SeenMonitor;
@@ -20,7 +20,7 @@ enum Seen {
 }
 
 impl Seen {
-    // Returns a process or monitor with variables at these places, as it is.
+    // A process or monitor with variables at these places, as it is.
     fn of<M: Inspect>(
         alloc: Global,
         owner: Owner,
@@ -51,7 +51,7 @@ impl Seen {
     }
 }
 
-// A process or monitor of which a trace reports.
+// A process or monitor that a trace reports.
 #[derive(Drop)]
 struct Traced {
     owner: Owner,
@@ -60,7 +60,7 @@ struct Traced {
     seen: Seen,
 }
 
-/// The processes and monitors of which a trace reports, as they were seen last.
+/// The processes and monitors that a trace reports, as they were seen last.
 #[derive(Drop)]
 pub struct Trace<'t> {
     pub(crate) alloc: Global,
@@ -105,12 +105,12 @@ impl<'t> Trace<'t> {
         Ok(())
     }
 
-    /// What changed since the machine was seen last, for each process and monitor that
-    /// changed. The machine has then been seen.
+    /// The changes since the machine was seen last, for each process and monitor that changed. The
+    /// machine has then been seen.
     ///
     /// # Errors
     ///
-    /// `AllocError` if memory runs out. The trace is then of no more use.
+    /// `AllocError` if memory runs out. The trace is then of no further use.
     pub(crate) fn changes<M: Inspect>(
         &mut self,
         machine: &M,
@@ -125,7 +125,7 @@ impl<'t> Trace<'t> {
     }
 }
 
-// Returns what changed of all of them. It borrows their places, and no longer them.
+// What changed of all of them. The result borrows their places, but not them.
 fn changes_of<'a, 't: 'a, M: Inspect>(
     alloc: Global,
     all: &mut [Traced],

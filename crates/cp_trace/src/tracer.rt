@@ -1,4 +1,4 @@
-//! Following a machine round by round, and reporting of it in the form that is asked for.
+//! Following a machine round by round, and reporting it in a form.
 
 ghost use Rattle.std.specs.Prelude.{◌≡◌, IfOk, OnOk};
 ghost use Rattle.cp_trace.specs.Reporting.{Adds};
@@ -14,8 +14,8 @@ use cp_base_config::trace::TraceForm;
 use cp_inspect::inspect::Inspect;
 use std::alloc::{AllocError, Global};
 
-/// Who follows a machine and reports of it. What it has seen takes memory that doesn't grow with
-/// the rounds.
+/// Follows a machine and reports it. What it has seen takes memory that doesn't grow with the
+/// rounds.
 #[derive(Drop)]
 pub enum Tracer<'t> {
     Lines(Trace<'t>),
@@ -27,8 +27,9 @@ pub enum Tracer<'t> {
 impl<'t> Tracer<'t> {
     ghost use Rattle.cp_trace.specs.Tracers.{IsPart, IsTrace, ReportsRound, form_of};
 
-    /// Who follows a machine from what it is now, and reports of it in this form. The machine runs
-    /// the program of the topic's text, and has made the rounds before those that are reported.
+    /// A tracer that follows a machine from what it is now, and reports it in this form. The
+    /// machine runs the program of the topic's text, and has made the rounds before those that are
+    /// reported.
     ///
     /// # Errors
     ///
@@ -52,7 +53,7 @@ impl<'t> Tracer<'t> {
         })
     }
 
-    /// Adds what is before all rounds.
+    /// Adds what comes before all rounds.
     ///
     /// # Errors
     ///
@@ -70,7 +71,7 @@ impl<'t> Tracer<'t> {
     ///
     /// # Errors
     ///
-    /// `AllocError` if memory runs out. The tracer is then of no more use.
+    /// `AllocError` if memory runs out. The tracer is then of no further use.
     pub fn follow<M: Inspect>(
         &mut self,
         rounds: u64,
@@ -93,7 +94,7 @@ impl<'t> Tracer<'t> {
         }
     }
 
-    /// Adds what is behind all rounds.
+    /// Adds what comes after all rounds.
     ///
     /// # Errors
     ///

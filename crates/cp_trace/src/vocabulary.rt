@@ -1,4 +1,4 @@
-//! What a text calls its components and its values: names in place of numbers.
+//! The names of a text for its components and values, in place of numbers.
 
 use crate::changes::Value;
 use crate::owners::{name_of, word};
@@ -14,7 +14,7 @@ use std::alloc::{AllocError, Global};
 // The values of each enumeration, by its name.
 type Enumerations<'t> = NameTable<'t, &'t [Identifier]>;
 
-/// What a text calls its components and its values.
+/// The names of a text for its components and values.
 #[derive(Drop)]
 pub(crate) struct Vocabulary<'t> {
     alloc: Global,
@@ -101,7 +101,7 @@ impl<'t> Vocabulary<'t> {
         }
     }
 
-    // Returns the value with an ordinal of the enumeration with this name.
+    // The value with an ordinal of the enumeration with this name.
     fn enumerated(&self, name: &[u8], ordinal: i32) -> Value<'t> {
         let values = self.enumerations.find(name).unwrap_or(&[]);
         let value = match usize::try_from(ordinal) {
@@ -114,7 +114,7 @@ impl<'t> Vocabulary<'t> {
         }
     }
 
-    // Returns the value with an ordinal, of a base type.
+    // The value with an ordinal, of a base type.
     fn ordinal(&self, base: Option<Base<'_>>, ordinal: i32) -> Value<'t> {
         match base {
             Some(Base::Integer) | None => Value::Integer(ordinal),
@@ -139,7 +139,7 @@ impl<'t> Vocabulary<'t> {
     }
 }
 
-// Returns the character with an ordinal.
+// The character with an ordinal.
 fn character<'t>(ordinal: i32) -> Value<'t> {
     match u8::try_from(ordinal) {
         Ok(byte) => Value::Character(char::from(byte)),
