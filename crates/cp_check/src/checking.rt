@@ -12,6 +12,7 @@ use cp_base_names::Key;
 use cp_compile::compile;
 use cp_compile_symbols::Tables;
 use cp_model::tree::Tree;
+use cp_model_program::counts::has_short_parameters;
 use cp_model_program::law::accepted_tree_has_program;
 use cp_program::program::Program;
 use cp_rules::text::{RuleError, judge};
@@ -53,6 +54,10 @@ pub fn compile_accepted<'t>(
     ensures { IfOk result (IsCompiled tree.now) }
 {
     accepted_tree_has_program(tree);
+    // No source of a mebibyte has so many parameters.
+    if !has_short_parameters(tree) {
+        return Err(AllocError);
+    }
     let tables = tables_of(alloc, key, tree)?;
     let program = compile(alloc, tree, &tables)?;
     Ok(CompiledText { program, tables })

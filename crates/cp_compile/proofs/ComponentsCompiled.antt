@@ -18,6 +18,7 @@ use Rattle.cp_law_typing.specs.Words.{words_of_members}
 use Rattle.cp_model_program.specs.Compile as code
 use Rattle.cp_model_program.specs.Compile.{of_sort, owner_before, owners_of, waiting_words}
 use Rattle.cp_model_program.specs.Layout.{component_words}
+use Rattle.cp_compile_emit.specs.ComponentPlans.{table_fits}
 use Rattle.cp_model_program.specs.Plans.{plan_of_component}
 use Rattle.cp_model_program.specs.Scopes.{declared_type, or_zero}
 use Rattle.cp_compile_symbols.specs.declared.systems.SystemTable.{SystemTable}
@@ -123,7 +124,7 @@ component_put of plans g firsts groups vs v i k text table n o body text_is tabl
     let written : IsWritten there.0 ps ws rs = subst (λ (s : a.System). IsWritten s ps ws rs) erased (record { parameters = refl; variables = refl; routines = refl }) in
     let count : length text.now.routines.items ≡ length there.0.routines =
     sym (length-map rs tree.routine) ∙ sym (length-map (map tree.routine rs) erase.routine) ∙ ap (λ (s : a.System). length s.routines) erased in
-    let plan = i.planned k text table text_is table_is ∙ ap (plan_of_component g) erased in
+    let plan = λ (fits : table_fits table ≡ true). i.planned k text table text_is table_is fits ∙ ap (plan_of_component g) erased in
     let own = is plans g of.tables.now.types there.0 ps ws rs (has_table g of.tables.now.types of.tables.now.systems.items k text table i.systems text_is table_is) written plan in
     let x : code.Owner = record { system = there.0; body = or_zero (lookup (declared_type v.0 groups) firsts) + length there.0.routines } in (
       x,

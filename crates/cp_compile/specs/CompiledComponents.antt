@@ -1,5 +1,5 @@
 -- When monitors and processes are those of the definition.
-use Rattle.std.specs.Prelude.{◌≡◌, ℕ, List, [], ◌∷◌, map}
+use Rattle.std.specs.Prelude.{◌≡◌, true, ℕ, List, [], ◌∷◌, map}
 use Rattle.cp_model.specs.Abstract.{Group, Name, System}
 use Rattle.cp_model.specs.Declarations.{Variable}
 use Rattle.cp_model.specs.Names.{lookup}
@@ -20,7 +20,7 @@ use Rattle.cp_compile_symbols.specs.Texts.{AreSystems}
 use Rattle.cp_compile_symbols.specs.TypeNames.{AreTypeNames}
 use Rattle.cp_compile_symbols.specs.Variables.{AreDeclared, declared_entry}
 use Rattle.cp_program.specs.View.{plan_at}
-use Rattle.cp_compile_emit.specs.ComponentPlans.{ArePlans}
+use Rattle.cp_compile_emit.specs.ComponentPlans.{ArePlans, table_fits}
 use Rattle.cp_compile.specs.declared.components.InitialCompiler.{InitialCompiler}
 use Rattle.cp_compile.specs.declared.components.Owner.{Owner}
 
@@ -38,12 +38,12 @@ AreOwners plans g (o ∷ os) (x ∷ xs) = OwnerIs plans g o x × AreOwners plans
 AreOwners plans g _ _ = ⊥
 
 -- `o` is the component with this body of the system type of this table, provided that plan number
--- `plan` is that of the system type.
+-- `plan` is that of the system type if it has room.
 abbrev pub IsOwner : SystemTable → ℕ → ℕ → Owner → Type 0
 IsOwner table body plan o =
     (plans : List StartPlan) (g : GlobalScope) (types : Types) (s : System)
     (ps : List Parameters) (vs : List Fields) (rs : List tree_routine.Routine)
-    → SystemRepresents g types table ps vs rs → IsWritten s ps vs rs → plan_at plans plan ≡ plan_of_component g s
+    → SystemRepresents g types table ps vs rs → IsWritten s ps vs rs → (table_fits table ≡ true → plan_at plans plan ≡ plan_of_component g s)
     → OwnerIs plans g o (record { system = s; body = body })
 
 -- The component that the variable `v` is, in the definition, is `o`.

@@ -1,5 +1,5 @@
 -- When the code, the plans and the components of a text are those of the definition.
-use Rattle.std.specs.Prelude.{◌≡◌, ◌+◌, ◌∷◌, List, length, map}
+use Rattle.std.specs.Prelude.{◌≡◌, ◌+◌, ◌∷◌, List, length, map, true}
 use Rattle.cp_model.specs.Abstract as a
 use Rattle.cp_model.specs.Abstract.{Name, Tree}
 use Rattle.cp_model.specs.Declarations.{declarations, globals}
@@ -14,7 +14,7 @@ use Rattle.cp_model_program.specs.Layout.{component_words}
 use Rattle.cp_model_program.specs.Plans.{plan_of_component}
 use Rattle.cp_model_program.specs.Programs.{StartPlan}
 use Rattle.cp_compile_emit.specs.declared.plan.Planner.{Planner}
-use Rattle.cp_compile_emit.specs.ComponentPlans.{ArePlans}
+use Rattle.cp_compile_emit.specs.ComponentPlans.{ArePlans, table_fits}
 use Rattle.cp_compile_emit.specs.Planning.{Knows}
 use Rattle.cp_compile_symbols.specs.declared.tables.Tables.{Tables}
 use Rattle.cp_program.specs.View as view
@@ -45,7 +45,7 @@ pub record IsCode (known : List StartPlan) (c : Code) (t : Tree) : Type 0 where
 -- The plans of the components of a text have these numbers.
 pub record ArePlansOf (known : List StartPlan) (g : GlobalScope) (tables : Tables) (t : text.Tree) (plans : Plans) : Type 0 where
   pub systems : ArePlans g tables known plans.first
-  pub initial_is : plan_at known plans.initial ≡ plan_of_component g (text_of t).initial
+  pub initial_is : table_fits tables.initial ≡ true → plan_at known plans.initial ≡ plan_of_component g (text_of t).initial
 
 -- ---- Components
 

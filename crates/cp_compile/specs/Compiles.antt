@@ -1,5 +1,5 @@
 -- When an emitter holds what the definition has compiled.
-use Rattle.std.specs.Prelude.{◌≡◌, ◌++◌, ◌∷◌, [], ℕ, List, map}
+use Rattle.std.specs.Prelude.{◌≡◌, ◌⊎◌, ◌++◌, ◌∷◌, [], ℕ, List, map}
 use Rattle.cp_model.specs.Abstract as a
 use Rattle.cp_model.specs.Erase as erase
 use Rattle.cp_model.specs.View as tree
@@ -18,9 +18,13 @@ pub record IsCompiled (known : List StartPlan) (emitter : Emitter) (c : Compiled
 abbrev pub AddsUnit : ℕ → List ℕ → List ℕ → Type 0
 AddsUnit at old new = Continues (old ++ at ∷ []) new
 
+-- The same, or a unit without code is added.
+abbrev pub MayAdd : ℕ → List ℕ → List ℕ → Type 0
+MayAdd at old new = (old ≡ new) ⊎ AddsUnit at old new
+
 -- Units are added, of which the last one's last operation comes from the place `at`.
 abbrev pub EndsAt : ℕ → List ℕ → List ℕ → Type 0
-EndsAt at old new = (middle : List ℕ) × Continues old middle × AddsUnit at middle new
+EndsAt at old new = (middle : List ℕ) × Continues old middle × MayAdd at middle new
 
 abbrev pub body_of : List Statement → a.Statement
 body_of list = erase.statements (tree.statements_of (map tree.statement list))

@@ -22,6 +22,7 @@ use crate::system::SystemCompiler;
 use cp_base_names::NameTable;
 use cp_compile_emit::Emitter;
 use cp_compile_emit::plan::Planner;
+use cp_compile_emit::starts::has_room;
 use cp_compile_symbols::{Tables, small_number, small_sum};
 use cp_model::tree::{Sort, Tree};
 use cp_program::program::{Monitor, Process, Program};
@@ -102,7 +103,8 @@ fn make_plans<'t>(tables: &Tables<'t>, planner: &mut Planner<'_, 't>) -> Result<
     ensures planner { (g : GlobalScope)
         → IsPlanner tables.now planner.old g → IsPlanner tables.now planner.new g }
 {
-    let initial = planner.add_component(&tables.initial.parameters, &tables.initial.variables)?;
+    let table = &tables.initial;
+    let initial = planner.add_component(has_room(table), &table.parameters, &table.variables)?;
     let first = planner.add_components()?;
     Ok(Plans { first, initial })
 }

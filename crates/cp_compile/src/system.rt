@@ -10,7 +10,7 @@ ghost use Rattle.cp_model_program.specs.IsProgramFor.{end_of};
 ghost use Rattle.cp_compile_symbols.specs.Routines.{RoutineRepresents};
 ghost use Rattle.cp_compile_symbols.specs.Systems.{routines_of};
 ghost use Rattle.cp_program.specs.View as view;
-ghost use Rattle.cp_compile.specs.Compiles.{AddsUnit, EndsAt, body_of};
+ghost use Rattle.cp_compile.specs.Compiles.{EndsAt, MayAdd, body_of};
 ghost use Rattle.cp_compile_emit.specs.Emission.{Continues};
 ghost use Rattle.cp_compile.specs.CompiledSystems.{IsSystem, Makes};
 
@@ -61,7 +61,7 @@ impl<'s, 't> SystemCompiler<'s, 't> {
         ensures origin { OnOk result ((g : GlobalScope) (s : System) (firsts : List (Name × ℕ))
             → IsSystem self.now g s firsts → RoutineRepresents g self.now.tables.now.types table.now
             (erase.routine (tree.routine text.now))
-            → AddsUnit text.now.name.at emitter.old.origins.items emitter.new.origins.items) }
+            → MayAdd text.now.name.at emitter.old.origins.items emitter.new.origins.items) }
     {
         let is_function = text.result_type.is_some();
         let scope = Scope::new(
@@ -71,9 +71,15 @@ impl<'s, 't> SystemCompiler<'s, 't> {
             self.firsts,
             self.first,
         );
+        if !scope.activation_fits() {
+            return emitter.leave_out(self.planner.alloc());
+        }
         let starts = self
             .planner
             .routine(is_function, &table.parameters, &table.variables)?;
+        if !scope.component_fits() {
+            return emitter.add_stub(scope.words()?, starts);
+        }
         let last = Operation::Return {
             function: is_function,
         };
@@ -122,10 +128,13 @@ impl<'s, 't> SystemCompiler<'s, 't> {
             (with_body g s firsts self.now.first c)) }
         ensures origin { OnOk result ((g : GlobalScope) (s : System) (firsts : List (Name × ℕ))
             → IsSystem self.now g s firsts
-            → AddsUnit origin emitter.old.origins.items emitter.new.origins.items) }
+            → MayAdd origin emitter.old.origins.items emitter.new.origins.items) }
     {
         let scope = Scope::new(self.tables, self.system, None, self.firsts, self.first);
         let alloc = self.planner.alloc();
+        if !scope.component_fits() {
+            return emitter.add_stub(0, Vec::new(alloc));
+        }
         compile_unit(
             alloc,
             &scope,

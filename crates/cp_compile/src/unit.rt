@@ -1,7 +1,7 @@
 //! Compiles a unit: the code of a routine or of the body of a system type.
 
 ghost use Rattle.std.specs.Prelude.{List, OnOk};
-ghost use Rattle.cp_model_program.specs.Compile.{Compiled, with_unit};
+ghost use Rattle.cp_model_program.specs.Compile.{Compiled, with_code};
 ghost use Rattle.cp_model_program.specs.Programs.{StartPlan};
 ghost use Rattle.cp_model_program.specs.Scopes as code;
 ghost use Rattle.cp_compile_symbols.specs.Scopes.{IsScope};
@@ -29,7 +29,7 @@ pub fn compile_unit(
 ) -> Result<(), AllocError>
     ensures code { OnOk result ((known : List StartPlan) (s : code.Scope) (c : Compiled)
         → IsScope scope.now s → IsCompiled known emitter.old c → IsCompiled known emitter.new
-        (with_unit s (view.plan_of known starts.items) (view.operation last) (body_of body.now)
+        (with_code s (view.plan_of known starts.items) (view.operation last) (body_of body.now)
         c)) }
     ensures origin { OnOk result ((s : code.Scope) → IsScope scope.now s
         → AddsUnit origin emitter.old.origins.items emitter.new.origins.items) }

@@ -1,6 +1,7 @@
 -- The needs of operations, as an operation is emitted or completed.
 use Rattle.std.proofs.Common.{◌≡◌, ℕ, zero, suc, List, [], ◌∷◌, ◌++◌, ◌+◌, Some, None, drop, length, map, max, refl, ap, sym, ◌∙◌, Option, arith}
 use Rattle.std.specs.Prelude.{slice_get}
+use Rattle.cp_model_program.specs.Layout.{capped}
 use Rattle.cp_model_program.specs.CodeNeeds.{Need, greater_need, need_of, need_of_all, need_of_call, no_need, with_room, with_temps}
 use Rattle.cp_model_program.specs.Programs as op
 use Rattle.cp_model_program.specs.Programs.{CodeUnit, Operation}
@@ -46,7 +47,7 @@ need_with_repeated us body o = refl
 
 abbrev need_when_called : op.Call → Option CodeUnit → Need
 need_when_called c None = no_need
-need_when_called c (Some u) = record { words = c.words + u.words; temps = c.temps + u.temps; frames = 1 + u.frames }
+need_when_called c (Some u) = record { words = capped (c.words + u.words); temps = c.temps + u.temps; frames = 1 + u.frames }
 
 called_alike : (known : List op.StartPlan) (c : op.Call) (us : List emitted.CodeUnit) (n : ℕ)
     → need_when_called c (slice_get (map (view.code_unit known) us) n) ≡ need_when_called c (slice_get (map (view.code_unit []) us) n)
@@ -59,7 +60,7 @@ same_need : (units : List CodeUnit) (c : op.Call) → need_of_call units c ≡ n
 same_need units c = go (slice_get units c.routine)
   where
     go : (o : Option CodeUnit)
-        → elim o as (λ z. Need) [ None ↦ no_need | Some u ↦ record { words = c.words + u.words; temps = c.temps + u.temps; frames = 1 + u.frames } ] ≡ need_when_called c o
+        → elim o as (λ z. Need) [ None ↦ no_need | Some u ↦ record { words = capped (c.words + u.words); temps = c.temps + u.temps; frames = 1 + u.frames } ] ≡ need_when_called c o
     go None = refl
     go (Some u) = refl
 

@@ -67,7 +67,8 @@ impl Need {
         ensures { IfOk result
             (λ n. plain_need n ≡ needs.with_room words (length arguments.now) (plain_need self)) }
     {
-        let room = small_sum(words, small_sum(small_number(arguments.len())?, 1)?)?;
+        let arguments = small_sum(small_number(arguments.len())?, 1)?;
+        let room = words.saturating_add(arguments);
         Ok(Need {
             words: self.words.max(room),
             ..self
@@ -84,7 +85,7 @@ impl Need {
             return Ok(Need::none());
         };
         Ok(Need {
-            words: small_sum(call.words, unit.words)?,
+            words: call.words.saturating_add(unit.words),
             temps: small_sum(call.temps, unit.temps)?,
             frames: small_sum(1, unit.frames)?,
         })

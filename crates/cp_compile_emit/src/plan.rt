@@ -95,7 +95,7 @@ impl<'a, 't> Planner<'a, 't> {
         ensures { IfOk result (λ n. (g : GlobalScope) (t : ResolvedType) → Knows self.now g
             → Represents (types_of self.now) of t → n ≡ words g t) }
     {
-        match self.tables.layouts.words(of) {
+        match self.tables.layouts.words(of)? {
             Some(words) => Ok(words),
             None => Err(AllocError),
         }
@@ -107,7 +107,7 @@ impl<'a, 't> Planner<'a, 't> {
             → by_reference ≡ v.by_reference → Represents (types_of self.now) of v.type
             → n ≡ local_words g v) }
     {
-        match self.tables.layouts.local_words(by_reference, of) {
+        match self.tables.layouts.local_words(by_reference, of)? {
             Some(words) => Ok(words),
             None => Err(AllocError),
         }

@@ -1,11 +1,11 @@
 //! The plans of activations and components.
 
-ghost use Rattle.std.specs.Prelude.{◌≡◌, ◌≤◌, ◌+◌, ◌-◌, List, suc, IfOk, OnOk, if◌then◌else◌, is_some, length, map, option_map, slice_get};
+ghost use Rattle.std.specs.Prelude.{◌≡◌, ◌≤◌, ◌+◌, ◌-◌, true, List, suc, IfOk, OnOk, if◌then◌else◌, is_some, length, map, option_map, slice_get};
 ghost use Rattle.cp_model_program.specs.Layout.{locals_words};
 ghost use Rattle.cp_model_program.specs.Plans.{fill_before, plan_of_component, plan_of_routine};
 ghost use Rattle.cp_model_program.specs.Programs as code;
 ghost use Rattle.cp_model_program.specs.Starts.{unset};
-ghost use Rattle.cp_compile_emit.specs.ComponentPlans.{ArePlans};
+ghost use Rattle.cp_compile_emit.specs.ComponentPlans.{ArePlans, table_fits};
 ghost use Rattle.cp_compile_emit.specs.Drafts.{plan_of};
 ghost use Rattle.cp_compile_emit.specs.Planning.{Extends, Knows, known_of, types_of};
 ghost use Rattle.cp_model.specs.Abstract.{Name, Routine, System};
@@ -108,9 +108,11 @@ impl<'a, 't> Planner<'a, 't> {
     }
 
     /// Adds the plan of a component of a system type with these parameters and variables, whose
-    /// words are 0 before, and returns its number.
+    /// words are 0 before, and returns its number. Nothing is planned for a component that doesn't
+    /// fit.
     pub fn add_component(
         &mut self,
+        fits: bool,
         parameters: &[Declared<'t>],
         variables: &[Declared<'t>],
     ) -> Result<u32, AllocError>
@@ -120,6 +122,7 @@ impl<'a, 't> Planner<'a, 't> {
             ≡ suc (length self.old.plans.items)) }
         ensures number { IfOk result (λ n. n ≡ length self.old.plans.items) }
         ensures plan { IfOk result (λ n. (g : GlobalScope) (s : System) → Knows self.old g
+            → fits ≡ true
             → AreDeclared (types_of self.old) (map declared_entry parameters.now)
             (declarations g s.parameters)
             → AreDeclared (types_of self.old) (map declared_entry variables.now)
@@ -127,7 +130,11 @@ impl<'a, 't> Planner<'a, 't> {
             → view.plan_at (known_of self.new) n ≡ plan_of_component g s) }
         ensures knows { (g : GlobalScope) → Knows self.old g → Knows self.new g }
     {
-        let draft = self.plan_component_of(parameters, variables)?;
+        let draft = if fits {
+            self.plan_component_of(parameters, variables)?
+        } else {
+            Draft::new(self.alloc)
+        };
         self.add_plan(draft)
     }
 
@@ -152,11 +159,18 @@ impl<'a, 't> Planner<'a, 't> {
         let first = small_number(self.plans.len())?;
         let mut count: usize = 0;
         while let Some(table) = self.table(count) {
-            self.add_component(&table.parameters, &table.variables)?;
+            self.add_component(has_room(table), &table.parameters, &table.variables)?;
             count += 1;
         }
         Ok(first)
     }
+}
+
+/// Whether a component of a system type has room.
+pub fn has_room(table: &SystemTable) -> bool
+    ensures { result ≡ table_fits table.now }
+{
+    table.members.words.is_some()
 }
 
 // The number of words before the members: the mark, and one for each parameter that is a right.

@@ -184,7 +184,7 @@ impl<'a, 't> Planner<'a, 't> {
             → Knows self.old g → Represents (types_of self.old) of t
             → ArePlanned (known_of self.new) g p t)) }
     {
-        if self.tables.layouts.words(of).is_none() {
+        if self.tables.layouts.words(of)?.is_none() {
             return Ok(None);
         }
         let plain = self.add_type_plan(false, of)?;

@@ -1,6 +1,7 @@
 //! Units: an emitter begins a unit, emits its operations, and ends it.
 
 ghost use Rattle.std.specs.Prelude.{◌≡◌, List, [], ◌∷◌, ◌++◌, IfOk, OnOk, length, map};
+ghost use Rattle.cp_model_program.specs.Compile.{left_out, stub};
 ghost use Rattle.cp_model_program.specs.Programs.{StartPlan};
 ghost use Rattle.cp_compile_emit.specs.Emission.{operations_of, place_of, unit_ended, units_of};
 ghost use Rattle.cp_program.specs.View as view;
@@ -11,6 +12,9 @@ use cp_compile_symbols::small_number;
 use cp_program::operation::Operation;
 use cp_program::program::{CodeUnit, StartPiece};
 use std::alloc::{AllocError, Global};
+
+/// The greatest number of words that a unit can need. One that needs more has this number.
+const MOST_WORDS: u32 = 0xffff_ffff;
 
 impl Emitter {
     /// Creates an emitter without operations and units.
@@ -62,6 +66,37 @@ impl Emitter {
         self.words = 0;
         self.need = Need::none();
         Ok(())
+    }
+
+    /// Adds a unit without code, whose activations have `words` words, and start by the plan `starts`.
+    pub fn add_stub(&mut self, words: u32, starts: Vec<StartPiece>) -> Result<(), AllocError>
+        ensures operations { OnOk result (operations_of self.new ≡ operations_of self.old) }
+        ensures origins { OnOk result (self.new.origins ≡ self.old.origins) }
+        ensures unit { OnOk result ((known : List StartPlan) → units_of known self.new
+            ≡ units_of known self.old ++ stub words (view.plan_of known starts.items) ∷ []) }
+    {
+        self.units.push(CodeUnit {
+            start: 0,
+            starts,
+            words,
+            temps: 0,
+            frames: 0,
+        })?;
+        self.first = self.operations.len();
+        self.words = 0;
+        self.need = Need::none();
+        Ok(())
+    }
+
+    /// Adds a unit without code, for one that has no room: it needs more words than any process
+    /// has.
+    pub fn leave_out(&mut self, alloc: Global) -> Result<(), AllocError>
+        ensures operations { OnOk result (operations_of self.new ≡ operations_of self.old) }
+        ensures origins { OnOk result (self.new.origins ≡ self.old.origins) }
+        ensures unit { OnOk result ((known : List StartPlan) → units_of known self.new
+            ≡ units_of known self.old ++ left_out ∷ []) }
+    {
+        self.add_stub(MOST_WORDS, Vec::new(alloc))
     }
 
     /// The number of units so far.

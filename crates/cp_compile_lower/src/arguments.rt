@@ -85,7 +85,7 @@ impl<'s, 't> Translator<'s, 't> {
             → n ≡ local_words s.globals v) }
     {
         let layouts = &self.scope.tables().layouts;
-        match layouts.local_words(parameter.by_reference, parameter.of) {
+        match layouts.local_words(parameter.by_reference, parameter.of)? {
             Some(words) => Ok(words),
             None => Err(AllocError),
         }

@@ -257,7 +257,7 @@ impl<'s, 't> Translator<'s, 't> {
             (parameters_of s c) (first_parameter c) low) low)) }
     {
         let table = callee.routine.table;
-        let xs = self.arguments(&table.parameters, es, words_before(table), low, calls)?;
+        let xs = self.arguments(table.passed(), es, words_before(table), low, calls)?;
         self.function_call(callee, xs, low, origin, calls)
     }
 

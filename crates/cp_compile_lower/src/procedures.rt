@@ -215,7 +215,7 @@ impl<'s, 't> Translator<'s, 't> {
         let table = called.routine.table;
         let mut calls = Vec::new(self.alloc);
         let at = words_before(table);
-        let xs = self.arguments(&table.parameters, es, at, low, &mut calls)?;
+        let xs = self.arguments(table.passed(), es, at, low, &mut calls)?;
         let call = self.call(called, xs.arguments, low)?;
         emitter.emit(calls, Operation::Procedure { call, next }, origin)
     }

@@ -43,7 +43,7 @@ impl<'s, 't> Translator<'s, 't> {
         ensures { IfOk result (λ n. (s : code.Scope) (t : ResolvedType) → IsScope self.now.scope s
             → Represents self.now.scope.tables.now.types of t → n ≡ words s.globals t) }
     {
-        match self.scope.tables().layouts.words(of) {
+        match self.scope.tables().layouts.words(of)? {
             Some(words) => Ok(words),
             None => Err(AllocError),
         }

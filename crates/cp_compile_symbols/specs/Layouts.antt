@@ -1,5 +1,5 @@
 -- When layouts are right about the sizes of types and where their members are.
-use Rattle.std.specs.Prelude.{◌≡◌, ℕ, List, [], ◌∷◌, Option, None, Some, filter, if◌then◌else◌, length, map, slice_get, ◌+◌, ◌≤◌}
+use Rattle.std.specs.Prelude.{◌≡◌, ℕ, List, [], ◌∷◌, Option, None, Some, filter, if◌then◌else◌, length, map, slice_get, ◌+◌, ◌≤◌, ◌<◌}
 use Rattle.cp_model.specs.Abstract.{Name}
 use Rattle.cp_model.specs.Declarations.{declarations, is_component}
 use Rattle.cp_model.specs.Erase as erase
@@ -10,7 +10,7 @@ use Rattle.cp_model.specs.Types.{ComponentOf, GlobalScope, Members, ResolvedType
 use Rattle.cp_model.specs.declared.tree.Parameters.{Parameters}
 use Rattle.cp_law_typing.specs.Words.{words, words_of_members}
 use Rattle.cp_model_program.specs.Layout as code
-use Rattle.cp_model_program.specs.Layout.{member_part}
+use Rattle.cp_model_program.specs.Layout.{member_part, most_words}
 use Rattle.cp_compile_symbols.specs.declared.layout.Layout.{Layout}
 use Rattle.cp_compile_symbols.specs.declared.layout.Part.{Part}
 use Rattle.cp_model.specs.declared.tree.System.{System}
@@ -19,9 +19,9 @@ use Rattle.cp_compile_symbols.specs.declared.types.TypeRow.{TypeRow}
 use Rattle.cp_compile_symbols.specs.declared.types.Types.{Types}
 use Rattle.cp_compile_symbols.specs.Representing.{AreMembers, Grows, ScopeRepresents, Represents, name_type, row_at}
 
--- A count is the number `n`, or `None`, which the code uses for a number that is too large.
+-- A count is the number `n`, or `None`, which the code uses for a number that has no room.
 abbrev pub Counts : Option ℕ → ℕ → Type 0
-Counts None n = Unit {0}
+Counts None n = most_words < n
 Counts (Some m) n = m ≡ n
 
 abbrev pub PartIs : Types → Option Part → Option code.Part → Type 0

@@ -1,6 +1,6 @@
 //! The size in words of a variable of each type, and where the members of records and classes are.
 
-ghost use Rattle.std.specs.Prelude.{◌≡◌, ◌∷◌, ◌≤◌, ◌+◌, ◌*◌, [], ℕ, IfOk, OnOk, length, map, option_map, slice_get};
+ghost use Rattle.std.specs.Prelude.{◌≡◌, ◌∷◌, ◌≤◌, ◌<◌, ◌+◌, ◌*◌, [], ℕ, IfOk, OnOk, length, map, option_map, slice_get};
 ghost use Rattle.cp_model.specs.Declarations.{is_component};
 ghost use Rattle.cp_model.specs.Types.{GlobalScope, ResolvedType};
 ghost use Rattle.cp_law_typing.specs.Words.{words};
@@ -46,10 +46,33 @@ pub fn sum(found: Option<u32>, other: Option<u32>) -> Option<u32>
     found?.checked_add(other?)
 }
 
+/// Whether a size has room, which is so unless it is too large.
+pub fn has_room(words: Option<u32>) -> bool
+    ensures { (n : ℕ) → Counts words n → result ≡ code.has_room n }
+{
+    match words {
+        Some(_) => true,
+        None => false,
+    }
+}
+
+// The product of `n` and a number that has no room.
+fn times(n: u32) -> Option<u32>
+    ensures { (m : ℕ) → code.most_words < m → Counts result (n * m) }
+{
+    if n == 0 { Some(0) } else { None }
+}
+
+// The product of two sizes, or `None` if it is too large.
 fn product(count: Option<u32>, words: Option<u32>) -> Option<u32>
     ensures { (m n : ℕ) → Counts count m → Counts words n → Counts result (m * n) }
 {
-    count?.checked_mul(words?)
+    match (count, words) {
+        (Some(count), Some(words)) => count.checked_mul(words),
+        (Some(count), None) => times(count),
+        (None, Some(words)) => times(words),
+        (None, None) => None,
+    }
 }
 
 // Converts a number to a size, or returns `None` if it is too large.
@@ -119,12 +142,19 @@ impl<'t> Layouts<'t> {
     }
 
     /// The size in words of a variable of the type, or `None` if it is too large.
-    pub fn words(&self, number: usize) -> Option<u32>
-        ensures { (g : GlobalScope) (types : Types) (t : ResolvedType)
-            → AreLaid g types self.now.rows.items → Represents types number t → Counts result
-            (words g t) }
+    ///
+    /// # Errors
+    ///
+    /// `AllocError` if the type isn't laid out yet. The parts of a type are laid out before it.
+    pub fn words(&self, number: usize) -> Result<Option<u32>, AllocError>
+        ensures { IfOk result (λ size. (g : GlobalScope) (types : Types) (t : ResolvedType)
+            → AreLaid g types self.now.rows.items → Represents types number t → Counts size
+            (words g t)) }
     {
-        self.layout(number)?.words
+        match self.layout(number) {
+            Some(layout) => Ok(layout.words),
+            None => Err(AllocError),
+        }
     }
 
     /// Where a member of a record or class is in a variable of the type, or `None` if the type
@@ -163,7 +193,8 @@ impl<'t> Layouts<'t> {
                 of: member.of,
             };
             add_first(&mut layout.parts, member.name, part)?;
-            layout.words = sum(layout.words, self.words(member.of));
+            let size = self.words(member.of)?;
+            layout.words = sum(layout.words, size);
         }
         Ok(layout)
     }
@@ -201,7 +232,8 @@ impl<'t> Layouts<'t> {
         match row {
             TypeRow::Simple(_) => Ok(self.bare(Some(1))),
             TypeRow::Array { low, high, element } => {
-                let words = product(as_count(count_between(*low, *high)), self.words(*element));
+                let size = self.words(*element)?;
+                let words = product(as_count(count_between(*low, *high)), size);
                 Ok(self.bare(words))
             }
             TypeRow::Record(fields) => self.members(fields, Some(0)),
@@ -209,7 +241,7 @@ impl<'t> Layouts<'t> {
             TypeRow::Component { system, members } => match types.system(*system) {
                 Some(system) => self.component(names, types, system, members),
                 // Each component type has its system type.
-                None => Ok(self.bare(None)),
+                None => Ok(self.bare(Some(0))),
             },
             TypeRow::Unknown => Ok(self.bare(Some(0))),
         }

@@ -36,13 +36,13 @@ pub struct Locals<'t> {
 
 impl<'t> Layouts<'t> {
     /// The size in words of a parameter or variable in its activation.
-    pub fn local_words(&self, by_reference: bool, of: usize) -> Option<u32>
-        ensures { (g : GlobalScope) (types : Types) (v : Variable)
+    pub fn local_words(&self, by_reference: bool, of: usize) -> Result<Option<u32>, AllocError>
+        ensures { IfOk result (λ size. (g : GlobalScope) (types : Types) (v : Variable)
             → AreLaid g types self.now.rows.items → by_reference ≡ v.by_reference
-            → Represents types of v.type → Counts result (code.local_words g v) }
+            → Represents types of v.type → Counts size (code.local_words g v)) }
     {
         if by_reference {
-            Some(1)
+            Ok(Some(1))
         } else {
             self.words(of)
         }
@@ -65,7 +65,8 @@ impl<'t> Layouts<'t> {
                 of: d.of,
             };
             add_first(&mut locals.names, d.name, local)?;
-            locals.words = sum(locals.words, self.local_words(d.by_reference, d.of));
+            let size = self.local_words(d.by_reference, d.of)?;
+            locals.words = sum(locals.words, size);
         }
         Ok(locals)
     }

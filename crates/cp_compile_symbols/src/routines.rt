@@ -5,10 +5,14 @@ ghost use Rattle.std.specs.Prelude.{◌≡◌, ◌++◌, IfOk, map};
 ghost use Rattle.cp_law_typing.specs.Needs.{result_words};
 ghost use Rattle.cp_model.specs.Erase as erase;
 ghost use Rattle.cp_compile_symbols.specs.Layouts.{Counts};
-ghost use Rattle.cp_compile_symbols.specs.Routines.{MakesResult, MakesRoutine};
-ghost use Rattle.cp_compile_symbols.specs.Variables.{declared_entry};
+ghost use Rattle.cp_model_program.specs.Layout.{passed_parameters};
+ghost use Rattle.cp_model.specs.Abstract as a;
+ghost use Rattle.cp_model.specs.Types.{GlobalScope};
+ghost use Rattle.cp_compile_symbols.specs.Routines.{MakesResult, MakesRoutine, RoutineRepresents};
+ghost use Rattle.cp_compile_symbols.specs.Variables.{AreDeclared, declared_entry};
+ghost use Rattle.cp_compile_symbols.specs.declared.types.Types as tables;
 
-use crate::layout::Layouts;
+use crate::layout::{Layouts, has_room};
 use crate::locals::Locals;
 use crate::names::Names;
 use crate::types::Types;
@@ -26,6 +30,21 @@ pub struct RoutineTable<'t> {
     pub variables: Vec<Declared<'t>>,
     pub(crate) locals: Locals<'t>,
     pub result: Option<usize>,
+}
+
+impl<'t> RoutineTable<'t> {
+    /// The parameters that a call passes: none if an activation has 2^32 words or more.
+    pub fn passed(&self) -> &[Declared<'t>]
+        ensures { (g : GlobalScope) (types : tables.Types) (r : a.Routine)
+            → RoutineRepresents g types self.now r
+            → AreDeclared types (map declared_entry result.now) (passed_parameters g r) }
+    {
+        if has_room(self.locals.words) {
+            &self.parameters
+        } else {
+            &[]
+        }
+    }
 }
 
 // The size of the result in words.

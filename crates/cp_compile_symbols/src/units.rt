@@ -12,6 +12,7 @@ ghost use Rattle.cp_model_program.specs.Scopes as code;
 ghost use Rattle.cp_compile_symbols.specs.Scopes.{IsCallee, IsScope, Names};
 
 use crate::counts::{small_number, small_sum};
+use crate::layout::has_room;
 use crate::scope::{Callee, Scope};
 use crate::systems::Component;
 use std::alloc::AllocError;
@@ -31,6 +32,25 @@ impl<'s, 't> Scope<'s, 't> {
         match self.routine {
             None => Ok(0),
             Some(routine) => routine.locals.words.ok_or(AllocError),
+        }
+    }
+
+    /// Whether a component of the system type has room: it has fewer than 2^32 words. Nothing runs in
+    /// one that has more.
+    pub fn component_fits(&self) -> bool
+        ensures { (s : code.Scope) → IsScope self.now s → result ≡ code.component_fits s }
+    {
+        has_room(self.system.members.words)
+    }
+
+    /// Whether an activation has room: it has fewer than 2^32 words. Nobody calls a routine that
+    /// needs more.
+    pub fn activation_fits(&self) -> bool
+        ensures { (s : code.Scope) → IsScope self.now s → result ≡ code.activation_fits s }
+    {
+        match self.routine {
+            None => true,
+            Some(routine) => has_room(routine.locals.words),
         }
     }
 

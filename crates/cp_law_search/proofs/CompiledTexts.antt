@@ -22,12 +22,12 @@ use Rattle.cp_model_program.specs.IsProgramFor.{end_of}
 use Rattle.cp_model_program.specs.Programs as op
 use Rattle.cp_model_program.specs.Programs.{Done, Operation, Return, StartPlan}
 use Rattle.cp_model_program.specs.Plans.{plan_of_routine}
-use Rattle.cp_model_program.specs.Scopes.{Scope, environment, target_of, unit_of}
+use Rattle.cp_model_program.specs.Scopes.{Scope, activation_fits, component_fits, environment, target_of, unit_of}
 use Rattle.cp_model_program.specs.Sites.{first_parameter}
 use Rattle.cp_model_program.specs.StatementsFor.{is_function}
 use Rattle.cp_model_program.specs.CodedTerms.{CodedArguments, CodedCall, CodedPlaceExpression, CodedTerm, call_of, coded_arguments, coded_place_expression, coded_term, coded_variable, init_arguments, parameters_of}
 use Rattle.cp_model_program.specs.CodedStatements.{assign_by, calls_at, counting, emitted, emitted_arms, high_of, init_by, init_operation, is_char, is_result, low_of, perform_by, runs_function, standard_procedure, standard_statement, store, table_of, with_calls}
-use Rattle.cp_model_program.specs.Compile.{Compiled, CompiledTypes, body_scope, compile, nothing_compiled, routine_scope, with_definition, with_definitions, with_routine, with_routines, with_system, with_unit}
+use Rattle.cp_model_program.specs.Compile.{Compiled, CompiledTypes, body_scope, compile, nothing_compiled, routine_scope, with_code, with_definition, with_definitions, with_nothing, with_routine, with_routines, with_stub, with_system, with_unit}
 use Rattle.cp_law_calls.specs.Clocks.{routines_are_timeless, statement_is_timeless, system_is_timeless, systems_are_timeless, text_is_timeless}
 use Rattle.cp_law_calls.proofs.Calm.{ArmsCalm, Calm, both, together}
 use Rattle.cp_law_calls.proofs.TimelessTexts.{calm_typed, routine_at, system_at}
@@ -188,10 +188,21 @@ module _ (scope : Scope) where
 
 -- ---- System types
 
+code_emitted : (scope : Scope) (starts : StartPlan) (last : Operation) (x : Statement) (c : Compiled) → operation_is_timeless last ≡ true
+    → Calm (environment scope) x → are_timeless c.operations ≡ true → are_timeless (with_code scope starts last x c).operations ≡ true
+code_emitted scope starts last x c h k before =
+    join c.operations _ before (together (operation_is_timeless last) _ h (statement_emitted scope x 0 (suc (length c.operations)) (length c.operations) k))
+
+-- A unit without code adds no operation.
 unit_emitted : (scope : Scope) (starts : StartPlan) (last : Operation) (x : Statement) (c : Compiled) → operation_is_timeless last ≡ true
     → Calm (environment scope) x → are_timeless c.operations ≡ true → are_timeless (with_unit scope starts last x c).operations ≡ true
-unit_emitted scope starts last x c h k before =
-    join c.operations _ before (together (operation_is_timeless last) _ h (statement_emitted scope x 0 (suc (length c.operations)) (length c.operations) k))
+unit_emitted scope starts last x c h k before = by (activation_fits scope) (component_fits scope)
+  where
+    by : (activation component : Bool)
+        → are_timeless (if activation then (if component then with_code scope starts last x c else with_stub scope starts c) else with_nothing c).operations ≡ true
+    by true true = code_emitted scope starts last x c h k before
+    by true false = before
+    by false component = before
 
 end_timeless : (s : Sort) → operation_is_timeless (end_of s) ≡ true
 end_timeless a.Process = refl

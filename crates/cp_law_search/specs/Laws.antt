@@ -9,6 +9,7 @@ use Rattle.cp_model.specs.States.{Setup, State, is_in, numbers_from, process_cou
 use Rattle.cp_model.specs.Syntax as s
 use Rattle.cp_law_stillness.specs.Stillness.{AreAllOfProcesses, is_still}
 use Rattle.cp_model_program.specs.Compile.{compile}
+use Rattle.cp_model_program.specs.ParameterCounts.{are_short}
 use Rattle.cp_model_program.specs.Programs.{Program}
 use Rattle.cp_model_program.specs.IsProgramFor.{IsProgramFor}
 use Rattle.cp_law_calls.specs.Clocks.{text_is_timeless}
@@ -35,10 +36,12 @@ CompiledTextsAreClockless =
     (setup : Setup)
     → IsProgramFor (compile setup.tree) setup → text_is_timeless setup.tree ≡ true → IsClockless (compile setup.tree) setup
 
--- For an accepted tree this test is enough, since its compiled program represents its text.
+-- For an accepted tree this test is enough, since its compiled program represents its text, if its
+-- system types have few parameters.
 abbrev pub TextIsClockless : s.Tree → Type 0
 TextIsClockless t =
-    (setup : Setup) → setup.tree ≡ erase.abstract t → text_is_timeless setup.tree ≡ true → IsClockless (compile setup.tree) setup
+    (setup : Setup) → setup.tree ≡ erase.abstract t → are_short setup.tree.definitions ≡ true → text_is_timeless setup.tree ≡ true
+    → IsClockless (compile setup.tree) setup
 
 -- ---- Ways
 

@@ -1,5 +1,7 @@
 -- A process at the start of its body runs on from there, once its words mean what the store holds
 -- for it.
+use Rattle.cp_model_machine.proofs.OwnersFit.{component_room}
+use Rattle.cp_model_program.specs.Layout.{component_words, most_words}
 use Rattle.std.proofs.Common.{◌≡◌, ◌+◌, ◌≤◌, ℤ, List, [], ◌∷◌, length, Some, refl, ap, sym, subst, ◌∙◌, arith}
 use Rattle.std.specs.Prelude.{slice_get}
 use Rattle.cp_model.specs.Abstract.{Process, System}
@@ -53,6 +55,9 @@ module _ (G : Ground) (F : IsProgramFor G.program G.setup) (texts : F.texts ≡ 
   abbrev begun : PrivateState
   begun = record o { activity = machine.Running; words = words; counter = P.unit.start; base = P.row.words; temp = 0; component = 0; gate = 0; frames = [] }
 
+  room : component_words (scope G) P.system ≤ most_words
+  room = component_room G F.typed.words at P.system 0 (ProcessLies refl P.is_system refl)
+
   unit_fits : (P.row.words + P.unit.words ≤ G.own) × (P.unit.temps ≤ length o.temps) × (P.unit.frames ≤ o.limit)
   unit_fits = (
     omega (arith, A.words_fit, ap (λ (r : code.Process). r.words) same_row, ap (λ (u : CodeUnit). u.words) same_unit),
@@ -82,11 +87,11 @@ module _ (G : Ground) (F : IsProgramFor G.program G.setup) (texts : F.texts ≡ 
       gate = ap innermost_gate (sym (marks_push P.system.body env (EndProcess ∷ [])));
       live = 0;
       left = left_afresh G o.temps o.limit 0 running [] P.unit.start 0 body (omega arith)
-          (push_left G o.temps o.limit running [] P.system.body P.unit.start (represents.2 at).0 0 (EndProcess ∷ []) (represents.2 at).2 (
+          (push_left G o.temps o.limit running [] P.system.body P.unit.start (represents.2 room at).0 0 (EndProcess ∷ []) (represents.2 room at).2 (
             refl,
             refl,
             refl,
-            (represents.2 at).1 ∙ ap (λ z. Some (end_of z)) sort,
+            (represents.2 room at).1 ∙ ap (λ z. Some (end_of z)) sort,
             (P.system, P.is_system, omega (arith, P.words)),
           ));
       next_value = λ c n m e. omega arith;

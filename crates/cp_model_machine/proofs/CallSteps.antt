@@ -3,6 +3,7 @@
 -- The callee's unit represents its routine, so what is passed and then started opens an
 -- activation (`Opening`), and `Invoking` has the rest. A function's caller keeps its task, a
 -- procedure's continues.
+use Rattle.cp_law_typing.specs.Needs.{WordsFit}
 use Rattle.std.proofs.Common.{◌≡◌, inl, inr, ℕ, ◌+◌, List, [], ◌∷◌, length, Bool, true, false, Option, Some, None, refl, ap, sym, subst, ◌∙◌, arith}
 use Rattle.std.specs.Prelude.{◌++◌, if◌then◌else◌, slice_get}
 use Rattle.std.proofs.lemmas.Bool.{true≢false}
@@ -155,10 +156,10 @@ module _ (G : Ground) (s : State) (w : StepContext) (before : List ℕ) (o : Pri
 
 -- ---- steps
 
--- The units of the program represent their texts.
+-- The units of the program represent their texts, and each owner has few words.
 abbrev pub UnitsRepresent : Ground → Type 0
 UnitsRepresent G =
-    (n : ℕ) (u : CodeUnit) (t : UnitText) → slice_get G.program.units n ≡ Some u → slice_get G.texts n ≡ Some t → UnitRepresents G.program G.texts (scope G) u t
+    WordsFit G.setup × ((n : ℕ) (u : CodeUnit) (t : UnitText) → slice_get G.program.units n ≡ Some u → slice_get G.texts n ≡ Some t → UnitRepresents G.program G.texts (scope G) u t)
 
 parameters_distinct : (G : Ground) (g : GlobalScope) (c : Callee) (y : a.System) → g ≡ scope G → Distinct (local_variables (scope G) c.routine ++ permanent_variables (scope G) y) → Distinct (declarations g c.routine.parameters)
 parameters_distinct G g c y same h =
@@ -194,9 +195,10 @@ function_steps G s w before o i l N sees I units v temp after base C j found lef
     called T =
         let back : Back = record { counter = after; into = temp } in
         let W : Waits G o (i ∷ l) (i ∷ l) N.on.running o.counter C.low N.on.live = record { same = refl; means = λ store words. refl; marks = refl; left = left; kept_fit = omega (arith, C.calls.runs.fits.temps) } in
-        let represents = units C.call.routine C.calls.runs.unit (RoutineOf (system_of_callee N.on.running.env v.callee.of) v.callee.routine) C.calls.runs.there C.calls.runs.text in
+        let represents = units.1 C.call.routine C.calls.runs.unit (RoutineOf (system_of_callee N.on.running.env v.callee.of) v.callee.routine) C.calls.runs.there C.calls.runs.text in
         invoked G s w before o i l N sees (i ∷ l) v C.call back o.counter C.low N.on.live C.from o.counter C.low C.high
         record {
+          few = units.0;
           waits = W;
           runs = C.calls.runs;
           represents = represents;
@@ -265,9 +267,10 @@ procedure_steps G s w before o d es env k I units Y call n there h declares = by
         let back : Back = record { counter = n; into = 0 } in
         let rest = left_kept G o.temps o.temps o.limit refl nothing_known (kept_below left.1 0 o.temps N.on.running.temp) N.on.running o.frames left.0 left.1 k (λ m q z. absurd z) (λ m q. refl) left.4 in
         let W : Waits G o (i ∷ k) k N.on.running left.0 left.1 0 = record { same = refl; means = λ store words. refl; marks = refl; left = rest; kept_fit = left.2 } in
-        let represents = units call.routine h.2.runs.unit (RoutineOf (system_of_callee N.on.running.env h.0.of) h.0.routine) h.2.runs.there h.2.runs.text in
+        let represents = units.1 call.routine h.2.runs.unit (RoutineOf (system_of_callee N.on.running.env h.0.of) h.0.routine) h.2.runs.there h.2.runs.text in
         invoked G s w before o i k N N.sees k v call back left.0 left.1 0 o.counter left.3.0 left.1 h.1
         record {
+          few = units.0;
           waits = W;
           runs = h.2.runs;
           represents = represents;

@@ -87,8 +87,10 @@ Reaches G s = (o : Owner) → in_reach G.p (marked_monitors (s.continuation G.p)
 module _ (G : Ground) (s : State) (w : StepContext) (before : List ℕ) (o : PrivateState) (F : IsProgramFor G.program G.setup) (texts : F.texts ≡ G.texts) (part : PartOf G s before o) (I : Invariant s)
     (around : Around G s w) (reaches : Reaches G s) where
   pub units : UnitsRepresent G
-  units n u t unit text =
-      subst (λ ts. UnitRepresents G.program ts (scope G) u t) texts (F.units n u t unit (ap (λ ts. slice_get ts n) texts ∙ text))
+  units = (
+    F.typed.words,
+    λ n u t unit text. subst (λ ts. UnitRepresents G.program ts (scope G) u t) texts (F.units n u t unit (ap (λ ts. slice_get ts n) texts ∙ text)),
+  )
 
   pub now_of : (i : Task) (k : List Task) (R : RunsOn G s.store o (i ∷ k)) → s.continuation G.p ≡ i ∷ k → s.status G.p ≡ stage.Ready
       → IfPlaced i (Sees G (in_sight G) s.store R.running.env) → Now G s w before o i k
@@ -99,7 +101,7 @@ module _ (G : Ground) (s : State) (w : StepContext) (before : List ℕ) (o : Pri
       → local (scope G) f.routine f.routine.name ≡ None
   names R runs f t is result =
       let y = text_is R.text R.env.frame f is runs.frame in
-      let represents = subst (UnitRepresents G.program G.texts (scope G) R.unit) y.1 (units R.number R.unit R.text runs.unit runs.text) in
+      let represents = subst (UnitRepresents G.program G.texts (scope G) R.unit) y.1 (units.1 R.number R.unit R.text runs.unit runs.text) in
       no_local_result (scope G) y.0 f.routine t represents.2 result
 
   pub declares_here : (R : Running) → Runs G (length o.temps) o.limit R o.frames → Declares G R.env

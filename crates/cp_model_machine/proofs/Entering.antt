@@ -10,7 +10,7 @@ use Rattle.cp_model.specs.Locations.{ByIndex, ByName, Location, OfActivation, Of
 use Rattle.cp_model.specs.Stores.{Store, Value}
 use Rattle.cp_model.specs.Types.{ResolvedType}
 use Rattle.cp_model_program.specs.Programs.{Call}
-use Rattle.cp_model_program.specs.Layout.{Part}
+use Rattle.cp_model_program.specs.Layout.{Part, component_words, most_words}
 use Rattle.cp_model_program.specs.Sites as sites
 use Rattle.cp_model_program.specs.Sites.{RoutineOf}
 use Rattle.cp_model_program.specs.IsProgramFor.{UnitRepresents, routine_environment}
@@ -93,6 +93,7 @@ pub record Waits (G : Ground) (o : PrivateState) (i k : List Task) (C : Running)
 pub record Entered (G : Ground) (C : Running) (call : Call) (kept : ℕ) (s : System) (r : Routine) (at : Location) (c : Called) (gate : Option ℕ) : Type 0 where
   pub runs : sites.Runs (site G C) (RoutineOf s r) kept call
   pub represents : UnitRepresents G.program G.texts (scope G) runs.unit (RoutineOf s r)
+  pub room : component_words (scope G) s ≤ most_words
   pub lies_there : ComponentLies G at s c.component
   pub same_gate : c.gate ≡ gate_number gate
   pub is_gate : IsGate G gate
@@ -122,9 +123,9 @@ entered_on G store after o ws i k R call back s r at c gate place kept live W E 
     gate = ap (λ g. innermost g o.gate) E.same_gate ∙ (entered gate E.is_gate ∙ ap innermost_gate (sym (marks_push r.body env (EndCall env gate ∷ k))));
     live = 0;
     left = left_afresh G o.temps o.limit 0 N (f ∷ o.frames) E.runs.unit.start 0 (push r.body env (EndCall env gate ∷ k)) (omega arith)
-        (push_left G o.temps o.limit N (f ∷ o.frames) r.body E.runs.unit.start (E.represents.4 at (owner_of_call G k)).0 0 (EndCall env gate ∷ k) (E.represents.4 at (owner_of_call G k)).2 (
+        (push_left G o.temps o.limit N (f ∷ o.frames) r.body E.runs.unit.start (E.represents.4 E.room at (owner_of_call G k)).0 0 (EndCall env gate ∷ k) (E.represents.4 E.room at (owner_of_call G k)).2 (
           refl,
-          record { frame = record { owner = owner_of_call G k; routine = r }; runs = refl; owner = refl; return = (E.represents.4 at (owner_of_call G k)).1 },
+          record { frame = record { owner = owner_of_call G k; routine = r }; runs = refl; owner = refl; return = (E.represents.4 E.room at (owner_of_call G k)).1 },
           (E.same_gate, held, E.is_gate),
           (
             R.running,

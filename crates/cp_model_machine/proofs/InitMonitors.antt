@@ -1,5 +1,6 @@
 -- The `init` of a monitor, with all words in reach: its parameters are stored in it, and its body
 -- is entered while its gate is held.
+use Rattle.cp_model_machine.proofs.OwnersFit.{component_room}
 use Rattle.std.proofs.Common.{suc, zero, Bool, List, None, Option, Some, [], ap, arith, false, inl, inr, length, refl, subst, sym, true, ℕ, ℤ, ◌+◌, ◌<◌, ◌∙◌, ◌∷◌, ◌≡◌, ◌≤◌, ◌⊎◌}
 use Rattle.std.specs.Prelude.{if◌then◌else◌, not}
 use Rattle.cp_model.specs.Abstract as a
@@ -26,7 +27,7 @@ use Rattle.cp_model_program.specs.Programs.{Call}
 use Rattle.cp_law_typing.specs.Declared.{Distinct}
 use Rattle.cp_law_typing.specs.StartValues.{IsIn}
 use Rattle.cp_law_typing.specs.Words.{words}
-use Rattle.cp_model_program.specs.Layout.{Part}
+use Rattle.cp_model_program.specs.Layout.{Part, component_words, most_words}
 use Rattle.cp_model_program.specs.Sites as sites
 use Rattle.cp_model_program.specs.Sites.{BodyOf, TargetOf}
 use Rattle.cp_model_program.specs.IsProgramFor.{UnitRepresents, end_of, system_of_monitor}
@@ -73,13 +74,13 @@ body_of_monitor G s m = record { globals = scope G; system = s; component = moni
 
 -- The process runs on in the body, and holds the gate.
 body_entered : (G : Ground) (store : Store) (o : PrivateState) (i : Task) (k : List Task) (R : RunsOn G store o (i ∷ k)) (call : Call) (back : Back) (s : System) (m : ℕ) (c : Called) (kept : ℕ)
-    → (C : sites.Runs (site G R.running) (BodyOf s) kept call) → UnitRepresents G.program G.texts (scope G) C.unit (BodyOf s) → s.sort ≡ Monitor → system_of_monitor G.setup m ≡ Some s
+    → (C : sites.Runs (site G R.running) (BodyOf s) kept call) → UnitRepresents G.program G.texts (scope G) C.unit (BodyOf s) → component_words (scope G) s ≤ most_words → s.sort ≡ Monitor → system_of_monitor G.setup m ≡ Some s
     → c.component ≡ G.own + monitor_start G.program m → c.gate ≡ m → ClassHasRights G store c.component
     → activations o.base o.frames (i ∷ k) ≡ activations o.base o.frames k → ActivationsMean G store o.words o.base o.frames (i ∷ k) ≡ ActivationsMean G store o.words o.base o.frames k
     → marked_monitors (i ∷ k) ≡ marked_monitors k
     → Remaining G o.temps o.limit nothing_known R.running o.frames back.counter kept k → kept ≤ R.running.unit.temps
     → RunsOn G store (enter o c C.unit call back) (push s.body (body_of_monitor G s m) (EndBody (Some m) ∷ k))
-body_entered G store o i k R call back s m c kept C represents sort is from gate has same means marks left fits = record {
+body_entered G store o i k R call back s m c kept C represents room sort is from gate has same means marks left fits = record {
   at = record {
     running = N;
     runs = new_runs;
@@ -89,9 +90,9 @@ body_entered G store o i k R call back s m c kept C represents sort is from gate
     gate = ap (λ g. innermost g o.gate) gate ∙ (entered m (monitor_numbered G m (s, is)) ∙ ap innermost_gate (sym (marks_push s.body env (EndBody (Some m) ∷ k))));
     live = 0;
     left = left_afresh G o.temps o.limit 0 N (f ∷ o.frames) C.unit.start 0 (push s.body env (EndBody (Some m) ∷ k)) (omega arith)
-        (push_left G o.temps o.limit N (f ∷ o.frames) s.body C.unit.start (represents.2 at).0 0 (EndBody (Some m) ∷ k) (represents.2 at).2 (
+        (push_left G o.temps o.limit N (f ∷ o.frames) s.body C.unit.start (represents.2 room at).0 0 (EndBody (Some m) ∷ k) (represents.2 room at).2 (
           refl,
-          (represents.2 at).1 ∙ ap (λ z. Some (end_of z)) sort,
+          (represents.2 room at).1 ∙ ap (λ z. Some (end_of z)) sort,
           (gate, held, (s, is)),
           (
             R.running,
@@ -262,7 +263,7 @@ monitor_inits G s w before o x es env k I units K Y call next h none declares =
     placed = monitor_placed G (activations o.base o.frames (first ∷ k)) top stack m c.component n.system (ap (λ v. addresses.sees v G.p (OfMonitor m)) K.sight) is (omega (arith, Y.now.around.own))
 
     represents : UnitRepresents G.program G.texts (scope G) h.2.runs.unit (BodyOf n.system)
-    represents = units call.routine h.2.runs.unit (BodyOf n.system) h.2.runs.there h.2.runs.text
+    represents = units.1 call.routine h.2.runs.unit (BodyOf n.system) h.2.runs.there h.2.runs.text
 
     names : Distinct (declarations (scope G) n.system.parameters)
     names = distinct_first (declarations (scope G) n.system.parameters) (declarations (scope G) n.system.variables) represents.1
@@ -320,7 +321,7 @@ monitor_inits G s w before o x es env k I units K Y call next h none declares =
         (body_entered G (put_all ws s.store) (record o { words = moved us }) first k
         (runs_settled G s.store (put_all ws s.store) o (moved us) (first ∷ k) Y.now.on at c.component n.system placed represents.1 one offsets settled
         (copied_length us us (c.component + 1) (o.base + call.words + 1) (length passed) ∙ B.length_is))
-        call back n.system m c Y.now.on.left.2.1 h.2.runs represents h.0 is (omega (arith, Y.now.around.own)) refl
+        call back n.system m c Y.now.on.left.2.1 h.2.runs represents (component_room G units.0 (monitor_location m) n.system (G.own + monitor_start G.program m) (MonitorLies m refl is refl)) h.0 is (omega (arith, Y.now.around.own)) refl
         (no_class_begins G s w before o first k Y.now Y.now.sees I K (put_all ws s.store) m n.system is)
         refl refl refl
         (subst (λ z. Remaining G o.temps o.limit nothing_known Y.now.on.running o.frames z Y.now.on.left.2.1 k) (sym h.1) Y.now.on.left.2.4) Y.now.on.left.2.2)

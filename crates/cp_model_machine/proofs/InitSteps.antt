@@ -1,6 +1,7 @@
 -- Whole private steps of the `init` of a class: the arguments are passed beyond all activations and
 -- moved to the words after the mark (`Settling`), the mark is a value that is stored, and the body
 -- has the activations of its caller.
+use Rattle.cp_model_machine.proofs.OwnersFit.{component_room}
 use Rattle.std.proofs.Common.{Bool, List, None, Option, Some, [], ap, arith, false, inl, inr, length, pos, refl, subst, sym, true, ℕ, ℤ, ◌+◌, ◌<◌, ◌∙◌, ◌∷◌, ◌≡◌, ◌≤◌, ◌⊎◌}
 use Rattle.std.specs.Prelude.{if◌then◌else◌, not}
 use Rattle.cp_model.specs.Abstract as a
@@ -30,7 +31,7 @@ use Rattle.cp_model_program.specs.Programs.{Call, CodeUnit}
 use Rattle.cp_law_typing.specs.Declared.{Distinct}
 use Rattle.cp_law_typing.specs.StartValues.{IsIn}
 use Rattle.cp_law_typing.specs.Words.{words}
-use Rattle.cp_model_program.specs.Layout.{Part, member}
+use Rattle.cp_model_program.specs.Layout.{Part, member, component_words, most_words}
 use Rattle.cp_model_program.specs.Sites as sites
 use Rattle.cp_model_program.specs.Sites.{BodyOf, TargetOf, operation_at}
 use Rattle.cp_model_program.specs.IsProgramFor.{UnitRepresents, end_of}
@@ -78,12 +79,12 @@ body_of_class G s at = record { globals = scope G; system = s; component = at; f
 
 -- The process runs on in the body, where the mark is set.
 body_entered : (G : Ground) (store : Store) (o : PrivateState) (i : Task) (k : List Task) (R : RunsOn G store o (i ∷ k)) (call : Call) (back : Back) (s : System) (at : Location) (n kept : ℕ)
-    → (C : sites.Runs (site G R.running) (BodyOf s) kept call) → UnitRepresents G.program G.texts (scope G) C.unit (BodyOf s) → s.sort ≡ Class → in_sight G at.owner ≡ true → lies G [] at ≡ Some (n, component_type G s) → HasRights G store at s
+    → (C : sites.Runs (site G R.running) (BodyOf s) kept call) → UnitRepresents G.program G.texts (scope G) C.unit (BodyOf s) → component_words (scope G) s ≤ most_words → s.sort ≡ Class → in_sight G at.owner ≡ true → lies G [] at ≡ Some (n, component_type G s) → HasRights G store at s
     → activations o.base o.frames (i ∷ k) ≡ activations o.base o.frames k → ActivationsMean G (put at (Initialised true) store) (set_word o n (pos 1)).words o.base o.frames (i ∷ k) ≡ ActivationsMean G (put at (Initialised true) store) (set_word o n (pos 1)).words o.base o.frames k
     → marked_monitors (i ∷ k) ≡ marked_monitors k
     → Remaining G o.temps o.limit nothing_known R.running o.frames back.counter kept k → kept ≤ R.running.unit.temps
     → RunsOn G (put at (Initialised true) store) (enter (set_word o n (pos 1)) (class_at n) C.unit call back) (push s.body (body_of_class G s at) (EndBody None ∷ k))
-body_entered G store o i k R call back s at n kept C represents sort own there has same means marks left fits = record {
+body_entered G store o i k R call back s at n kept C represents room sort own there has same means marks left fits = record {
   at = record {
     running = N;
     runs = new_runs;
@@ -93,9 +94,9 @@ body_entered G store o i k R call back s at n kept C represents sort own there h
     gate = held ∙ ap innermost_gate (sym (marks_push s.body env (EndBody None ∷ k)));
     live = 0;
     left = left_afresh G o.temps o.limit 0 N (f ∷ o.frames) C.unit.start 0 (push s.body env (EndBody None ∷ k)) (omega arith)
-        (push_left G o.temps o.limit N (f ∷ o.frames) s.body C.unit.start (represents.2 at).0 0 (EndBody None ∷ k) (represents.2 at).2 (
+        (push_left G o.temps o.limit N (f ∷ o.frames) s.body C.unit.start (represents.2 room at).0 0 (EndBody None ∷ k) (represents.2 room at).2 (
           refl,
-          (represents.2 at).1 ∙ ap (λ z. Some (end_of z)) sort,
+          (represents.2 room at).1 ∙ ap (λ z. Some (end_of z)) sort,
           (refl, held, tt),
           (
             R.running,
@@ -257,7 +258,7 @@ init_steps G s w before o x es env k I units Y call next there h none declares =
     back = record { counter = next; into = 0 }
 
     represents : UnitRepresents G.program G.texts (scope G) h.2.runs.unit (BodyOf n.system)
-    represents = units call.routine h.2.runs.unit (BodyOf n.system) h.2.runs.there h.2.runs.text
+    represents = units.1 call.routine h.2.runs.unit (BodyOf n.system) h.2.runs.there h.2.runs.text
 
     names : Distinct (declarations (scope G) n.system.parameters)
     names = distinct_first (declarations (scope G) n.system.parameters) (declarations (scope G) n.system.variables) represents.1
@@ -351,7 +352,7 @@ init_steps G s w before o x es env k I units Y call next there h none declares =
             (body_entered G (put_all ws s.store) (record o { words = moved us }) first k
             (runs_settled G s.store (put_all ws s.store) o (moved us) (first ∷ k) Y.now.on (name_location here n) (o.component + off) n.system placed represents.1 one offsets settled
             (copied_length us us (o.component + off + 1) (o.base + call.words + 1) (length passed) ∙ B.length_is))
-            call back n.system (name_location here n) (o.component + off) Y.now.on.left.2.1 h.2.runs represents h.0 Y.now.sees.component lying
+            call back n.system (name_location here n) (o.component + off) Y.now.on.left.2.1 h.2.runs represents (component_room G units.0 (name_location here n) n.system (o.component + off) (ClassLies h.0 lying)) h.0 Y.now.sees.component lying
             (has_settled G (activations o.base o.frames (first ∷ k)) top (runs_stacked G s.store o (first ∷ k) Y.now.on) s.store (put_all ws s.store) o.words (moved us) (name_location here n) (o.component + off) n.system placed represents.1 one offsets settled)
             refl refl refl
             (subst (λ z. Remaining G o.temps o.limit nothing_known Y.now.on.running o.frames z Y.now.on.left.2.1 k) (sym h.1) Y.now.on.left.2.4) Y.now.on.left.2.2)

@@ -3,6 +3,8 @@
 -- Both sides test the same target, bind only what belongs to the new activation, and enter the
 -- same gate. So all that differs from call to call is that the activation opens, which is a
 -- premise here.
+use Rattle.cp_law_typing.specs.Needs.{WordsFit}
+use Rattle.cp_model_machine.proofs.OwnersFit.{component_room}
 use Rattle.std.proofs.Common.{Bool, List, None, Some, [], ap, arith, false, inl, inr, length, refl, subst, sym, true, ℕ, ℤ, ◌++◌, ◌+◌, ◌∙◌, ◌∷◌, ◌≡◌, ◌≤◌}
 use Rattle.std.specs.Prelude.{if◌then◌else◌}
 use Rattle.std.proofs.lemmas.Bool.{true≢false}
@@ -120,6 +122,7 @@ module _ (G : Ground) (s : State) (w : StepContext) (before : List ℕ) (o : Pri
 
   -- What a call needs.
   pub record Invocation (from last low high : ℕ) : Type 1 where
+    pub few : WordsFit G.setup
     pub waits : Waits G o (i ∷ l) k N.on.running place kept live
     pub runs : sites.Runs (site G N.on.running) (RoutineOf callee_system v.callee.routine) kept call
     pub represents : UnitRepresents G.program G.texts (scope G) runs.unit (RoutineOf callee_system v.callee.routine)
@@ -257,7 +260,7 @@ module _ (G : Ground) (s : State) (w : StepContext) (before : List ℕ) (o : Pri
           (gate_entered G s before t.gate after _ N.ready
           (went G s before o N.part (opened_store ws) after (push v.callee.routine.body env (EndCall env t.gate ∷ k))
           (entered_on G s.store (opened_store ws) o new_words (i ∷ l) k N.on call back callee_system v.callee.routine t.component c t.gate place kept live I.waits
-          (record { runs = I.runs; represents = I.represents; lies_there = I.target_is.lies_there callable; same_gate = I.target_is.gate; is_gate = I.target_is.is_gate callable })
+          (record { runs = I.runs; represents = I.represents; room = component_room G I.few t.component callee_system c.component (I.target_is.lies_there callable); lies_there = I.target_is.lies_there callable; same_gate = I.target_is.gate; is_gate = I.target_is.is_gate callable })
           I.caller (I.target_is.given callable) (live_same ws inside) below (I.represents.0.length_is (o.base + call.words) new ∙ B.length_is) (I.opens ws new B.length_is B))
           record { number = refl; input = refl; consumed = refl; output = refl; activity = refl }))
         where

@@ -12,6 +12,7 @@ pub mod Indexed
 pub mod Evaluates
 -- What a process holds.
 pub mod Owned
+pub mod OwnersFit
 pub mod Stacks
 pub mod Separate
 pub mod Heres

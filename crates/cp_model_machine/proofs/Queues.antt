@@ -46,7 +46,7 @@ module _ (G : Ground) (units : UnitsRepresent G) (temps : List ℤ) (limit : ℕ
   routine_none : (R : Running) (fs : List machine.Frame) → Runs G (length temps) limit R fs → (f : Frame) → R.env.frame ≡ Some f → HasNoQueues (scope G) f.routine
   routine_none R fs runs f is =
       let y = text_is R.text R.env.frame f is runs.frame in
-      let represents = subst (UnitRepresents G.program G.texts (scope G) R.unit) y.1 (units R.number R.unit R.text runs.unit runs.text) in
+      let represents = subst (UnitRepresents G.program G.texts (scope G) R.unit) y.1 (units.1 R.number R.unit R.text runs.unit runs.text) in
       locals_none (scope G) _ (declarations (scope G) f.routine.parameters) (declarations (scope G) f.routine.variables) represents.5 represents.3
 
   pub activations_none : (b : ℕ) (K : Knowns) (R : Running) (fs : List machine.Frame) (place low : ℕ) (k : List Task) → Runs G (length temps) limit R fs → Remaining G temps limit K R fs place low k

@@ -20,7 +20,7 @@ use Rattle.cp_model_program.specs.Sites.{BodyOf, NamesLocal, NamesMember, Routin
 use Rattle.cp_model_program.specs.TermsFor.{nothing_known}
 use Rattle.cp_model_program.specs.StatementsFor.{CodeFor}
 use Rattle.cp_model_program.specs.IsProgramFor.{body_environment, routine_environment}
-use Rattle.cp_model_program.specs.Compile.{unit_texts}
+use Rattle.cp_model_program.specs.Compile.{all_texts}
 use Rattle.cp_model_program.specs.Example.{b, c, d, m, p, get, go, run, add, program, setup, tree}
 use Rattle.cp_model_program.proofs.Example.{g, int, le, lent, one, type_of}
 use Rattle.cp_model_machine.specs.PrivateStates as machine
@@ -29,7 +29,7 @@ use Rattle.cp_model_machine.specs.Addresses.{ClassLies, Ground, OwnWords, Proces
 use Rattle.cp_model_machine.specs.Remaining.{Remaining, Running, Runs, held_below, kept_below, site}
 
 abbrev ground : Ground
-ground = record { program = program; texts = unit_texts tree; setup = setup; p = 2; own = 9 + (unit_at program 8).words; sight = OwnWords; monitors_lie = tt }
+ground = record { program = program; texts = all_texts tree; setup = setup; p = 2; own = 9 + (unit_at program 8).words; sight = OwnWords; monitors_lie = tt }
 
 abbrev temps_count : ℕ
 temps_count = (unit_at program 8).temps

@@ -22,7 +22,7 @@ use Rattle.cp_model.specs.declared.state.Fault.TheVariants as fault
 use Rattle.cp_model.proofs.Options.{same_some}
 use Rattle.cp_model_program.specs.Programs as op
 use Rattle.cp_model_program.specs.Layout.{local}
-use Rattle.cp_model_program.specs.Sites.{BodyOf, RoutineOf, UnitText}
+use Rattle.cp_model_program.specs.Sites.{BodyOf, LeftOut, RoutineOf, UnitText}
 use Rattle.cp_model_program.specs.Starts.{unset, word}
 use Rattle.cp_model_program.specs.StatementsFor.{is_function}
 use Rattle.cp_model_machine.specs.PrivateStates as machine
@@ -108,6 +108,7 @@ pub text_is : (t : UnitText) (x : Option Frame) (f : Frame) → x ≡ Some f →
 text_is t None f e h = absurd (some_is_not_none f (sym e))
 text_is (RoutineOf s r) (Some g) f e h = (s, ap (RoutineOf s) (sym h ∙ ap (λ (y : Frame). y.routine) (same_some g f e)))
 text_is (BodyOf s) (Some g) f e h = absurd h
+text_is (LeftOut s) (Some g) f e h = absurd h
 
 module _ (G : Ground) (s : State) (w : StepContext) (before : List ℕ) (o : PrivateState) (f : machine.Frame) (fs : List machine.Frame) (env : Environment) (gate : Option ℕ) (k : List Task)
     (N : Now G s w before (record o { frames = f ∷ fs }) (EndCall env gate) k) where

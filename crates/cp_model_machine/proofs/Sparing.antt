@@ -82,7 +82,7 @@ module _ (G : Ground) (s : State) (w : StepContext) (before : List ℕ) (o : Pri
       (omega (arith, first, globals, locals_two (scope G) (declarations (scope G) c.routine.parameters) (declarations (scope G) c.routine.variables))))
     where
       represents : UnitRepresents G.program G.texts (scope G) C.unit (RoutineOf (system_of_callee N.on.running.env c.of) c.routine)
-      represents = units G s w before o F texts part I around reaches call.routine C.unit (RoutineOf (system_of_callee N.on.running.env c.of) c.routine) C.there C.text
+      represents = (units G s w before o F texts part I around reaches).1 call.routine C.unit (RoutineOf (system_of_callee N.on.running.env c.of) c.routine) C.there C.text
 
       globals : locals_words N.on.running.env.globals (parameters (site G N.on.running) c) ≡ locals_words (scope G) (declarations (scope G) c.routine.parameters)
       globals = ap (λ g. locals_words g (declarations g c.routine.parameters)) N.on.runs.globals

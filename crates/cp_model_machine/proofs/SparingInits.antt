@@ -70,7 +70,7 @@ module _ (G : Ground) (s : State) (w : StepContext) (before : List ℕ) (o : Pri
         init_values (site G Y.now.on.running) known_here n.system passed es call.arguments o.counter Y.now.on.left.2.3.0 Y.now.on.left.2.1 Y.now.on.running.unit.temps arguments (scope G) p i component
 
     represents : UnitRepresents G.program G.texts (scope G) C.runs.unit (BodyOf n.system)
-    represents = units call.routine C.runs.unit (BodyOf n.system) C.runs.there C.runs.text
+    represents = units.1 call.routine C.runs.unit (BodyOf n.system) C.runs.there C.runs.text
 
     names : Distinct (declarations (scope G) n.system.parameters)
     names = distinct_first (declarations (scope G) n.system.parameters) (declarations (scope G) n.system.variables) represents.1

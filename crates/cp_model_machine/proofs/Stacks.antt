@@ -8,7 +8,7 @@ use Rattle.cp_model.specs.Environments.{Environment, Frame}
 use Rattle.cp_model.specs.Types.{GlobalScope}
 use Rattle.cp_model_program.specs.Layout.{activation_words, component_words}
 use Rattle.cp_model_program.specs.TermsFor.{Knowns, nothing_known}
-use Rattle.cp_model_program.specs.Sites.{BodyOf, RoutineOf, UnitText}
+use Rattle.cp_model_program.specs.Sites.{BodyOf, LeftOut, RoutineOf, UnitText}
 use Rattle.cp_model_program.specs.IsProgramFor.{own_words, system_of_process}
 use Rattle.cp_model_machine.specs.PrivateStates as machine
 use Rattle.cp_model_machine.specs.Addresses.{Activation, AllWords, Ground, MonitorsLie, OwnWords, Sight, WhereMonitorsLie, activation_at, activation_of, activations, in_sight, scope, sees, whole, words_seen}
@@ -42,6 +42,7 @@ pub frame_words : (g : GlobalScope) (t : UnitText) (f : Option Frame) (r : Frame
 frame_words g t None r e h = absurd (some_is_not_none r (sym e))
 frame_words g (RoutineOf s q) (Some f) r e h = ap (activation_words g) (sym h ∙ ap (λ (y : Frame). y.routine) (same_some f r e))
 frame_words g (BodyOf s) (Some f) r e h = absurd h
+frame_words g (LeftOut s) (Some f) r e h = absurd h
 
 pub stacked : (G : Ground) (temps : List ℤ) (limit : ℕ) (K : Knowns) (R : Running) (fs : List machine.Frame) (place low : ℕ) (k : List Task)
     → R.env.globals ≡ scope G → FrameFor R.text R.env.frame → Remaining G temps limit K R fs place low k

@@ -1,5 +1,5 @@
 -- A compiled call calls the routine that is meant, and its target is the component that is named.
-use Rattle.std.proofs.Common.{◌≡◌, ℕ, List, [], ◌∷◌, ◌++◌, if◌then◌else◌, Option, Some, None, refl, ap, sym, subst, ◌∙◌, Bool, true, false, not, filter, bytes_eq}
+use Rattle.std.proofs.Common.{◌≡◌, ℕ, List, [], ◌∷◌, ◌++◌, if◌then◌else◌, Option, Some, None, refl, ap, sym, subst, ◌∙◌, Bool, true, false, not, filter, arith, bytes_eq}
 use Rattle.cp_model.specs.Abstract as a
 use Rattle.cp_model.specs.Abstract.{Name, Routine, Sort, System}
 use Rattle.cp_model.specs.Names.{lookup}
@@ -14,13 +14,14 @@ use Rattle.cp_law_typing.specs.StaticTypes.{answer_type}
 use Rattle.cp_model_program.specs.Terms.{Argument}
 use Rattle.cp_model_program.specs.Programs.{CodeUnit, Program}
 use Rattle.cp_model_program.specs.Sites.{Answers, Calls, RightTo, RoutineOf, Site, TargetFor, TargetOf, UnitText, system_of_callee}
-use Rattle.cp_model_program.specs.Layout.{member, rights}
+use Rattle.cp_model_program.specs.Layout.{activation_words, member, rights}
 use Rattle.cp_model_program.specs.Scopes.{Scope, environment, part_start, right_start, target_by, target_of, unit_of}
 use Rattle.cp_model_program.proofs.Found.{kept_found, kept_none, not_a_member, right_found, variable_is_member}
 use Rattle.cp_law_typing.specs.Declared.{Distinct}
 use Rattle.cp_law_typing.proofs.ComponentNames.{IsNamed, is_named}
 use Rattle.cp_law_typing.proofs.Names.{bytes_same, lookup_first, lookup_later}
-use Rattle.cp_model_program.specs.CodedTerms.{call_of}
+use Rattle.cp_model_program.specs.CodedTerms.{call_of, parameters_of}
+use Rattle.cp_model_program.proofs.Room.{room_is}
 use Rattle.cp_model_program.proofs.Environments.{environment_at}
 use Rattle.cp_model_program.proofs.Representing.{CallFits, Representing, UnitThere, place_at}
 
@@ -174,13 +175,13 @@ module _ (scope : Scope) (program : Program) (texts : List UnitText) (systems : 
       → CallFits scope program texts before unit (call_of scope (unit_of scope c) (target_of (environment scope) c.of) xs low)
       → Calls site d c low (call_of scope (unit_of scope c) (target_of (environment scope) c.of) xs low)
   call_represents d c low xs means may fits =
-      let there : UnitThere program texts before (unit_of scope c) (RoutineOf (system_of_callee env c.of) c.routine) = standing.units at o c.routine c.of (λ n is. callee_of env d c n means is) may in
+      let there : UnitThere scope.globals program texts before (unit_of scope c) (RoutineOf (system_of_callee env c.of) c.routine) = standing.units at o c.routine c.of (λ n is. callee_of env d c n means is) may in
       let room = fits there.unit there.earlier in
       record {
         means = means;
         target = target_represents d c c.of refl means may;
         runs = record {
-          text = there.text;
+          text = there.text room.3;
           unit = there.unit;
           there = there.there;
           fits = record { words = room.0; temps = room.1; frames = room.2 };
@@ -188,6 +189,16 @@ module _ (scope : Scope) (program : Program) (texts : List UnitText) (systems : 
           temps = refl;
         };
       }
+
+  -- a call passes all parameters
+  pub call_passes : (d : a.Designator) (c : Callee) (low : ℕ) (xs : List Argument) → callee env d ≡ Some c → MayBeCalled (place_at scope systems routines at o) c.routine c.of
+      → CallFits scope program texts before unit (call_of scope (unit_of scope c) (target_of (environment scope) c.of) xs low)
+      → parameters_of scope c ≡ declarations scope.globals c.routine.parameters
+  call_passes d c low xs means may fits =
+      let there : UnitThere scope.globals program texts before (unit_of scope c) (RoutineOf (system_of_callee env c.of) c.routine) = standing.units at o c.routine c.of (λ n is. callee_of env d c n means is) may in
+      let room = fits there.unit there.earlier in
+      ap (λ b. if b then declarations scope.globals c.routine.parameters else [])
+      (room_is (activation_words scope.globals c.routine) (omega (arith, there.room room.3, room.3)))
 
   pub answers : (c : Callee) → IsFunction c.routine → Answers site c (base_of_type (answer_type scope.globals c.routine.result))
   answers c f = (f.0, f.1, sym (ap (λ t. base_of_type (answer_type scope.globals t)) f.1))

@@ -248,7 +248,7 @@ module _ (scope : Scope) (program : Program) (texts : List UnitText) (systems : 
           own = i.own;
           target = named_target scope at o standing.distinct standing.reported x n i.named some;
           runs = record {
-            text = facts.body.text;
+            text = facts.body.text fit.3;
             unit = facts.body.unit;
             there = facts.body.there;
             fits = record { words = fit.0; temps = fit.1; frames = fit.2 };

@@ -19,14 +19,14 @@ use Rattle.cp_model_program.specs.TermsFor.{nothing_known}
 use Rattle.cp_model_program.specs.StatementsFor.{CodeFor}
 use Rattle.cp_model_program.specs.Starts.{Starts, carry_out, unset, word}
 use Rattle.cp_model_program.specs.IsProgramFor.{UnitRepresents, body_environment, routine_environment, site_of}
-use Rattle.cp_model_program.specs.Compile.{unit_texts}
+use Rattle.cp_model_program.specs.Compile.{all_texts}
 use Rattle.cp_model_program.specs.Example.{b, c, d, m, p, get, go, run, add, initial, program, tree}
 
 abbrev pub g : GlobalScope
 g = globals tree
 
 abbrev texts : List UnitText
-texts = unit_texts tree
+texts = all_texts tree
 
 abbrev no_unit : CodeUnit
 no_unit = record { start = 0; starts = Done; words = 0; temps = 0; frames = 0 }
@@ -134,14 +134,14 @@ no_function e = absurd (true≢false (sym e))
 
 units_represent : (n : ℕ) (u : CodeUnit) (t : UnitText) → slice_get program.units n ≡ Some u → slice_get texts n ≡ Some t
     → UnitRepresents program texts g u t
-units_represent zero u t hu ht = represents 0 (unit_at program 0) u (RoutineOf c get) t (get_starts, le _ _ refl, (refl, (refl, (refl, tt))), tt, λ at o. (0, refl, get_code at o), (((refl, le _ _ refl), refl, λ e. refl), tt)) hu ht
-units_represent (suc zero) u t hu ht = represents 1 (unit_at program 1) u (BodyOf c) t (refl, (refl, tt), λ at. (3, refl, c_code at)) hu ht
-units_represent (suc (suc zero)) u t hu ht = represents 2 (unit_at program 2) u (RoutineOf b go) t (no_starts go (unit_at program 2) refl refl refl, le _ _ refl, (refl, (refl, tt)), tt, λ at o. (5, refl, go_code at o), (((refl, le _ _ refl), refl, no_function), tt)) hu ht
-units_represent (suc (suc (suc zero))) u t hu ht = represents 3 (unit_at program 3) u (BodyOf b) t (refl, (refl, tt), λ at. (8, refl, b_code at)) hu ht
-units_represent (suc (suc (suc (suc zero)))) u t hu ht = represents 4 (unit_at program 4) u (RoutineOf d run) t (no_starts run (unit_at program 4) refl refl refl, le _ _ refl, (refl, (refl, (refl, tt))), tt, λ at o. (9, refl, run_code at o), (((refl, le _ _ refl), refl, no_function), tt)) hu ht
-units_represent (suc (suc (suc (suc (suc zero))))) u t hu ht = represents 5 (unit_at program 5) u (BodyOf d) t (refl, (refl, (refl, tt)), λ at. (11, refl, d_code at)) hu ht
-units_represent (suc (suc (suc (suc (suc (suc zero)))))) u t hu ht = represents 6 (unit_at program 6) u (RoutineOf m add) t (no_starts add (unit_at program 6) refl refl refl, le _ _ refl, (refl, (refl, tt)), tt, λ at o. (13, refl, add_code at o), (((refl, le _ _ refl), refl, no_function), tt)) hu ht
-units_represent (suc (suc (suc (suc (suc (suc (suc zero))))))) u t hu ht = represents 7 (unit_at program 7) u (BodyOf m) t (refl, (refl, tt), λ at. (15, refl, m_code at)) hu ht
-units_represent (suc (suc (suc (suc (suc (suc (suc (suc zero)))))))) u t hu ht = represents 8 (unit_at program 8) u (BodyOf p) t (refl, (refl, (refl, (refl, (refl, tt)))), λ at. (17, refl, p_code at)) hu ht
-units_represent (suc (suc (suc (suc (suc (suc (suc (suc (suc zero))))))))) u t hu ht = represents 9 (unit_at program 9) u (BodyOf initial) t (refl, (refl, (refl, tt)), λ at. (23, refl, initial_code at)) hu ht
+units_represent zero u t hu ht = represents 0 (unit_at program 0) u (RoutineOf c get) t (get_starts, le _ _ refl, (refl, (refl, (refl, tt))), tt, λ fits at o. (0, refl, get_code at o), (((refl, le _ _ refl), refl, λ e. refl), tt)) hu ht
+units_represent (suc zero) u t hu ht = represents 1 (unit_at program 1) u (BodyOf c) t (refl, (refl, tt), λ fits at. (3, refl, c_code at)) hu ht
+units_represent (suc (suc zero)) u t hu ht = represents 2 (unit_at program 2) u (RoutineOf b go) t (no_starts go (unit_at program 2) refl refl refl, le _ _ refl, (refl, (refl, tt)), tt, λ fits at o. (5, refl, go_code at o), (((refl, le _ _ refl), refl, no_function), tt)) hu ht
+units_represent (suc (suc (suc zero))) u t hu ht = represents 3 (unit_at program 3) u (BodyOf b) t (refl, (refl, tt), λ fits at. (8, refl, b_code at)) hu ht
+units_represent (suc (suc (suc (suc zero)))) u t hu ht = represents 4 (unit_at program 4) u (RoutineOf d run) t (no_starts run (unit_at program 4) refl refl refl, le _ _ refl, (refl, (refl, (refl, tt))), tt, λ fits at o. (9, refl, run_code at o), (((refl, le _ _ refl), refl, no_function), tt)) hu ht
+units_represent (suc (suc (suc (suc (suc zero))))) u t hu ht = represents 5 (unit_at program 5) u (BodyOf d) t (refl, (refl, (refl, tt)), λ fits at. (11, refl, d_code at)) hu ht
+units_represent (suc (suc (suc (suc (suc (suc zero)))))) u t hu ht = represents 6 (unit_at program 6) u (RoutineOf m add) t (no_starts add (unit_at program 6) refl refl refl, le _ _ refl, (refl, (refl, tt)), tt, λ fits at o. (13, refl, add_code at o), (((refl, le _ _ refl), refl, no_function), tt)) hu ht
+units_represent (suc (suc (suc (suc (suc (suc (suc zero))))))) u t hu ht = represents 7 (unit_at program 7) u (BodyOf m) t (refl, (refl, tt), λ fits at. (15, refl, m_code at)) hu ht
+units_represent (suc (suc (suc (suc (suc (suc (suc (suc zero)))))))) u t hu ht = represents 8 (unit_at program 8) u (BodyOf p) t (refl, (refl, (refl, (refl, (refl, tt)))), λ fits at. (17, refl, p_code at)) hu ht
+units_represent (suc (suc (suc (suc (suc (suc (suc (suc (suc zero))))))))) u t hu ht = represents 9 (unit_at program 9) u (BodyOf initial) t (refl, (refl, (refl, tt)), λ fits at. (23, refl, initial_code at)) hu ht
 units_represent (suc (suc (suc (suc (suc (suc (suc (suc (suc (suc n)))))))))) u t hu ht = absurd (nothing_there u hu)

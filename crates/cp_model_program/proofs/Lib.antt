@@ -10,8 +10,10 @@ mod PlaceExpressionsRepresent
 mod TermsRepresent
 mod InitRepresent
 mod ResultRepresent
+mod Room
 mod TablesRepresent
 mod CodeRepresents
+mod NeedsWithin
 mod UnitsRepresent
 pub mod Pasting
 mod PlansWrite
@@ -21,6 +23,7 @@ mod PlansRepresent
 mod PartsStart
 mod StartsRepresent
 mod ScopesRepresent
+mod UnitNeeds
 mod SystemsRepresent
 mod DefinitionsRepresent
 mod RowsRepresent
@@ -33,3 +36,4 @@ mod AssignmentsRepresent
 mod ProceduresRepresent
 pub mod Example
 mod Negatives
+mod ParametersCounted

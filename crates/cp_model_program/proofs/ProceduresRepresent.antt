@@ -8,13 +8,14 @@ use Rattle.cp_model.specs.Environments.{Environment, Frame, IsConstant, IsUnknow
 use Rattle.cp_model.specs.Expressions.{name_of}
 use Rattle.cp_model.specs.Locations.{Location, Owner}
 use Rattle.cp_model.specs.Calls.{Callee, callee}
-use Rattle.cp_law_typing.specs.Judgement.{IsCharVariable, IsProcedureCall, IsQueueArgument, IsSimple, IsStandardStatement, IsUsedAs, NamesVariable, Place, TypedExpression, TypedExpressions, TypedPlace, TypedUse}
+use Rattle.cp_law_typing.specs.Judgement.{AllFit, IsCharVariable, IsProcedureCall, IsQueueArgument, IsSimple, IsStandardStatement, IsUsedAs, NamesVariable, Place, TypedExpression, TypedExpressions, TypedPlace, TypedUse}
 use Rattle.cp_law_typing.specs.Declared as declared
+use Rattle.cp_law_typing.specs.Declared.{Each, RoutineParameter}
 use Rattle.cp_law_typing.specs.StaticTypes.{called_type, expression_type, own_value_type, place_type, place_type_meant, value_type_meant}
 use Rattle.cp_model_program.specs.Programs as op
 use Rattle.cp_model_program.specs.Programs.{Arm, CodeUnit, Operation, Program}
 use Rattle.cp_model_program.specs.Sites.{Site, UnitText, first_parameter}
-use Rattle.cp_model_program.specs.TermsFor.{PlaceExpressionFor, nothing_known}
+use Rattle.cp_model_program.specs.TermsFor.{ArgumentsFor, PlaceExpressionFor, nothing_known}
 use Rattle.cp_model_program.specs.StatementsFor.{CodeFor, IsByte, is_function}
 use Rattle.cp_model_program.specs.Scopes.{Scope, environment, target_of, unit_of}
 use Rattle.cp_model_program.specs.CodedTerms.{CodedCall, call_of, coded_arguments, coded_place_expression, coded_term, coded_variable, parameters_of}
@@ -24,7 +25,7 @@ use Rattle.cp_model_program.proofs.Fits.{AllBelow, arguments_fit, place_expressi
 use Rattle.cp_model_program.proofs.OperationsRepresent.{AllRepresent, WithCalls, with_calls_represent}
 use Rattle.cp_model_program.proofs.Representing.{Chained, Representing, place_at}
 use Rattle.cp_model_program.proofs.TermsRepresent.{arguments_represent}
-use Rattle.cp_model_program.proofs.CallsRepresent.{call_represents}
+use Rattle.cp_model_program.proofs.CallsRepresent.{call_passes, call_represents}
 use Rattle.cp_model_program.proofs.AssignmentsRepresent as assignments
 
 byte_is_char : (b : BaseType) → IsByte b (is_char b)
@@ -236,7 +237,8 @@ module _ (scope : Scope) (program : Program) (texts : List UnitText) (systems : 
   perform_represents d es low place next (Some c) means te call fits represent =
       let xs = coded_arguments scope es (parameters_of scope c) (first_parameter c) low in
       let k = call_of scope (unit_of scope c) (target_of (environment scope) c.of) xs.arguments low in
-      let w = with_calls_represent scope program texts before unit xs.calls (op.Procedure k next) place represent in (
+      let w = with_calls_represent scope program texts before unit xs.calls (op.Procedure k next) place represent in
+      let same = call_passes scope program texts systems routines before unit at o standing d c low xs.arguments means call.0.may w.fits in (
         place,
         op.Procedure k next,
         w.there,
@@ -247,7 +249,10 @@ module _ (scope : Scope) (program : Program) (texts : List UnitText) (systems : 
           call.1,
           refl,
           arguments_fit unit.temps scope es (parameters_of scope c) (first_parameter c) low fits w.below,
-          arguments_represent scope program texts systems routines before unit at o standing nothing_known es (parameters_of scope c) (declared.is_function c.routine.result) (first_parameter c) low
-              (with_calls xs.calls (op.Procedure k next) place).entry place xs.temps (standing.parameters at o c.routine c.of call.0.may) call.0.fit te w.chain (omega arith),
+          subst (λ ps. ArgumentsFor site nothing_known ps es xs.arguments (first_parameter c) (with_calls xs.calls (op.Procedure k next) place).entry place low xs.temps) same
+              (arguments_represent scope program texts systems routines before unit at o standing nothing_known es (parameters_of scope c) (declared.is_function c.routine.result) (first_parameter c) low
+              (with_calls xs.calls (op.Procedure k next) place).entry place xs.temps
+              (subst (Each (RoutineParameter scope.globals (declared.is_function c.routine.result))) (sym same) (standing.parameters at o c.routine c.of call.0.may))
+              (subst (λ ps. AllFit env ps es) (sym same) call.0.fit) te w.chain (omega arith)),
         ),
       )

@@ -1,10 +1,10 @@
 -- The context in which code is proved: the scope that it was compiled with, the site, and what is
 -- known about both.
-use Rattle.std.proofs.Common.{◌≡◌, ◌≤◌, ℕ, ◌+◌, List, [], ◌∷◌, ◌++◌, Option, Some, None, refl, true, false, slice_get}
+use Rattle.std.proofs.Common.{◌≡◌, ◌≤◌, ◌<◌, ℕ, ◌+◌, List, [], ◌∷◌, ◌++◌, Option, Some, None, refl, true, false, slice_get}
 use Rattle.cp_model.specs.Abstract as a
 use Rattle.cp_model.specs.Abstract.{Name, Plain, Routine, System}
 use Rattle.cp_model.specs.Names.{lookup}
-use Rattle.cp_model.specs.Types.{ComponentOf, Members}
+use Rattle.cp_model.specs.Types.{ComponentOf, GlobalScope, Members}
 use Rattle.cp_model.specs.Declarations.{Variable, declarations, reported_members}
 use Rattle.cp_model.specs.Environments.{permanent_variables}
 use Rattle.cp_model.specs.Locations.{Location, Owner}
@@ -14,21 +14,34 @@ use Rattle.cp_law_typing.specs.Judgement.{Initialises, MayBeCalled, TypedPlace, 
 use Rattle.cp_law_typing.specs.Declared as declared
 use Rattle.cp_law_typing.specs.Declared.{Distinct, Each, ResultFits, RoutineParameter, SystemParameter}
 use Rattle.cp_law_typing.specs.StaticTypes.{is_clock, place_type}
+use Rattle.cp_law_typing.specs.Needs as needs
+use Rattle.cp_law_typing.specs.Needs.{statement_need}
 use Rattle.cp_model_program.specs.Programs as op
 use Rattle.cp_model_program.specs.Programs.{Call, CodeUnit, Program}
-use Rattle.cp_model_program.specs.Sites.{BodyOf, RoutineOf, UnitText, operation_at, system_of_callee}
+use Rattle.cp_model_program.specs.Sites.{BodyOf, LeftOut, RoutineOf, UnitText, operation_at, system_of_callee}
+use Rattle.cp_model_program.specs.Layout.{most_arguments, most_words}
+use Rattle.cp_model_program.specs.IsProgramFor.{own_words}
 use Rattle.cp_model_program.specs.TermsFor.{IsPlain}
 use Rattle.cp_model_program.specs.Scopes.{Scope, body_of, unit_of}
 use Rattle.cp_model_program.specs.CodedTerms.{CodedCall}
 use Rattle.cp_model_program.proofs.Environments.{environment_at}
 pub use Rattle.cp_model_program.specs.Known.{place_at}
 
--- What a unit is the code of, and that the unit is in the program and among those compiled so far.
-pub record UnitThere (program : Program) (texts : List UnitText) (before : List CodeUnit) (n : ℕ) (t : UnitText) : Type 0 where
-  pub text : slice_get texts n ≡ Some t
+-- What a unit takes by the meaning, with calls to the given depth.
+abbrev pub takes : GlobalScope → ℕ → UnitText → ℕ
+takes g d (RoutineOf s r) = needs.activation_words g r + statement_need d g s (Some r) r.body
+takes g d (BodyOf s) = statement_need d g s None s.body
+takes g d (LeftOut s) = 0
+
+-- What a unit is the code of, and that the unit is in the program and among those compiled so far. It
+-- isn't left out if it needs fewer words than the greatest number.
+pub record UnitThere (g : GlobalScope) (program : Program) (texts : List UnitText) (before : List CodeUnit) (n : ℕ) (t : UnitText) : Type 0 where
   pub unit : CodeUnit
+  pub text : unit.words < most_words → slice_get texts n ≡ Some t
+  pub room : unit.words < most_words → own_words g t ≤ unit.words
   pub there : slice_get program.units n ≡ Some unit
   pub earlier : slice_get before n ≡ Some unit
+  pub little : (d : ℕ) → n < d → unit.words ≤ takes g d t + most_arguments
 
 -- The running routine is found by its name, and its result is simple.
 abbrev pub RoutineHere : Scope → Option Routine → Type 0
@@ -38,7 +51,7 @@ RoutineHere scope (Some r) = (routine_named r.name scope.system ≡ Some r) × R
 -- What is known about a component that is initialised: its body is compiled, and its parameters are
 -- simple values and rights with distinct names.
 pub record InitRepresents (scope : Scope) (program : Program) (texts : List UnitText) (before : List CodeUnit) (n : Component) : Type 0 where
-  pub body : UnitThere program texts before (body_of scope n) (BodyOf n.system)
+  pub body : UnitThere scope.globals program texts before (body_of scope n) (BodyOf n.system)
   pub defined : List System
   pub each : Each (SystemParameter scope.globals defined n.system.sort) (declarations scope.globals n.system.parameters)
   pub distinct : Distinct (declarations scope.globals n.system.parameters)
@@ -52,7 +65,7 @@ pub record Representing (scope : Scope) (program : Program) (texts : List UnitTe
   pub units : (at : Location) (o : Owner) (r : Routine) (of : Option Component)
       → ((n : Component) → of ≡ Some n → component_named (environment_at scope at o) n.name ≡ Some n)
       → MayBeCalled (place_at scope systems routines at o) r of
-      → UnitThere program texts before (unit_of scope (record { routine = r; of = of }))
+      → UnitThere scope.globals program texts before (unit_of scope (record { routine = r; of = of }))
       (RoutineOf (system_of_callee (environment_at scope at o) of) r)
   pub parameters : (at : Location) (o : Owner) (r : Routine) (of : Option Component) → MayBeCalled (place_at scope systems routines at o) r of
       → Each (RoutineParameter scope.globals (declared.is_function r.result)) (declarations scope.globals r.parameters)
@@ -70,10 +83,10 @@ pub record Representing (scope : Scope) (program : Program) (texts : List UnitTe
 -- ---- Calls that are
 
 module _ (scope : Scope) (program : Program) (texts : List UnitText) (before : List CodeUnit) (unit : CodeUnit) where
-  -- The called unit needs no more than there is after the activation.
+  -- The called unit needs no more than there is after the activation, and has room.
   abbrev pub CallFits : Call → Type 0
   CallFits call = (u : CodeUnit) → slice_get before call.routine ≡ Some u
-      → (call.words + u.words ≤ unit.words) × (call.temps + u.temps ≤ unit.temps) × (1 + u.frames ≤ unit.frames)
+      → (call.words + u.words ≤ unit.words) × (call.temps + u.temps ≤ unit.temps) × (1 + u.frames ≤ unit.frames) × (u.words < most_words)
 
   -- The calls are in the program from a place on, in order, and the last one leads to the next
   -- place.

@@ -38,9 +38,9 @@ index_is (q ∷ qs) (suc j) r is alone = go (bytes_eq r.name q.name) refl (index
     go false e rest = ap suc rest
 
 -- The units of a system type are numbered consecutively, and were compiled before.
-pub record UnitsThere (program : Program) (texts : List UnitText) (before : List CodeUnit) (first : ℕ) (s : System) : Type 0 where
-  pub routines : (k : ℕ) (r : Routine) → slice_get s.routines k ≡ Some r → UnitThere program texts before (first + k) (RoutineOf s r)
-  pub body : UnitThere program texts before (first + length s.routines) (BodyOf s)
+pub record UnitsThere (g : GlobalScope) (program : Program) (texts : List UnitText) (before : List CodeUnit) (first : ℕ) (s : System) : Type 0 where
+  pub routines : (k : ℕ) (r : Routine) → slice_get s.routines k ≡ Some r → UnitThere g program texts before (first + k) (RoutineOf s r)
+  pub body : UnitThere g program texts before (first + length s.routines) (BodyOf s)
 
 first_distinct : (vs ws : List (Name × Variable)) → Distinct (vs ++ ws) → Distinct vs
 first_distinct [] ws d = tt
@@ -60,8 +60,8 @@ module _ (g : GlobalScope) (program : Program) (texts : List UnitText) (before :
   scope = record { globals = g; system = s; routine = w; firsts = firsts; first = first; words = words }
 
   pub standing : RoutineHere scope w → RunsIn s w
-      → ((j : ℕ) (r : Routine) → j < k → slice_get s.routines j ≡ Some r → UnitThere program texts before (first + j) (RoutineOf s r))
-      → ((n : Component) → component_named (some_environment g s None) n.name ≡ Some n → UnitsThere program texts before (first_of scope n) n.system)
+      → ((j : ℕ) (r : Routine) → j < k → slice_get s.routines j ≡ Some r → UnitThere g program texts before (first + j) (RoutineOf s r))
+      → ((n : Component) → component_named (some_environment g s None) n.name ≡ Some n → UnitsThere g program texts before (first_of scope n) n.system)
       → Representing scope program texts before systems k
   standing running runs own named = record {
     running = running;
@@ -82,14 +82,14 @@ module _ (g : GlobalScope) (program : Program) (texts : List UnitText) (before :
     where
       units : (at : Location) (o : Owner) (r : Routine) (of : Option Component) → ((n : Component) → of ≡ Some n → component_named (environment_at scope at o) n.name ≡ Some n)
           → MayBeCalled (place_at scope systems k at o) r of
-          → UnitThere program texts before (unit_of scope (record { routine = r; of = of })) (RoutineOf (system_of_callee (environment_at scope at o) of) r)
+          → UnitThere g program texts before (unit_of scope (record { routine = r; of = of })) (RoutineOf (system_of_callee (environment_at scope at o) of) r)
       units at o r None find may =
           let typed : TypedRoutine g systems s may.0 r = known.bodies.routines may.0 r may.2 in
-          subst (λ n. UnitThere program texts before (first + n) (RoutineOf s r)) (sym (index_is s.routines may.0 r may.2 typed.alone)) (own may.0 r may.1 may.2)
+          subst (λ n. UnitThere g program texts before (first + n) (RoutineOf s r)) (sym (index_is s.routines may.0 r may.2 typed.alone)) (own may.0 r may.1 may.2)
       units at o r (Some n) find may =
           let q = known.systems_typed may.0 n.system may.2 in
           let typed : TypedRoutine g q.0 n.system may.1 r = q.1.bodies.routines may.1 r may.3 in
-          subst (λ m. UnitThere program texts before (first_of scope n + m) (RoutineOf n.system r)) (sym (index_is n.system.routines may.1 r may.3 typed.alone))
+          subst (λ m. UnitThere g program texts before (first_of scope n + m) (RoutineOf n.system r)) (sym (index_is n.system.routines may.1 r may.3 typed.alone))
           ((named n (find n refl)).routines may.1 r may.3)
 
       parameters : (at : Location) (o : Owner) (r : Routine) (of : Option Component) → MayBeCalled (place_at scope systems k at o) r of

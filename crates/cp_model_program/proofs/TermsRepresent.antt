@@ -35,7 +35,7 @@ use Rattle.cp_model_program.proofs.Environments.{callee_same, environment_at, pl
 use Rattle.cp_model_program.proofs.Representing.{Chained, Representing, place_at, split}
 use Rattle.cp_model_program.proofs.Temps.{arguments_grow, place_expression_grows, term_grows}
 use Rattle.cp_model_program.proofs.StandardRepresent.{abs_represents, base_of_operator, chr_represents, empty_represents, ord_represents, pred_represents, succ_represents}
-use Rattle.cp_model_program.proofs.CallsRepresent.{answers, call_represents}
+use Rattle.cp_model_program.proofs.CallsRepresent.{answers, call_passes, call_represents}
 use Rattle.cp_model_program.proofs.PlaceExpressionsRepresent as place_expressions
 use Rattle.cp_model_program.proofs.PlaceExpressionsRepresent.{member_there, operands, simple_full, simple_is, simple_is_no_component, simple_of}
 
@@ -256,15 +256,18 @@ module _ (scope : Scope) (program : Program) (texts : List UnitText) (systems : 
   function_call_represents d es low place next high c means called function t arguments chain room =
       let xs = coded_arguments scope es (parameters_of scope c) (first_parameter c) low in
       let call = call_of scope (unit_of scope c) (target_of (environment scope) c.of) xs.arguments low in
-      let k = split scope program texts before unit xs.calls (record { call = call; into = xs.temps } ∷ []) place next chain in (
+      let k = split scope program texts before unit xs.calls (record { call = call; into = xs.temps } ∷ []) place next chain in
+      let same = call_passes scope program texts systems routines before unit at o standing d c low xs.arguments means called.may k.2.2 in (
         c,
         call,
         k.0,
         xs.temps,
         subst (λ m. code.operation_at program k.0 ≡ Some (op.Function call xs.temps m)) k.2.3 k.2.1,
         call_represents scope program texts systems routines before unit at o standing d c low xs.arguments means called.may k.2.2,
-        arguments (parameters_of scope c) (declared.is_function c.routine.result) (first_parameter c) low place k.0 xs.temps
-            (standing.parameters at o c.routine c.of called.may) called.fit t k.1 (omega arith),
+        subst (λ ps. ArgumentsFor site K ps es xs.arguments (first_parameter c) place k.0 low xs.temps) same
+            (arguments (parameters_of scope c) (declared.is_function c.routine.result) (first_parameter c) low place k.0 xs.temps
+            (subst (Each (RoutineParameter scope.globals (declared.is_function c.routine.result))) (sym same) (standing.parameters at o c.routine c.of called.may))
+            (subst (λ ps. AllFit env ps es) (sym same) called.fit) t k.1 (omega arith)),
         answers scope program texts systems routines before unit at o standing c function,
         arguments_grow scope es (parameters_of scope c) (first_parameter c) low,
         omega arith,

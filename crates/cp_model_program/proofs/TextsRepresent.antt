@@ -6,25 +6,28 @@ use Rattle.cp_model.specs.Abstract as a
 use Rattle.cp_model.specs.Abstract.{Group, Monitor, Name, Process, Sort, System, Tree}
 use Rattle.cp_model.specs.Names.{lookup}
 use Rattle.cp_model.specs.Types.{ArrayOf, ComponentOf, GlobalScope, Members, NoType, Queue, RecordOf, ResolvedType, Simple, full_range, standard_scope}
-use Rattle.cp_model.specs.Declarations.{Variable, declarations, globals, is_component}
-use Rattle.cp_model.specs.Components.{Component, as_component, component_named, is_component_of}
+use Rattle.cp_model.specs.Declarations.{Variable, declarations, globals, is_component, reported_members}
+use Rattle.cp_model.specs.Components.{Component, as_component, component_named, is_component_of, same_sort}
 use Rattle.cp_model.specs.States.{Setup, count_components, monitor_count, process_count}
 use Rattle.cp_law_typing.specs.Declared.{Distinct, Each}
-use Rattle.cp_law_typing.specs.Needs.{some_environment}
+use Rattle.cp_law_typing.specs.Needs.{AllOwnersFit, OwnerFits, owner_words, process_need, some_environment, statement_need, words_as_owner}
+use Rattle.cp_law_typing.specs.Words.{rights_in, words_of_members}
 use Rattle.cp_law_typing.specs.WellTyped.{text_systems}
-use Rattle.cp_model_program.specs.Programs.{Program}
-use Rattle.cp_model_program.specs.Layout.{component_words}
-use Rattle.cp_model_program.specs.Sites.{UnitText}
+use Rattle.cp_model_program.specs.Programs.{CodeUnit, Program}
+use Rattle.cp_model_program.specs.Layout.{component_words, most_arguments, most_words}
+use Rattle.cp_model_program.specs.Sites.{BodyOf, UnitText}
 use Rattle.cp_model_program.specs.IsProgramFor.{MonitorRepresents, ProcessRepresents, IsProgramFor, component_at, component_in, system_of_monitor, system_of_process}
 use Rattle.cp_model_program.specs.Scopes.{declared_type, or_zero}
-use Rattle.cp_model_program.specs.Compile.{Compiled, CompiledTypes, Owner, compile, nothing_compiled, of_sort, owner_before, owners_of, sum_words, system_texts, unit_texts, with_definitions, with_system}
+use Rattle.cp_model_program.specs.Compile.{Compiled, CompiledTypes, Owner, all_texts, compile, nothing_compiled, of_sort, owner_before, owners_of, sum_words, system_texts, unit_texts, with_definitions, with_system}
 use Rattle.cp_model_program.specs.Known.{TextKnown}
-use Rattle.cp_model_program.proofs.DefinitionsRepresent.{Represent, definitions_represent, system_first, system_here}
+use Rattle.cp_model_program.proofs.DefinitionsRepresent.{Represent, definitions_represent, short_all, system_first, system_here}
 use Rattle.cp_model_program.proofs.InitRepresent.{all_found}
+use Rattle.cp_model_program.proofs.Representing.{UnitThere}
 use Rattle.cp_model_program.proofs.RowsRepresent.{monitor_row, monitor_there, monitor_within, monitors_apart, monitors_counted, process_row, process_there, process_within, processes_apart, processes_counted}
 use Rattle.cp_model_program.proofs.ScopesRepresent.{UnitsThere}
 use Rattle.cp_model_program.proofs.StartsRepresent.{component_starts}
 use Rattle.cp_model_program.proofs.SystemsRepresent.{After, Within, begins_same, get_some, system_represents, system_there, units_later}
+use Rattle.cp_model_program.proofs.UnitNeeds.{Short}
 use Rattle.cp_model_program.proofs.UnitTexts.{in_text}
 
 -- ---- Components of a sort
@@ -141,6 +144,27 @@ no_standard_component y q inner h =
     go false false false true h = cc
     go false false false false h = cc
 
+-- ---- What processes need
+
+is_process : (z : Sort) → same_sort Process z ≡ true → z ≡ Process
+is_process Process h = refl
+is_process Monitor h = absurd (true≢false (sym h))
+is_process a.Class h = absurd (true≢false (sym h))
+
+process_fits : (z : Sort) (words n : ℕ) → z ≡ Process → words + process_need z n ≤ 65536 → n ≤ 65536
+process_fits Process words n e h = omega (arith, h)
+process_fits Monitor words n e h = absurd (cc)
+process_fits a.Class words n e h = absurd (cc)
+
+sorted_is : (s : Sort) (vs : List (Name × Variable)) → Each (λ v. is_component_of s v.1.type ≡ true) (of_sort s vs)
+sorted_is s [] = tt
+sorted_is s (v ∷ vs) = go (is_component_of s v.1.type) refl (sorted_is s vs)
+  where
+    go : (b : Bool) → is_component_of s v.1.type ≡ b → Each (λ w. is_component_of s w.1.type ≡ true) (of_sort s vs)
+        → Each (λ w. is_component_of s w.1.type ≡ true) (if b then v ∷ of_sort s vs else of_sort s vs)
+    go true is rest = (is, rest)
+    go false is rest = rest
+
 -- ---- The text
 
 module _ (setup : Setup) where
@@ -156,6 +180,9 @@ module _ (setup : Setup) where
   abbrev texts : List UnitText
   texts = unit_texts tree
 
+  abbrev whole : List UnitText
+  whole = all_texts tree
+
   abbrev types : CompiledTypes
   types = with_definitions g tree.definitions nothing_compiled
 
@@ -165,38 +192,39 @@ module _ (setup : Setup) where
   abbrev variables : List (Name × Variable)
   variables = declarations g tree.initial.variables
 
-  module _ (known : TextKnown setup) where
-    within : Within g program texts all
+  module _ (known : TextKnown setup) (short : Short g (text_systems setup)) where
+    within : Within g program whole all
     within = record { operations = begins_same all.operations; units = begins_same all.units }
 
-    before : Within g program texts types.compiled
-    before = system_first g program texts tree.initial types.firsts types.compiled within
+    before : Within g program whole types.compiled
+    before = system_first g program whole tree.initial types.firsts types.compiled within
 
-    defined : Represent g program texts g types (system_texts tree.initial)
+    defined : Represent g program whole g types (system_texts tree.initial)
     defined =
-        definitions_represent g program texts tree.definitions standard_scope [] nothing_compiled (system_texts tree.initial) known.in_order
+        definitions_represent g program whole tree.definitions standard_scope [] nothing_compiled (system_texts tree.initial) known.in_order (short_all g tree.definitions short) (λ i s h. absurd (cc))
         (record {
           good = λ n u t h is. absurd (cc);
+          little = λ n u t h is. absurd (cc);
           firsts = λ y q inner h. absurd (no_standard_component y q inner h);
-          texts_at = λ i t h. ap (slice_get texts) (nothing_before i) ∙ h;
+          texts_at = λ i t h. ap (slice_get whole) (nothing_before i) ∙ h;
         })
         before
       where
         nothing_before : (n : ℕ) → 0 + n ≡ n
         nothing_before n = omega arith
 
-    last : Represent g program texts g types (system_texts tree.initial ++ [])
-    last = record { good = defined.good; firsts = defined.firsts; texts_at = λ i t h. defined.texts_at i t (ap (λ l. slice_get l i) (sym (append-nil (system_texts tree.initial))) ∙ h) }
+    last : Represent g program whole g types (system_texts tree.initial ++ [])
+    last = record { good = defined.good; little = defined.little; firsts = defined.firsts; texts_at = λ i t h. defined.texts_at i t (ap (λ l. slice_get l i) (sym (append-nil (system_texts tree.initial))) ∙ h) }
 
-    after : After g program texts tree.initial (text_systems setup) known.initial types.firsts types.compiled (suc (length tree.initial.routines)) all
+    after : After g program whole tree.initial (text_systems setup) known.initial short types.firsts types.compiled (suc (length tree.initial.routines)) all
     after =
-        system_represents g program texts tree.initial (text_systems setup) known.initial types.firsts types.compiled
-        (system_here g program texts tree.initial g types [] (text_systems setup) known.initial known.named last) defined.good within
+        system_represents g program whole tree.initial (text_systems setup) known.initial short types.firsts types.compiled
+        (system_here g program whole tree.initial g types [] (text_systems setup) known.initial short known.named last) defined.good defined.little within
 
-    initial_there : UnitsThere program texts all.units (length types.compiled.units) tree.initial
+    initial_there : UnitsThere g program texts all.units (length types.compiled.units) tree.initial
     initial_there =
-        system_there g program texts tree.initial (text_systems setup) known.initial types.firsts types.compiled
-        (system_here g program texts tree.initial g types [] (text_systems setup) known.initial known.named last) after within
+        system_there g program whole tree.initial (text_systems setup) known.initial short types.firsts types.compiled
+        (system_here g program whole tree.initial g types [] (text_systems setup) known.initial short known.named last) after within
 
     -- ---- Components
 
@@ -209,7 +237,7 @@ module _ (setup : Setup) where
       pub type : variable.1.type ≡ ComponentOf system inner
       pub found : lookup variable.0 variables ≡ Some variable.1
       pub row : slice_get (owners_of types.firsts tree.initial.variables (of_sort s variables)) k ≡ Some (owner_for types.firsts tree.initial.variables variable.0 system)
-      pub units : UnitsThere program texts all.units (or_zero (lookup (declared_type variable.0 tree.initial.variables) types.firsts)) system
+      pub units : UnitsThere g program texts all.units (or_zero (lookup (declared_type variable.0 tree.initial.variables) types.firsts)) system
 
     last_distinct : (vs ws : List (Name × Variable)) → Distinct (vs ++ ws) → Distinct ws
     last_distinct [] ws d = d
@@ -238,7 +266,7 @@ module _ (setup : Setup) where
           type = t.1.1;
           found = found;
           row = owner_at types.firsts tree.initial.variables (of_sort s variables) (all_components s variables) k v.0 t.0 t.1.0 v.1 t.1.1;
-          units = units_later g program texts types.compiled.units all.units (or_zero (lookup (declared_type v.0.0 tree.initial.variables) types.firsts)) t.0 after.grows
+          units = units_later g program whole types.compiled.units all.units (or_zero (lookup (declared_type v.0.0 tree.initial.variables) types.firsts)) t.0 after.grows
               (defined.firsts (declared_type v.0.0 tree.initial.variables) t.0 named.0 named.1);
         }
 
@@ -254,6 +282,29 @@ module _ (setup : Setup) where
     abbrev start : ℕ
     start = sum_words (component_words g) monitors
 
+    -- A process's body has room, since the rules count what it calls.
+    owners_each : (d : ℕ) (vs : List (Name × Variable)) → AllOwnersFit d g vs → Each (λ w. OwnerFits d g w.1.type) vs
+    owners_each d [] h = tt
+    owners_each d (v ∷ vs) h = (h.0, owners_each d vs h.1)
+
+    body_room : (n : ℕ) (q : System) (body : UnitThere g program texts all.units n (BodyOf q)) → statement_need (suc n) g q None q.body ≤ 65536 → body.unit.words < most_words
+    body_room n q body h = let little = body.little (suc n) (omega arith) in omega (arith, little, h)
+
+    initial_need : (d : ℕ) → statement_need d g tree.initial None tree.initial.body ≤ 65536
+    initial_need d =
+        process_fits tree.initial.sort (1 + rights_in g tree.initial + words_of_members g (reported_members g tree.initial)) (statement_need d g tree.initial None tree.initial.body)
+        known.typed.initial_sort (known.typed.words.initial d)
+
+    other_need : (d k : ℕ) (v : Name × Variable) (q : System) (inner : Members) → slice_get (of_sort Process variables) k ≡ Some v → v.1.type ≡ ComponentOf q inner
+        → statement_need d g q None q.body ≤ 65536
+    other_need d k v q inner there is =
+        let sort = is_process q.sort (subst (λ t. is_component_of Process t ≡ true) is
+        (each_at (λ w. is_component_of Process w.1.type ≡ true) (of_sort Process variables) k v (sorted_is Process variables) there)) in
+        let fit = subst (OwnerFits d g) is
+        (each_at (λ w. OwnerFits d g w.1.type) (of_sort Process variables) k v (sorted_each (λ w. OwnerFits d g w.1.type) Process variables (owners_each d variables (known.typed.words.others d))) there) in
+        process_fits q.sort (1 + rights_in g q + words_of_members g (reported_members g q)) (statement_need d g q None q.body) sort
+        (subst (λ z. words_as_owner z (owner_words d g q) ≤ 65536) sort fit)
+
     initial_represents : ProcessRepresents program texts setup 1
     initial_represents =
         let r = process_there g owners start 0 initial_owner refl in
@@ -266,7 +317,7 @@ module _ (setup : Setup) where
           starts = component_starts g tree.initial known.initial_planned;
           waiting = refl;
           waits = r.2;
-          body = initial_there.body.text;
+          body = initial_there.body.text (body_room (length types.compiled.units + length tree.initial.routines) tree.initial initial_there.body (initial_need (suc (length types.compiled.units + length tree.initial.routines))));
           unit = initial_there.body.unit;
           unit_there = initial_there.body.there;
         }
@@ -288,7 +339,7 @@ module _ (setup : Setup) where
           starts = component_starts g h.system (known.planned h.variable.0 h.variable.1 h.system h.inner h.found h.type);
           waiting = refl;
           waits = r.2;
-          body = h.units.body.text;
+          body = h.units.body.text (body_room x.body h.system h.units.body (other_need (suc x.body) k h.variable h.system h.inner h.there h.type));
           unit = h.units.body.unit;
           unit_there = h.units.body.there;
         }
@@ -312,7 +363,6 @@ module _ (setup : Setup) where
           words = refl;
           starts = component_starts g h.system (known.planned h.variable.0 h.variable.1 h.system h.inner h.found h.type);
           lies = omega (arith, r.2);
-          body = h.units.body.text;
         }
 
     sorted_owners : (s : Sort) → length (owners_of types.firsts tree.initial.variables (of_sort s variables)) ≡ count_components s variables

@@ -1,5 +1,5 @@
 -- Each unit is the code of a system type of the text, or of the initial process.
-use Rattle.std.proofs.Common.{◌≡◌, ◌⊎◌, inl, inr, ℕ, zero, suc, List, [], ◌∷◌, ◌++◌, Option, Some, None, ap, sym, slice_get}
+use Rattle.std.proofs.Common.{◌≡◌, ◌⊎◌, inl, inr, ℕ, zero, suc, List, [], ◌∷◌, ◌++◌, Option, Some, None, ap, sym, subst, slice_get}
 use Rattle.std.specs.Prelude.{map}
 use Rattle.cp_model.specs.Abstract as a
 use Rattle.cp_model.specs.Abstract.{Definition, Routine, System}
@@ -7,7 +7,8 @@ use Rattle.cp_model.specs.States.{Setup}
 use Rattle.cp_law_typing.specs.Systems.{systems_of}
 use Rattle.cp_model_program.specs.Sites.{BodyOf, RoutineOf, UnitText}
 use Rattle.cp_model_program.specs.IsProgramFor.{IsInText, system_of_unit}
-use Rattle.cp_model_program.specs.Compile.{definition_texts, system_texts, unit_texts}
+use Rattle.cp_model_program.specs.Compile.{all_texts, compile, definition_texts, system_texts, unit_texts}
+use Rattle.cp_model_program.proofs.Room.{kept_from}
 
 in_either : (xs ys : List UnitText) (n : ℕ) (t : UnitText) → slice_get (xs ++ ys) n ≡ Some t → (slice_get xs n ≡ Some t) ⊎ ((m : ℕ) × (slice_get ys m ≡ Some t))
 in_either [] ys n t h = inr (n, h)
@@ -35,9 +36,13 @@ of_definitions (a.TypeDef x y ∷ ds) n t h = of_definitions ds n t h
 of_definitions (a.EnumDef x vs ∷ ds) n t h = of_definitions ds n t h
 of_definitions (a.ConstantDef x c ∷ ds) n t h = of_definitions ds n t h
 
-pub in_text : (setup : Setup) (n : ℕ) (t : UnitText) → slice_get (unit_texts setup.tree) n ≡ Some t → IsInText setup (system_of_unit t)
-in_text setup n t h = by (in_either (definition_texts setup.tree.definitions) (system_texts setup.tree.initial) n t h)
+pub in_whole : (setup : Setup) (n : ℕ) (t : UnitText) → slice_get (all_texts setup.tree) n ≡ Some t → IsInText setup (system_of_unit t)
+in_whole setup n t h = by (in_either (definition_texts setup.tree.definitions) (system_texts setup.tree.initial) n t h)
   where
     by : (slice_get (definition_texts setup.tree.definitions) n ≡ Some t) ⊎ ((m : ℕ) × (slice_get (system_texts setup.tree.initial) m ≡ Some t)) → IsInText setup (system_of_unit t)
     by (inl e) = inr (of_definitions setup.tree.definitions n t e)
     by (inr e) = inl (sym (of_routines setup.tree.initial setup.tree.initial.routines e.0 t e.1))
+
+pub in_text : (setup : Setup) (n : ℕ) (t : UnitText) → slice_get (unit_texts setup.tree) n ≡ Some t → IsInText setup (system_of_unit t)
+in_text setup n t h =
+    let k = kept_from (compile setup.tree).units (all_texts setup.tree) n t h in subst (IsInText setup) k.2 (in_whole setup n k.0 k.1)

@@ -2,7 +2,7 @@
 --
 -- What a unit needs is the greatest of what its operations need, so there is enough for each of
 -- them.
-use Rattle.std.proofs.Common.{◌≡◌, ◌≤◌, ℕ, suc, ◌+◌, List, [], ◌∷◌, Option, Some, None, subst, length, arith}
+use Rattle.std.proofs.Common.{◌≡◌, ◌≤◌, ◌<◌, ℕ, suc, ◌+◌, List, [], ◌∷◌, Option, Some, None, subst, length, arith}
 use Rattle.cp_model.specs.Abstract.{Statement, System}
 use Rattle.cp_model.specs.Locations.{Location, Owner}
 use Rattle.cp_law_typing.specs.Judgement.{TypedStatement}
@@ -11,11 +11,13 @@ use Rattle.cp_model_program.specs.Programs.{Call, CodeUnit, Operation, Program, 
 use Rattle.cp_model_program.specs.Sites.{UnitText, operation_at}
 use Rattle.cp_model_program.specs.TermsFor.{nothing_known}
 use Rattle.cp_model_program.specs.StatementsFor.{CodeFor}
+use Rattle.cp_model_program.specs.Layout.{capped, most_words}
 use Rattle.cp_model_program.specs.Scopes.{Scope}
 use Rattle.cp_model_program.specs.CodeNeeds.{Need, need_of, need_of_all, need_of_call, no_need, with_room, with_temps}
 use Rattle.cp_model_program.specs.Compile.{code_unit, unit_code}
 use Rattle.cp_model_program.proofs.Environments.{environment_at}
 use Rattle.cp_model_program.proofs.OperationsRepresent.{AllRepresent, OperationFits}
+use Rattle.cp_model_program.proofs.Room.{uncapped}
 use Rattle.cp_model_program.proofs.Representing.{CallFits, Representing, place_at}
 use Rattle.cp_model_program.proofs.CodeRepresents.{code_represents}
 
@@ -26,24 +28,28 @@ pub record Within (need : Need) (unit : CodeUnit) : Type 0 where
   pub temps : need.temps ≤ unit.temps
   pub frames : need.frames ≤ unit.frames
 
-module _ (scope : Scope) (program : Program) (texts : List UnitText) (before : List CodeUnit) (unit : CodeUnit) where
+module _ (scope : Scope) (program : Program) (texts : List UnitText) (before : List CodeUnit) (unit : CodeUnit) (less : unit.words < most_words) where
   abbrev need_by : Call → Option CodeUnit → Need
   need_by c o = elim o [
     | None ↦ no_need
-    | Some u ↦ record { words = c.words + u.words; temps = c.temps + u.temps; frames = 1 + u.frames }
+    | Some u ↦ record { words = capped (c.words + u.words); temps = c.temps + u.temps; frames = 1 + u.frames }
   ]
 
   call_fits : (c : Call) → Within (need_of_call before c) unit → CallFits scope program texts before unit c
   call_fits c w u there =
-      let k : Within (need_by c (Some u)) unit = subst (λ o. Within (need_by c o) unit) there w in (k.words, k.temps, k.frames)
+      let k : Within (need_by c (Some u)) unit = subst (λ o. Within (need_by c o) unit) there w in
+      let words : c.words + u.words ≤ unit.words = uncapped (c.words + u.words) unit.words k.words less in
+      (words, k.temps, k.frames, omega (arith, words, less))
 
   with_temps_fits : (n : ℕ) (need : Need) → Within (with_temps n need) unit → Within need unit × (n ≤ unit.temps)
   with_temps_fits n need w =
       (record { words = w.words; temps = omega (arith, w.temps); frames = w.frames }, omega (arith, w.temps))
 
   with_room_fits : (words count : ℕ) (need : Need) → Within (with_room words count need) unit → Within need unit × (words + suc count ≤ unit.words)
-  with_room_fits words count need w =
-      (record { words = omega (arith, w.words); temps = w.temps; frames = w.frames }, omega (arith, w.words))
+  with_room_fits words count need w = (
+    record { words = omega (arith, w.words); temps = w.temps; frames = w.frames },
+    uncapped (words + suc count) unit.words (omega (arith, w.words)) less,
+  )
 
   operation_fits : (x : Operation) → Within (need_of before x) unit → OperationFits scope program texts before unit x
   operation_fits (op.Procedure c next) w = call_fits c w
@@ -98,11 +104,11 @@ module _ (scope : Scope) (program : Program) (texts : List UnitText) (before : L
 
   -- Its code represents the statement and ends with the last operation, wherever the component
   -- is.
-  pub unit_represents : AllThere scope program texts before unit (unit_code scope last s at).operations at
+  pub unit_represents : (less : unit.words < most_words) → AllThere scope program texts before unit less (unit_code scope last s at).operations at
       → ((l : Location) (o : Owner) → TypedStatement (place_at scope systems routines l o) s)
       → (l : Location) (o : Owner) → (end : ℕ) × (operation_at program end ≡ Some last)
       × CodeFor (record { program = program; texts = texts; env = environment_at scope l o; unit = unit; words = scope.words }) nothing_known s unit.start end 0
-  unit_represents there typed l o =
+  unit_represents less there typed l o =
       let all : AllRepresent scope program texts before unit (unit_code scope last s at).operations at =
-      all_fit scope program texts before unit scope.words (unit_code scope last s at).operations at there (record { words = omega arith; temps = omega arith; frames = omega arith }) in
+      all_fit scope program texts before unit less scope.words (unit_code scope last s at).operations at there (record { words = omega arith; temps = omega arith; frames = omega arith }) in
       (at, there.0, code_represents scope program texts systems routines before unit l o standing s 0 (suc at) at (typed l o) (omega arith) all.2)

@@ -21,7 +21,7 @@ use Rattle.cp_law_typing.specs.Words.{words}
 use Rattle.cp_model_program.specs.Terms as term
 use Rattle.cp_model_program.specs.Terms.{Abs, Argument, Binary, Chr, Copy, Element, Empty, Function, Item, Local, Made, Negative, Not, Number, Ord, Realtime, Reference, Right, Root, Rooted, Shift, PlaceExpression, Standard, Target, Term, Value}
 use Rattle.cp_model_program.specs.Programs.{Call}
-use Rattle.cp_model_program.specs.Layout.{local_words, member, part, right}
+use Rattle.cp_model_program.specs.Layout.{local_words, member, part, passed_parameters, right}
 use Rattle.cp_model_program.specs.Sites.{first_parameter}
 use Rattle.cp_model_program.specs.TermsFor.{move_place_expression}
 use Rattle.cp_model_program.specs.Scopes.{Scope, environment, part_start, right_start, root_named, target_of, unit_of}
@@ -144,7 +144,7 @@ function_call scope c xs low =
     record { term = Made xs.temps; calls = xs.calls ++ (record { call = call; into = xs.temps } ∷ []); temps = suc xs.temps }
 
 abbrev pub parameters_of : Scope → Callee → List (Name × Variable)
-parameters_of scope c = declarations scope.globals c.routine.parameters
+parameters_of scope c = passed_parameters scope.globals c.routine
 
 -- A designator without arguments, by what it calls.
 abbrev pub used_term : Scope → a.Designator → ℕ → CodedPlaceExpression → Option Callee → CodedTerm

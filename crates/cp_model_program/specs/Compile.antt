@@ -1,7 +1,7 @@
 -- The compiler: the program of a text, as a function.
 --
 -- Units are made in text order, so that the units that a unit calls exist when it is made.
-use Rattle.std.specs.Prelude.{ℕ, suc, ◌+◌, List, [], ◌∷◌, ◌++◌, None, Some, filter, length, map}
+use Rattle.std.specs.Prelude.{◌≡◌, ℕ, suc, ◌+◌, List, [], ◌∷◌, ◌++◌, None, Some, filter, if◌then◌else◌, length, map, nat_lt, slice_get}
 use Rattle.cp_model.specs.Abstract as a
 use Rattle.cp_model.specs.Abstract.{Definition, Group, Name, Routine, Sort, Statement, System, Tree, TypeExpression, TypeName}
 use Rattle.cp_model.specs.Names.{lookup}
@@ -10,11 +10,11 @@ use Rattle.cp_model.specs.Declarations.{Variable, declarations, globals}
 use Rattle.cp_model.specs.Components.{is_component_of}
 use Rattle.cp_model_program.specs.Programs as code
 use Rattle.cp_model_program.specs.Programs.{CodeUnit, Done, Operation, Program, Return, StartPlan}
-use Rattle.cp_model_program.specs.Layout.{activation_words, component_words}
-use Rattle.cp_model_program.specs.Sites.{BodyOf, RoutineOf, UnitText}
+use Rattle.cp_model_program.specs.Layout.{activation_words, component_words, most_words}
+use Rattle.cp_model_program.specs.Sites.{BodyOf, LeftOut, RoutineOf, UnitText}
 use Rattle.cp_model_program.specs.StatementsFor.{is_function}
-use Rattle.cp_model_program.specs.IsProgramFor.{end_of}
-use Rattle.cp_model_program.specs.Scopes.{Scope, declared_type, or_zero}
+use Rattle.cp_model_program.specs.IsProgramFor.{end_of, system_of_unit}
+use Rattle.cp_model_program.specs.Scopes.{Scope, activation_fits, component_fits, declared_type, or_zero}
 use Rattle.cp_model_program.specs.CodedStatements.{Emitted, emitted}
 use Rattle.cp_model_program.specs.Plans.{plan_of_component, plan_of_routine}
 use Rattle.cp_model_program.specs.CodeNeeds.{Need, need_of_all}
@@ -37,13 +37,33 @@ abbrev pub code_unit : ℕ → StartPlan → Need → CodeUnit
 code_unit start starts need =
     record { start = start; starts = starts; words = need.words; temps = need.temps; frames = need.frames }
 
-abbrev pub with_unit : Scope → StartPlan → Operation → Statement → Compiled → Compiled
-with_unit scope starts last s c =
+abbrev pub with_code : Scope → StartPlan → Operation → Statement → Compiled → Compiled
+with_code scope starts last s c =
     let e = unit_code scope last s (length c.operations) in
     record {
       operations = c.operations ++ e.operations;
       units = c.units ++ (code_unit e.entry starts (need_of_all c.units scope.words e.operations) ∷ []);
     }
+
+-- A unit without code.
+abbrev pub stub : ℕ → StartPlan → CodeUnit
+stub words starts = record { start = 0; starts = starts; words = words; temps = 0; frames = 0 }
+
+-- One for a component that has no room.
+abbrev pub with_stub : Scope → StartPlan → Compiled → Compiled
+with_stub scope starts c = record { operations = c.operations; units = c.units ++ (stub scope.words starts ∷ []) }
+
+-- One whose activation has no room.
+abbrev pub left_out : CodeUnit
+left_out = stub most_words Done
+
+abbrev pub with_nothing : Compiled → Compiled
+with_nothing c = record { operations = c.operations; units = c.units ++ (left_out ∷ []) }
+
+abbrev pub with_unit : Scope → StartPlan → Operation → Statement → Compiled → Compiled
+with_unit scope starts last s c =
+    if activation_fits scope then (if component_fits scope then with_code scope starts last s c else with_stub scope starts c)
+    else with_nothing c
 
 -- ---- System types
 
@@ -178,5 +198,17 @@ definition_texts [] = []
 definition_texts (a.SystemDef x s ∷ ds) = system_texts s ++ definition_texts ds
 definition_texts (_ ∷ ds) = definition_texts ds
 
+abbrev pub all_texts : Tree → List UnitText
+all_texts t = definition_texts t.definitions ++ system_texts t.initial
+
+-- A unit that needs the greatest number of words is left out.
+abbrev pub kept_text : CodeUnit → UnitText → UnitText
+kept_text u t = if nat_lt u.words most_words then t else LeftOut (system_of_unit t)
+
+abbrev pub kept_texts : List CodeUnit → List UnitText → List UnitText
+kept_texts [] ts = []
+kept_texts (u ∷ us) [] = []
+kept_texts (u ∷ us) (t ∷ ts) = kept_text u t ∷ kept_texts us ts
+
 abbrev pub unit_texts : Tree → List UnitText
-unit_texts t = definition_texts t.definitions ++ system_texts t.initial
+unit_texts t = kept_texts (compile t).units (all_texts t)

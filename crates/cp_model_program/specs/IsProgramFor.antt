@@ -12,8 +12,8 @@ use Rattle.cp_law_typing.specs.Declared.{Distinct, Each, RoutineParameter, Routi
 use Rattle.cp_law_typing.specs.WellTyped.{WellTyped, text_systems}
 use Rattle.cp_model_program.specs.Programs as code
 use Rattle.cp_model_program.specs.Programs.{CodeUnit, Done, EndBody, End, Operation, Program, Return}
-use Rattle.cp_model_program.specs.Layout.{activation_words, component_words}
-use Rattle.cp_model_program.specs.Sites.{BodyOf, RoutineOf, Site, UnitText, operation_at}
+use Rattle.cp_model_program.specs.Layout.{activation_words, component_words, most_words}
+use Rattle.cp_model_program.specs.Sites.{BodyOf, LeftOut, RoutineOf, Site, UnitText, operation_at}
 use Rattle.cp_model_program.specs.TermsFor.{nothing_known}
 use Rattle.cp_model_program.specs.StatementsFor.{CodeFor, is_function}
 use Rattle.cp_model_program.specs.Starts.{Starts, StartsComponent, unset}
@@ -30,6 +30,7 @@ body_environment g s at = record { globals = g; system = s; component = at; fram
 abbrev pub system_of_unit : UnitText → System
 system_of_unit (RoutineOf s r) = s
 system_of_unit (BodyOf s) = s
+system_of_unit (LeftOut s) = s
 
 -- The system type of the initial process, or one that the text defines.
 abbrev pub IsInText : Setup → System → Type 0
@@ -39,6 +40,7 @@ IsInText setup s = (s ≡ setup.tree.initial) ⊎ ((i : ℕ) × (slice_get (text
 abbrev pub own_words : GlobalScope → UnitText → ℕ
 own_words g (RoutineOf s r) = activation_words g r
 own_words g (BodyOf s) = 0
+own_words g (LeftOut s) = 0
 
 abbrev pub site_of : Program → List UnitText → CodeUnit → UnitText → Environment → Site
 site_of program texts u t env = record { program = program; texts = texts; env = env; unit = u; words = own_words env.globals t }
@@ -48,19 +50,22 @@ end_of Process = End
 end_of _ = EndBody
 
 -- The unit's code represents the text, wherever the component is and whoever owns the activation.
+-- A component that has no room is nowhere, so nothing is said of its code. No process runs a unit
+-- that is left out.
 -- The names of its variables are distinct, and its parameters and variables are of types that those
 -- of a routine may have.
 abbrev pub UnitRepresents : Program → List UnitText → GlobalScope → CodeUnit → UnitText → Type 0
 UnitRepresents program texts g u (RoutineOf s r) =
     Starts g r u × (activation_words g r ≤ u.words) × Distinct (local_variables g r ++ permanent_variables g s)
     × Each (RoutineVariable g) (declarations g r.variables)
-    × ((at : Location) (o : Owner) → (end : ℕ) × (operation_at program end ≡ Some (Return (is_function r.result)))
+    × (component_words g s ≤ most_words → (at : Location) (o : Owner) → (end : ℕ) × (operation_at program end ≡ Some (Return (is_function r.result)))
     × CodeFor (site_of program texts u (RoutineOf s r) (routine_environment g s r at o)) nothing_known r.body u.start end 0)
     × Each (RoutineParameter g (is_function r.result)) (declarations g r.parameters)
 UnitRepresents program texts g u (BodyOf s) =
     (u.starts ≡ Done) × Distinct (permanent_variables g s)
-    × ((at : Location) → (end : ℕ) × (operation_at program end ≡ Some (end_of s.sort))
+    × (component_words g s ≤ most_words → (at : Location) → (end : ℕ) × (operation_at program end ≡ Some (end_of s.sort))
     × CodeFor (site_of program texts u (BodyOf s) (body_environment g s at)) nothing_known s.body u.start end 0)
+UnitRepresents program texts g u (LeftOut s) = Unit {0}
 
 -- ---- Components
 
@@ -104,7 +109,6 @@ pub record MonitorRepresents (program : Program) (texts : List UnitText) (setup 
   pub words : row.words ≡ component_words (globals setup.tree) system
   pub starts : StartsComponent (globals setup.tree) system row.starts
   pub lies : row.start + row.words ≤ program.shared
-  pub body : slice_get texts row.body ≡ Some (BodyOf system)
 
 -- `n` words from `a` on and `m` words from `b` on have none in common.
 abbrev pub Apart : ℕ → ℕ → ℕ → ℕ → Type 0

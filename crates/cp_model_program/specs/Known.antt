@@ -22,6 +22,7 @@ use Rattle.cp_law_typing.specs.WellTyped.{TypedBodies, TypedSystem, WellTyped, t
 use Rattle.cp_model_program.specs.IsProgramFor.{IsProgramFor}
 use Rattle.cp_model_program.specs.TermsFor.{IsPlain}
 use Rattle.cp_model_program.specs.Scopes.{Scope, declared_type, environment_at, groups_of}
+use Rattle.cp_model_program.specs.ParameterCounts.{are_short}
 use Rattle.cp_model_program.specs.Compile.{compile}
 
 -- ---- Types
@@ -128,9 +129,10 @@ pub record TextFacts (setup : Setup) : Type 0 where
 
 -- ---- The law
 
--- The program that the compiler makes of a text represents it, whatever its input and its clock.
+-- The program that the compiler makes of a text represents it, whatever its input and its clock, if its
+-- system types have few parameters.
 abbrev pub HasProgram : s.Tree → Type 0
-HasProgram t = (setup : Setup) → setup.tree ≡ erase.abstract t → IsProgramFor (compile setup.tree) setup
+HasProgram t = (setup : Setup) → setup.tree ≡ erase.abstract t → are_short setup.tree.definitions ≡ true → IsProgramFor (compile setup.tree) setup
 
 -- The numbers of tokens have 16 bits. No rule says so about a tree, and the mark of an unset result
 -- has 32 bits.

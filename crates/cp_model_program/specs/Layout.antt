@@ -3,7 +3,7 @@
 -- A class, or a process or monitor itself, has a mark, a word for each right, and then its own
 -- members. A variable that is a process or a monitor takes no word of the component that declares
 -- it. A function's result is the first word of its activation.
-use Rattle.std.specs.Prelude.{ℕ, ℤ, pos, negsuc, suc, ◌+◌, ◌*◌, ◌-ℤ◌, List, [], ◌∷◌, ◌++◌, Option, None, Some, if◌then◌else◌, filter}
+use Rattle.std.specs.Prelude.{Bool, true, nat_le, ℕ, ℤ, pos, negsuc, suc, ◌+◌, ◌*◌, ◌-ℤ◌, List, [], ◌∷◌, ◌++◌, Option, None, Some, if◌then◌else◌, filter, min}
 use Rattle.std.specs.Str.{bytes_eq}
 use Rattle.cp_model.specs.Abstract.{Class, Name, Routine, Sort, System}
 use Rattle.cp_model.specs.Types.{ArrayOf, ComponentOf, GlobalScope, Members, MoreMembers, NoMembers, RecordOf, ResolvedType}
@@ -86,6 +86,32 @@ local_at g at (v ∷ vs) x = if bytes_eq x v.0 then Some (at, v.1) else local_at
 -- Where a parameter or variable of a routine is in its activation.
 abbrev pub local : GlobalScope → Routine → Name → Option (ℕ × Variable)
 local g r x = local_at g (result_words r.result) (locals g r) x
+
+-- ---- Room
+
+-- The greatest number of words that a program can name. Types and units of a text that nobody reaches
+-- can need more: these have no room, and no code.
+abbrev pub most_words : ℕ
+most_words = 4294967295
+
+-- An `init` needs room for its arguments, of which there are fewer than this number.
+abbrev pub most_arguments : ℕ
+most_arguments = 1048576
+
+abbrev pub has_room : ℕ → Bool
+has_room n = nat_le n most_words
+
+-- A number of words, or the greatest one where it has no room.
+abbrev pub capped : ℕ → ℕ
+capped n = min n most_words
+
+abbrev pub routine_fits : GlobalScope → Option Routine → Bool
+routine_fits g None = true
+routine_fits g (Some r) = has_room (activation_words g r)
+
+-- The parameters that a call passes. A routine whose activation has no room gets none.
+abbrev pub passed_parameters : GlobalScope → Routine → List (Name × Variable)
+passed_parameters g r = if has_room (activation_words g r) then declarations g r.parameters else []
 
 -- ---- Rights
 

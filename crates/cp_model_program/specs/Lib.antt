@@ -2,6 +2,7 @@ pub mod Terms
 pub mod Programs
 pub mod Functions
 pub mod Layout
+pub mod ParameterCounts
 pub mod Tables
 pub mod Sites
 pub mod TermsFor

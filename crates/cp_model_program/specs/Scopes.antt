@@ -17,7 +17,7 @@ use Rattle.cp_model.specs.Calls.{Callee}
 use Rattle.cp_law_typing.specs.Needs.{some_environment}
 use Rattle.cp_model_program.specs.Terms as target
 use Rattle.cp_model_program.specs.Terms.{Local, Member, Root, Target, Through}
-use Rattle.cp_model_program.specs.Layout.{Part, local, member, right}
+use Rattle.cp_model_program.specs.Layout.{Part, component_words, has_room, local, member, right, routine_fits}
 
 -- ---- Scopes
 
@@ -30,6 +30,13 @@ pub record Scope : Type 0 where
   pub firsts : List (Name × ℕ)
   pub first : ℕ
   pub words : ℕ
+
+-- An activation has room, and a component of the system type.
+abbrev pub activation_fits : Scope → Bool
+activation_fits scope = routine_fits scope.globals scope.routine
+
+abbrev pub component_fits : Scope → Bool
+component_fits scope = has_room (component_words scope.globals scope.system)
 
 -- Names mean the same wherever a component and its activation are.
 abbrev pub environment : Scope → Environment

@@ -17,10 +17,12 @@ use Rattle.cp_model_program.specs.Layout.{local, member, right}
 
 -- ---- Sites
 
--- The part of a text that a unit is the code of.
+-- The part of a text that a unit is the code of. A unit is left out if it has no room, or calls one
+-- that has none.
 pub data UnitText : Type 0 where
   RoutineOf : (s : System) (r : Routine) → UnitText
   BodyOf : (s : System) → UnitText
+  LeftOut : (s : System) → UnitText
 
 -- A site has the program, the text of each unit, the meaning of names, the unit, and the words of
 -- one activation of it.

@@ -16,10 +16,12 @@
 //! - **The law.** `law::accepted_tree_has_program`: the program that the compiler makes of the text
 //!   of an accepted tree represents it. `proofs/` show it for terms, calls, each kind of statement,
 //!   plans of words, units in text order, and components, from what `Known` says about a text.
+//!   `counts` decides its premise that system types have few parameters, in `ParameterCounts`.
 //!
 //! `Example` is a text with calls, `var` parameters, rights, a monitor and two processes, with a
 //! program that represents it.
 #![tactic(auto)]
 
+pub mod counts;
 pub mod law;
 pub mod numbers;

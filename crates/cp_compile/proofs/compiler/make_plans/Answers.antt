@@ -1,9 +1,11 @@
-use Rattle.std.proofs.Common.{◌<◌, ◌∙◌, length, map, subst, arith}
+use Rattle.std.proofs.Common.{◌≡◌, true, ◌<◌, ◌∙◌, length, map, subst, arith}
 use Rattle.cp_model.specs.Declarations.{declarations}
 use Rattle.cp_compile_symbols.specs.Texts.{AreSystems}
 use Rattle.cp_compile_symbols.specs.Variables.{declared_entry}
 use Rattle.cp_compile_symbols.specs.declared.tables.Tables.{Tables}
-use Rattle.cp_compile_emit.specs.ComponentPlans.{ArePlans}
+use Rattle.cp_compile_emit.specs.ComponentPlans.{ArePlans, table_fits}
+use Rattle.cp_model_program.specs.Plans.{plan_of_component}
+use Rattle.cp_program.specs.View.{plan_at}
 use Rattle.cp_compile_emit.specs.Planning.{known_of}
 use Rattle.cp_compile_emit.proofs.PlansKept.{number_there, plan_kept}
 use Rattle.cp_compile.specs.CompiledPrograms.{text_of}
@@ -19,15 +21,15 @@ returns-clause-plans c = λ g t represents planner.
     let new = c.add_components.new.self in
     let declared = planner_types tables old g planner in
     let made = rw (c.deref.ensures.value, c.deref-2.ensures.value) at c.in_ok-initial.ensures.plan in
-    let own =
-    made g s planner.knows (declared (map declared_entry tables.initial.parameters.items) (declarations g s.parameters) represents.initial.parameters)
+    let own : table_fits tables.initial ≡ true → plan_at (known_of mid) c.in_ok-initial.initial ≡ plan_of_component g s =
+    λ fits. made g s planner.knows (c.has_room.ensures ∙ fits) (declared (map declared_entry tables.initial.parameters.items) (declarations g s.parameters) represents.initial.parameters)
     (declared (map declared_entry tables.initial.variables.items) (declarations g s.variables) represents.initial.variables) in
     let after = planner_after tables old mid g c.in_ok-initial.ensures.extends (c.in_ok-initial.ensures.knows g planner.knows) planner in
     let there : c.in_ok-initial.initial < length mid.plans.items = omega (arith, c.in_ok-initial.ensures.number, c.in_ok-initial.ensures.added) in
     let plans = c.in_ok-first.ensures.plans g after.knows in
     record {
       systems = (subst (λ (z : Tables). AreSystems g z.types z.systems.items → ArePlans g z (known_of new) c.in_ok-first.first) after.over plans) represents.systems;
-      initial_is = plan_kept mid new c.in_ok-initial.initial c.in_ok-first.ensures.extends (number_there mid c.in_ok-initial.initial there) ∙ own;
+      initial_is = λ fits. plan_kept mid new c.in_ok-initial.initial c.in_ok-first.ensures.extends (number_there mid c.in_ok-initial.initial there) ∙ own fits;
     }
 
 pub returns-in_err-initial-clause-planner : goal.returns-in_err-initial-clause-planner

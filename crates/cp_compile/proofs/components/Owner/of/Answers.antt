@@ -1,4 +1,4 @@
-use Rattle.std.proofs.Common.{rules, ◌≡◌, ◌+◌, ◌∙◌, ℕ, Option, Some, length, refl, suc, subst}
+use Rattle.std.proofs.Common.{rules, ap, is_some, ◌≡◌, ◌+◌, ◌∙◌, ℕ, Option, Some, length, refl, suc, subst}
 use Rattle.cp_law_typing.specs.Words.{words_of_members}
 use Rattle.cp_compile_symbols.specs.Components.{own_members}
 use Rattle.cp_compile_symbols.specs.Layouts.{Counts, rights_of}
@@ -16,5 +16,5 @@ returns c = λ plans g types s ps vs rs represents written plan.
       body = refl;
       words = subst (λ (o : Option ℕ). Counts o all) words represents.members.words ∙ component_counted g s ps vs rs written;
       waiting = waiting ∙ waiting_counted g types s ps vs rs table.parameters.items c.in_ok-waiting.waiting written represents.parameters count;
-      plan = plan;
+      plan = plan (ap is_some words);
     }

@@ -5,8 +5,9 @@ use Rattle.cp_model.specs.View as tree
 use Rattle.cp_model.specs.declared.tree.Routine.{Routine}
 use Rattle.cp_compile_symbols.specs.Systems.{routines_of}
 use Rattle.cp_compile_emit.specs.Planning.{known_of}
-use Rattle.cp_compile_emit.proofs.Continuing.{continues_after, continues_itself, continues_more}
+use Rattle.cp_compile_emit.proofs.Continuing.{continues_itself, continues_more}
 use Rattle.cp_compile.specs.Compiles.{IsCompiled}
+use Rattle.cp_compile.proofs.UnitsCompiled.{may_continue}
 use Rattle.cp_compile.proofs.SystemsCompiled.{PartlyCompiled, one_routine, routine_has_table, routine_known}
 use Rattle.cp_compile.proofs.system.SystemCompiler.routines.Goals as goal
 
@@ -38,7 +39,7 @@ loop-i-preserved c =
           let represents = routine_known of g s firsts i texts (drop (k + 1) texts) k x table all step here in
           let before = c.loop-i.emitter.origins.items in
           continues_more c.args.emitter.now.origins.items before c.routine.new.emitter.origins.items (c.loop-i.invariant.origins g s firsts i all)
-          (continues_after before x.name.at c.routine.new.emitter.origins.items (c.in_ok-routine.ensures.origin g s firsts i represents));
+          (may_continue before x.name.at c.routine.new.emitter.origins.items (c.in_ok-routine.ensures.origin g s firsts i represents));
     }
 
 pub loop-i-preserved-in_default : goal.loop-i-preserved-in_default

@@ -1,4 +1,4 @@
-use Rattle.std.proofs.Common.{rules, ◌≡◌, ◌+◌, ◌∙◌, Bor, Some, None, ap, length, map, slice_get, subst, sym, arith}
+use Rattle.std.proofs.Common.{rules, true, ◌≡◌, ◌+◌, ◌∙◌, Bor, Some, None, ap, length, map, slice_get, subst, sym, arith}
 use Rattle.std.specs.Prelude.{option_map}
 use Rattle.std.proofs.lemmas.Option.{same_Some}
 use Rattle.cp_model.specs.Declarations.{declarations}
@@ -9,7 +9,7 @@ use Rattle.cp_compile_symbols.specs.declared.systems.SystemTable.{SystemTable}
 use Rattle.cp_compile_symbols.specs.declared.tables.Tables.{Tables}
 use Rattle.cp_compile_symbols.proofs.SystemsMade.{has_table}
 use Rattle.cp_compile_symbols.specs.Variables.{AreDeclared, declared_entry}
-use Rattle.cp_compile_emit.specs.ComponentPlans.{ArePlans}
+use Rattle.cp_compile_emit.specs.ComponentPlans.{ArePlans, table_fits}
 use Rattle.cp_compile_emit.specs.Planning.{known_of}
 use Rattle.cp_compile_emit.proofs.ComponentsPlanned.{all_components, get_inside, one_component}
 use Rattle.cp_compile_emit.proofs.PlansKept.{extends_on, knows_kept, number_there, plan_kept}
@@ -34,6 +34,8 @@ loop-table-preserved c =
     let so_far = c.loop-table.invariant in
     let one = c.in_ok-add_component.ensures in
     let many : length old.plans.items ≡ first + count = so_far.count in
+    let room : (t : SystemTable) → t ≡ c.in-Some.table.now → table_fits t ≡ true → c.has_room.result ≡ true =
+    λ t same fits. c.has_room.ensures ∙ ap table_fits (sym same) ∙ fits in
     record {
       extends = extends_on start old new so_far.extends one.extends;
       types = one.types ∙ so_far.types;
@@ -42,14 +44,14 @@ loop-table-preserved c =
           let known = knows_kept start old g so_far.extends (ap (λ v. v.items) so_far.types) knows in
           one_component count g start.tables.now (known_of old) (known_of new) first
           (λ n less. plan_kept old new n one.extends (number_there old n (omega (arith, many, less))))
-          (λ y t here there.
+          (λ y t here there fits.
           let table = c.in-Some.table.now in
           let found : slice_get old.tables.now.systems.items count ≡ Some table = sym c.table.ensures ∙ ap (option_map (λ (b : Bor SystemTable). b.now)) c.in-Some.is in
           let same : t ≡ table =
           same_Some t table (sym there ∙ ap (λ (b : Bor Tables). slice_get b.now.systems.items count) (sym so_far.extends.tables_are) ∙ found) in
           let represents = has_table g start.tables.now.types start.tables.now.systems.items count y t systems here there in
           let s = erase.system (tree_view.system y.now) in
-          let made = (rw (c.deref.ensures.value, c.deref-in-Some.ensures.value) at one.plan) g s known in
+          let made = (rw (c.deref.ensures.value, c.deref-in-Some.ensures.value) at one.plan) g s known (room t same fits) in
           let own =
           made
           (subst (λ (b : Bor Tables). AreDeclared b.now.types (map declared_entry table.parameters.items) (declarations g s.parameters)) (sym so_far.extends.tables_are)

@@ -264,9 +264,9 @@ user_call-returns t c =
     let types = c.args.self.now.scope.tables.now.types in
     if_ok c.function_call.result
     (λ made h s d scope is.
-    let declared = is.routine.table.parameters in
+    let declared = c.passed.ensures s.globals types d.routine is.routine.table in
     let at : c.words_before.result ≡ first_parameter d = c.words_before.ensures s.globals types d.routine is.routine.table in
-    let xs = (rw c.deref.ensures.value at c.in_ok-xs.ensures) s (parameters_of s d) scope declared in
+    let xs = c.in_ok-xs.ensures s (parameters_of s d) scope declared in
     h s d before (coded_arguments s es (parameters_of s d) (first_parameter d) c.args.low) scope is
     (subst (λ n. AreArguments before c.arguments.new.calls.items c.in_ok-xs.xs (coded_arguments s es (parameters_of s d) n c.args.low)) at xs))
     c.function_call.ensures.term

@@ -21,7 +21,7 @@ returns c =
     let es = erase.expressions (tree.expressions_of (map tree.expression c.args.es.now)) in
     let first : c.words_before-at.result ≡ first_parameter o = c.words_before-at.ensures s.globals types o.routine is.routine.table in
     let ys = coded_arguments s es (parameters_of s o) (first_parameter o) low in
-    let passed = (rw (c.deref.ensures.value, c.new-calls.ensures.items) at c.in_ok-xs.ensures) s (parameters_of s o) scope is.routine.table.parameters in
+    let passed = (rw c.new-calls.ensures.items at c.in_ok-xs.ensures) s (parameters_of s o) scope (c.passed.ensures s.globals types o.routine is.routine.table) in
     let xs = subst (λ n. AreArguments [] after c.in_ok-xs.xs (coded_arguments s es (parameters_of s o) n low)) first passed in
     let call = c.in_ok-call.ensures s o scope is ∙ ap (λ zs. call_of s (unit_of s o) (target_of (environment s) o.of) zs low) xs.arguments in
     entered c.args.emitter.now c.emit.new.self place after ys.calls (operation.Procedure c.in_ok-call.call c.args.next)

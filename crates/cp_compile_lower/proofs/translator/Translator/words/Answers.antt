@@ -2,4 +2,4 @@ use Rattle.cp_compile_lower.proofs.translator.Translator.words.Goals as goal
 
 pub returns-in-Some : goal.returns-in-Some
 returns-in-Some c = λ s t scope represents.
-    (rw (c.tables.ensures, c.in-Some.is) at c.words.ensures) s.globals c.args.self.now.scope.tables.now.types t scope.laid.laid represents
+    (rw (c.tables.ensures, c.in-Some.is) at c.in_ok-words.ensures) s.globals c.args.self.now.scope.tables.now.types t scope.laid.laid represents

@@ -25,8 +25,8 @@ loop-d-preserved c = λ g types at vs laid represent counts.
     at_drop_more (λ (ds : List Declared). map declared_entry ds) all i nothing c.loop-d-test.true in
     let partly = subst (λ ds. PartlyLaid g types at vs ds before) step (c.loop-d.invariant g types at vs laid represent counts) in
     one_laid g types at vs (declared_entry d) (map declared_entry (drop (i + 1) all)) before after
-    (record { at = before.words; by_reference = d.by_reference; of = d.of }) c.local_words.result
-    (λ v way represents. c.local_words.ensures g types v laid way represents) c.sum-locals.ensures refl refl refl c.in_ok-add_first.ensures partly
+    (record { at = before.words; by_reference = d.by_reference; of = d.of }) c.in_ok-size.size
+    (λ v way represents. c.in_ok-size.ensures g types v laid way represents) c.sum-locals.ensures refl refl refl c.in_ok-add_first.ensures partly
 
 pub returns : goal.returns
 returns c = λ g types at vs laid represent counts.

@@ -26,8 +26,8 @@ loop-member-preserved c = λ g types at ms laid represent counts.
     let step : map entry (drop i all) ≡ (f.name.now, f.of) ∷ map entry (drop (i + 1) all) =
     at_drop_more (λ (fs : List Field). map entry fs) all i nothing c.loop-member-test.true in
     let partly = subst (λ fs. PartlyLaid g types at ms fs before) step (c.loop-member.invariant g types at ms laid represent counts) in
-    one_laid g types at ms f.name.now f.of (map entry (drop (i + 1) all)) before after (record { at = before.words; of = f.of }) c.words.result
-    (λ t represents. c.words.ensures g types t laid represents) c.sum-layout.ensures refl refl c.in_ok-add_first.ensures partly
+    one_laid g types at ms f.name.now f.of (map entry (drop (i + 1) all)) before after (record { at = before.words; of = f.of }) c.in_ok-size.size
+    (λ t represents. c.in_ok-size.ensures g types t laid represents) c.sum-layout.ensures refl refl c.in_ok-add_first.ensures partly
 
 pub returns : goal.returns
 returns c = λ g types at ms laid represent counts.

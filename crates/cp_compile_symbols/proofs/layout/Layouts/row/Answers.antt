@@ -7,8 +7,8 @@ use Rattle.cp_compile_symbols.proofs.Laying.{array_laid, component_laid, laid_la
 use Rattle.cp_compile_symbols.proofs.Representing.{has_system, same_system}
 use Rattle.cp_compile_symbols.proofs.layout.Layouts.row.Goals as goal
 
-pub returns-in-Array : goal.returns-in-Array
-returns-in-Array c = λ g later n t scope grows laid at represents.
+pub returns-in_ok-size-in-Array : goal.returns-in_ok-size-in-Array
+returns-in_ok-size-in-Array c = λ g later n t scope grows laid at represents.
     let l = c.bare-in-Array.result in
     let low = c.in-Array.low in
     let high = c.in-Array.high in
@@ -18,7 +18,7 @@ returns-in-Array c = λ g later n t scope grows laid at represents.
     array_laid g later n l t low high e (at ∙ ap Some c.in-Array.is) represents c.bare-in-Array.ensures.parts
     (λ u s. rw c.bare-in-Array.ensures.words
     (c.product-words.ensures (count_between low high) (words g u) count
-    (c.words.ensures g later u (laid_later g c.args.types.now later c.args.self.now.rows.items grows laid) s)))
+    (c.in_ok-size-in-Array.ensures g later u (laid_later g c.args.types.now later c.args.self.now.rows.items grows laid) s)))
 
 pub returns-in-Record : goal.returns-in-Record
 returns-in-Record c =
