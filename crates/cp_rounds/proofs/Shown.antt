@@ -1,5 +1,5 @@
 -- What the reading calls of a machine report is that part of each state in which the machine is.
-use Rattle.std.proofs.Common.{◌≡◌, ◌≤◌, ◌<◌, ◌+◌, ◌-◌, ◌^◌, lit<, ℕ, ℤ, true, List, [], ◌∷◌, None, Some, length, refl, ap, sym, subst, arith}
+use Rattle.std.proofs.Common.{◌≡◌, ◌≤◌, ◌<◌, ◌+◌, ◌-◌, ◌++◌, ◌∙◌, ◌^◌, lit<, ℕ, ℤ, true, List, [], ◌∷◌, None, Some, length, refl, ap, sym, subst, arith}
 use Rattle.std.specs.Prelude.{slice_get}
 use Rattle.std.proofs.lemmas.Bool.{eq-eqb}
 use Rattle.cp_model.specs.Configurations as status
@@ -19,6 +19,7 @@ use Rattle.cp_model_machine.specs.InState.{IsIn}
 use Rattle.cp_model_machine.specs.KernelOf.{StageMeans, kernel_ground}
 use Rattle.cp_model_machine.specs.KernelSteps.{Asking, Begun, Delayed, Fresh, SchedulingState, Unstarted, gate_of, stage_of}
 use Rattle.cp_model_machine.specs.Laws.{ground_of}
+use Rattle.cp_model_machine.specs.Machines.{transcript_of}
 use Rattle.cp_model_machine.specs.Means.{CellMeans}
 use Rattle.cp_model_machine.specs.PartOf.{DataMeans, status_of}
 use Rattle.cp_model_machine.specs.Passing.{monitor_start}
@@ -29,9 +30,9 @@ use Rattle.cp_private.specs.declared.private.Private.{Private}
 use Rattle.cp_rounds_handoff.specs.Numbers.{AreNumbered}
 use Rattle.cp_rounds_handoff.proofs.Lists.{got_at, none_some}
 use Rattle.cp_rounds.specs.Gates.{ShowsAskers, ShowsHolder}
-use Rattle.cp_rounds.specs.ProcessStates.{ShowsState, StatusMeans, activity_at, state_at, state_of}
+use Rattle.cp_rounds.specs.ProcessStates.{ShowsState, ShowsTranscript, StatusMeans, activity_at, state_at, state_of}
 use Rattle.cp_rounds.specs.Values.{IsKindOf, IsOwner, IsValue, LiesAt, ShowsValue, location_of, value_at, word_of}
-use Rattle.cp_rounds.specs.Views.{machine_of, words_of}
+use Rattle.cp_rounds.specs.Views.{machine_of, output_of, words_of}
 use Rattle.cp_rounds.specs.declared.machine.Machine.{Machine}
 use Rattle.cp_inspect.specs.declared.place.Kind.{Kind}
 use Rattle.cp_inspect.specs.declared.place.Kind.TheVariants as kind
@@ -113,6 +114,14 @@ status_is m p setup s I first last =
 
 pub state_shown : (m : Machine) (p : ℕ) → ShowsState m p (state_at (machine_of m) p)
 state_shown m p = record { shows = status_is m p }
+
+pub transcript_shown : (m : Machine) (p : ℕ) → ShowsTranscript m p (transcript_of (machine_of m).transcripts p) (output_of (machine_of m) p)
+transcript_shown m p = record {
+  shows = λ setup s I first last.
+      let o = there m setup s I p first last in
+      let held : output_of (machine_of m) p ≡ o.0.output = ap (λ r. elim r as (λ x. List ℕ) [ None ↦ [] | Some q ↦ q.output ]) o.1 in
+      (I.parts p o.0 first o.1).part.transcript ∙ ap (λ w. transcript_of (machine_of m).transcripts p ++ w) (sym held);
+}
 
 -- ---- Gates
 

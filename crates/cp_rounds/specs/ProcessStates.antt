@@ -1,5 +1,5 @@
 -- The states of processes, as a machine and as the meaning have them.
-use Rattle.std.specs.Prelude.{◌≡◌, ◌≤◌, ◌-◌, ℕ, [], None, Some, slice_get}
+use Rattle.std.specs.Prelude.{◌≡◌, ◌≤◌, ◌-◌, ◌++◌, ℕ, List, [], None, Some, slice_get}
 use Rattle.cp_model.specs.Configurations as status
 use Rattle.cp_model.specs.Configurations.{Status}
 use Rattle.cp_model.specs.States.{Setup, State, process_count}
@@ -52,3 +52,7 @@ StatusMeans G _ _ = ⊥
 pub record ShowsState (m : Machine) (p : ℕ) (r : ProcState) : Type 0 where
   pub shows : (setup : Setup) (s : State) (I : IsIn (machine_of m) setup s) → 1 ≤ p → p ≤ process_count setup
       → StatusMeans (kernel_ground (machine_of m).program I.represents.texts setup) (s.status p) r
+
+-- In each state that the machine is in, these two parts together are what process p has written.
+pub record ShowsTranscript (m : Machine) (p : ℕ) (moved held : List ℕ) : Type 0 where
+  pub shows : (setup : Setup) (s : State) → IsIn (machine_of m) setup s → 1 ≤ p → p ≤ process_count setup → s.transcript p ≡ moved ++ held
