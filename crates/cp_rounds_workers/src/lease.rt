@@ -4,9 +4,10 @@
 //! seat it has: a seat of the board that the sheet of its wave shows. The sheet of a wave is
 //! written once, and whoever begins the waves chooses the names of all sheets.
 
-ghost use Rattle.std.specs.Prelude.{◌≡◌, ℕ, IfSome};
+ghost use Rattle.std.specs.Prelude.{◌≡◌, ℕ, IfSome, IsTrue, true};
 ghost use Rattle.std.specs.Arc.{arc_value};
 ghost use Rattle.cp_board.specs.Models.{IsSeatOf};
+ghost use Rattle.cp_board.specs.Views.{IsDone};
 
 use crate::work::{Work, draw_until_stop};
 use cp_board::{Board, Seat};
@@ -70,6 +71,9 @@ impl<'a, C: Sheets> SeatLease<'a, C> {
     /// Draws until no chunk is left or a stop is seen. Returns whether no chunk is left.
     pub(crate) fn work<R: Wait, W: Work>(&mut self, rt: &R, work: &W) -> bool
         requires can { W.can work.now }
+        ensures allowance { self.new.seat.view.allowance ≡ self.old.seat.view.allowance }
+        ensures done { IsTrue result → IsDone self.new.seat.view }
+        ensures stopped { (IsTrue result → ⊥) → self.new.seat.view.seen_stop ≡ true }
     {
         draw_until_stop(rt, &self.board, &mut self.seat, self.wave, work)
     }
