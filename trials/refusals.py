@@ -19,6 +19,7 @@ KINDS = ('ALLOCATION', 'THREAD', 'READ', 'WRITE')
 LEAST_OF_RUN = {'ALLOCATION': 430, 'THREAD': 1, 'READ': 430, 'WRITE': 165}
 LEAST_OF_REPLAY = {'ALLOCATION': 495, 'THREAD': 0, 'READ': 610, 'WRITE': 165}
 LEAST_OF_OUTCOME = {'ALLOCATION': 460, 'THREAD': 1, 'READ': 300, 'WRITE': 170}
+LEAST_OF_SEARCH = {'ALLOCATION': 1150, 'THREAD': 0, 'READ': 700, 'WRITE': 530}
 LEAST_OF_NAMED = {'ALLOCATION': 380, 'THREAD': 1, 'READ': 350, 'WRITE': 80}
 LEAST_OF_EXPLANATION = {'ALLOCATION': 150, 'THREAD': 0, 'READ': 190, 'WRITE': 385}
 LEAST_AT_ONCE = 470
@@ -26,7 +27,8 @@ LEAST_OF_TRACE = {'READ': 300, 'WRITE': 255}
 
 # The tests of cp_test_rounds that look at a machine after a refusal, and the fewest times that they have to see one.
 TESTS = {'a_refused_machine_is_made_again': 12, 'a_refused_round_leaves_the_machine_as_it_was': 550, 'a_refused_run_has_made_the_rounds_before': 200,
-         'a_refused_replay_leaves_the_machine_as_it_was': 240}
+         'a_refused_replay_leaves_the_machine_as_it_was': 240, 'a_refused_round_leaves_askers_as_they_were': 380,
+         'a_refused_run_of_askers_has_made_the_rounds_before': 120}
 
 
 class Refusing:
@@ -146,11 +148,12 @@ def commands(folder, resumed):
             ('a replay', LEAST_OF_REPLAY, ['replay', text, order, '--turn', '2', '--input', given], 0),
             ('a run with a named input', LEAST_OF_NAMED, ['run', capitals, '--rounds', '2', '--in', f't={named}'], 0),
             ('an outcome', LEAST_OF_OUTCOME, ['outcome', 'squarers.cp', '--turn', '4'], 6),
+            ('a search', LEAST_OF_SEARCH, ['search', ROOT / 'docs' / 'tutorial' / 'slot.cp'], 5),
             ('an explanation', LEAST_OF_EXPLANATION, ['explain', 'rules/c4_recursion.cp'], 1)]
 
 
 def refuse_in_turn(resumed, counters):
-    """Refuses the calls of three runs, a replay, an outcome, a trace and an explanation. `resumed` is a text in which a process resumes another, `counters` one of
+    """Refuses the calls of three runs, a replay, an outcome, a search, a trace and an explanation. `resumed` is a text in which a process resumes another, `counters` one of
     whose rounds several are made at once. Returns what was tried."""
     with tempfile.TemporaryDirectory() as name, concurrent.futures.ThreadPoolExecutor() as pool:
         folder = pathlib.Path(name)

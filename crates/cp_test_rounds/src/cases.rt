@@ -6,7 +6,7 @@
 //! functions owns one of them, and lends it to the next.
 
 use crate::machines::machine_of;
-use crate::refusals::{count_by_replays, count_by_rounds, count_by_run, is_made, is_refused};
+use crate::refusals::{Example, count_by_replays, is_made, is_refused, make_rounds, make_run};
 use crate::texts::{compiled, tree_of};
 use crate::workers::Rounds;
 use cp_base_config::plan::Plan;
@@ -28,9 +28,9 @@ use std::thread::Threads;
 pub(crate) enum MachineCase<'g, G> {
     // It makes rounds with a hook.
     Rounds(Rounds<'g, G>),
-    // It counts, by rounds, by a run, or by replays.
-    ByRounds(Plan),
-    ByRun(Plan),
+    // It makes the rounds of an example one by one, or in one run, or it counts by replays.
+    ByRounds(Example, Plan),
+    ByRun(Example, Plan),
     ByReplays(Turn),
 }
 
@@ -53,8 +53,8 @@ fn machine_passes<R: Print + Threads + Wait + Sync, G: TurnGate>(
 ) -> Result<bool, Fail> {
     match case {
         MachineCase::Rounds(rounds) => rounds.make(rt, machine),
-        MachineCase::ByRounds(plan) => count_by_rounds(rt, machine, plan),
-        MachineCase::ByRun(plan) => count_by_run(rt, machine, plan),
+        MachineCase::ByRounds(example, plan) => make_rounds(rt, machine, *example, plan),
+        MachineCase::ByRun(example, plan) => make_run(rt, machine, *example, plan),
         MachineCase::ByReplays(turn) => count_by_replays(rt, alloc, machine, *turn),
     }
 }

@@ -79,17 +79,25 @@ impl Meeting {
     }
 }
 
-// The private turns of processes 2 and 3 meet.
+// The private turns of processes 2 and 3 meet. A hook that allows batching has to be called only
+// where threads share turns.
 #[derive(Drop)]
-pub(crate) struct PrivateTurnsMeet(pub(crate) Meeting);
+pub(crate) struct PrivateTurnsMeet {
+    pub(crate) meeting: Meeting,
+    pub(crate) allows_batching: bool,
+}
 
 impl TurnGate for PrivateTurnsMeet {
     fn begin(&self, p: usize) {
         match p {
-            2 => self.0.first(),
-            3 => self.0.second(),
+            2 => self.meeting.first(),
+            3 => self.meeting.second(),
             _ => {}
         }
+    }
+
+    fn allows_batching(&self) -> bool {
+        self.allows_batching
     }
 }
 
@@ -116,11 +124,13 @@ impl TurnGate for WavesMeet {
 pub(crate) struct EachWaits {
     begun: [Counter; 4],
     seen: [Counter; 4],
+    allows_batching: bool,
 }
 
 impl EachWaits {
-    pub(crate) const fn new() -> EachWaits {
+    pub(crate) const fn new(allows_batching: bool) -> EachWaits {
         EachWaits {
+            allows_batching,
             begun: [
                 Counter::new(),
                 Counter::new(),
@@ -155,6 +165,10 @@ impl TurnGate for EachWaits {
                 seen.count();
             }
         }
+    }
+
+    fn allows_batching(&self) -> bool {
+        self.allows_batching
     }
 }
 

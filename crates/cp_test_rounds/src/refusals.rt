@@ -2,7 +2,7 @@
 //!
 //! A program that is too large is always refused. Allocations and thread starts succeed in a plain
 //! run. `trials/refusals.py` makes one of them fail, by a library that is loaded before the C
-//! library. The last four tests then report it and look at the machine.
+//! library. The last six tests then report it and look at the machine.
 
 use crate::cases::{Case, MachineCase, passes};
 use crate::machines::{activity, has_written, inputs_for};
@@ -102,8 +102,6 @@ const COUNTERS: &str =
     pc = process; var x: integer; begin cycle x := x + 1; display(x) end end;
     var g: m; b: pm; c, d: pc; begin init c, d, g, b(g) end.";
 
-const ROUNDS: u32 = 9;
-
 const COUNTED: &[u8] = b"12345678";
 
 // Whether the counters are as the rules say after nine rounds with three steps a turn.
@@ -114,7 +112,7 @@ fn have_counted(machine: &Machine) -> Result<bool, Fail> {
         queue: 1,
     };
     Ok(
-        machine.rounds() == u64::from(ROUNDS)
+        machine.rounds() == 9
             && activity(machine, 1)? == Activity::Ended
             && kernel.holder(1) == Holder::Free
             && kernel.stage(2) == delayed
@@ -125,15 +123,87 @@ fn have_counted(machine: &Machine) -> Result<bool, Fail> {
     )
 }
 
-const WAYS: [(u32, u32); 3] = [(1, 255), (4, 255), (4, 1)];
+// Process 3 is delayed, process 4 asks for the gate, and process 2 resumes process 3, which then
+// goes ahead of process 4.
+const ASKERS: &str = "type m = monitor; var q: queue;
+      procedure entry w; begin delay(q); display(1); display(1) end;
+      procedure entry s; begin display(8); display(8); continue(q) end;
+      procedure entry t; begin display(4) end;
+    begin end;
+    ps = process(a: m); var v: integer; begin v := 1; v := 2; v := 3; a.s end;
+    pw = process(a: m); begin a.w end;
+    pt = process(a: m); begin a.t end;
+    var g: m; b: ps; c: pw; d: pt;
+    begin init g, b(g), c(g), d(g) end.";
 
-fn plan_of(workers: u32, wave: u32) -> Result<Plan, Fail> {
-    Ok(Plan::new(3, workers, 1, wave)?)
+// Whether the askers are as the rules say after five rounds with two steps a turn.
+fn have_asked(machine: &Machine) -> Result<bool, Fail> {
+    let kernel = machine.kernel();
+    Ok(
+        machine.rounds() == 5
+            && activity(machine, 1)? == Activity::Ended
+            && kernel.holder(1) == Holder::Process(3)
+            && kernel.askers(1) == [4].as_slice()
+            && kernel.stage(3) == SchedulingState::Begun
+            && kernel.stage(4) == SchedulingState::Asking(1)
+            && kernel.word(1) == 0
+            && has_written(machine, 2, b"88")
+            && has_written(machine, 3, b"11")
+            && has_written(machine, 4, b"")
+            && machine.word(2, 2) == 3,
+    )
+}
+
+// A program, of which a number of rounds are made.
+#[derive(Clone, Copy)]
+pub(crate) enum Example {
+    Counters,
+    Askers,
+}
+
+impl Example {
+    fn text(self) -> &'static str {
+        match self {
+            Example::Counters => COUNTERS,
+            Example::Askers => ASKERS,
+        }
+    }
+
+    fn rounds(self) -> u32 {
+        match self {
+            Example::Counters => 9,
+            Example::Askers => 5,
+        }
+    }
+
+    // The steps of a turn.
+    fn turn(self) -> u32 {
+        match self {
+            Example::Counters => 3,
+            Example::Askers => 2,
+        }
+    }
+
+    // Workers and sizes of waves.
+    fn ways(self) -> [(u32, u32); 3] {
+        match self {
+            Example::Counters => [(1, 255), (4, 255), (4, 1)],
+            Example::Askers => [(1, 2), (4, 2), (4, 3)],
+        }
+    }
+
+    // Whether a machine of it is as the rules say after its rounds.
+    fn is_made(self, machine: &Machine) -> Result<bool, Fail> {
+        match self {
+            Example::Counters => have_counted(machine),
+            Example::Askers => have_asked(machine),
+        }
+    }
 }
 
 // Makes the rounds of the counters, and fails unless they have counted.
 fn count<R: Threads + Wait + Sync>(rt: &R, machine: &mut Machine) -> Result<(), Fail> {
-    Way::new(true, 1, 1, 255).make(rt, machine, ROUNDS, 3, &Open)?;
+    Way::new(true, 1, 1, 255).make(rt, machine, 9, 3, &Open)?;
     if !have_counted(machine)? {
         return Err("the counters have counted otherwise".into());
     }
@@ -164,13 +234,14 @@ fn a_refused_machine_is_made_again(rt: HostRuntime) -> Result<(), Fail> {
     Ok(())
 }
 
-// Whether the counters count, as this machine is tested.
-fn counts<R: Print + Threads + Wait + Sync>(
+// Whether the program of an example passes.
+fn example_passes<R: Print + Threads + Wait + Sync>(
     rt: &R,
     alloc: Global,
+    example: Example,
     case: MachineCase<'_, Open>,
 ) -> Result<bool, Fail> {
-    passes(rt, alloc, COUNTERS, &Case::OnMachine(case))
+    passes(rt, alloc, example.text(), &Case::OnMachine(case))
 }
 
 // Makes a round, and makes it again if it is refused.
@@ -189,55 +260,88 @@ fn make_round<R: Print + Threads + Wait + Sync>(
     Ok(())
 }
 
-// Makes the rounds of the counters one after another. Returns whether they have counted, as they
-// have only if a refused round left the machine as it was.
-pub(crate) fn count_by_rounds<R: Print + Threads + Wait + Sync>(
+// Makes the rounds of an example one after another. Returns whether the machine is as the rules say,
+// as it is only if a refused round left it as it was.
+pub(crate) fn make_rounds<R: Print + Threads + Wait + Sync>(
     rt: &R,
     machine: &mut Machine,
+    example: Example,
     plan: &Plan,
 ) -> Result<bool, Fail> {
-    for round in 0..ROUNDS {
+    for round in 0..example.rounds() {
         make_round(rt, machine, round, plan)?;
     }
-    have_counted(machine)
+    example.is_made(machine)
+}
+
+// Fails unless an example passes in each way, made round by round.
+fn passes_by_rounds<R: Print + Threads + Wait + Sync>(
+    rt: &R,
+    alloc: Global,
+    example: Example,
+) -> Result<(), Fail> {
+    for (workers, wave) in example.ways() {
+        let plan = Plan::new(example.turn(), workers, 1, wave)?;
+        if !example_passes(rt, alloc, example, MachineCase::ByRounds(example, plan))? {
+            return Err("rounds are made otherwise".into());
+        }
+    }
+    Ok(())
 }
 
 #[test]
 fn a_refused_round_leaves_the_machine_as_it_was(rt: HostRuntime) -> Result<(), Fail> {
-    for (workers, wave) in WAYS {
-        let plan = plan_of(workers, wave)?;
-        let counted = counts(&rt, rt.alloc(), MachineCase::ByRounds(plan))?;
-        assert!(rt; counted, "{workers} workers, wave {wave}");
-    }
-    Ok(())
+    passes_by_rounds(&rt, rt.alloc(), Example::Counters)
 }
 
-// Makes the rounds of the counters in one run. If it is refused, makes those that it hasn't made.
-// Returns whether the counters have counted, as they have only if those before the refused round
+#[test]
+fn a_refused_round_leaves_askers_as_they_were(rt: HostRuntime) -> Result<(), Fail> {
+    passes_by_rounds(&rt, rt.alloc(), Example::Askers)
+}
+
+// Makes the rounds of an example in one run. If it is refused, makes those that it hasn't made.
+// Returns whether the machine is as the rules say, as it is only if the rounds before the refused one
 // were made, and no others.
-pub(crate) fn count_by_run<R: Print + Threads + Wait + Sync>(
+pub(crate) fn make_run<R: Print + Threads + Wait + Sync>(
     rt: &R,
     machine: &mut Machine,
+    example: Example,
     plan: &Plan,
 ) -> Result<bool, Fail> {
     is_young(machine)?;
-    if let Err(MemoryAt(round)) = machine.run(rt, ROUNDS, plan, &Open) {
+    let rounds = example.rounds();
+    if let Err(MemoryAt(round)) = machine.run(rt, rounds, plan, &Open) {
         println!(rt; "round {round} of a run is refused")?;
         let made = round - 1;
         is_young(machine)?;
-        machine.run(rt, ROUNDS - made, plan, &Open)?;
+        machine.run(rt, rounds - made, plan, &Open)?;
     }
-    have_counted(machine)
+    example.is_made(machine)
+}
+
+// Fails unless an example passes in each way, made in one run.
+fn passes_by_run<R: Print + Threads + Wait + Sync>(
+    rt: &R,
+    alloc: Global,
+    example: Example,
+) -> Result<(), Fail> {
+    for (workers, wave) in example.ways() {
+        let plan = Plan::new(example.turn(), workers, 1, wave)?;
+        if !example_passes(rt, alloc, example, MachineCase::ByRun(example, plan))? {
+            return Err("a run is made otherwise".into());
+        }
+    }
+    Ok(())
 }
 
 #[test]
 fn a_refused_run_has_made_the_rounds_before(rt: HostRuntime) -> Result<(), Fail> {
-    for (workers, wave) in WAYS {
-        let plan = plan_of(workers, wave)?;
-        let counted = counts(&rt, rt.alloc(), MachineCase::ByRun(plan))?;
-        assert!(rt; counted, "{workers} workers, wave {wave}");
-    }
-    Ok(())
+    passes_by_run(&rt, rt.alloc(), Example::Counters)
+}
+
+#[test]
+fn a_refused_run_of_askers_has_made_the_rounds_before(rt: HostRuntime) -> Result<(), Fail> {
+    passes_by_run(&rt, rt.alloc(), Example::Askers)
 }
 
 // One of the rounds in the order of one processor, with three steps a turn.
@@ -273,7 +377,7 @@ pub(crate) fn count_by_replays<R: Print>(
     machine: &mut Machine,
     turn: Turn,
 ) -> Result<bool, Fail> {
-    for _round in 0..ROUNDS {
+    for _round in 0..9 {
         replay_round(rt, alloc, machine, turn)?;
     }
     have_counted(machine)
@@ -282,7 +386,7 @@ pub(crate) fn count_by_replays<R: Print>(
 #[test]
 fn a_refused_replay_leaves_the_machine_as_it_was(rt: HostRuntime) -> Result<(), Fail> {
     let turn = Turn::new(3)?;
-    let counted = counts(&rt, rt.alloc(), MachineCase::ByReplays(turn))?;
-    assert!(rt; counted);
+    let case = MachineCase::ByReplays(turn);
+    assert!(rt; example_passes(&rt, rt.alloc(), Example::Counters, case)?);
     Ok(())
 }

@@ -23,6 +23,10 @@ const FOUR: &str =
 const COUNTERS: &str = "type p = process; var x: integer; begin cycle x := (x + 1) mod 100 end end;
     var a, b: p; begin init a, b end.";
 
+const FOUR_COUNTERS: &str =
+    "type p = process; var x: integer; begin cycle x := (x + 1) mod 100 end end;
+    var a, b, c, d: p; begin init a, b, c, d end.";
+
 // Rounds of a machine with a hook.
 #[derive(Drop)]
 pub(crate) struct Rounds<'g, G> {
@@ -69,11 +73,36 @@ fn make<R: Print + Threads + Wait + Sync, G: TurnGate>(
 #[test]
 fn two_private_turns_are_made_at_once(rt: HostRuntime) -> Result<(), Fail> {
     for is_run in [true, false] {
-        let gate = PrivateTurnsMeet(Meeting::new());
+        let gate = PrivateTurnsMeet {
+            meeting: Meeting::new(),
+            allows_batching: false,
+        };
         let way = Way::new(is_run, 2, 1, 255);
         make(&rt, rt.alloc(), TWO, way, 1000, 10, &gate)?;
-        assert!(rt; gate.0.is_seen_by_both(), "run: {is_run}");
+        assert!(rt; gate.meeting.is_seen_by_both(), "run: {is_run}");
     }
+    Ok(())
+}
+
+// cpm's own hook allows batching, too: its threads share the turns of processes that compute.
+#[test]
+fn turns_that_are_batched_are_made_at_once(rt: HostRuntime) -> Result<(), Fail> {
+    let gate = PrivateTurnsMeet {
+        meeting: Meeting::new(),
+        allows_batching: true,
+    };
+    let way = Way::new(true, 2, 1, 255);
+    make(&rt, rt.alloc(), COUNTERS, way, 100, 10_000, &gate)?;
+    assert!(rt; gate.meeting.is_seen_by_both());
+    Ok(())
+}
+
+#[test]
+fn no_process_with_batched_turns_is_kept_for_one_worker(rt: HostRuntime) -> Result<(), Fail> {
+    let gate = EachWaits::new(true);
+    let way = Way::new(true, 2, 1, 255);
+    make(&rt, rt.alloc(), FOUR_COUNTERS, way, 100, 10_000, &gate)?;
+    assert!(rt; gate.each_has_seen_all());
     Ok(())
 }
 
@@ -91,7 +120,7 @@ fn a_kernel_turn_is_made_beside_the_next_wave(rt: HostRuntime) -> Result<(), Fai
 #[test]
 fn no_process_is_kept_for_one_worker(rt: HostRuntime) -> Result<(), Fail> {
     for is_run in [true, false] {
-        let gate = EachWaits::new();
+        let gate = EachWaits::new(false);
         let way = Way::new(is_run, 2, 1, 255);
         make(&rt, rt.alloc(), FOUR, way, 1000, 10, &gate)?;
         assert!(rt; gate.each_has_seen_all(), "run: {is_run}");
