@@ -10,3 +10,4 @@ pub mod Assigning
 pub mod Plans
 pub mod Lending
 pub mod Sameness
+pub mod Positions

@@ -8,8 +8,8 @@
 //! `specs/Keeping.antt`. By the law of cp_model_machine, private steps and turns are those of the
 //! meaning (`specs/Promises.antt`).
 //!
-//! - `private`, `making`, `private_box`: the private state, how it is made, copied and read, and
-//!   its place in memory.
+//! - `private`, `making`, `private_box`, `positions`: the private state, how it is made, copied and
+//!   read, its place in memory, and where its activations continue.
 //! - `kernel_view`, `outside`, `alone`, `effect`: what the kernel knows, what else a step reads,
 //!   and what it leaves to the kernel.
 //! - `words`, `changing`, `reading`, `frames`: words, temps and frames.
@@ -39,6 +39,7 @@ mod making;
 pub mod outside;
 mod passing;
 mod plans;
+pub mod positions;
 pub mod private;
 pub mod private_box;
 mod reading;
