@@ -1,0 +1,97 @@
+//! Where an operation leads within its activation.
+
+use cp_program::operation::{Operation, Table};
+use cp_program::program::Program;
+use std::alloc::AllocError;
+
+/// Whether an operation is the last one that its unit makes. It is the first of the unit's operations
+/// by number: they are emitted from the end to the start.
+pub(crate) fn ends_unit(operation: &Operation) -> bool {
+    matches!(
+        operation,
+        Operation::Return { .. } | Operation::EndBody | Operation::End
+    )
+}
+
+/// The first operation by number of the unit that has an operation.
+pub(crate) fn first_of_unit(program: &Program, operation: u32) -> u32 {
+    for place in (0..operation.saturating_add(1)).rev() {
+        match program.operation(place) {
+            Some(before) if ends_unit(before) => return place,
+            _ => {}
+        }
+    }
+    0
+}
+
+// Adds the operations of a unit that were emitted before one.
+fn push_rest(program: &Program, at: u32, places: &mut Vec<u32>) -> Result<(), AllocError> {
+    for place in first_of_unit(program, at)..at {
+        places.push(place)?;
+    }
+    Ok(())
+}
+
+fn push_dense(table: &[Option<u32>], places: &mut Vec<u32>) -> Result<(), AllocError> {
+    for place in table {
+        if let Some(place) = place {
+            places.push(*place)?;
+        }
+    }
+    Ok(())
+}
+
+// Adds where a `case` leads. One whose labels are far apart may lead to any operation that was
+// emitted before it, as its arms were.
+fn push_arms(
+    program: &Program,
+    at: u32,
+    table: &Table,
+    places: &mut Vec<u32>,
+) -> Result<(), AllocError> {
+    match table {
+        Table::Dense { places: table, .. } => push_dense(table, places),
+        Table::Sparse(_) => push_rest(program, at, places),
+    }
+}
+
+/// Adds the places to which the operation at a place leads within its activation. Fails only if
+/// memory runs out.
+pub(crate) fn push_successors(
+    program: &Program,
+    at: u32,
+    operation: &Operation,
+    places: &mut Vec<u32>,
+) -> Result<(), AllocError> {
+    match operation {
+        Operation::Set { assignment, .. }
+        | Operation::SetLocal { assignment, .. }
+        | Operation::SetMember { assignment, .. }
+        | Operation::SetResult(assignment) => places.push(assignment.next)?,
+        Operation::CopyWords { next, .. }
+        | Operation::Procedure { next, .. }
+        | Operation::Function { next, .. }
+        | Operation::InitClass { next, .. }
+        | Operation::InitMonitor { next, .. }
+        | Operation::InitProcess { next, .. }
+        | Operation::Display { next, .. }
+        | Operation::Accept { next, .. }
+        | Operation::Delay { next, .. }
+        | Operation::Wait { next } => places.push(*next)?,
+        Operation::Test { yes, no, .. } => {
+            places.push(*yes)?;
+            places.push(*no)?;
+        }
+        Operation::Case { table, .. } => push_arms(program, at, table, places)?,
+        Operation::For { counting, .. } | Operation::ForNext(counting) => {
+            places.push(counting.body)?;
+            places.push(counting.next)?;
+        }
+        Operation::Cycle { body } => places.push(*body)?,
+        Operation::Return { .. }
+        | Operation::EndBody
+        | Operation::End
+        | Operation::Continue { .. } => {}
+    }
+    Ok(())
+}
