@@ -3,7 +3,7 @@
 
     trials/places.py [PROGRAM] [--count N] [--seed N] [--quiet]
 
-Each random text has one statement that stops a process, at a place that the generator knows: a fault of each kind, a `delay`, a call that asks for a
+Each random text has one statement that stops a process, at a place that the generator knows, as it knows the calls that lead there: a fault of each kind, a `delay`, a call that asks for a
 gate, a `wait`, an `init` that isn't reached. Others have assignments alone, which a run with `--turn 1` makes one a round. PROGRAM, or the variable CPM,
 is the built program. It prints what is wrong and how many places agreed, with --quiet only what is wrong, and ends with status 0 if nothing was wrong.
 """
@@ -16,12 +16,15 @@ import running
 from running import expect, run, wrong
 
 MARK = '@'
+# The marks before the call of the procedure `go`, and before the call that leads into a class or a monitor.
+GO, INTO = '#', '~'
+MARKS = re.compile(r'@2?|#|~')
 WORDS = {
     1: 'a value out of the range of its type in ',
     2: 'an index beyond the bounds in ',
     3: 'arithmetic beyond -32768..32767 in ',
     4: 'a zero divisor in ',
-    5: 'a delay in a queue where a process stands, ',
+    5: 'a delay in a queue that has a process, ',
     6: 'a call of a component that is not initialised, ',
     7: 'init of a component that was initialised before, ',
     8: 'a case without a label that matches ',
@@ -92,7 +95,7 @@ def process(rng, parameters, planted, calls, where):
     """A process type `p` that comes to the planted statement, in its body or in the procedure `go`."""
     calls = ['u.up', 'j := u.seen(2)', 'j := half(4)', 'h(3)', *calls]
     front = '' if where == 'body' else f'procedure go ; begin {reached(rng, planted, [])} end ;'
-    last = planted if where == 'body' else 'go'
+    last = planted if where == 'body' else f'{GO}go'
     return (f'p = process{parameters} ; var {VARIABLES} ; u , x0 , w : counter ; '
             'procedure h(n : small) ; begin j := n end ; '
             'function half(n : integer) : integer ; begin half := n div 2 end ; '
@@ -108,16 +111,19 @@ def laid_out(rng, text):
 
 def marked(text, mark):
     """The text without marks, and the line and column of one of them."""
-    at = re.sub(r'@2?', lambda m: '\0' if m.group() == mark else '', text).index('\0')
-    front = re.sub(r'@2?', '', text)[:at]
+    at = MARKS.sub(lambda m: '\0' if m.group() == mark else '', text).index('\0')
+    front = MARKS.sub('', text)[:at]
     return f'{front.count(chr(10)) + 1}:{at - front.rfind(chr(10))}'
 
 
 def tell(what, text, words, process_line, mark=MARK):
-    """Compares the line of a process with the wanted one, which has the place of the mark for `@`."""
-    clean = re.sub(r'@2?', '', text)
+    """Compares the line of a process with the wanted one, which has the places of the marks for `@`, `#` and `~`."""
+    clean = MARKS.sub('', text)
     _, out, told = run(['outcome', '-', *words], stdin=None, input=clean.encode())
     wanted = process_line.replace('@', marked(text, mark))
+    for call in (GO, INTO):
+        if call in wanted:
+            wanted = wanted.replace(call, marked(text, call))
     lines = (out + told).decode('latin-1').split('\n')
     expect(f'{what}:\n{clean}\n', wanted if wanted in lines else lines, wanted)
 
@@ -144,6 +150,11 @@ def try_fault_inside(rng):
     tell('a fault inside', text, [], f'process 2 a: fault {number} at @: {WORDS[number]}`{piece}`')
 
 
+def calls(*marks):
+    """What the line of a process that waits has for calls with these marks, outermost first."""
+    return ''.join(f', {"then " if number else "called "}at {mark}' for number, mark in enumerate(marks))
+
+
 def try_delay(rng):
     """A delay in a queue, or in a queue of an array, that an entry continues or none does."""
     index = rng.choice(['', f'[{rng.randint(1, 3)}]'])
@@ -152,10 +163,15 @@ def try_delay(rng):
     go = f'procedure entry go ; begin continue(q{index}) end ;' if goes else ''
     monitor = (f'm = monitor ; var {VARIABLES} ; q : {of} ; procedure entry rest ; begin {reached(rng, f"@delay(q{index})", [])} end ; {go} '
                'begin i := 0 ; j := 0 end ;')
-    text = laid_out(rng, f'type {COUNTER} {monitor} {process(rng, "(k : m)", "k.rest", [], "body")} r = process(k : m) ; begin cycle wait end end ; '
-                    'var k : m ; a : p ; b : r ; begin init k , a(k) , b(k) end.')
-    why = 'only k.go continues it, which b can call' if goes else 'nothing continues it'
-    tell('a delay', text, ['--limit', '500', '--tick', '100000'], f'process 2 a: delayed in k.q{index} at @; {why}')
+    where = rng.choice(['body', 'procedure'])
+    helps = goes and rng.random() < 0.5
+    helper = reached(rng, 'k.go', []) if helps else safe(rng, [])
+    text = laid_out(rng, f'type {COUNTER} {monitor} {process(rng, "(k : m)", f"{INTO}k.rest", [], where)} r = process(k : m) ; var {VARIABLES} ; '
+                    f'begin i := 0 ; j := 0 ; wait ; {helper} end ; var k : m ; a : p ; b : r ; begin init k , a(k) , b(k) end.')
+    who = 'which b can call' if helps else 'which no other process calls'
+    why = f'only k.go continues it, {who}' if goes else 'nothing continues it'
+    at = calls(*([GO] if where == 'procedure' else []), INTO)
+    tell('a delay', text, ['--limit', '500', '--tick', '100000'], f'process 2 a: delayed in k.q{index} at @{at}; {why}')
 
 
 def try_asking(rng):
@@ -163,15 +179,19 @@ def try_asking(rng):
     planted = rng.choice(['@k.step(2)', 'j := 1 + @k.read(i + 1) * 2', 'if @k.read(2) > 0 then begin i := 1 end', 'h(@k.read(2))'])
     monitor = ('m = monitor ; var x : integer ; procedure entry stop ; begin x := 1 div 0 end ; procedure entry step(n : integer) ; begin x := n end ; '
                'function entry read(n : integer) : integer ; begin read := n end ; begin x := 0 end ;')
-    text = laid_out(rng, f'type {COUNTER} {monitor} r = process(k : m) ; begin k.stop end ; {process(rng, "(k : m)", planted, [], rng.choice(["body", "procedure"]))} '
+    where = rng.choice(['body', 'procedure'])
+    text = laid_out(rng, f'type {COUNTER} {monitor} r = process(k : m) ; begin k.stop end ; {process(rng, "(k : m)", planted, [], where)} '
                     'var k : m ; c : r ; a : p ; begin init k , c(k) , a(k) end.')
-    tell('a call that asks', text, ['--turn', str(rng.choice([1, 100]))], 'process 3 a: asks for k at @, held by c, which has faulted')
+    at = calls(GO) if where == 'procedure' else ''
+    tell('a call that asks', text, ['--turn', str(rng.choice([1, 100]))], f'process 3 a: asks for k at @{at}, held by c, which has faulted')
 
 
 def try_waiting(rng):
     """A process that waits for the clock."""
-    text = laid_out(rng, f'type {COUNTER} {process(rng, "", "@wait", [], rng.choice(["body", "procedure"]))} var a : p ; begin init a end.')
-    tell('a wait', text, ['--limit', '500', '--tick', '100000'], 'process 2 a: waits for the clock at @')
+    where = rng.choice(['body', 'procedure'])
+    text = laid_out(rng, f'type {COUNTER} {process(rng, "", "@wait", [], where)} var a : p ; begin init a end.')
+    at = calls(GO) if where == 'procedure' else ''
+    tell('a wait', text, ['--limit', '500', '--tick', '100000'], f'process 2 a: waits for the clock at @{at}')
 
 
 def try_unstarted(rng):

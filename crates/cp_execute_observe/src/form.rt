@@ -7,6 +7,7 @@ ghost use Rattle.cp_base_config.specs.declared.outcome.OutcomeForm.TheVariants a
 
 use crate::snapshot::snapshot_of;
 use cp_base_config::outcome::OutcomeForm;
+use cp_base_config::turn::Turn;
 use cp_frontend::sources::Text;
 use cp_outcome::outcome::{outcome, word_of};
 use cp_outcome::transcript::transcript;
@@ -32,17 +33,23 @@ fn report_with_reasons(
 }
 
 // The outcome of a machine with this verdict as a JSON object on a line.
-fn object_of(alloc: Global, source: Source<'_, '_>, verdict: Verdict) -> Result<Vec<u8>, AllocError>
+fn object_of(
+    alloc: Global,
+    source: Source<'_, '_>,
+    verdict: Verdict,
+    turn: Turn,
+) -> Result<Vec<u8>, AllocError>
     ensures { IfOk result (λ bytes. IsJsonLine bytes.items) }
 {
     object(
         alloc,
         source,
         str::from_utf8(word_of(verdict)).unwrap_or(""),
+        turn.steps(),
     )
 }
 
-/// What is written of a machine that runs the program of a text, and of the verdict on it.
+/// What is written of a machine that runs the program of a text by turns, and of the verdict on it.
 ///
 /// # Errors
 ///
@@ -52,6 +59,7 @@ pub(crate) fn reported<'t>(
     text: &'t Text,
     machine: &Machine<'_, 't>,
     verdict: Verdict,
+    turn: Turn,
     form: OutcomeForm<u32>,
 ) -> Result<Vec<u8>, AllocError>
     ensures { IfOk result (λ bytes. IsOutcomeOf form machine.now verdict bytes.items) }
@@ -67,6 +75,6 @@ pub(crate) fn reported<'t>(
         OutcomeForm::Verdict => report_with_reasons(alloc, source, machine, verdict),
         OutcomeForm::Transcript(process) => transcript(alloc, machine, process),
         OutcomeForm::Dot => waits(alloc, source),
-        OutcomeForm::Json => object_of(alloc, source, verdict),
+        OutcomeForm::Json => object_of(alloc, source, verdict, turn),
     }
 }

@@ -49,7 +49,7 @@ fn outcome_of<'t, H: Threads + Wait + Sync, G: TurnGate>(
         return Err(Refusal::Memory);
     };
     let verdict = verdict_on(&machine);
-    let bytes = reported(alloc, text, &machine, verdict, form)?;
+    let bytes = reported(alloc, text, &machine, verdict, how.plan.turn, form)?;
     Ok(Outcome { verdict, bytes })
 }
 

@@ -14,7 +14,7 @@ fn words_of(fault: Fault) -> &'static str {
         Fault::Index => "an index beyond the bounds in ",
         Fault::Overflow => "arithmetic beyond -32768..32767 in ",
         Fault::DivisionByZero => "a zero divisor in ",
-        Fault::QueueTaken => "a delay in a queue where a process stands, ",
+        Fault::QueueTaken => "a delay in a queue that has a process, ",
         Fault::NotInitialised => "a call of a component that is not initialised, ",
         Fault::InitialisedTwice => "init of a component that was initialised before, ",
         Fault::NoLabel => "a case without a label that matches ",

@@ -5,21 +5,24 @@
 //! - `snapshot`: where all are, as plain data. `states`: the word of a state.
 //! - `names`: components, queues and places of the text.
 //! - `faults`, `piece`: what a fault means, and the piece of the text that it stopped.
-//! - `queues`: which entries continue a queue. `rights`: who can call them. `starts`: which `init`
-//!   starts a process. They are read off the text, by the `parts` of its statements.
+//! - `delays`, `helpers`: who could continue whom, as data and in words.
+//! - `queues`: which entries continue a queue. `starts`: which `init` starts a process. They are read
+//!   off the text, by the `parts` of its statements. `indices`: paths with names as indices.
 //!
 //! All of this is for people to read, and is tested. `specs/Graphs.antt` says which form a graph
 //! has.
 #![tactic(auto)]
 
+mod delays;
 mod faults;
+mod helpers;
+mod indices;
 pub mod names;
 pub mod object;
 mod parts;
 mod piece;
 mod queues;
 pub mod reasons;
-mod rights;
 pub mod snapshot;
 mod starts;
 mod states;

@@ -1,12 +1,14 @@
 //! What reasons are about, and its names: components, queues and places of the text.
 
+use crate::delays::{Delay, Helpers, wait_of};
 use crate::parts::Parts;
-use crate::rights::Rights;
 use crate::snapshot::{ProcessSnapshot, StatusSnapshot};
 use cp_compile_symbols::{Field, Tables, TypeRow};
 use cp_inspect::component_table::ComponentTable;
+use cp_inspect::state::ProcState;
 use cp_model::token::Token;
 use cp_model::tree::{Statement, System, Tree};
+use cp_outcome_circles::circle::{Link, circle};
 use cp_output::page::Page;
 use cp_output::position::Position;
 use cp_scan::scan;
@@ -33,9 +35,10 @@ pub(crate) struct Subject<'r, 't> {
     pub(crate) component_table: ComponentTable<'t>,
     /// The statements of the initial process that contain no others.
     pub(crate) statements: Vec<&'t Statement>,
-    pub(crate) rights: Rights<'t>,
-    /// The types of the monitors, by number.
-    types: Vec<Option<&'t System>>,
+    /// For each process by number, its delay, if it is delayed.
+    delays: Vec<Option<Delay<'t>>>,
+    /// The processes that wait for each other.
+    pub(crate) circle: Vec<Link>,
 }
 
 // The system type with a number, if it is one.
@@ -74,6 +77,45 @@ fn tokens_of(
     }
 }
 
+// The type of a monitor by its number, from 1.
+fn monitor_type<'t>(types: &[Option<&'t System>], number: u32) -> Option<&'t System> {
+    *types.get((number as usize).checked_sub(1)?)?
+}
+
+// For each process by number, its delay, if it is delayed. These are the types of the monitors.
+fn delays_of<'t>(
+    alloc: Global,
+    tree: &'t Tree,
+    types: &[Option<&'t System>],
+    snapshot: &StatusSnapshot,
+) -> Result<Vec<Option<Delay<'t>>>, AllocError> {
+    let helpers = Helpers::of(alloc, snapshot)?;
+    let mut delays = Vec::new(alloc);
+    for process in &snapshot.processes {
+        delays.push(match process.state {
+            ProcState::Delayed { monitor, .. } => match monitor_type(types, monitor) {
+                Some(of) => Some(Delay::of(alloc, tree, of, monitor, process, &helpers)?),
+                None => None,
+            },
+            _ => None,
+        })?;
+    }
+    Ok(delays)
+}
+
+// The processes that wait for each other.
+fn circle_of(
+    alloc: Global,
+    snapshot: &StatusSnapshot,
+    delays: &[Option<Delay<'_>>],
+) -> Result<Vec<Link>, AllocError> {
+    let mut waits = Vec::new(alloc);
+    for (process, delay) in snapshot.processes.iter().zip(delays) {
+        waits.push(wait_of(alloc, snapshot, process, delay.as_ref())?)?;
+    }
+    circle(alloc, &waits)
+}
+
 impl<'r, 't> Subject<'r, 't> {
     /// Collects what the reasons are about: the text of a machine. Fails only if memory runs out.
     pub(crate) fn of(alloc: Global, source: Source<'r, 't>) -> Result<Subject<'r, 't>, AllocError> {
@@ -86,27 +128,36 @@ impl<'r, 't> Subject<'r, 't> {
         let component_table = ComponentTable::of(alloc, tables)?;
         let mut parts = Parts::new(alloc);
         parts.add(&tree.body.statements)?;
-        let rights = Rights::of(
-            alloc,
-            tables,
-            &parts.statements,
-            component_table.monitors.len(),
-        )?;
+        let types = types_of(alloc, tables, &component_table.monitors)?;
+        let delays = delays_of(alloc, tree, &types, snapshot)?;
         Ok(Subject {
             alloc,
             text: bytes,
             snapshot,
             tokens: tokens_of(alloc, bytes, snapshot)?,
-            types: types_of(alloc, tables, &component_table.monitors)?,
             component_table,
             statements: parts.statements,
-            rights,
+            circle: circle_of(alloc, snapshot, &delays)?,
+            delays,
         })
     }
 
-    /// The type of a monitor by its number, from 1.
-    pub(crate) fn monitor_type(&self, number: u32) -> Option<&'t System> {
-        *self.types.get((number as usize).checked_sub(1)?)?
+    /// The delay of a process, if it is delayed.
+    pub(crate) fn delay(&self, process: u32) -> Option<&Delay<'t>> {
+        self.delays
+            .get((process as usize).checked_sub(1)?)?
+            .as_ref()
+    }
+
+    /// The part of the circle that a process is, and the process of the next part.
+    pub(crate) fn link(&self, process: u32) -> Option<(Link, u32)> {
+        let index = self.circle.iter().position(|link| link.process == process)?;
+        let link = self.circle.get(index)?;
+        let next = match self.circle.get(index.saturating_add(1)) {
+            Some(next) => next,
+            None => self.circle.first()?,
+        };
+        Some((*link, next.process))
     }
 
     /// Adds a place of the text.
@@ -119,6 +170,34 @@ impl<'r, 't> Subject<'r, 't> {
         if let Some(at) = process.at {
             page.text(" at ");
             self.push_place(page, at);
+        }
+    }
+
+    /// Adds where in the text a process waits, and the calls that lead there.
+    pub(crate) fn push_wait(&self, page: &mut Page, process: &ProcessSnapshot) {
+        self.push_origin(page, process);
+        self.push_calls(page, process);
+    }
+
+    // Adds the places of a call: more than one if it isn't known which.
+    fn push_call(&self, page: &mut Page, places: &[usize]) {
+        for (index, at) in places.iter().enumerate() {
+            if index != 0 {
+                page.text(" or ");
+            }
+            self.push_place(page, *at);
+        }
+    }
+
+    // Adds the places of the calls that lead to where a process is, outermost first.
+    fn push_calls(&self, page: &mut Page, process: &ProcessSnapshot) {
+        for (index, places) in process.calls().iter().enumerate() {
+            page.text(if index == 0 {
+                ", called at "
+            } else {
+                ", then at "
+            });
+            self.push_call(page, places);
         }
     }
 }

@@ -3,60 +3,245 @@
 ghost use Rattle.std.specs.Prelude.{IfOk};
 ghost use Rattle.cp_output.specs.Json.{IsJsonLine};
 
+use crate::delays::Delay;
 use crate::names::{Source, Subject};
-use crate::snapshot::ProcessSnapshot;
+use crate::snapshot::{MonitorSnapshot, ProcessSnapshot};
+use crate::starts::places_of_init;
 use crate::states::word_of;
-use cp_output::object::line;
-use cp_output::page::Page;
+use cp_inspect::state::ProcState;
+use cp_inspect::status::fault_number;
+use cp_output::object::{FORMAT, line};
 use cp_output::position::Position;
+use cp_private::kernel_view::Holder;
 use serde::Serialize;
 use std::alloc::{AllocError, Global};
 
-/// What became of a process. One that has ended is in no place, and needs no reason.
+// A place in the text.
+#[derive(Drop, Serialize)]
+struct PlaceObject {
+    line: usize,
+    column: usize,
+}
+
+// The place of a call, with the others that it may have, if it isn't known which call it was.
+#[derive(Drop, Serialize)]
+struct CallObject {
+    line: usize,
+    column: usize,
+    #[serde(skip_serializing_if = "Vec::is_empty")]
+    or: Vec<PlaceObject>,
+}
+
+// A process that can't continue another one any more, and why.
+#[derive(Drop, Serialize)]
+struct PastObject {
+    name: String,
+    why: &'static str,
+}
+
+// The queue in which a process is delayed, and who could continue it.
+#[derive(Drop, Serialize)]
+struct DelayObject {
+    name: String,
+    continued_by: Vec<String>,
+    could_continue: Vec<String>,
+    could_not: Vec<PastObject>,
+}
+
+/// What became of a process.
 #[derive(Drop, Serialize)]
 pub struct ProcessObject {
     process: u32,
     name: String,
     state: &'static str,
     #[serde(skip_serializing_if = "Option::is_none")]
-    line: Option<usize>,
+    fault: Option<u64>,
     #[serde(skip_serializing_if = "Option::is_none")]
-    column: Option<usize>,
+    monitor: Option<String>,
     #[serde(skip_serializing_if = "Option::is_none")]
-    reason: Option<String>,
+    held_by: Option<String>,
+    #[serde(skip_serializing_if = "Option::is_none")]
+    queue: Option<DelayObject>,
+    #[serde(skip_serializing_if = "Option::is_none")]
+    at: Option<PlaceObject>,
+    called_at: Vec<CallObject>,
+    /// Where an `init` would start it, if it isn't started.
+    #[serde(skip_serializing_if = "Option::is_none")]
+    init_at: Option<Vec<PlaceObject>>,
+    transcript: String,
+}
+
+// A part of a circle. A process that is still to be started waits in no monitor.
+#[derive(Drop, Serialize)]
+struct LinkObject {
+    process: String,
+    #[serde(skip_serializing_if = "Option::is_none")]
+    monitor: Option<String>,
+}
+
+// Who is at a monitor.
+#[derive(Drop, Serialize)]
+struct MonitorObject {
+    monitor: u32,
+    name: String,
+    gate: &'static str,
+    #[serde(skip_serializing_if = "Option::is_none")]
+    held_by: Option<String>,
 }
 
 // What became of a run.
 #[derive(Drop, Serialize)]
 struct OutcomeObject<'a> {
+    format: u32,
     verdict: &'a str,
+    turn: u32,
     round: u64,
     processes: Vec<ProcessObject>,
+    circle: Vec<LinkObject>,
+    monitors: Vec<MonitorObject>,
 }
 
 impl<'t> Subject<'_, 't> {
-    // Why a process is where it is, unless it has ended.
-    fn reason(&self, process: &ProcessSnapshot) -> Result<Option<String>, AllocError> {
-        if process.has_ended() {
-            return Ok(None);
+    fn string(&self, bytes: &[u8]) -> Result<String, AllocError> {
+        String::from_utf8_lossy(self.alloc, bytes)
+    }
+
+    fn process_string(&self, process: u32) -> Result<String, AllocError> {
+        self.string(self.component_table.process_name(process))
+    }
+
+    fn monitor_string(&self, monitor: u32) -> Result<String, AllocError> {
+        self.string(self.component_table.monitor_name(monitor))
+    }
+
+    fn place_object(&self, at: usize) -> PlaceObject {
+        let position = Position::of(self.text, at);
+        PlaceObject {
+            line: position.line,
+            column: position.column,
         }
-        let mut page = Page::new(self.alloc);
-        self.push_why(&mut page, process)?;
-        let reason = page.finish()?;
-        Ok(Some(String::from_utf8_lossy(self.alloc, &reason)?))
+    }
+
+    // The first of these places, with the others.
+    fn call_object(&self, places: &[usize]) -> Result<Option<CallObject>, AllocError> {
+        let Some((first, others)) = places.split_first() else {
+            return Ok(None);
+        };
+        let mut or = Vec::new(self.alloc);
+        for other in others {
+            or.push(self.place_object(*other))?;
+        }
+        let PlaceObject { line, column } = self.place_object(*first);
+        Ok(Some(CallObject { line, column, or }))
+    }
+
+    // The calls that lead to where a process is, outermost first.
+    fn call_objects(&self, process: &ProcessSnapshot) -> Result<Vec<CallObject>, AllocError> {
+        let mut calls = Vec::new(self.alloc);
+        for places in process.calls() {
+            if let Some(call) = self.call_object(places)? {
+                calls.push(call)?;
+            }
+        }
+        Ok(calls)
+    }
+
+    // The entries that continue a process, as `MONITOR.ENTRY`.
+    fn entry_strings(&self, delay: &Delay) -> Result<Vec<String>, AllocError> {
+        let mut strings = Vec::new(self.alloc);
+        for entry in &delay.entries {
+            let mut name = Vec::new(self.alloc);
+            name.extend_from_slice(self.component_table.monitor_name(delay.monitor))?;
+            name.extend_from_slice(b".")?;
+            name.extend_from_slice(entry.name.as_bytes())?;
+            strings.push(self.string(&name)?)?;
+        }
+        Ok(strings)
+    }
+
+    fn process_strings(&self, processes: &[u32]) -> Result<Vec<String>, AllocError> {
+        let mut strings = Vec::new(self.alloc);
+        for process in processes {
+            strings.push(self.process_string(*process)?)?;
+        }
+        Ok(strings)
+    }
+
+    // The processes that can't continue one any more, and why.
+    fn past_objects(&self, delay: &Delay) -> Result<Vec<PastObject>, AllocError> {
+        let mut past = Vec::new(self.alloc);
+        for process in &delay.past {
+            past.push(PastObject {
+                name: self.process_string(*process)?,
+                why: self.hindrance(*process).word(),
+            })?;
+        }
+        Ok(past)
+    }
+
+    fn delay_object(&self, delay: &Delay) -> Result<DelayObject, AllocError> {
+        Ok(DelayObject {
+            name: self.string(&delay.queue)?,
+            continued_by: self.entry_strings(delay)?,
+            could_continue: self.process_strings(&delay.helpers(self.alloc)?)?,
+            could_not: self.past_objects(delay)?,
+        })
+    }
+
+    // The holder of the gate of a monitor, if there is one.
+    fn holder_string(&self, monitor: u32) -> Result<Option<String>, AllocError> {
+        match self.snapshot.holder_of(monitor) {
+            Holder::Process(holder) => Ok(Some(self.process_string(holder)?)),
+            Holder::Unset | Holder::Free => Ok(None),
+        }
+    }
+
+    // Where an `init` would start a process.
+    fn init_objects(&self, process: u32) -> Result<Vec<PlaceObject>, AllocError> {
+        let name = self.component_table.process_name(process);
+        let mut objects = Vec::new(self.alloc);
+        for at in &places_of_init(self.alloc, &self.statements, name)? {
+            objects.push(self.place_object(*at))?;
+        }
+        Ok(objects)
+    }
+
+    // Adds why a process is where it is.
+    fn add_reason(&self, object: &mut ProcessObject, state: ProcState) -> Result<(), AllocError> {
+        match state {
+            ProcState::Unstarted => object.init_at = Some(self.init_objects(object.process)?),
+            ProcState::Faulted(fault) => object.fault = Some(fault_number(fault)),
+            ProcState::Asking(monitor) => {
+                object.monitor = Some(self.monitor_string(monitor)?);
+                object.held_by = self.holder_string(monitor)?;
+            }
+            ProcState::Delayed { monitor, .. } => {
+                object.monitor = Some(self.monitor_string(monitor)?);
+                if let Some(delay) = self.delay(object.process) {
+                    object.queue = Some(self.delay_object(delay)?);
+                }
+            }
+            _ => {}
+        }
+        Ok(())
     }
 
     fn process_object(&self, process: &ProcessSnapshot) -> Result<ProcessObject, AllocError> {
-        let position = process.at.map(|at| Position::of(self.text, at));
-        let name = self.component_table.process_name(process.number);
-        Ok(ProcessObject {
+        let mut object = ProcessObject {
             process: process.number,
-            name: String::from_utf8_lossy(self.alloc, name)?,
+            name: self.process_string(process.number)?,
             state: word_of(process.state),
-            line: position.map(|position| position.line),
-            column: position.map(|position| position.column),
-            reason: self.reason(process)?,
-        })
+            fault: None,
+            monitor: None,
+            held_by: None,
+            queue: None,
+            at: process.at.map(|at| self.place_object(at)),
+            called_at: self.call_objects(process)?,
+            init_at: None,
+            transcript: self.string(&process.transcript)?,
+        };
+        self.add_reason(&mut object, process.state)?;
+        Ok(object)
     }
 
     // All processes, by number.
@@ -64,6 +249,41 @@ impl<'t> Subject<'_, 't> {
         let mut all = Vec::new(self.alloc);
         for process in &self.snapshot.processes {
             all.push(self.process_object(process)?)?;
+        }
+        Ok(all)
+    }
+
+    fn circle_objects(&self) -> Result<Vec<LinkObject>, AllocError> {
+        let mut links = Vec::new(self.alloc);
+        for link in &self.circle {
+            links.push(LinkObject {
+                process: self.process_string(link.process)?,
+                monitor: match link.monitor {
+                    0 => None,
+                    monitor => Some(self.monitor_string(monitor)?),
+                },
+            })?;
+        }
+        Ok(links)
+    }
+
+    fn monitor_object(&self, monitor: &MonitorSnapshot) -> Result<MonitorObject, AllocError> {
+        Ok(MonitorObject {
+            monitor: monitor.number,
+            name: self.monitor_string(monitor.number)?,
+            gate: match monitor.holder {
+                Holder::Unset => "unset",
+                Holder::Free => "free",
+                Holder::Process(_) => "held",
+            },
+            held_by: self.holder_string(monitor.number)?,
+        })
+    }
+
+    fn monitor_objects(&self) -> Result<Vec<MonitorObject>, AllocError> {
+        let mut all = Vec::new(self.alloc);
+        for monitor in &self.snapshot.monitors {
+            all.push(self.monitor_object(monitor)?)?;
         }
         Ok(all)
     }
@@ -81,20 +301,30 @@ pub fn process_objects(
     Subject::of(alloc, source)?.process_objects()
 }
 
-/// The outcome of a machine as a line with a JSON object: the word for its verdict, the
-/// number of rounds, and each process with its state, its place, and why it is there.
+/// The outcome of a machine as a line with a JSON object: the word for its verdict, the steps of a
+/// turn, the number of rounds, each process with its state, its place and why it is there, the
+/// circle, and the monitors.
 ///
 /// # Errors
 ///
 /// `AllocError` if memory runs out.
-pub fn object(alloc: Global, source: Source<'_, '_>, verdict: &str) -> Result<Vec<u8>, AllocError>
+pub fn object(
+    alloc: Global,
+    source: Source<'_, '_>,
+    verdict: &str,
+    turn: u32,
+) -> Result<Vec<u8>, AllocError>
     ensures { IfOk result (λ bytes. IsJsonLine bytes.items) }
 {
     let subject = Subject::of(alloc, source)?;
     let outcome = OutcomeObject {
+        format: FORMAT,
         verdict,
+        turn,
         round: subject.snapshot.rounds,
         processes: subject.process_objects()?,
+        circle: subject.circle_objects()?,
+        monitors: subject.monitor_objects()?,
     };
     line(alloc, &outcome)
 }

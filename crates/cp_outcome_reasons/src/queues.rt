@@ -12,39 +12,57 @@ fn is_queue(arguments: &[Expression], queue: &[u8]) -> bool {
     }
 }
 
-fn continues(statement: &Statement, queue: &[u8]) -> bool {
-    match statement {
-        Statement::Call(c) => {
-            c.procedure.root.name.as_bytes() == b"continue".as_slice()
-                && is_queue(&c.arguments, queue)
-        }
-        _ => false,
+// The place of a `continue` of this queue.
+fn continue_place(statement: &Statement, queue: &[u8]) -> Option<usize> {
+    let Statement::Call(call) = statement else {
+        return None;
+    };
+    let root = &call.procedure.root;
+    let is_continue = root.name.as_bytes() == b"continue".as_slice();
+    if is_continue && is_queue(&call.arguments, queue) {
+        Some(root.at)
+    } else {
+        None
     }
 }
 
-fn has_continue(alloc: Global, routine: &Routine, queue: &[u8]) -> Result<bool, AllocError> {
-    let mut parts = Parts::new(alloc);
-    parts.add(&routine.body.statements)?;
-    for s in &parts.statements {
-        if continues(s, queue) {
-            return Ok(true);
-        }
-    }
-    Ok(false)
+/// The entries that continue a queue, and the places of their `continue` statements.
+#[derive(Drop)]
+pub(crate) struct Continuers<'t> {
+    pub(crate) entries: Vec<&'t Identifier>,
+    pub(crate) places: Vec<usize>,
 }
 
-/// The names of the entries of a monitor that have a `continue` of its queue with this name or, if
-/// it is an array, of an element of it. Fails only if memory runs out.
-pub(crate) fn entries_that_continue<'t>(
+impl<'t> Continuers<'t> {
+    fn add(&mut self, alloc: Global, routine: &'t Routine, queue: &[u8]) -> Result<(), AllocError> {
+        let before = self.places.len();
+        let mut parts = Parts::new(alloc);
+        parts.add(&routine.body.statements)?;
+        for s in &parts.statements {
+            if let Some(at) = continue_place(s, queue) {
+                self.places.push(at)?;
+            }
+        }
+        if before < self.places.len() {
+            self.entries.push(&routine.name)?;
+        }
+        Ok(())
+    }
+}
+
+/// The entries of a monitor that have a `continue` of its queue with this name or, if it is an
+/// array, of an element of it. Fails only if memory runs out.
+pub(crate) fn continuers_of<'t>(
     alloc: Global,
     monitor: &'t System,
     queue: &[u8],
-) -> Result<Vec<&'t Identifier>, AllocError> {
-    let mut entries = Vec::new(alloc);
+) -> Result<Continuers<'t>, AllocError> {
+    let mut continuers = Continuers {
+        entries: Vec::new(alloc),
+        places: Vec::new(alloc),
+    };
     for routine in &monitor.routines {
-        if has_continue(alloc, routine, queue)? {
-            entries.push(&routine.name)?;
-        }
+        continuers.add(alloc, routine, queue)?;
     }
-    Ok(entries)
+    Ok(continuers)
 }

@@ -1,127 +1,31 @@
-//! The lines of the processes that haven't ended.
+//! The lines of the processes that haven't ended, and the line of a circle.
 
+use crate::delays::Delay;
+use crate::helpers::separator;
 use crate::names::{Source, Subject};
-use crate::queues::entries_that_continue;
 use crate::snapshot::{ProcessSnapshot, Site};
 use crate::starts::places_of_init;
 use cp_inspect::state::ProcState;
-use cp_model::tree::Identifier;
 use cp_output::page::Page;
 use cp_private::kernel_view::Holder;
 use std::alloc::{AllocError, Global};
 
-// The words before an item of a list with so many items, such as `a, b and c`.
-fn separator(index: usize, count: usize) -> &'static str {
-    if index == 0 {
-        ""
-    } else if index.saturating_add(1) == count {
-        " and "
-    } else {
-        ", "
-    }
-}
-
-// The name of a variable, without the indices after it.
-fn without_indices(name: &[u8]) -> &[u8] {
-    for i in 0..name.len() {
-        if name[i] == b'[' {
-            return &name[..i];
-        }
-    }
-    name
-}
-
 impl<'t> Subject<'_, 't> {
-    // The processes, other than this one, that can call one of these entries of a monitor.
-    fn callers(
-        &self,
-        monitor: u32,
-        entries: &[&Identifier],
-        other: u32,
-    ) -> Result<Vec<u32>, AllocError> {
-        let processes = self.snapshot.processes.len();
-        let can = self.rights.callers(monitor as usize, entries, processes)?;
-        let mut callers = Vec::new(self.alloc);
-        for process in &self.snapshot.processes {
-            let calls = matches!(can.get(process.number as usize), Some(true));
-            if calls && process.number != other && process.is_alive() {
-                callers.push(process.number)?;
-            }
-        }
-        Ok(callers)
+    // Adds the queue in which a process is delayed.
+    fn push_queue(&self, page: &mut Page, delay: &Delay) {
+        page.text("delayed in ");
+        page.bytes(self.component_table.monitor_name(delay.monitor));
+        page.text(".");
+        page.bytes(&delay.queue);
     }
 
-    fn push_callers(&self, page: &mut Page, callers: &[u32]) {
-        if callers.is_empty() {
-            page.text("no other process");
-        }
-        for (index, number) in callers.iter().enumerate() {
-            page.text(separator(index, callers.len()));
-            page.bytes(self.component_table.process_name(*number));
-        }
-    }
-
-    // Adds the entries of a monitor that continue a queue in which a process is delayed, and who
-    // can call them.
-    fn push_entries(
-        &self,
-        page: &mut Page,
-        monitor: u32,
-        entries: &[&Identifier],
-        delayed: u32,
-    ) -> Result<(), AllocError> {
-        page.text("; only ");
-        for (index, entry) in entries.iter().enumerate() {
-            page.text(separator(index, entries.len()));
-            page.bytes(self.component_table.monitor_name(monitor));
-            page.text(".");
-            page.bytes(entry.name.as_bytes());
-        }
-        page.text(if entries.len() == 1 {
-            " continues it, which "
-        } else {
-            " continue it, which "
-        });
-        self.push_callers(page, &self.callers(monitor, entries, delayed)?);
-        page.text(" can call");
-        Ok(())
-    }
-
-    // Adds what can continue a process that is delayed in a queue of a monitor.
-    fn push_continuation(
-        &self,
-        page: &mut Page,
-        monitor: u32,
-        process: &ProcessSnapshot,
-    ) -> Result<(), AllocError> {
-        let Some(of) = self.monitor_type(monitor) else {
+    fn push_delay(&self, page: &mut Page, process: &ProcessSnapshot) -> Result<(), AllocError> {
+        let Some(delay) = self.delay(process.number) else {
             return Ok(());
         };
-        let queue = without_indices(&process.queue);
-        let entries = entries_that_continue(self.alloc, of, queue)?;
-        if entries.is_empty() {
-            page.text("; nothing continues it");
-            return Ok(());
-        }
-        self.push_entries(page, monitor, &entries, process.number)
-    }
-
-    fn push_queue(&self, page: &mut Page, monitor: u32, queue: &[u8]) {
-        page.text("delayed in ");
-        page.bytes(self.component_table.monitor_name(monitor));
-        page.text(".");
-        page.bytes(queue);
-    }
-
-    fn push_delay(
-        &self,
-        page: &mut Page,
-        process: &ProcessSnapshot,
-        monitor: u32,
-    ) -> Result<(), AllocError> {
-        self.push_queue(page, monitor, &process.queue);
-        self.push_origin(page, process);
-        self.push_continuation(page, monitor, process)
+        self.push_queue(page, delay);
+        self.push_wait(page, process);
+        self.push_continuation(page, delay)
     }
 
     // Adds why the holder of a gate doesn't leave the monitor, if it can't.
@@ -130,9 +34,11 @@ impl<'t> Subject<'_, 't> {
             return;
         };
         match process.state {
-            ProcState::Delayed { monitor, .. } => {
-                page.text(", which is ");
-                self.push_queue(page, monitor, &process.queue);
+            ProcState::Delayed { .. } => {
+                if let Some(delay) = self.delay(holder) {
+                    page.text(", which is ");
+                    self.push_queue(page, delay);
+                }
             }
             ProcState::Asking(monitor) => {
                 page.text(", which asks for ");
@@ -146,7 +52,7 @@ impl<'t> Subject<'_, 't> {
     fn push_asking(&self, page: &mut Page, process: &ProcessSnapshot, monitor: u32) {
         page.text("asks for ");
         page.bytes(self.component_table.monitor_name(monitor));
-        self.push_origin(page, process);
+        self.push_wait(page, process);
         if let Holder::Process(holder) = self.snapshot.holder_of(monitor) {
             page.text(", held by ");
             page.bytes(self.component_table.process_name(holder));
@@ -178,7 +84,7 @@ impl<'t> Subject<'_, 't> {
 
     fn push_waiting(&self, page: &mut Page, process: &ProcessSnapshot) {
         page.text("waits for the clock");
-        self.push_origin(page, process);
+        self.push_wait(page, process);
     }
 
     fn push_ready(&self, page: &mut Page, process: &ProcessSnapshot) {
@@ -200,7 +106,7 @@ impl<'t> Subject<'_, 't> {
             ProcState::Unstarted => self.push_unstarted(page, process.number)?,
             ProcState::Fresh | ProcState::Ready => self.push_ready(page, process),
             ProcState::Asking(monitor) => self.push_asking(page, process, monitor),
-            ProcState::Delayed { monitor, .. } => self.push_delay(page, process, monitor)?,
+            ProcState::Delayed { .. } => self.push_delay(page, process)?,
             ProcState::Waiting => self.push_waiting(page, process),
             ProcState::Ended => page.text("ended"),
             ProcState::Faulted(fault) => self.push_fault(page, process, fault),
@@ -222,10 +128,28 @@ impl<'t> Subject<'_, 't> {
         page.text("\n");
         Ok(())
     }
+
+    // Adds the line of the circle, if there is one.
+    fn push_circle(&self, page: &mut Page) {
+        let Some(first) = self.circle.first() else {
+            return;
+        };
+        page.text("circle: ");
+        for link in &self.circle {
+            page.bytes(self.component_table.process_name(link.process));
+            page.text(" -> ");
+            if link.monitor != 0 {
+                page.bytes(self.component_table.monitor_name(link.monitor));
+                page.text(" -> ");
+            }
+        }
+        page.bytes(self.component_table.process_name(first.process));
+        page.text("\n");
+    }
 }
 
 /// A line for each process of a machine that hasn't ended, by number: where it is, why, and
-/// where in the text that is.
+/// where in the text that is. Then comes a line for a circle, if some wait for each other.
 ///
 /// # Errors
 ///
@@ -236,5 +160,6 @@ pub fn reasons(alloc: Global, source: Source<'_, '_>) -> Result<Vec<u8>, AllocEr
     for process in &subject.snapshot.processes {
         subject.push_reason(&mut page, process)?;
     }
+    subject.push_circle(&mut page);
     page.finish()
 }

@@ -2,6 +2,7 @@
 //! above makes of a machine, so that reasons don't depend on rounds.
 
 use cp_inspect::state::ProcState;
+use cp_outcome_circles::site::ContinueSite;
 use cp_private::kernel_view::Holder;
 
 /// What an operation comes from in the text.
@@ -28,8 +29,15 @@ pub struct ProcessSnapshot {
     pub at: Option<usize>,
     /// What that operation comes from.
     pub site: Site,
+    /// The places of the calls of its activations, outermost first. A call has more than one place
+    /// only if two branches end with the same call.
+    pub called_at: Vec<Vec<usize>>,
     /// The path of the queue in which it is delayed, or no bytes.
     pub queue: Vec<u8>,
+    /// What it has displayed.
+    pub transcript: Vec<u8>,
+    /// The `continue` statements of its program, if a process is delayed.
+    pub continues: Vec<ContinueSite>,
 }
 
 /// Who is at a monitor.
@@ -58,9 +66,13 @@ impl ProcessSnapshot {
         matches!(self.state, ProcState::Ended)
     }
 
-    /// Whether the process can still make a step, now or later.
-    pub(crate) fn is_alive(&self) -> bool {
-        !matches!(self.state, ProcState::Ended | ProcState::Faulted(_))
+    /// The places of the calls that lead to where the process is. It is at the last call itself if
+    /// it asks for a gate.
+    pub(crate) fn calls(&self) -> &[Vec<usize>] {
+        match (self.state, self.called_at.split_last()) {
+            (ProcState::Asking(_), Some((_, before))) => before,
+            _ => &self.called_at,
+        }
     }
 }
 

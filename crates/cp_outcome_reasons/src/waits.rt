@@ -1,9 +1,11 @@
 //! Who waits for whom, as a graph for Graphviz: an arrow leads from a process to the monitor that
-//! it asks for or that it is delayed in, and from a monitor to the process that holds it.
+//! it asks for or that it is delayed in, from a monitor to the process that holds it, and, dotted,
+//! from a monitor to the processes that alone could continue one of its queues. A circle is red.
 
 ghost use Rattle.std.specs.Prelude.{◌≡◌, ◌<◌, IfOk, length};
 ghost use Rattle.cp_outcome_reasons.specs.Graphs.{graph};
 
+use crate::delays::Delay;
 use crate::names::{Source, Subject};
 use crate::snapshot::ProcessSnapshot;
 use crate::states::word_of;
@@ -12,6 +14,13 @@ use cp_output::graphviz::{push_arrow, push_node};
 use cp_output::page::Page;
 use cp_private::kernel_view::Holder;
 use std::alloc::{AllocError, Global};
+
+// Adds the colour of what is in a circle.
+fn push_red(page: &mut Page, is_red: bool) {
+    if is_red {
+        page.text(", color=red");
+    }
+}
 
 impl<'t> Subject<'_, 't> {
     // The node of a process. The node of process 1 has a blank, which no name of a text has.
@@ -33,17 +42,21 @@ impl<'t> Subject<'_, 't> {
         page.bytes(self.component_table.process_name(process.number));
         page.text("\\n");
         page.text(word_of(process.state));
-        page.text("\", shape=ellipse];\n");
+        page.text("\", shape=ellipse");
+        push_red(page, self.link(process.number).is_some());
+        page.text("];\n");
     }
 
     fn add_monitor(&self, page: &mut Page, monitor: u32) {
         page.text("  ");
         push_node(page, self.component_table.monitor_name(monitor));
-        page.text(" [shape=box];\n");
+        page.text(" [shape=box");
+        push_red(page, self.circle.iter().any(|link| link.monitor == monitor));
+        page.text("];\n");
     }
 
     // Adds an arrow from a process to a monitor, up to its attributes or the `;` after it.
-    fn push_wait(&self, page: &mut Page, process: u32, monitor: u32) {
+    fn push_waiting_arrow(&self, page: &mut Page, process: u32, monitor: u32) {
         push_arrow(
             page,
             self.node_of(process),
@@ -53,19 +66,67 @@ impl<'t> Subject<'_, 't> {
 
     // Adds what a process waits for.
     fn add_wait(&self, page: &mut Page, process: &ProcessSnapshot) {
+        let is_red = self.link(process.number).is_some();
         match process.state {
             ProcState::Asking(monitor) => {
-                self.push_wait(page, process.number, monitor);
-                page.text(";\n");
+                self.push_waiting_arrow(page, process.number, monitor);
+                page.text(if is_red { " [color=red];\n" } else { ";\n" });
             }
             ProcState::Delayed { monitor, .. } => {
-                self.push_wait(page, process.number, monitor);
+                self.push_waiting_arrow(page, process.number, monitor);
                 page.text(" [label=\"");
-                page.bytes(&process.queue);
-                page.text("\", style=dashed];\n");
+                self.push_label(page, process.number);
+                page.text("\", style=dashed");
+                push_red(page, is_red);
+                page.text("];\n");
             }
             _ => {}
         }
+    }
+
+    // Adds the queue in which a process is delayed.
+    fn push_label(&self, page: &mut Page, process: u32) {
+        if let Some(delay) = self.delay(process) {
+            page.bytes(&delay.queue);
+        }
+    }
+
+    // Whether the circle leads from a process by a monitor to another process.
+    fn leads(&self, process: u32, other: u32) -> bool {
+        matches!(self.link(process), Some((_, next)) if next == other)
+    }
+
+    // Adds a dotted arrow from the monitor in which a process is delayed to one that could continue
+    // it.
+    fn add_helper(&self, page: &mut Page, delay: &Delay, process: u32, helper: u32) {
+        push_arrow(
+            page,
+            self.component_table.monitor_name(delay.monitor),
+            self.node_of(helper),
+        );
+        page.text(" [label=\"");
+        page.bytes(&delay.queue);
+        page.text("\", style=dotted");
+        push_red(page, self.leads(process, helper));
+        page.text("];\n");
+    }
+
+    // Adds the dotted arrows to those that could continue a process, if it is delayed.
+    fn add_helpers(&self, page: &mut Page, process: u32) {
+        if let Some(delay) = self.delay(process) {
+            for helper in delay.callers.iter().chain(&delay.insiders) {
+                self.add_helper(page, delay, process, *helper);
+            }
+        }
+    }
+
+    // Whether the circle leads through a monitor, by its gate, to the process that holds it.
+    fn is_asked_in_circle(&self, monitor: u32, holder: u32) -> bool {
+        self.circle.iter().any(|link| {
+            link.monitor == monitor
+                && self.leads(link.process, holder)
+                && self.delay(link.process).is_none()
+        })
     }
 
     fn add_holder(&self, page: &mut Page, monitor: u32, holder: Holder) {
@@ -75,7 +136,11 @@ impl<'t> Subject<'_, 't> {
                 self.component_table.monitor_name(monitor),
                 self.node_of(number),
             );
-            page.text(";\n");
+            page.text(if self.is_asked_in_circle(monitor, number) {
+                " [color=red];\n"
+            } else {
+                ";\n"
+            });
         }
     }
 
@@ -99,6 +164,12 @@ impl<'t> Subject<'_, 't> {
         }
     }
 
+    fn add_all_helpers(&self, page: &mut Page) {
+        for process in &self.snapshot.processes {
+            self.add_helpers(page, process.number);
+        }
+    }
+
     fn add_holders(&self, page: &mut Page) {
         for monitor in &self.snapshot.monitors {
             self.add_holder(page, monitor.number, monitor.holder);
@@ -112,6 +183,7 @@ impl<'t> Subject<'_, 't> {
         self.add_monitors(&mut page);
         self.add_waits(&mut page);
         self.add_holders(&mut page);
+        self.add_all_helpers(&mut page);
         page.finish()
     }
 }

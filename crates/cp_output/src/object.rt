@@ -6,6 +6,9 @@ ghost use Rattle.cp_output.specs.Json.{IsJsonLine};
 use serde::Serialize;
 use std::alloc::{AllocError, Global};
 
+/// The number of the form of all objects. It grows when a field changes its meaning.
+pub const FORMAT: u32 = 1;
+
 /// A value as JSON on one line, with the line feed at its end.
 ///
 /// # Errors

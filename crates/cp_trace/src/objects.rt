@@ -5,13 +5,14 @@ ghost use Rattle.cp_trace.specs.Reporting.{Adds, AreObjects};
 
 use crate::changes::{Change, Changes};
 use cp_inspect::component_table::Owner;
-use cp_output::object::line;
+use cp_output::object::{FORMAT, line};
 use serde::Serialize;
 use std::alloc::{AllocError, Global};
 
 // A change, with the process or the monitor whose change it is, by number and by name.
 #[derive(Drop, Serialize)]
 struct ChangeObject<'a, 't> {
+    format: u32,
     round: u64,
     #[serde(skip_serializing_if = "Option::is_none")]
     process: Option<u32>,
@@ -38,6 +39,7 @@ fn push_each(
     };
     for change in &changes.changes {
         let object = ChangeObject {
+            format: FORMAT,
             round,
             process,
             monitor,
