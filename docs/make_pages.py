@@ -1,8 +1,8 @@
 #!/usr/bin/env python3
-"""Writes the pages of `cpm explain RULE` from docs/rules.md, docs/faults.md and the programs of docs/examples.
+"""Writes the pages of `cpm explain RULE` from docs/rules.md, docs/faults.md, docs/deadlocks.md and the programs of docs/examples.
 
 A section `## C4: TITLE` has a paragraph that names a program, then *Why:* and *Fix:*. The program rules/NAME.cp breaks the rule, and rules/NAME.mended.cp
-doesn't. The program faults/NAME.cp has the report faults/NAME.report. `make_pages.py` writes crates/cp_explain_pages/src/pages.rt. `make_pages.py --unchanged` fails
+doesn't. The program faults/NAME.cp has the report faults/NAME.report, and deadlocks/NAME.cp the outcome deadlocks/NAME.outcome. `make_pages.py` writes crates/cp_explain_pages/src/pages.rt. `make_pages.py --unchanged` fails
 if the file isn't what it would write.
 """
 import pathlib, re, sys, textwrap
@@ -10,8 +10,8 @@ import pathlib, re, sys, textwrap
 DOCS = pathlib.Path(__file__).resolve().parent
 EXAMPLES = DOCS / 'examples'
 TARGET = DOCS.parent / 'crates' / 'cp_explain_pages' / 'src' / 'pages.rt'
-HEAD = '''//! The pages of `explain RULE`, written by `docs/make_pages.py` from docs/rules.md, docs/faults.md
-//! and their examples.
+HEAD = '''//! The pages of `explain RULE`, written by `docs/make_pages.py` from docs/rules.md, docs/faults.md,
+//! docs/deadlocks.md and their examples.
 
 /// A page: the rule or the fault, and what it means.
 #[derive(Clone, Copy)]
@@ -74,9 +74,30 @@ def table(name, topic, letters, document):
     return f'\n/// One page for each {topic}, in the order of docs/{document}.\npub const {name}: [RulePage; {len(pages)}] = [\n{rows}];\n'
 
 
+def kind_of_deadlock(section):
+    """What the page of deadlocks shows of a section."""
+    title, body = section.split('\n', 1)
+    name, options, words, fix = re.match(r'\s*`(\w+)\.cp`(?:, `([^`]*)`)?: (.*?)\n\n\*Fix:\*(.*)', body, re.S).groups()
+    program = indented((EXAMPLES / 'deadlocks' / f'{name}.cp').read_text())
+    outcome = indented((EXAMPLES / 'deadlocks' / f'{name}.outcome').read_text())
+    words = plain(words)[0].upper() + plain(words)[1:]
+    asked = f'cpm outcome {name}.cp' + (f' {options}' if options else '')
+    return f'\n{title}\n\n' + wrapped(words) + wrapped(f'Fix: {plain(fix)}') + f'\n{program}\n`{asked}` prints:\n\n{outcome}'
+
+
+def deadlocks():
+    """The constant with the page of deadlocks."""
+    head, *sections = re.split(r'^## ', (DOCS / 'deadlocks.md').read_text(), flags=re.M)
+    title, *paragraphs = head.strip().split('\n\n')
+    # The last paragraph is about the sections of the document.
+    front = '\n'.join(wrapped(plain(paragraph)) for paragraph in paragraphs[:-1])
+    text = title.removeprefix('# ') + '\n\n' + front + ''.join(map(kind_of_deadlock, sections))
+    return f'\n/// The page of docs/deadlocks.md.\npub const DEADLOCK: RulePage = RulePage {{\n    rule: "DEADLOCK",\n    text: {literal(text)},\n}};\n'
+
+
 def code():
     rules = table('NAME_RULES', 'rule about names and types', 'C', 'rules.md') + table('OTHER_RULES', 'other rule', 'SYIOM', 'rules.md')
-    return HEAD + rules + table('FAULTS', 'fault', 'F', 'faults.md')
+    return HEAD + rules + table('FAULTS', 'fault', 'F', 'faults.md') + deadlocks()
 
 
 if __name__ == '__main__':

@@ -1,6 +1,6 @@
-//! The page of a rule, or of a fault.
+//! The page of a rule, of a fault, or of deadlocks.
 
-use crate::pages::{FAULTS, NAME_RULES, OTHER_RULES, RulePage};
+use crate::pages::{DEADLOCK, FAULTS, NAME_RULES, OTHER_RULES, RulePage};
 
 // The letters of rules and faults that have numbers.
 const LETTERS: &[u8] = b"SYCIOF";
@@ -45,7 +45,15 @@ fn page_of_fault(word: &[u8]) -> Option<&'static str> {
     text_of(FAULTS.as_slice(), word)
 }
 
-/// The page of a rule or a fault such as `C4`: what it says, the reason for it, a text that breaks
+fn page_of_deadlocks(word: &[u8]) -> Option<&'static str> {
+    if is_name(word, DEADLOCK.rule.as_bytes()) {
+        Some(DEADLOCK.text)
+    } else {
+        None
+    }
+}
+
+/// The page of `deadlock`, or of a rule or a fault such as `C4`: what it says, the reason for it, a text that breaks
 /// it, and the text corrected. Returns `None` if there is no such rule.
 pub fn rule_page(rule: &str) -> Option<&'static str> {
     let word = rule.as_bytes();
@@ -55,7 +63,10 @@ pub fn rule_page(rule: &str) -> Option<&'static str> {
     if let Some(page) = page_of_other_rule(word) {
         return Some(page);
     }
-    page_of_fault(word)
+    if let Some(page) = page_of_fault(word) {
+        return Some(page);
+    }
+    page_of_deadlocks(word)
 }
 
 fn are_digits(bytes: &[u8]) -> bool {
