@@ -34,7 +34,7 @@ fn push_hint(page: &mut Page, file: &[u8], list: &[Violation]) {
     page.number(number);
     page.text(", and `cpm explain ");
     page.bytes(file);
-    page.text("` how to mend the first violation.\n");
+    page.text("` how to fix the first violation.\n");
 }
 
 // Adds how many violations there are, of which so many are reported.
@@ -46,9 +46,9 @@ fn push_count(page: &mut Page, count: usize, reported: usize) {
         " violations"
     });
     if reported < count {
-        page.text(", of which the first ");
+        page.text(", and the first ");
         page.number(reported);
-        page.text(" are told");
+        page.text(" are shown");
     }
     page.bytes(b"\n");
 }

@@ -12,7 +12,7 @@ ghost use Rattle.cp_explain.specs.Explained.{Begins, Explains, Wrote, code_of, h
 
 use crate::all::of_all;
 use crate::lacking::push_lacking;
-use crate::reported::of_no_tree;
+use crate::reported::{later_mistakes, of_no_tree, refusal_of};
 use cp_base_config::explaining::{Extent, Form};
 use cp_base_digits::decimal::push_natural;
 use cp_base_names::Key;
@@ -25,6 +25,7 @@ use cp_frontend::refusal::{Refusal, scan_number};
 use cp_frontend::writing::write_result;
 use cp_model::rules::Violation;
 use cp_model::tree::Tree;
+use cp_output::page::Page;
 use cp_output::position::Position;
 use cp_rules::text::{RuleError, judge};
 use std::alloc::{AllocError, Global};
@@ -128,15 +129,38 @@ fn reported_of_tree(
     }
 }
 
+// Adds the syntax errors of a text after the first one, and the number of all.
+fn push_later(
+    alloc: Global,
+    page: &mut Page,
+    file: &[u8],
+    text: &[u8],
+    refusal: Refusal,
+) -> Result<(), AllocError> {
+    let later = later_mistakes(alloc, text, refusal)?;
+    let count = later.len().saturating_add(1);
+    for mistake in later {
+        page.bytes(&heading_of(alloc, file, text, &refusal_of(&mistake))?);
+        page.bytes(&mistake.page.finish()?);
+    }
+    if 1 < count {
+        page.number(count);
+        page.text(" syntax errors\n");
+    }
+    Ok(())
+}
+
 // What is reported of a text that has no tree, after the heading.
 fn reported_of_no_tree(
     alloc: Global,
+    file: &[u8],
     text: &[u8],
     refusal: Refusal,
     extent: Extent,
 ) -> Result<Vec<u8>, AllocError> {
     let mut page = of_no_tree(alloc, text, place(&refusal), refusal)?;
     if extent == Extent::All {
+        push_later(alloc, &mut page, file, text, refusal)?;
         push_lacking(&mut page, text);
     }
     page.finish()
@@ -188,7 +212,7 @@ pub fn explain(
         Ok(tree) => of_tree(alloc, file, text, &tree, form, extent),
         Err(Refusal::Memory) => Err(AllocError),
         Err(refusal) => {
-            let reported = reported_of_no_tree(alloc, text, refusal, extent)?;
+            let reported = reported_of_no_tree(alloc, file, text, refusal, extent)?;
             explain_refusal(alloc, file, text, refusal, &reported)
         }
     }

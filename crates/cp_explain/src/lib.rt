@@ -5,7 +5,7 @@
 //! `reported`) or cp_explain_rules (a broken rule) reports. For an accepted text it is the access
 //! graph (cp_explain_rights). `all` reports all violations of a text, and what it uses of the
 //! book's language that this one hasn't (`lacking`). `object` reports the same for a text as a JSON
-//! object.
+//! object, from the parts of its page (`parts`) and the lines of its graph (`graph_object`).
 //!
 //! The judgement, the position and the start of the first line are proved (`specs/Explained.antt`),
 //! and the judgement in an object (`specs/Objects.antt`). The wording is tested.
@@ -13,6 +13,9 @@
 
 mod all;
 pub mod explain;
+mod graph_object;
 mod lacking;
 pub mod object;
+mod parts;
 mod reported;
+mod token_end;

@@ -1,6 +1,8 @@
 //! The explanation of a text that has no tree, after its heading.
 
-use cp_explain_syntax::{of_depth, of_spelling, of_unexpected, of_unfinished};
+use cp_explain_syntax::{
+    Mistake, MistakeKind, find_mistakes, of_depth, of_spelling, of_unexpected, of_unfinished,
+};
 use cp_frontend::refusal::{Refusal, scan_number};
 use cp_output::page::Page;
 use std::alloc::{AllocError, Global};
@@ -22,4 +24,31 @@ pub fn of_no_tree(
     };
     page.hint(letter, number);
     Ok(page)
+}
+
+/// The refusal that a text with only this mistake has.
+pub fn refusal_of(mistake: &Mistake) -> Refusal {
+    let at = mistake.at;
+    match mistake.kind {
+        MistakeKind::Unexpected => Refusal::Unexpected { at },
+        MistakeKind::Unfinished => Refusal::Unfinished { at },
+        MistakeKind::TooDeep => Refusal::TooDeep { at },
+    }
+}
+
+/// The syntax errors of a text after the first one, in its order. Fails only if memory runs out.
+pub fn later_mistakes(
+    alloc: Global,
+    text: &[u8],
+    refusal: Refusal,
+) -> Result<Vec<Mistake>, AllocError> {
+    let mut later = Vec::new(alloc);
+    if let Refusal::Unexpected { at } = refusal {
+        for mistake in find_mistakes(alloc, text)? {
+            if at < mistake.at {
+                later.push(mistake)?;
+            }
+        }
+    }
+    Ok(later)
 }

@@ -147,7 +147,7 @@ pub const STANDARD: [Standard; 18] = [
         name: "continue",
         kind: StandardKind::Procedure(1),
         heading: "continue(q: queue)",
-        meaning: "the entry routine returns, and the process in `q` goes on",
+        meaning: "the entry routine returns, and the process in `q` continues",
     },
     Standard {
         name: "display",

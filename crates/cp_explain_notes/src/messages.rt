@@ -16,7 +16,7 @@ const NEVER_INITIALISED: Message = Message {
 
 const INITIALISED_TWICE: Message = Message {
     head: "`$` is initialised already",
-    advice: "A second `init` is fault 7. To set its variables anew, call an entry procedure that does it.",
+    advice: "A second `init` is fault 7. To set its variables again, call an entry procedure that does it.",
 };
 
 const INITIALISED_IN_EACH_ROUND: Message = Message {
@@ -26,17 +26,17 @@ const INITIALISED_IN_EACH_ROUND: Message = Message {
 
 const NEVER_CONTINUED: Message = Message {
     head: "`$` is never continued",
-    advice: "A process that is delayed in it waits for ever. `continue` it where what is waited for comes true.",
+    advice: "A process that is delayed in it waits forever. `continue` it where what is waited for comes true.",
 };
 
 const TWO_IN_ONE_QUEUE: Message = Message {
     head: "calls of two processes, `$` and `%`, lead to this `delay`",
-    advice: "If one comes while the other stands in the queue, that is fault 5. Give each a queue of its own.",
+    advice: "If one comes while the other is in the queue, that is fault 5. Give each a queue of its own.",
 };
 
 const NEVER_RUNS: Message = Message {
     head: "this statement never runs",
-    advice: "What stands before it never ends, or returns from the routine at once, as `continue` does.",
+    advice: "What comes before it never ends, or returns from the routine at once, as `continue` does.",
 };
 
 const OUT_OF_RANGE: Message = Message {
@@ -79,6 +79,11 @@ const KEEPS_GATE: Message = Message {
     advice: "Nobody else comes into this monitor as long as it waits: who is to continue it must get there another way.",
 };
 
+const COUNTER_SET: Message = Message {
+    head: "`$` is set inside its own `for`, which counts on all the same",
+    advice: "The loop keeps its own count, and sets `$` again in each round. To change the count, write a `while`.",
+};
+
 /// The words of what a note says.
 pub fn message(note_kind: NoteKind) -> Message {
     match note_kind {
@@ -97,5 +102,6 @@ pub fn message(note_kind: NoteKind) -> Message {
         NoteKind::ResultUnderConditions => RESULT_UNDER_CONDITIONS,
         NoteKind::ReturnsEarly => RETURNS_EARLY,
         NoteKind::KeepsGate => KEEPS_GATE,
+        NoteKind::CounterSet => COUNTER_SET,
     }
 }

@@ -38,6 +38,8 @@ pub enum NoteKind {
     ReturnsEarly,
     /// A call in a monitor that leads to a `delay` in another one.
     KeepsGate,
+    /// An assignment to the variable of a `for` in its own loop.
+    CounterSet,
 }
 
 /// A note, with the names that it reports of.

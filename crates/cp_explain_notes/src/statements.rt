@@ -3,7 +3,7 @@
 use crate::flow::{Flow, Reach, Times};
 use crate::note::NoteKind;
 use crate::walk::Walk;
-use cp_model::tree::{Arm, Direction, Expression, ForHeader, Statement};
+use cp_model::tree::{Arm, Designator, Direction, Expression, ForHeader, Statement};
 use std::alloc::AllocError;
 
 // What is known before a statement that runs on a condition.
@@ -71,12 +71,29 @@ impl<'t> Walk<'t> {
     fn statement(&mut self, statement: &'t Statement) -> Result<(), AllocError> {
         match statement {
             Statement::Empty => Ok(()),
-            Statement::Assign(a) => self.assignment(&a.target, &a.value),
+            Statement::Assign(a) => {
+                self.sets_counter(&a.target)?;
+                self.assignment(&a.target, &a.value)
+            }
             Statement::Call(c) => self.procedure_call(&c.procedure, &c.arguments),
             Statement::Compound(list) => self.statements(list),
             Statement::Init { items, .. } => self.init_items(items),
             _ => self.selected(statement),
         }
+    }
+
+    // Notes an assignment to the variable of a `for` around it.
+    fn sets_counter(&mut self, target: &'t Designator) -> Result<(), AllocError> {
+        let name = target.root.name.as_bytes();
+        let is_counter = self
+            .counters
+            .iter()
+            .any(|counter| counter.name.as_bytes() == name);
+        if is_counter && target.selectors.is_empty() {
+            self.notes
+                .add_on(target.root.at, NoteKind::CounterSet, name)?;
+        }
+        Ok(())
     }
 
     // Walks over a statement that selects one of others, or a loop.
@@ -138,7 +155,10 @@ impl<'t> Walk<'t> {
                 self.expression(&header.from)?;
                 self.expression(&header.last)?;
                 let times = self.times(header);
-                self.runs(body, times)
+                self.counters.push(&header.variable)?;
+                self.runs(body, times)?;
+                self.counters.pop();
+                Ok(())
             }
             Statement::Repeat { body, condition } => {
                 let inits = self.inits.count();

@@ -7,7 +7,7 @@ use crate::queue_uses::QueueUses;
 use crate::queues::Queues;
 use cp_base_names::Key;
 use cp_explain_meanings::names::Names;
-use cp_model::tree::{Routine, Sort, System};
+use cp_model::tree::{Identifier, Routine, Sort, System};
 use std::alloc::{AllocError, Global};
 use std::collections::BTreeMap;
 
@@ -103,6 +103,8 @@ pub struct Walk<'t> {
     pub(crate) inside: Inside<'t>,
     pub(crate) flow: Flow,
     pub(crate) inits: Inits<'t>,
+    /// The variables of the `for` loops around the statement, outermost first.
+    pub(crate) counters: Vec<&'t Identifier>,
     pub(crate) queues: Queues<'t>,
     pub(crate) queue_uses: QueueUses<'t>,
 }
@@ -120,6 +122,7 @@ impl<'t> Walk<'t> {
             inside: Inside::body(Sort::Process, true),
             flow: Flow::START,
             inits: Inits::new(alloc, key),
+            counters: Vec::new(alloc),
             queues: Queues::new(alloc, key),
             queue_uses: QueueUses::new(alloc),
         })

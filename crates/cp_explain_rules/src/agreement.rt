@@ -49,6 +49,13 @@ fn push_side(page: &mut Page, side: Side<'_>) {
     }
 }
 
+// Adds a line with one type.
+fn push_one(page: &mut Page, side: Side<'_>) {
+    page.bytes(b"  ");
+    push_side(page, side);
+    page.bytes(b"\n");
+}
+
 impl<'t> Site<'t> {
     /// The routine that a call names.
     pub fn callee(&self, designator: &'t Designator) -> Option<Declaration<'t>> {
@@ -185,20 +192,44 @@ impl<'t> Site<'t> {
         page.bytes(b"\n");
     }
 
+    // The operand of the `not` or the sign at the place.
+    fn operand_side(&self) -> Option<Side<'t>> {
+        let operand = self.operand?;
+        Some(make_side(
+            "operand",
+            self.scope.type_of_expression(operand.expression)?,
+        ))
+    }
+
+    /// Whether the operand of the `not` or the sign at the place has another type than it should.
+    pub fn is_operand_wrong(&self) -> bool {
+        match (self.operand, self.operand_side()) {
+            (Some(operand), Some(side)) => !side.of.is(operand.wanted),
+            _ => false,
+        }
+    }
+
+    fn push_operand(&self, page: &mut Page) {
+        if let Some(side) = self.operand_side() {
+            push_one(page, side);
+        }
+    }
+
     // Adds the type of what a condition or a `case` tests.
     fn push_type(&self, page: &mut Page) {
         if let (Some(Purpose::Condition | Purpose::Selector), Some(side)) = (
             self.purpose,
             self.given("its type"),
         ) {
-            page.bytes(b"  ");
-            push_side(page, side);
-            page.bytes(b"\n");
+            push_one(page, side);
         }
     }
 
     /// Adds a line with the types that don't agree at the place, if they are known.
     pub fn push_types(&self, page: &mut Page) {
+        if self.is_operand_wrong() {
+            return self.push_operand(page);
+        }
         if let Some((parameter, argument)) = self.declared_types() {
             return self.push_declared_types(page, parameter, argument);
         }

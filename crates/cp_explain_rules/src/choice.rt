@@ -3,13 +3,25 @@
 use crate::messages as m;
 use crate::site::{Declaring, Mark, NameRole, Pair, Purpose, Site, TypePlace};
 use cp_explain_names::scope::{Declaration, Kind, Wanted};
-use cp_explain_names::types::BOOLEAN;
+use cp_explain_names::types::{BOOLEAN, Type};
 use cp_model::rules::Rule;
 use cp_model::tree::{Designator, Expression, Identifier, Operator, Sort, System};
 use cp_output::message::Message;
 
 /// The largest number of processes, counting the initial one, and of monitors.
 const MAX_LABELS: usize = 255;
+
+// The advice if one of two things is an array, a record or a component.
+fn advice_on_parts(first: Type<'_>, second: Type<'_>, is_operator: bool) -> Option<&'static str> {
+    match (first, second) {
+        (Type::System(..), _) | (_, Type::System(..)) => Some(m::COMPONENT_VALUE),
+        (Type::Structured(..), _) | (_, Type::Structured(..)) if is_operator => {
+            Some(m::PART_OPERANDS)
+        }
+        (Type::Structured(..), _) | (_, Type::Structured(..)) => Some(m::PART_SIDES),
+        _ => None,
+    }
+}
 
 impl<'t> Site<'t> {
     /// The name at the place.
@@ -98,6 +110,10 @@ impl<'t> Site<'t> {
         }
         let (first, second) = self.types()?;
         let is_operator = matches!(self.pair, Some(Pair::First(..) | Pair::Later(..)));
+        let parts = advice_on_parts(first.of, second.of, is_operator);
+        if self.pair.is_some() && parts.is_some() {
+            return parts;
+        }
         if first.of.is(second.of) {
             None
         } else if is_operator {
@@ -210,8 +226,15 @@ impl<'t> Site<'t> {
     fn c9(&self) -> Message {
         match self.identifier() {
             Some(x) if x.name.as_bytes() == b"continue".as_slice() => m::CONTINUE,
-            Some(x) if x.name.as_bytes() == b"wait".as_slice() => m::WAIT,
+            Some(x) if x.name.as_bytes() == b"wait".as_slice() => self.c9_wait(),
             _ => m::DELAY,
+        }
+    }
+
+    fn c9_wait(&self) -> Message {
+        match self.scope.system {
+            Some(system) if system.sort == Sort::Monitor => m::WAIT_IN_MONITOR,
+            _ => m::WAIT,
         }
     }
 
@@ -254,7 +277,29 @@ impl<'t> Site<'t> {
                 if matches!(self.kind(), Some(Kind::Variable | Kind::VarParameter)) => {
                 m::ANOTHER_TYPE
             }
+            _ => self.unchangeable(),
+        }
+    }
+
+    // The message for a name that can't be changed.
+    fn unchangeable(&self) -> Message {
+        match self.kind() {
+            Some(Kind::ValueParameter) if self.is_component() => m::RIGHT,
+            Some(Kind::ValueParameter) if !self.is_of_procedure() => m::PARAMETER,
             _ => m::UNCHANGEABLE,
+        }
+    }
+
+    // Whether the name is that of a parameter of a procedure, which may be declared with `var`.
+    fn is_of_procedure(&self) -> bool {
+        match (self.scope.routine, self.identifier()) {
+            (Some(routine), Some(x)) => {
+                routine.result_type.is_none()
+                    && Wanted::other_than(x)
+                        .in_parameters(&routine.parameters)
+                        .is_some()
+            }
+            _ => false,
         }
     }
 

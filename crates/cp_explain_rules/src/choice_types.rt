@@ -29,6 +29,7 @@ impl<'t> Site<'t> {
 
     fn c2_mark(&self, mark: Mark) -> Message {
         match mark {
+            Mark::Operator if self.operand.is_some() => self.prefix(),
             Mark::Operator => m::OPERANDS,
             Mark::Point => m::NO_PARTS,
             Mark::Index => m::NO_ELEMENTS,
@@ -54,6 +55,15 @@ impl<'t> Site<'t> {
             NameRole::Member(_, call) => self.c2_member(call),
             NameRole::Counter | NameRole::Target => m::NO_VARIABLE,
             _ => m::NO_VALUE,
+        }
+    }
+
+    // The message for a `not` or a sign.
+    fn prefix(&self) -> Message {
+        if self.is_compared {
+            m::NOT_FIRST
+        } else {
+            m::OPERANDS
         }
     }
 
@@ -118,6 +128,7 @@ impl<'t> Site<'t> {
 
     fn standard_procedure(&self) -> Message {
         match self.standard_kind() {
+            Some(StandardKind::Procedure(0)) => m::WAIT_ARGUMENTS,
             Some(StandardKind::Procedure(_)) => m::ARGUMENTS,
             _ => m::NO_PROCEDURE,
         }

@@ -9,7 +9,7 @@ use cp_explain_names::components::{Components, Systems};
 use cp_explain_names::scope::{Declaration, Kind};
 use cp_model::rules::{Rule, Violation};
 use cp_model::tree::{Identifier, Sort, Tree};
-use cp_output::message::About;
+use cp_output::message::{About, Message};
 use cp_output::page::Page;
 use cp_output::position::Position;
 use std::alloc::{AllocError, Global};
@@ -105,15 +105,27 @@ impl<'t> Site<'t> {
         }
     }
 
-    // Adds what helps with a name that isn't declared, or that is no entry.
-    fn push_names(&self, alloc: Global, page: &mut Page, rule: Rule) -> Result<(), AllocError> {
+    // Adds the first line: what is wrong, and for a name that isn't declared what it means.
+    fn push_head(
+        &self,
+        alloc: Global,
+        page: &mut Page,
+        text: &[u8],
+        rule: Rule,
+        head: &str,
+    ) -> Result<(), AllocError> {
+        page.template(head, self.about());
         if rule == Rule::C1 && self.is_unknown() {
-            self.push_meant(alloc, page)?;
+            self.push_meant(alloc, page, text)?;
         }
+        Ok(())
+    }
+
+    // Adds what helps with a name that isn't declared, or that is no entry.
+    fn push_names(&self, page: &mut Page, rule: Rule) {
         if matches!(rule, Rule::C1 | Rule::C5) {
             self.push_members(page);
         }
-        Ok(())
     }
 
     // Adds what helps with types and numbers of arguments.
@@ -153,17 +165,10 @@ impl<'t> Site<'t> {
     }
 
     // Adds what is known of this place: types, numbers of arguments, names and declarations.
-    fn push_facts(
-        &self,
-        alloc: Global,
-        page: &mut Page,
-        text: &[u8],
-        violation: Violation,
-    ) -> Result<(), AllocError> {
+    fn push_facts(&self, page: &mut Page, text: &[u8], violation: Violation) {
         self.push_agreement(page, violation.rule);
-        self.push_names(alloc, page, violation.rule)?;
+        self.push_names(page, violation.rule);
         self.push_declared(page, text, violation.at);
-        Ok(())
     }
 }
 
@@ -178,9 +183,12 @@ pub fn of_violation(
 ) -> Result<Vec<u8>, AllocError> {
     let Violation { rule, at } = violation;
     let site = site_of(alloc, key, tree, violation)?;
+    let Message { head, advice } = site.message(rule);
     let mut page = Page::new(alloc);
-    page.message(text, at, site.message(rule), site.about());
-    site.push_facts(alloc, &mut page, text, violation)?;
+    site.push_head(alloc, &mut page, text, rule, head)?;
+    page.place_and_advice(text, at, advice, site.about());
+    page.bytes(b"\n");
+    site.push_facts(&mut page, text, violation);
     page.hint("C", rule.number());
     page.finish()
 }
@@ -197,8 +205,8 @@ pub fn of_violation_in_short(
     let Violation { rule, at } = violation;
     let site = site_of(alloc, key, tree, violation)?;
     let mut page = Page::new(alloc);
-    page.template(site.message(rule).head, site.about());
+    site.push_head(alloc, &mut page, text, rule, site.message(rule).head)?;
     page.place(text, at);
-    site.push_facts(alloc, &mut page, text, violation)?;
+    site.push_facts(&mut page, text, violation);
     page.finish()
 }

@@ -1,6 +1,6 @@
 //! Finds what is at a place of a text, by walking over its tree.
 
-use crate::site::{Mark, NameRole, Pair, Purpose, Site};
+use crate::site::{Mark, NameRole, Operand, Pair, Purpose, Site};
 use cp_explain_names::scope::Scope;
 use cp_model::tree::{Expression, Identifier, Tree};
 
@@ -30,6 +30,8 @@ impl<'t> Finder<'t> {
                 mark: None,
                 expression: None,
                 pair: None,
+                operand: None,
+                is_compared: false,
                 number: None,
             },
         }
@@ -55,6 +57,13 @@ impl<'t> Finder<'t> {
             self.site.scope = self.scope;
             self.site.purpose = Some(purpose);
             self.site.expression = Some(expression);
+        }
+    }
+
+    pub(crate) fn operand(&mut self, at: usize, operand: Operand<'t>) {
+        if at == self.at {
+            self.site.scope = self.scope;
+            self.site.operand = Some(operand);
         }
     }
 

@@ -42,7 +42,7 @@ pub const PROCESS_RIGHT: Message = Message {
 
 pub const VAR_EXPRESSION: Message = Message {
     head: "an expression can't be passed to a `var` parameter",
-    advice: "The routine gives its `var` parameter a value, so pass a variable. To pass a value alone, leave `var` out of the heading.",
+    advice: "The routine gives its `var` parameter a value, so pass a variable. To pass only a value, leave `var` out of the heading.",
 };
 
 // ---- Advice by types
@@ -57,6 +57,15 @@ pub const BOOLEAN_OPERANDS: &str =
     "`&` and `or` take Booleans, and bind more tightly than relations: put each relation into parentheses, as in `(a = b) & c`.";
 
 pub const BOOLEAN_VALUE: &str = "A Boolean is `true`, `false`, or a relation such as `n > 0`.";
+
+pub const COMPONENT_VALUE: &str =
+    "A component has no value that could be assigned or compared. Call its entry routines.";
+
+pub const PART_OPERANDS: &str =
+    "An operator takes simple values: name an element, such as `a[1]`, or a field, such as `r.x`.";
+
+pub const PART_SIDES: &str =
+    "Arrays and records agree only if they have the same type, by one name. Otherwise assign an element or a field at a time.";
 
 // ---- C2
 
@@ -98,6 +107,16 @@ pub const BASES: Message = Message {
 pub const OPERANDS: Message = Message {
     head: "the operands don't fit this operator",
     advice: "`+ - * div mod` and signs take integers, `& or not` take Booleans, and relations take two simple values of one type. Convert with `ord` and `chr`.",
+};
+
+pub const NOT_FIRST: Message = Message {
+    head: "`not` binds first: write `not (a = b)` or `a <> b`",
+    advice: "`not` applies to what follows it directly, and that isn't Boolean here. Put the relation into parentheses.",
+};
+
+pub const WAIT_ARGUMENTS: Message = Message {
+    head: "`$` has no argument: in a monitor, `delay(q)` waits in a queue",
+    advice: "`$` waits for the next tick of the clock, in a process. To wait for something in a monitor, declare `var q: queue`.",
 };
 
 pub const NO_PARTS: Message = Message {
@@ -169,7 +188,7 @@ pub const LABELS: Message = Message {
 
 pub const OWN_DEFINITION: Message = Message {
     head: "`$` is used inside its own definition",
-    advice: "There is no recursion: a routine can't call itself, and a type can't contain itself. In its own body a function's name can only stand on the left of `:=`.",
+    advice: "There is no recursion: a routine can't call itself, and a type can't contain itself. In its own body a function's name can only be on the left of `:=`.",
 };
 
 pub const NO_ENTRY: Message = Message {
@@ -239,6 +258,21 @@ pub const CONTINUE: Message = Message {
 pub const WAIT: Message = Message {
     head: "`wait` can't be used here",
     advice: "`wait` can only be used in the bodies and routines of processes.",
+};
+
+pub const WAIT_IN_MONITOR: Message = Message {
+    head: "`wait` can't be used here: in a monitor, `delay(q)` waits in a queue",
+    advice: "`wait` waits for the clock, in the bodies and routines of processes. In a monitor, declare `var q: queue`.",
+};
+
+pub const RIGHT: Message = Message {
+    head: "`$` is a right, and a right can't be changed",
+    advice: "`init` passes the right once. To use another component, pass the right to that one too.",
+};
+
+pub const PARAMETER: Message = Message {
+    head: "`$` can't be changed: copy it to a variable",
+    advice: "This parameter keeps its value. Declare a variable, and begin with `n := $`.",
 };
 
 pub const UNCHANGEABLE: Message = Message {

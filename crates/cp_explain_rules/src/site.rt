@@ -1,6 +1,7 @@
 //! What is at a place of a text: the role of a name there, or the purpose of an expression.
 
 use cp_explain_names::scope::Scope;
+use cp_explain_names::types::Type;
 use cp_model::tree::{Constant, Designator, Expression, Identifier, Operation, Operator, Sort};
 
 /// What a name is declared as.
@@ -116,6 +117,13 @@ pub enum Pair<'t> {
     Label(&'t Expression, &'t Constant),
 }
 
+/// The operand of a `not` or a sign, and the type that it should have.
+#[derive(Clone, Copy)]
+pub struct Operand<'t> {
+    pub(crate) expression: &'t Expression,
+    pub(crate) wanted: Type<'static>,
+}
+
 /// What is at a place. A name that begins an expression has a purpose as well as a role.
 #[derive(Drop)]
 pub struct Site<'t> {
@@ -126,6 +134,10 @@ pub struct Site<'t> {
     /// The outermost expression that begins at the place, if it has a purpose.
     pub(crate) expression: Option<&'t Expression>,
     pub(crate) pair: Option<Pair<'t>>,
+    /// The operand, if a `not` or a sign is at the place.
+    pub(crate) operand: Option<Operand<'t>>,
+    /// Whether a `not` is at the place, and a relation follows its operand.
+    pub(crate) is_compared: bool,
     /// The number of the process or monitor that the name declares, if the initial process declares
     /// it.
     pub(crate) number: Option<(Sort, usize)>,

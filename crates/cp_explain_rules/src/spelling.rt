@@ -1,67 +1,16 @@
-//! What is meant by a name that isn't declared: a name that is spelled like it and fits there, or
-//! one that is known from other languages.
+//! What is meant by a name that isn't declared: an entry of a component in reach, a name of another
+//! language, or a name that is spelled like it and fits there.
 
 use crate::site::{NameRole, Site};
+use cp_explain_habits::meaning_of;
 use cp_explain_names::nearest::Nearest;
 use cp_explain_names::visible::{Fit, NO_NAME};
+use cp_model::tree::Identifier;
 use cp_output::page::Page;
 use std::alloc::{AllocError, Global};
 
-/// Names of other languages, and what represents them.
-const FOREIGN: [(&str, &str); 28] = [
-    ("write", WRITE),
-    ("writeln", WRITE),
-    ("print", WRITE),
-    ("printf", WRITE),
-    ("println", WRITE),
-    ("read", READ),
-    ("readln", READ),
-    ("scanf", READ),
-    ("real", REAL),
-    ("float", REAL),
-    ("double", REAL),
-    ("string", STRING),
-    ("nil", POINTER),
-    ("null", POINTER),
-    ("new", POINTER),
-    ("int", "The type of integers is called `integer`."),
-    (
-        "bool",
-        "The type of `false` and `true` is called `boolean`.",
-    ),
-    ("character", "The type of characters is called `char`."),
-    ("inc", "Write `n := n + 1`."),
-    ("dec", "Write `n := n - 1`."),
-    ("sqrt", "There is no such function: declare one."),
-    ("odd", "Write `n mod 2 <> 0`."),
-    (
-        "return",
-        "A function's result is what is assigned to its name last: `f := 1`.",
-    ),
-    ("exit", LEAVE),
-    ("halt", LEAVE),
-    ("break", LEAVE),
-    (
-        "signal",
-        "`continue(q)` lets the process in the queue `q` go on.",
-    ),
-    (
-        "sleep",
-        "A process waits for the next tick of the clock by `wait`.",
-    ),
-];
-
-const WRITE: &str = "One value is written by `display(x)`; there is no other output.";
-
-const READ: &str = "A character is read by `accept(c)`; there is no other input.";
-
-const REAL: &str = "There are no reals: numbers are integers from -32768 to 32767.";
-
-const STRING: &str = "There are no strings: use an array of char.";
-
-const POINTER: &str = "There are no pointers: use an array, and an index into it.";
-
-const LEAVE: &str = "Nothing leaves a loop but its condition: test a Boolean variable.";
+/// A call of more bytes than this is reported by its name.
+const MAX_CALL_BYTES: usize = 60;
 
 // What names may have a role.
 fn names_for(role: NameRole<'_>) -> Fit {
@@ -98,14 +47,32 @@ fn names_for(role: NameRole<'_>) -> Fit {
     }
 }
 
-// What represents a name of another language.
-fn foreign(name: &[u8]) -> Option<&'static str> {
-    for (known, reported) in FOREIGN.as_slice() {
-        if known.as_bytes() == name {
-            return Some(*reported);
+fn is_letter(byte: u8) -> bool {
+    byte.is_ascii_alphanumeric() || byte == b'_'
+}
+
+// The call that begins these bytes, in one line: a name, and its arguments in parentheses.
+fn call_of(bytes: &[u8]) -> Option<&[u8]> {
+    let mut depth: usize = 0;
+    let mut in_character = false;
+    for i in 0..bytes.len().min(MAX_CALL_BYTES) {
+        match bytes[i] {
+            b'\'' => in_character = !in_character,
+            b'\n' => return None,
+            _ if in_character => {}
+            b'(' => depth = depth.saturating_add(1),
+            b')' if depth == 1 => return Some(&bytes[..=i]),
+            b')' if 1 < depth => depth -= 1,
+            byte if depth == 0 && !is_letter(byte) => return Some(&bytes[..i]),
+            _ => {}
         }
     }
     None
+}
+
+// The bytes of a text from a place on.
+fn rest_of(text: &[u8], at: usize) -> &[u8] {
+    &text[at.min(text.len())..]
 }
 
 impl<'t> Site<'t> {
@@ -117,6 +84,28 @@ impl<'t> Site<'t> {
         }
     }
 
+    // The component in reach whose entry the name at the place may be.
+    fn component_meant(&self) -> Option<&'t Identifier> {
+        match self.name? {
+            (x, NameRole::Value | NameRole::Function(_) | NameRole::Procedure(_)) => {
+                self.scope.component_with_entry(x.name.as_bytes())
+            }
+            _ => None,
+        }
+    }
+
+    // Adds the call of an entry of a component, as it is meant.
+    fn push_entry(&self, page: &mut Page, text: &[u8], component: &Identifier, name: &Identifier) {
+        page.text(": did you mean `");
+        page.bytes(component.name.as_bytes());
+        page.bytes(b".");
+        page.bytes(match call_of(rest_of(text, name.at)) {
+            Some(call) => call,
+            None => name.name.as_bytes(),
+        });
+        page.text("`?");
+    }
+
     fn push_nearest(
         &self,
         alloc: Global,
@@ -126,24 +115,32 @@ impl<'t> Site<'t> {
         let mut nearest = Nearest::to(name);
         self.offer_all(alloc, &mut nearest)?;
         if let Some(found) = nearest.found() {
-            page.text("  Did you mean ");
+            page.text(": did you mean ");
             page.quoted(found);
-            page.bytes(b"?\n");
+            page.bytes(b"?");
         }
         Ok(())
     }
 
-    /// Adds what is meant by the name at the place, which isn't declared there.
-    pub fn push_meant(&self, alloc: Global, page: &mut Page) -> Result<(), AllocError> {
+    /// Adds to the first line what is meant by the name at the place, which isn't declared there.
+    pub fn push_meant(
+        &self,
+        alloc: Global,
+        page: &mut Page,
+        text: &[u8],
+    ) -> Result<(), AllocError> {
         let Some((x, role)) = self.name else {
             return Ok(());
         };
+        if let Some(component) = self.component_meant() {
+            self.push_entry(page, text, component, x);
+            return Ok(());
+        }
         let is_member = matches!(role, NameRole::Member(..));
-        match foreign(x.name.as_bytes()) {
+        match meaning_of(x.name.as_bytes()) {
             Some(reported) if !is_member => {
-                page.bytes(b"  ");
+                page.bytes(b": ");
                 page.text(reported);
-                page.bytes(b"\n");
                 Ok(())
             }
             _ => self.push_nearest(alloc, page, x.name.as_bytes()),

@@ -1,8 +1,21 @@
 //! The walk over expressions.
 
 use crate::finder::Finder;
-use crate::site::{Call, Mark, NameRole, Pair, Purpose};
-use cp_model::tree::{Designator, Expression, Index, Operation, Selector};
+use crate::site::{Call, Mark, NameRole, Operand, Pair, Purpose};
+use cp_explain_names::types::{BOOLEAN, INTEGER, Type};
+use cp_model::tree::{Designator, Expression, Index, Operation, Operator, Selector};
+
+fn is_relation(operator: Operator) -> bool {
+    matches!(
+        operator,
+        Operator::Equal
+            | Operator::Unequal
+            | Operator::Less
+            | Operator::Greater
+            | Operator::AtMost
+            | Operator::AtLeast
+    )
+}
 
 impl<'t> Finder<'t> {
     /// Walks over an expression that is wanted for `purpose`.
@@ -26,11 +39,16 @@ impl<'t> Finder<'t> {
                 self.expressions(list);
             }
             Expression::Parenthesized { inner, .. } => self.expression(inner),
-            Expression::Not { at, operand } | Expression::Signed { at, operand, .. } => {
-                self.mark(*at, Mark::Operator);
+            Expression::Not { at, operand } => {
+                self.prefix(*at, operand, BOOLEAN);
+                self.expression(operand);
+            }
+            Expression::Signed { at, operand, .. } => {
+                self.prefix(*at, operand, INTEGER);
                 self.expression(operand);
             }
             Expression::Chain { first, rest } => {
+                self.compared(first, rest);
                 self.pairs(first, rest);
                 self.expression(first);
                 self.operations(rest);
@@ -43,6 +61,27 @@ impl<'t> Finder<'t> {
         for operation in rest {
             self.mark(operation.at, Mark::Operator);
             self.expression(&operation.operand);
+        }
+    }
+
+    // Records a `not` or a sign, and the type that its operand should have.
+    fn prefix(&mut self, at: usize, operand: &'t Expression, wanted: Type<'static>) {
+        self.mark(at, Mark::Operator);
+        self.operand(
+            at,
+            Operand {
+                expression: operand,
+                wanted,
+            },
+        );
+    }
+
+    // Records a `not` whose operand is the left side of a relation.
+    fn compared(&mut self, first: &'t Expression, rest: &'t [Operation]) {
+        if let (Expression::Not { at, .. }, Some(operation)) = (first, rest.first()) {
+            if *at == self.at && is_relation(operation.operator) {
+                self.site.is_compared = true;
+            }
         }
     }
 

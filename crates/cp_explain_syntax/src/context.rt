@@ -1,6 +1,7 @@
 //! What is open at a place.
 
-use crate::front::Front;
+use crate::expected::Expected;
+use crate::front::{Front, is_name, is_symbol};
 use cp_model::token::{Kind, Symbol};
 
 // Whether a symbol opens what an `end` or an `until` closes.
@@ -11,18 +12,26 @@ fn opens(symbol: Symbol) -> bool {
     )
 }
 
+/// A word that opened what is still open, and its place.
+#[derive(Clone, Copy)]
+pub struct Opened {
+    pub(crate) word: Symbol,
+    pub(crate) at: usize,
+}
+
 impl<'t> Front<'t> {
     /// The word that opened the innermost construct that is open at the place.
-    pub fn innermost(&self) -> Option<Symbol> {
+    pub fn opened(&self) -> Option<Opened> {
         let mut closed: usize = 0;
-        for count in 1..=self.index {
-            match self.before(count) {
-                Some(Kind::Symbol(Symbol::End | Symbol::Until)) => {
-                    closed = closed.saturating_add(1);
-                }
-                Some(Kind::Symbol(symbol)) if opens(*symbol) => {
+        for token in self.tokens.iter().take(self.index).rev() {
+            match token.kind() {
+                Kind::Symbol(Symbol::End | Symbol::Until) => closed = closed.saturating_add(1),
+                Kind::Symbol(symbol) if opens(*symbol) => {
                     if closed == 0 {
-                        return Some(*symbol);
+                        return Some(Opened {
+                            word: *symbol,
+                            at: token.place(),
+                        });
                     }
                     closed -= 1;
                 }
@@ -30,6 +39,65 @@ impl<'t> Front<'t> {
             }
         }
         None
+    }
+
+    /// The word that opened the innermost construct that is open at the place.
+    pub fn innermost(&self) -> Option<Symbol> {
+        Some(self.opened()?.word)
+    }
+
+    /// Whether, of these two symbols, the first follows the place more closely.
+    pub fn comes_sooner(&self, wanted: Symbol, ends: &[Symbol]) -> bool {
+        for token in self.tokens.iter().skip(self.index) {
+            if let Kind::Symbol(symbol) = token.kind() {
+                if *symbol == wanted {
+                    return true;
+                }
+                if ends.contains(symbol) {
+                    return false;
+                }
+            }
+        }
+        false
+    }
+
+    /// Whether the `=` at the place defines a component.
+    pub fn begins_component(&self) -> bool {
+        matches!(
+            self.after(1),
+            Some(Kind::Symbol(Symbol::Process | Symbol::Monitor | Symbol::Class))
+        )
+    }
+
+    /// The word at the place, if it begins a component and a name follows.
+    pub fn component_word(&self) -> Option<Symbol> {
+        match (self.after(0), is_name(self.after(1))) {
+            (Some(Kind::Symbol(symbol)), true) => match symbol {
+                Symbol::Process | Symbol::Monitor | Symbol::Class => Some(*symbol),
+                _ => None,
+            },
+            _ => None,
+        }
+    }
+
+    /// Whether the place follows a label of a `case`.
+    pub fn is_after_label(&self, expected: &Expected) -> bool {
+        expected.has(Symbol::Colon) && self.innermost() == Some(Symbol::Case)
+    }
+
+    /// Whether the name before the place is that of a type.
+    pub fn is_type_name(&self) -> bool {
+        matches!(
+            self.before(2),
+            Some(Kind::Symbol(Symbol::Colon | Symbol::Equal | Symbol::Of))
+        )
+    }
+
+    /// Whether the place follows the type of a variable.
+    pub fn is_after_variable(&self, expected: &Expected) -> bool {
+        expected.has(Symbol::Semicolon)
+            && !expected.has_statement()
+            && is_symbol(self.before(2), Symbol::Colon)
     }
 
     /// Whether, of these two symbols, the place follows the first more closely.

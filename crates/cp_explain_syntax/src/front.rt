@@ -30,7 +30,7 @@ pub fn is_number(kind: Option<&Kind>) -> bool {
 }
 
 /// The letters of a name, or none if a token isn't one.
-pub fn letters(kind: Option<&Kind>) -> &[u8] {
+pub fn letters<'t>(kind: Option<&'t Kind>) -> &'t [u8] {
     match kind {
         Some(kind) => kind.letters(),
         None => b"",
@@ -92,6 +92,40 @@ impl<'t> Front<'t> {
             None => self.text.len(),
         };
         part(self.text, from, to).contains(&b'"')
+    }
+
+    /// Whether the place is in the line of the token before it.
+    pub fn is_in_line(&self) -> bool {
+        let from = match self.index.checked_sub(1) {
+            Some(number) => self.end_of(number),
+            None => 0,
+        };
+        let to = match self.token(0) {
+            Some(token) => token.place(),
+            None => self.text.len(),
+        };
+        !part(self.text, from, to).contains(&b'\n')
+    }
+
+    /// Whether a type with this name is defined before the place.
+    pub fn defines(&self, name: &[u8]) -> bool {
+        let front = self.tokens.iter().take(self.index);
+        for (token, next) in front.zip(self.tokens.iter().skip(1)) {
+            if is_symbol(Some(next.kind()), Symbol::Equal) && token.kind().letters() == name {
+                return true;
+            }
+        }
+        false
+    }
+
+    /// The name beside the place: the one before it, or else the one after it.
+    pub fn neighbour(&self) -> Option<&'t [u8]> {
+        for kind in [self.before(1), self.after(1)] {
+            if is_name(kind) {
+                return Some(letters(kind));
+            }
+        }
+        None
     }
 
     // The place after the token with this number.

@@ -49,6 +49,10 @@ fn equal(front: &Front<'_>, expected: &Expected) -> Option<Message> {
         Some(m::ASSIGN)
     } else if has_relation(expected) {
         Some(m::PARENTHESES)
+    } else if front.is_after_label(expected) {
+        Some(m::LABEL_COLON)
+    } else if front.is_after_variable(expected) {
+        Some(m::FIRST_VALUE)
     } else if expected.has(Symbol::Colon) {
         Some(m::DECLARATION)
     } else {
@@ -63,6 +67,8 @@ fn assign(front: &Front<'_>, expected: &Expected) -> Option<Message> {
         Some(m::BRACKETS)
     } else if front.follows_sooner(Symbol::Assign, &AROUND_STATEMENTS) {
         Some(m::ONE_ASSIGNMENT)
+    } else if front.is_after_variable(expected) {
+        Some(m::FIRST_VALUE)
     } else if expected.has(Symbol::CloseBracket) {
         None
     } else if expected.has(Symbol::Equal) || has_relation(expected) {
@@ -93,11 +99,38 @@ fn sign(front: &Front<'_>, expected: &Expected) -> Option<Message> {
     if is_name(front.before(1)) && (doubled || front.is_next(Symbol::Equal)) {
         Some(m::INCREMENT)
     } else if front.is_here(Symbol::Minus) && front.is_next(Symbol::Greater) {
-        Some(m::ARROW)
+        Some(if front.is_after_label(expected) {
+            m::LABEL_COLON
+        } else {
+            m::ARROW
+        })
     } else if expected.has_value() {
         Some(m::SIGN)
     } else {
+        arithmetic(front, expected)
+    }
+}
+
+// An operator after a bound or a constant, which are no expressions.
+fn arithmetic(front: &Front<'_>, expected: &Expected) -> Option<Message> {
+    let is_operand = is_name(front.before(1)) || is_number(front.before(1));
+    if !is_operand || expected.has(Symbol::Star) {
         None
+    } else if is_symbol(front.before(2), Symbol::DotDot) || expected.has(Symbol::DotDot) {
+        Some(m::BOUND)
+    } else if expected.is_only(Symbol::Semicolon) {
+        Some(m::CONSTANT)
+    } else {
+        None
+    }
+}
+
+// `a ** b`, and a product as a bound.
+fn star(front: &Front<'_>, expected: &Expected) -> Option<Message> {
+    if front.follows(Symbol::Star) {
+        Some(m::POWER)
+    } else {
+        arithmetic(front, expected)
     }
 }
 
@@ -144,6 +177,8 @@ fn index(front: &Front<'_>) -> Option<Message> {
     let item = is_name(front.before(1));
     if item && front.follows_sooner(Symbol::Init, &AROUND_STATEMENTS) {
         Some(m::ELEMENT)
+    } else if item && front.is_type_name() {
+        Some(m::ARRAY_TYPE)
     } else {
         None
     }
@@ -159,8 +194,25 @@ fn dot(front: &Front<'_>, expected: &Expected) -> Option<Message> {
     }
 }
 
-fn semicolon(expected: &Expected) -> Option<Message> {
-    if expected.has(Symbol::Colon) && !expected.has(Symbol::Comma) {
+// `repeat s while c;`, where a `do` could be.
+fn ends_repeat(front: &Front<'_>, expected: &Expected) -> bool {
+    expected.has(Symbol::Do)
+        && front.innermost() == Some(Symbol::Repeat)
+        && front.follows_sooner(Symbol::While, &AROUND_STATEMENTS)
+}
+
+fn dots(front: &Front<'_>, expected: &Expected) -> Option<Message> {
+    if front.is_after_label(expected) {
+        Some(m::LABEL_RANGE)
+    } else {
+        None
+    }
+}
+
+fn semicolon(front: &Front<'_>, expected: &Expected) -> Option<Message> {
+    if ends_repeat(front, expected) {
+        Some(m::REPEAT_UNTIL)
+    } else if expected.has(Symbol::Colon) && !expected.has(Symbol::Comma) {
         Some(m::RESULT_TYPE)
     } else {
         None
@@ -177,13 +229,17 @@ pub fn foreign_habit_of_mark(
         Symbol::Assign => assign(front, expected),
         Symbol::Equal => equal(front, expected),
         Symbol::Plus | Symbol::Minus => sign(front, expected),
+        Symbol::Star => star(front, expected),
+        Symbol::Div | Symbol::Mod => arithmetic(front, expected),
         Symbol::OpenParenthesis => open(front),
         Symbol::CloseParenthesis => close(front, expected),
         Symbol::OpenBracket => index(front),
         Symbol::CloseBracket => close_index(expected),
         Symbol::Comma => comma(front, expected),
         Symbol::Dot => dot(front, expected),
-        Symbol::Semicolon => semicolon(expected),
+        Symbol::DotDot => dots(front, expected),
+        Symbol::Semicolon => semicolon(front, expected),
+        Symbol::End if ends_repeat(front, expected) => Some(m::REPEAT_UNTIL),
         Symbol::Ampersand if front.follows(Symbol::Ampersand) => Some(m::DOUBLE_AMPERSAND),
         _ if is_relation(front.after(0)) => relation(front, expected),
         _ => None,

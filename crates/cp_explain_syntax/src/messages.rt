@@ -1,28 +1,6 @@
-//! What is reported of syntax. A message about a token is reported after ``unexpected `=`: ``.
+//! What is reported of habits of other languages, after ``unexpected `=`: ``.
 
 use cp_output::message::Message;
-
-// ---- Y2 and Y3
-
-pub const UNFINISHED: Message = Message {
-    head: "the text ends too soon",
-    advice: "Something is still open: each `begin`, `cycle` and `case` needs its `end`, and the whole text ends with `end.`.",
-};
-
-pub const NO_DOT: Message = Message {
-    head: "the text ends too soon: its last `end` is followed by `.`",
-    advice: "Write `end.`.",
-};
-
-pub const EMPTY: Message = Message {
-    head: "the text ends too soon: it has no token",
-    advice: "A text has at least `begin end.`.",
-};
-
-pub const DEEP: Message = Message {
-    head: "the text is nested too deeply",
-    advice: "At most 200 statements, expressions or types can be nested. Move inner statements into routines, and give inner types names.",
-};
 
 // ---- Y1: marks
 
@@ -82,7 +60,7 @@ pub const INCREMENT: Message = Message {
 };
 
 pub const SIGN: Message = Message {
-    head: "a sign stands only before a whole expression",
+    head: "a sign comes only before a whole expression",
     advice: "Put what has the sign into parentheses: `a * (-1)`.",
 };
 
@@ -92,7 +70,7 @@ pub const NO_ARGUMENTS: Message = Message {
 };
 
 pub const LAST_SEMICOLON: Message = Message {
-    head: "no `;` stands before a `)`",
+    head: "a `)` follows no `;`",
     advice: "`;` separates groups of parameters. Leave out the last one.",
 };
 
@@ -122,17 +100,17 @@ pub const LAST_DOT: Message = Message {
 };
 
 pub const QUOTES: Message = Message {
-    head: "what stands between quotes is a comment",
-    advice: "A value is expected here, and a comment is none. A character is written 'a', and there are no strings.",
+    head: "text between quotes is a comment",
+    advice: "A value is expected here, and a comment has none. A character is written 'a', and there are no strings.",
 };
 
 pub const CASE_SEMICOLON: Message = Message {
-    head: "no `;` stands before the `end` of a `case`",
+    head: "the `end` of a `case` follows no `;`",
     advice: "After a `;` comes another arm. Leave out the last one.",
 };
 
 pub const RECORD_SEMICOLON: Message = Message {
-    head: "no `;` stands before the `end` of a record",
+    head: "the `end` of a record follows no `;`",
     advice: "After a `;` come more fields. Leave out the last one.",
 };
 
@@ -162,12 +140,12 @@ pub const INIT_LIST: Message = Message {
 };
 
 pub const ENUMERATION: Message = Message {
-    head: "the values of an enumeration stand in parentheses",
+    head: "the values of an enumeration are in parentheses",
     advice: "Write `type color = (red, green)`.",
 };
 
 pub const SEPARATOR: Message = Message {
-    head: "a `;` stands here",
+    head: "a `;` is needed here",
     advice: "Definitions, declarations, groups of parameters and statements are separated by `;`; names, arguments and indices by `,`.",
 };
 
@@ -181,6 +159,61 @@ pub const INNER_DOT: Message = Message {
     advice: "A routine and a component end with `end;`.",
 };
 
+pub const POWER: Message = Message {
+    head: "there is no power: multiply, as in `n * n`",
+    advice: "For a power that varies, multiply in a `for` loop.",
+};
+
+pub const BOUND: Message = Message {
+    head: "a bound is a constant, not an expression: define `const last = 9`",
+    advice: "Work out the value and give it a name: `const last = 9`, and then `array [0..last]`.",
+};
+
+pub const CONSTANT: Message = Message {
+    head: "a constant is not an expression: write its value",
+    advice: "A constant is a number, a character, or the name of a constant, such as `const last = 9`.",
+};
+
+pub const LABEL_COLON: Message = Message {
+    head: "a label is followed by `:`",
+    advice: "Write `case c of red: s; green: t end`.",
+};
+
+pub const LABEL_RANGE: Message = Message {
+    head: "labels are listed one by one: `1, 2, 3: s`",
+    advice: "There is no range of labels. Test a long range with an `if` before the `case`.",
+};
+
+pub const ARRAY_TYPE: Message = Message {
+    head: "an array type is written `array [1..10] of %`",
+    advice: "The bounds follow the word `array`, and the type of the elements follows `of`.",
+};
+
+pub const FIRST_VALUE: Message = Message {
+    head: "a declaration gives no value: write `x := 0` in the body",
+    advice: "A variable gets its first value from a statement after `begin`.",
+};
+
+pub const PARAMETER_TYPE_NAME: Message = Message {
+    head: "the type of a parameter or result is a name: define `type t = ..` first",
+    advice: "Write `type t = array [1..9] of char` at the head of the program, and `procedure p(a: t)` here.",
+};
+
+pub const NAME_BEFORE_TYPE: Message = Message {
+    head: "the name comes before its type: `$: %`",
+    advice: "Write `procedure p(a, b: integer; c: char)` and `var n: integer`.",
+};
+
+pub const REPEAT_UNTIL: Message = Message {
+    head: "a `repeat` ends with `until` and the opposite condition",
+    advice: "Write `repeat s until not c` for `repeat s while c`.",
+};
+
+pub const DO_LOOP: Message = Message {
+    head: "a loop that tests last is written `repeat s until c`",
+    advice: "`do` only follows the head of a `while` or `for`.",
+};
+
 // ---- Y1: words
 
 pub const AND: Message = Message {
@@ -189,7 +222,7 @@ pub const AND: Message = Message {
 };
 
 pub const ELSE_SEMICOLON: Message = Message {
-    head: "no `;` stands before `else`",
+    head: "an `else` follows no `;`",
     advice: "`;` separates statements, and an `if` with its `else` is one statement. Leave out the `;`.",
 };
 
@@ -204,7 +237,7 @@ pub const VARIABLE_ENTRY: Message = Message {
 };
 
 pub const ENTRY_FIRST: Message = Message {
-    head: "`entry` stands after `procedure` or `function`",
+    head: "`entry` comes after `procedure` or `function`",
     advice: "Write `procedure entry put`.",
 };
 
@@ -225,7 +258,7 @@ pub const INNER_VARIABLE: Message = Message {
 
 pub const SECOND_VAR: Message = Message {
     head: "one `var` declares all variables",
-    advice: "Leave out this `var`: after a `;` the declarations go on.",
+    advice: "Leave out this `var`: after a `;` comes the next declaration.",
 };
 
 pub const LATE_VARIABLE: Message = Message {
@@ -241,6 +274,86 @@ pub const TYPE_FIRST: Message = Message {
 pub const CYCLE: Message = Message {
     head: "an endless loop is written `cycle`",
     advice: "Write `cycle s; t end`. `while`, `repeat` and `for` repeat under a condition.",
+};
+
+pub const NEW: Message = Message {
+    head: "there is no `new`: declare `var c: $`, and `init c` starts it",
+    advice: "A component is a variable. It exists from the start, and `init` starts it once.",
+};
+
+pub const COBEGIN: Message = Message {
+    head: "processes are started by `init a, b`",
+    advice: "Give each process a type, such as `type p = process; ..`, and declare `var a, b: p`.",
+};
+
+pub const START: Message = Message {
+    head: "a process is started by `init $`",
+    advice: "Declare the process as a variable, such as `var a: p`, and write `init a` in the last body.",
+};
+
+pub const CALL: Message = Message {
+    head: "a routine is called by its name, without `%`",
+    advice: "Write `p` for a procedure, or `a.e` for the entry routine `e` of `a`.",
+};
+
+pub const ELSE_IF: Message = Message {
+    head: "write `else if`",
+    advice: "An `if` with another one is written `if a then s else if b then t else u`.",
+};
+
+pub const END_WORD: Message = Message {
+    head: "there is no `$`: only `end` closes a block",
+    advice: "`begin`, `case` and `cycle` have an `end`. An `if` or a loop has one statement, such as `begin s; t end`.",
+};
+
+pub const LEAVE: Message = Message {
+    head: "nothing leaves a loop but its condition: use `while` or `repeat`",
+    advice: "Test a Boolean variable, as in `repeat s until done`.",
+};
+
+pub const LET: Message = Message {
+    head: "an assignment begins with the variable: `x := 1`",
+    advice: "Leave out the word before it.",
+};
+
+pub const ROUTINE_WORD: Message = Message {
+    head: "a routine is declared by `procedure` or `function`",
+    advice: "Write `procedure p(n: integer);` or `function f(n: integer): integer;`.",
+};
+
+pub const ENTRY_WORD: Message = Message {
+    head: "others can call what is declared by `procedure entry`",
+    advice: "Leave the word out. Everything else of a component is its own.",
+};
+
+pub const NO_MODULES: Message = Message {
+    head: "a program is one file, without modules",
+    advice: "Leave the line out, and write all components into this file.",
+};
+
+pub const XOR: Message = Message {
+    head: "two Booleans that differ are compared by `<>`",
+    advice: "Write `a <> b`.",
+};
+
+pub const COMPONENT_NAME: Message = Message {
+    head: "the name of the type comes first: `type % = $; ..`",
+    advice: "Write `type % = $; .. begin .. end;`, and then declare variables of the type `%`.",
+};
+
+pub const COMPONENT_TYPE: Message = Message {
+    head: "a component has a type: write `type % = $; ..`",
+    advice: "Define the type, and then declare variables of it: `var x: %`.",
+};
+
+pub const CASE_LABEL: Message = Message {
+    head: "a label has no word before it: `case n of 1: s; 2: t end`",
+    advice: "Write only the value and `:`.",
+};
+
+pub const TWO_NAMES: Message = Message {
+    head: "a name follows the name `%`",
+    advice: "Write an argument in parentheses, as in `%($)`. Between two statements a `;` is missing.",
 };
 
 pub const NO_BODY: Message = Message {
@@ -281,61 +394,4 @@ pub const HEADING: Message = Message {
 pub const PROGRAM: Message = Message {
     head: "there are no sequential programs",
     advice: "Write what it does as procedures of the process.",
-};
-
-// ---- Y1: a token that is missing
-
-pub const UNEXPECTED: Message = Message {
-    head: "",
-    advice: "No text can continue with this after what comes before it.",
-};
-
-pub const SEMICOLON: Message = Message {
-    head: "a `;` is missing before it",
-    advice: "Two statements, and two declarations, are separated by `;`.",
-};
-
-pub const CLOSE: Message = Message {
-    head: "a `)` is missing before it",
-    advice: "Each `(` needs its `)`.",
-};
-
-pub const CLOSE_INDEX: Message = Message {
-    head: "a `]` is missing before it",
-    advice: "Each `[` needs its `]`.",
-};
-
-pub const THEN: Message = Message {
-    head: "a `then` is missing before it",
-    advice: "An `if` is written `if c then s`, or `if c then s else t`.",
-};
-
-pub const DO: Message = Message {
-    head: "a `do` is missing before it",
-    advice: "`while` and `for` have a `do` before the statement that they repeat.",
-};
-
-pub const OF: Message = Message {
-    head: "an `of` is missing before it",
-    advice: "`case n of` and `array [t] of` are written with `of`.",
-};
-
-pub const END: Message = Message {
-    head: "an `end` is missing before it",
-    advice: "Each `begin`, `cycle` and `case` needs its `end`.",
-};
-
-pub const COLON: Message = Message {
-    head: "a `:` is missing before it",
-    advice: "A name and its type are separated by `:`.",
-};
-
-pub const COMMA: Message = Message {
-    head: "a `,` is missing before it",
-    advice: "Arguments, indices and names are separated by `,`.",
-};
-
-pub const BEGIN: Message = Message {
-    head: "a `begin` is missing before it",
-    advice: "The statements of a body stand between `begin` and `end`.",
 };

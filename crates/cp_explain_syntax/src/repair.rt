@@ -2,7 +2,7 @@
 
 use crate::expected::{Expected, begin_a_text, symbol_token};
 use crate::front::Front;
-use crate::messages as m;
+use crate::missing_messages as m;
 use cp_model::token::{Kind, Name, Symbol, Token};
 use cp_output::message::Message;
 use std::alloc::{AllocError, Global};
@@ -49,14 +49,23 @@ fn add(
     Ok(())
 }
 
-/// The message for a token that is missing after `tokens`, if one is.
+/// Copies of tokens. Fails only if memory runs out.
+pub fn copies(alloc: Global, tokens: &[Token]) -> Result<Vec<Token>, AllocError> {
+    let mut copied = Vec::new(alloc);
+    for token in tokens {
+        copied.push(copy(alloc, token)?)?;
+    }
+    Ok(copied)
+}
+
+/// The symbol that is missing after `tokens`, if one is, and the message for it.
 pub fn missing(
     alloc: Global,
     tokens: &mut Vec<Token>,
     front: &Front<'_>,
     expected: &Expected,
     at: usize,
-) -> Result<Option<Message>, AllocError> {
+) -> Result<Option<(Symbol, Message)>, AllocError> {
     let before = tokens.len();
     for (symbol, message) in OFTEN_MISSING.as_slice() {
         if expected.has(*symbol) {
@@ -64,7 +73,7 @@ pub fn missing(
             let fits = begin_a_text(alloc, tokens, at);
             tokens.truncate(before);
             if fits? {
-                return Ok(Some(*message));
+                return Ok(Some((*symbol, *message)));
             }
         }
     }

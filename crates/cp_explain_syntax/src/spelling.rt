@@ -10,8 +10,19 @@ use std::alloc::Global;
 /// How far after an apostrophe another one is looked for.
 const STRING: usize = 80;
 
-fn byte(bytes: &[u8], at: usize) -> Message {
-    match bytes {
+// Whether an operand ends at a place of a text, and another one begins after it.
+fn is_between_operands(text: &[u8], at: usize) -> bool {
+    let is_after = matches!(
+        last_before(text, at),
+        b'0'..=b'9' | b'a'..=b'z' | b'A'..=b'Z' | b'_' | b')' | b']'
+    );
+    let rest = part(text, at.saturating_add(1), text.len());
+    let next = rest.iter().find(|byte| !is_blank(**byte));
+    is_after && matches!(next, Some(b'0'..=b'9' | b'a'..=b'z' | b'A'..=b'Z' | b'('))
+}
+
+fn byte(text: &[u8], at: usize) -> Message {
+    match part(text, at, text.len()) {
         [0xef, 0xbb, 0xbf, ..] if at == 0 => m::BYTE_ORDER_MARK,
         [128..=255, ..] => m::NOT_ASCII,
         [b'{' | b'}', ..] => m::BRACE,
@@ -19,6 +30,7 @@ fn byte(bytes: &[u8], at: usize) -> Message {
         [b'/', ..] => m::SLASH,
         [b'!', b'=', ..] => m::UNEQUAL,
         [b'!' | b'~', ..] => m::EXCLAMATION,
+        [b'^', ..] if is_between_operands(text, at) => m::POWER,
         [b'^' | b'@', ..] => m::POINTER,
         [b'%', ..] => m::PERCENT,
         [b'|', ..] => m::BAR,
@@ -50,10 +62,14 @@ fn character(bytes: &[u8]) -> Message {
     }
 }
 
+fn is_blank(byte: u8) -> bool {
+    matches!(byte, 9 | 10 | 13 | 32)
+}
+
 // The last byte before a place that isn't a blank, or 0 if there is none.
 fn last_before(text: &[u8], at: usize) -> u8 {
     for byte in part(text, 0, at).iter().rev() {
-        if !matches!(*byte, 9 | 10 | 13 | 32) {
+        if !is_blank(*byte) {
             return *byte;
         }
     }
@@ -84,7 +100,7 @@ fn number(text: &[u8], at: usize) -> Message {
 fn of_cause(text: &[u8], at: usize, cause: Cause) -> Message {
     let rest = part(text, at, text.len());
     match cause {
-        Cause::Byte => byte(rest, at),
+        Cause::Byte => byte(text, at),
         Cause::Comment => comment(text, at),
         Cause::Character => character(rest),
         Cause::Number => number(text, at),

@@ -24,7 +24,7 @@ pub const BRACE: Message = Message {
 
 pub const SLASHES: Message = Message {
     head: "this character can't appear here: a comment is written between quotes",
-    advice: "Write \"a comment\", which may go on over several lines.",
+    advice: "Write \"a comment\", which may have several lines.",
 };
 
 pub const SLASH: Message = Message {
@@ -45,6 +45,11 @@ pub const UNEQUAL: Message = Message {
 pub const POINTER: Message = Message {
     head: "this character can't appear here: there are no pointers",
     advice: "Use an array, and an index where a pointer would be.",
+};
+
+pub const POWER: Message = Message {
+    head: "this character can't appear here: there is no power, so multiply, as in `n * n`",
+    advice: "For a power that varies, multiply in a `for` loop.",
 };
 
 pub const PERCENT: Message = Message {
