@@ -51,6 +51,13 @@ pub struct Findings {
     pub stop: Option<Stop>,
 }
 
+impl Findings {
+    /// Whether a schedule was found that is too long to be replayed.
+    pub(crate) fn has_long(&self) -> bool {
+        matches!(self.stuck, Finding::TooLong) || matches!(self.fault, Finding::TooLong)
+    }
+}
+
 impl Finding {
     /// Whether a schedule of this kind was found.
     pub fn is_found(&self) -> bool {

@@ -8,7 +8,7 @@ use crate::names::Names;
 use cp_inspect::status::fault_number;
 use cp_outcome_reasons::names::Source;
 use cp_outcome_reasons::object::{ProcessObject, process_objects};
-use cp_output::object::line;
+use cp_output::object::{FORMAT, line};
 use cp_search::notes::Stop;
 use cp_search_schedule::schedule::{Call, Effect, EffectKind};
 use serde::Serialize;
@@ -46,9 +46,10 @@ struct CallObject {
     effects: Vec<EffectObject>,
 }
 
-// A schedule, and where it leads.
+// A schedule, and where it leads. Each `init` of a monitor is only counted.
 #[derive(Drop, Serialize)]
 struct ScheduleObject {
+    inits: usize,
     calls: Vec<CallObject>,
     processes: Vec<ProcessObject>,
     order: String,
@@ -57,6 +58,7 @@ struct ScheduleObject {
 // What a search has found.
 #[derive(Drop, Serialize)]
 struct SearchObject {
+    format: u32,
     verdict: &'static str,
     fault: Option<ScheduleObject>,
     stuck: Option<ScheduleObject>,
@@ -76,6 +78,15 @@ fn word_of(stop: Stop) -> &'static str {
         Stop::Memory => "memory",
         Stop::Forever(_) => "forever",
         Stop::Defect => "defect",
+    }
+}
+
+// Why not all is known.
+fn stopped_by(findings: &Findings) -> Option<&'static str> {
+    match findings.stop {
+        Some(stop) => Some(word_of(stop)),
+        None if findings.has_long() => Some("length"),
+        None => None,
     }
 }
 
@@ -162,6 +173,7 @@ impl Names<'_, '_> {
             snapshot: &found.snapshot,
         };
         Ok(ScheduleObject {
+            inits: found.schedule.calls.len().saturating_sub(calls.len()),
             calls,
             processes: process_objects(self.alloc, source)?,
             order: self.string(&found.schedule.order)?,
@@ -191,13 +203,14 @@ pub fn object(
 {
     let names = Names::of(alloc, subject)?;
     let object = SearchObject {
+        format: FORMAT,
         verdict,
         fault: names.finding_object(&findings.fault)?,
         stuck: names.finding_object(&findings.stuck)?,
         ended: findings.has_ended,
         states: findings.states,
         transitions: findings.transitions,
-        stopped: findings.stop.map(word_of),
+        stopped: stopped_by(findings),
         process: match findings.stop {
             Some(Stop::Forever(process)) => Some(process),
             _ => None,

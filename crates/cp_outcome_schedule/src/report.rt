@@ -85,7 +85,7 @@ impl Names<'_, '_> {
             Finding::None => {}
             Finding::Schedule(found) => self.push_schedule(page, found)?,
             Finding::TooLong => {
-                page.text(", but the order text of the shortest has more than ");
+                page.text(", it seems: the shortest is too long to be replayed, with more than ");
                 page.number(MAX_SCHEDULE_BYTES);
                 page.text(" bytes\n");
             }
@@ -123,7 +123,7 @@ impl Names<'_, '_> {
                 page.number(process);
                 page.text(" ");
                 page.bytes(self.process_name(process));
-                page.text(" computes forever");
+                page.text(" computes forever, or for too long");
             }
             Stop::Defect => page.text("a process has no state: a defect of cpm"),
         }

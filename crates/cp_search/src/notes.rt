@@ -10,8 +10,8 @@ use std::collections::HashMap;
 /// How many hashes are tried for a state. A state that finds no room is kept without a hash.
 pub(crate) const MAX_PROBES: u64 = 16;
 
-/// The bytes that a state takes for its hash and its origin. It also takes its content and half of
-/// that, the most that memory management takes.
+/// The bytes that a state takes for its hash, its origin, and its place in tables that have room to
+/// grow. It also takes its content and an eighth of that, the most that memory management takes.
 const STATE_OVERHEAD: usize = 160;
 
 /// How far a search goes.
@@ -101,7 +101,7 @@ impl Notes {
 
     /// Whether another state of this size is beyond a limit. Notes which one.
     pub(crate) fn is_full(&mut self, size: usize) -> bool {
-        let whole = size.saturating_add(size / 2).saturating_add(STATE_OVERHEAD);
+        let whole = size.saturating_add(size / 8).saturating_add(STATE_OVERHEAD);
         let bytes = self.bytes.saturating_add(whole);
         if self.limits.states as usize <= self.origins.len() {
             self.stop = Some(Stop::States);

@@ -1,0 +1,166 @@
+//! Searching the program of an accepted text: from its input to what was found.
+
+ghost use Rattle.std.specs.Prelude.{◌≡◌, IfErr, IfOk, true};
+ghost use Rattle.cp_model.specs.Rules.{Accepted};
+ghost use Rattle.cp_model.specs.View as view;
+ghost use Rattle.cp_check.specs.Checked.{IsProgramOf};
+ghost use Rattle.cp_frontend.specs.declared.refusal.Refusal.TheVariants as refusal;
+ghost use Rattle.cp_execute_search.specs.Certificates.{IsCertified, IsShown};
+ghost use Rattle.cp_execute_search.specs.Searches.{FoundNothing, IsFoundIn, IsSearchOf, IsWritten};
+ghost use Rattle.cp_execute_search.specs.declared.verdict.SearchVerdict.TheVariants as verdicts;
+ghost use Rattle.cp_outcome_schedule.specs.declared.findings.Finding.TheVariants as variants;
+
+use crate::certifying::certify;
+use crate::form::page_of;
+use crate::kind::Kind;
+use crate::seeing::{Seen, see};
+use crate::verdict::SearchVerdict;
+use cp_base_config::search::Searching;
+use cp_check::checking::{CompiledText, compile_accepted};
+use cp_frontend::refusal::Refusal;
+use cp_frontend::sources::Text;
+use cp_outcome_schedule::findings::{Finding, Findings, Subject};
+use cp_search::notes::Stop;
+use cp_search::search::Watch;
+use cp_search_schedule::recording::Recorded;
+use std::alloc::{AllocError, Global};
+
+/// What a search has found, the verdict on it, and the text that reports both.
+#[derive(Drop)]
+pub(crate) struct Reported {
+    pub(crate) verdict: SearchVerdict,
+    pub(crate) findings: Findings,
+    pub(crate) page: Vec<u8>,
+}
+
+// What was found of a kind, after a replay of its schedule.
+fn finding_of(
+    alloc: Global,
+    text: &Text,
+    input: &[u8],
+    recorded: Option<Recorded>,
+    kind: Kind,
+) -> Result<Finding, AllocError>
+    requires accepted { Accepted (view.tree text.now.tree) }
+    ensures certified { IfOk result (IsCertified kind (view.tree text.now.tree) input.now) }
+    ensures none { IfOk result (λ found. found ≡ variants.None → recorded ≡ None) }
+{
+    match recorded {
+        None => Ok(Finding::None),
+        Some(Recorded::TooLong) => Ok(Finding::TooLong),
+        Some(Recorded::Schedule(schedule)) => certify(alloc, text, input, schedule, kind),
+    }
+}
+
+// What was found of all that was seen.
+fn findings_of(alloc: Global, text: &Text, input: &[u8], seen: Seen) -> Result<Findings, AllocError>
+    requires accepted { Accepted (view.tree text.now.tree) }
+    ensures { IfOk result (IsFoundIn (view.tree text.now.tree) input.now seen) }
+{
+    Ok(Findings {
+        stuck: finding_of(alloc, text, input, seen.stuck, Kind::Stuck)?,
+        fault: finding_of(alloc, text, input, seen.fault, Kind::Fault)?,
+        has_ended: seen.has_ended,
+        states: seen.states,
+        transitions: seen.transitions,
+        stop: seen.stop,
+    })
+}
+
+fn is_shown(finding: &Finding) -> bool
+    ensures { result ≡ true → IsShown finding.now }
+{
+    matches!(finding, Finding::Schedule(_))
+}
+
+fn is_none(finding: &Finding) -> bool
+    ensures { result ≡ true → finding.now ≡ variants.None }
+{
+    matches!(finding, Finding::None)
+}
+
+fn has_defect(findings: &Findings) -> bool {
+    findings.stuck.is_defect()
+        || findings.fault.is_defect()
+        || matches!(findings.stop, Some(Stop::Defect))
+}
+
+fn found_nothing(findings: &Findings) -> bool
+    ensures { result ≡ true → FoundNothing findings.now }
+{
+    is_none(&findings.stuck) && is_none(&findings.fault) && findings.stop.is_none()
+}
+
+// The verdict on what was found.
+fn verdict_of(findings: &Findings) -> SearchVerdict
+    ensures fine { result ≡ verdicts.Fine → FoundNothing findings.now }
+    ensures stuck { result ≡ verdicts.Stuck → IsShown findings.now.stuck }
+    ensures fault { result ≡ verdicts.Fault → IsShown findings.now.fault }
+{
+    if has_defect(findings) {
+        SearchVerdict::Defect
+    } else if is_shown(&findings.fault) {
+        SearchVerdict::Fault
+    } else if is_shown(&findings.stuck) {
+        SearchVerdict::Stuck
+    } else if found_nothing(findings) {
+        SearchVerdict::Fine
+    } else {
+        SearchVerdict::Running
+    }
+}
+
+// Searches the program of a text.
+fn search_compiled<V: Watch>(
+    alloc: Global,
+    text: &Text,
+    compiled: &CompiledText<'_>,
+    input: &[u8],
+    how: Searching,
+    watch: &V,
+) -> Result<Reported, AllocError>
+    requires accepted { Accepted (view.tree text.now.tree) }
+    requires program { IsProgramOf (view.tree text.now.tree) compiled.now.program }
+    ensures search { IfOk result (λ reported. IsSearchOf (view.tree text.now.tree) input.now
+        reported.verdict reported.findings) }
+    ensures page { IfOk result (λ reported. IsWritten how.form reported.page.items) }
+{
+    let seen = see(alloc, &compiled.program, input, how, watch)?;
+    let findings = findings_of(alloc, text, input, seen)?;
+    let verdict = verdict_of(&findings);
+    let subject = Subject {
+        bytes: &text.bytes,
+        tree: &text.tree,
+        tables: &compiled.tables,
+        program: &compiled.program,
+    };
+    let page = page_of(alloc, subject, &findings, verdict, how)?;
+    Ok(Reported {
+        verdict,
+        findings,
+        page,
+    })
+}
+
+/// Searches the program of an accepted text.
+///
+/// # Errors
+///
+/// M if memory runs out.
+pub(crate) fn search_text<V: Watch>(
+    alloc: Global,
+    text: &Text,
+    input: &[u8],
+    how: Searching,
+    watch: &V,
+) -> Result<Reported, Refusal>
+    requires accepted { Accepted (view.tree text.now.tree) }
+    ensures search { IfOk result (λ reported. IsSearchOf (view.tree text.now.tree) input.now
+        reported.verdict reported.findings) }
+    ensures page { IfOk result (λ reported. IsWritten how.form reported.page.items) }
+    ensures memory { IfErr result (λ e. e ≡ refusal.Memory) }
+{
+    let compiled = compile_accepted(alloc, text.key, &text.tree)?;
+    let reported = search_compiled(alloc, text, &compiled, input, how, watch)?;
+    Ok(reported)
+}
