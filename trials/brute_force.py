@@ -151,8 +151,7 @@ def try_random_schedules(what, rng, brute, file):
 def try_search(what, file, least):
     """Compares `cpm search` with the least numbers of late steps: it finds the same kinds of states.
 
-    It prints the calls of entries only. So a schedule has at most as many late steps more as the
-    program has monitors, of which each is initialised by a late step.
+    A late step is a call of an entry or the `init` of a monitor.
     """
     status, out, _ = run(['search', file, '--json'], timeout=600)
     found = json.loads(out)
@@ -162,10 +161,10 @@ def try_search(what, file, least):
     expect(f'{what}: kinds of cpm search', {kind for kind in kinds if kinds[kind]},
            set(least) & set(kinds))
     expect(f'{what}: exit of cpm search', status, 6 if found['fault'] else 5 if found['stuck'] else 0)
-    calls = {kind: len(kinds[kind]['calls']) for kind in ('stuck', 'faulted') if kinds[kind]}
-    monitors = len(set(re.findall(r'\bv\d+\b', file.read_text(encoding='latin-1'))))
-    for kind, count in calls.items():
-        expect(f'{what}: calls until {kind}', count <= least[kind] <= count + monitors, True)
+    for kind in ('stuck', 'faulted'):
+        if kinds[kind]:
+            late_steps = kinds[kind]['inits'] + len(kinds[kind]['calls'])
+            expect(f'{what}: late steps until {kind}', late_steps, least[kind])
 
 
 def try_program(number, source, brute, folder, asked):

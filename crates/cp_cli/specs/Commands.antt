@@ -4,7 +4,7 @@ use Rattle.clap.specs.Words.{kind_of}
 use Rattle.clap.specs.declared.error.Error.{Error}
 use Rattle.clap.specs.declared.error.kind.ErrorKind.TheVariants as kind
 use Rattle.cp_cli.specs.declared.defaults.TheConstants.{CHUNK, ROUNDS, TICK, TURN, WAVE, WORKERS}
-use Rattle.cp_cli.specs.declared.numbers.TheConstants.{MAX_OPTION_NUMBER}
+use Rattle.cp_cli.specs.declared.numbers.TheConstants.{MAX_OPTION_NUMBER, MAX_ROUNDS}
 use Rattle.cp_cli.specs.declared.command.CommandError.{CommandError}
 use Rattle.cp_cli.specs.declared.command.CommandError.TheVariants as error
 use Rattle.cp_cli.specs.declared.command.Command.{Command}
@@ -23,16 +23,19 @@ Has rounds turn workers chunk wave tick chains run =
 abbrev pub HasReplay : ℕ → ℕ → Bool → Replay → Type 0
 HasReplay turn tick chains replay = (replay.turn.steps ≡ turn) × (replay.tick.rounds ≡ tick) × (replay.chains ≡ chains)
 
--- A run has at most so many rounds, and so have one until nothing can move and one that is traced.
-abbrev pub HasRounds : Command → Type 0
-HasRounds command.Version = Unit {0}
-HasRounds (command.Check file) = Unit {0}
-HasRounds (command.Explain file what) = Unit {0}
-HasRounds (command.ExplainRule page) = Unit {0}
-HasRounds (command.Run file run input progress) = run.rounds ≤ MAX_OPTION_NUMBER
-HasRounds (command.Outcome file how form input progress) = how.limit ≤ MAX_OPTION_NUMBER
-HasRounds (command.Trace file how only input progress) = how.rounds ≤ MAX_OPTION_NUMBER
-HasRounds (command.Replay file order replay input) = Unit {0}
+-- A run has at most so many rounds, and so have one until nothing can move and one that is traced. A
+-- search has limits within their ranges.
+abbrev pub IsInRange : Command → Type 0
+IsInRange command.Version = Unit {0}
+IsInRange (command.Check file) = Unit {0}
+IsInRange (command.Explain file what) = Unit {0}
+IsInRange (command.ExplainRule page) = Unit {0}
+IsInRange (command.Run file run input progress) = run.rounds ≤ MAX_ROUNDS
+IsInRange (command.Outcome file how form input progress) = how.limit ≤ MAX_ROUNDS
+IsInRange (command.Trace file how only input progress) = how.rounds ≤ MAX_ROUNDS
+IsInRange (command.Search file how save input progress) =
+    (1 ≤ how.states) × (how.states ≤ MAX_OPTION_NUMBER) × (1 ≤ how.memory) × (how.memory ≤ MAX_ROUNDS)
+IsInRange (command.Replay file order replay input) = Unit {0}
 
 -- The command if there are no words after the program's name.
 abbrev pub IsWithoutWords : Command → Type 0
@@ -43,6 +46,7 @@ IsWithoutWords (command.ExplainRule page) = ⊥
 IsWithoutWords (command.Run file run input progress) = (file ≡ None) × Has ROUNDS TURN WORKERS CHUNK WAVE TICK false run × (input ≡ inputs.Empty) × (progress ≡ false)
 IsWithoutWords (command.Outcome file how form input progress) = ⊥
 IsWithoutWords (command.Trace file how only input progress) = ⊥
+IsWithoutWords (command.Search file how save input progress) = ⊥
 IsWithoutWords (command.Replay file order replay input) = ⊥
 
 -- The kind of clap's error shows whether memory ran out.

@@ -8,6 +8,7 @@ use clap::error::ErrorKind;
 use cp_base_config::explaining::Explaining;
 use cp_base_config::outcome::{OutcomeForm, UntilStill};
 use cp_base_config::run::{Replay, Run};
+use cp_base_config::search::Searching;
 use cp_base_config::trace::Tracing;
 use std::alloc::AllocError;
 use thiserror::Error;
@@ -58,6 +59,15 @@ pub enum Command<'a> {
         file: &'a str,
         how: Tracing,
         only: Vec<&'a str>,
+        input: Inputs<'a>,
+        progress: bool,
+    },
+    /// `search FILE`: searches all schedules of the text of a file. Those that it finds are written
+    /// to files whose names begin with `save`, if that is given.
+    Search {
+        file: &'a str,
+        how: Searching,
+        save: Option<&'a str>,
         input: Inputs<'a>,
         progress: bool,
     },

@@ -22,3 +22,9 @@ pub const WAVE: u32 = MAX_CHUNK_PROCESSES;
 
 /// The rounds between two ticks of the clock.
 pub const TICK: u32 = 1;
+
+/// The most states that a search keeps.
+pub const STATES: u32 = 1_000_000;
+
+/// The megabytes that the states of a search may take.
+pub const MEMORY: u32 = 2_000;

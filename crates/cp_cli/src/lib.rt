@@ -3,11 +3,14 @@
 //! - `command`: what cpm can be asked to do.
 //! - `reading`: parses the words by the `grammar`, and takes the command from what was parsed, with
 //!   the values of its `options`, which are `numbers` or `defaults`, and its `inputs`.
-//! - `misuse`: what is wrong with words that the grammar lets pass.
+//! - `arguments`: which arguments the grammar has, and what help says about them.
+//! - `misuse`: what is wrong with words that the grammar lets pass. `unknown`: what is meant by
+//!   words that it refuses.
 //!
 //! `specs/Commands.antt` and `specs/Numbers.antt` define what arguments mean.
 #![tactic(auto)]
 
+mod arguments;
 pub mod command;
 pub mod defaults;
 mod grammar;
@@ -16,8 +19,10 @@ mod misuse;
 pub mod numbers;
 mod options;
 pub mod reading;
+mod unknown;
 
 pub use cp_base_config::explaining::{Explaining, Extent, Form};
 pub use cp_base_config::outcome::{OutcomeForm, UntilStill};
 pub use cp_base_config::run::{Replay, Run};
+pub use cp_base_config::search::{SearchForm, Searching};
 pub use cp_base_config::trace::{TraceForm, Tracing};

@@ -12,11 +12,27 @@ use thiserror::Error;
 /// Why words that the grammar lets pass give no command.
 #[derive(Clone, Copy, Debug, Error)]
 pub(crate) enum Misuse<'a> {
-    #[error("--{name} takes decimal digits, from {low} to {most}")]
+    #[error("--{name} takes decimal digits, from {low} to {most}, not {word}")]
     OutOfRange {
         name: &'static str,
         low: u32,
         most: u32,
+        word: &'a str,
+    },
+    #[error("there is no command {word}: cpm explain {word} judges a file, cpm run {word} runs it")]
+    NoCommand {
+        word: &'a str,
+    },
+    #[error("{command} has no --{option}")]
+    NoOption {
+        command: &'a str,
+        option: &'a str,
+    },
+    #[error("{command} has no --{option}: {instead}")]
+    AnotherOption {
+        command: &'a str,
+        option: &'a str,
+        instead: &'static str,
     },
     #[error("--in takes NAME=FILE, not {word}")]
     Unnamed {
@@ -42,8 +58,10 @@ pub(crate) enum Misuse<'a> {
     NoRule {
         word: &'a str,
     },
-    #[error("--all tells the violations of a text: it takes a file, not a rule")]
+    #[error("--all reports the violations of a text: it takes a file, not a rule")]
     AllOfRule,
+    #[error("--dot draws a text: it takes a file, not a rule")]
+    DotOfRule,
     #[error("--json explains a text: it takes a file, not a rule")]
     JsonOfRule,
     #[error("{what} is missing")]

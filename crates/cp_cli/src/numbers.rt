@@ -3,8 +3,11 @@
 ghost use Rattle.std.specs.Prelude.{◌≡◌, ◌≤◌, IfSome};
 ghost use Rattle.cp_cli.specs.Numbers.{number_within};
 
-/// The largest number that an option may have, also one of rounds.
-pub const MAX_OPTION_NUMBER: u32 = 1_000_000;
+/// The largest number that an option may have.
+pub const MAX_OPTION_NUMBER: u32 = 10_000_000;
+
+/// The largest number of rounds, and of megabytes.
+pub const MAX_ROUNDS: u32 = 1_000_000;
 
 /// Parses a text of decimal digits alone, and returns its number if that is from `low` to `most`.
 pub fn number(text: &[u8], low: u32, most: u32) -> Option<u32>

@@ -6,12 +6,13 @@ ghost use Rattle.cp_cli.specs.Commands.{Has, HasReplay};
 
 use crate::defaults;
 use crate::misuse::Misuse;
-use crate::numbers::{MAX_OPTION_NUMBER, number};
+use crate::numbers::{MAX_OPTION_NUMBER, MAX_ROUNDS, number};
 use clap::ArgMatches;
 use cp_base_config::limits::{MAX_CHUNK_PROCESSES, MAX_TICK_ROUNDS, MAX_TURN_STEPS, MAX_WORKERS};
 use cp_base_config::outcome::{OutcomeForm, UntilStill};
 use cp_base_config::plan::Plan;
 use cp_base_config::run::{Replay, Run};
+use cp_base_config::search::{SearchForm, Searching};
 use cp_base_config::tick::Tick;
 use cp_base_config::trace::{TraceForm, Tracing};
 use cp_base_config::turn::Turn;
@@ -71,7 +72,12 @@ pub(crate) fn count<'a>(
     };
     match number(text.as_bytes(), low, most) {
         Some(n) => Ok(n),
-        None => Err(Misuse::OutOfRange { name, low, most }),
+        None => Err(Misuse::OutOfRange {
+            name,
+            low,
+            most,
+            word: text,
+        }),
     }
 }
 
@@ -93,9 +99,9 @@ pub(crate) fn read_run<'a>(
 
 /// The run until nothing can move that the options report.
 pub(crate) fn read_outcome<'a>(matches: &ArgMatches<'a>) -> Result<UntilStill, Misuse<'a>>
-    ensures { IfOk result (λ how. how.limit ≤ MAX_OPTION_NUMBER) }
+    ensures { IfOk result (λ how. how.limit ≤ MAX_ROUNDS) }
 {
-    let limit = count(matches, "limit", 0, MAX_OPTION_NUMBER, defaults::LIMIT)?;
+    let limit = count(matches, "limit", 0, MAX_ROUNDS, defaults::LIMIT)?;
     let Run { plan, tick, .. } = read_run(matches, limit, false)?;
     Ok(UntilStill { limit, plan, tick })
 }
@@ -125,11 +131,11 @@ fn read_trace_form<'a>(matches: &ArgMatches<'a>) -> TraceForm {
 
 /// The trace that the options report. It ends with the last round that is reported.
 pub(crate) fn read_trace<'a>(matches: &ArgMatches<'a>) -> Result<Tracing, Misuse<'a>>
-    ensures { IfOk result (λ how. how.rounds ≤ MAX_OPTION_NUMBER) }
+    ensures { IfOk result (λ how. how.rounds ≤ MAX_ROUNDS) }
 {
-    let rounds = count(matches, "rounds", 0, MAX_OPTION_NUMBER, defaults::ROUNDS)?;
-    let from = count(matches, "from", 1, MAX_OPTION_NUMBER, 1)?;
-    let to = count(matches, "to", 1, MAX_OPTION_NUMBER, MAX_OPTION_NUMBER)?;
+    let rounds = count(matches, "rounds", 0, MAX_ROUNDS, defaults::ROUNDS)?;
+    let from = count(matches, "from", 1, MAX_ROUNDS, 1)?;
+    let to = count(matches, "to", 1, MAX_ROUNDS, MAX_ROUNDS)?;
     if to < from {
         return Err(Misuse::FromAboveTo);
     }
@@ -166,4 +172,23 @@ pub(crate) fn read_replay<'a>(matches: &ArgMatches<'a>) -> Result<Replay, Misuse
     let turn = count(matches, "turn", 1, MAX_TURN_STEPS, defaults::TURN)?;
     let tick = count(matches, "tick", 1, MAX_TICK_ROUNDS, defaults::TICK)?;
     Ok(replay_of(turn, tick, matches.get_flag("chains")))
+}
+
+/// The search that the options report.
+pub(crate) fn read_search<'a>(matches: &ArgMatches<'a>) -> Result<Searching, Misuse<'a>>
+    ensures states { IfOk result (λ how. (1 ≤ how.states) × (how.states ≤ MAX_OPTION_NUMBER)) }
+    ensures memory { IfOk result (λ how. (1 ≤ how.memory) × (how.memory ≤ MAX_ROUNDS)) }
+{
+    let states = count(matches, "states", 1, MAX_OPTION_NUMBER, defaults::STATES)?;
+    let memory = count(matches, "memory", 1, MAX_ROUNDS, defaults::MEMORY)?;
+    let form = if matches.get_flag("json") {
+        SearchForm::Json
+    } else {
+        SearchForm::Lines
+    };
+    Ok(Searching {
+        states,
+        memory,
+        form,
+    })
 }

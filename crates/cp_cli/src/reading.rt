@@ -1,17 +1,19 @@
 //! From the words of a command line to a command.
 
 ghost use Rattle.std.specs.Prelude.{◌≡◌, ◌≤◌, IfOk, IsOk, length};
-ghost use Rattle.cp_cli.specs.Commands.{HasRounds, IsWithoutWords};
+ghost use Rattle.cp_cli.specs.Commands.{IsInRange, IsWithoutWords};
 
 use crate::command::{Command, CommandError, Inputs};
 use crate::defaults::{CHUNK, ROUNDS, TICK, TURN, WAVE, WORKERS};
-use crate::grammar::grammar;
+use crate::grammar::{grammar, usage_of};
 use crate::inputs::read_inputs;
 use crate::misuse::Misuse;
-use crate::numbers::MAX_OPTION_NUMBER;
+use crate::numbers::MAX_ROUNDS;
 use crate::options::{
-    count, read_form, read_only, read_outcome, read_replay, read_run, read_trace, run_of,
+    count, read_form, read_only, read_outcome, read_replay, read_run, read_search, read_trace,
+    run_of,
 };
+use crate::unknown::meant_by;
 use clap::ArgMatches;
 use clap::error::ErrorKind;
 use cp_base_config::explaining::{Explaining, Extent, Form};
@@ -38,11 +40,12 @@ fn explaining(matches: &ArgMatches<'_>) -> Explaining {
 // The command `explain` of parsed arguments: explains the rule with that name, or else the text of
 // the file with that name.
 fn explain<'a>(file: &'a str, matches: &ArgMatches<'a>) -> Result<Command<'a>, Misuse<'a>>
-    ensures { IfOk result HasRounds }
+    ensures { IfOk result IsInRange }
 {
     match rule_page(file) {
         Some(_) if matches.get_flag("all") => Err(Misuse::AllOfRule),
         Some(_) if matches.get_flag("json") => Err(Misuse::JsonOfRule),
+        Some(_) if matches.get_flag("dot") => Err(Misuse::DotOfRule),
         Some(page) => Ok(Command::ExplainRule { page }),
         None if is_like_rule(file) => Err(Misuse::NoRule { word: file }),
         None => Ok(Command::Explain {
@@ -58,9 +61,9 @@ fn run<'a>(
     file: &'a str,
     matches: &ArgMatches<'a>,
 ) -> Result<Command<'a>, Misuse<'a>>
-    ensures { IfOk result HasRounds }
+    ensures { IfOk result IsInRange }
 {
-    let rounds = count(matches, "rounds", 0, MAX_OPTION_NUMBER, ROUNDS)?;
+    let rounds = count(matches, "rounds", 0, MAX_ROUNDS, ROUNDS)?;
     Ok(Command::Run {
         file: Some(file),
         run: read_run(matches, rounds, matches.get_flag("chains"))?,
@@ -75,7 +78,7 @@ fn outcome<'a>(
     file: &'a str,
     matches: &ArgMatches<'a>,
 ) -> Result<Command<'a>, Misuse<'a>>
-    ensures { IfOk result HasRounds }
+    ensures { IfOk result IsInRange }
 {
     Ok(Command::Outcome {
         file,
@@ -92,12 +95,29 @@ fn trace<'a>(
     file: &'a str,
     matches: &ArgMatches<'a>,
 ) -> Result<Command<'a>, Misuse<'a>>
-    ensures { IfOk result HasRounds }
+    ensures { IfOk result IsInRange }
 {
     Ok(Command::Trace {
         file,
         how: read_trace(matches)?,
         only: read_only(alloc, matches)?,
+        input: read_inputs(alloc, matches)?.beside(&[file])?,
+        progress: matches.get_flag("progress"),
+    })
+}
+
+// The command `search` of parsed arguments.
+fn search<'a>(
+    alloc: Global,
+    file: &'a str,
+    matches: &ArgMatches<'a>,
+) -> Result<Command<'a>, Misuse<'a>>
+    ensures { IfOk result IsInRange }
+{
+    Ok(Command::Search {
+        file,
+        how: read_search(matches)?,
+        save: matches.get_str("save"),
         input: read_inputs(alloc, matches)?.beside(&[file])?,
         progress: matches.get_flag("progress"),
     })
@@ -109,7 +129,7 @@ fn replay<'a>(
     file: &'a str,
     matches: &ArgMatches<'a>,
 ) -> Result<Command<'a>, Misuse<'a>>
-    ensures { IfOk result HasRounds }
+    ensures { IfOk result IsInRange }
 {
     let Some(order) = matches.get_str("ORDER") else {
         return Err(Misuse::Missing { what: "ORDER" });
@@ -125,7 +145,7 @@ fn replay<'a>(
 // The command of parsed arguments. The grammar requires a command and its file, so neither is
 // missing.
 fn command_of<'a>(alloc: Global, matches: &ArgMatches<'a>) -> Result<Command<'a>, Misuse<'a>>
-    ensures { IfOk result HasRounds }
+    ensures { IfOk result IsInRange }
 {
     let Some((name, matches)) = matches.subcommand() else {
         return Err(Misuse::Missing { what: "a command" });
@@ -138,6 +158,7 @@ fn command_of<'a>(alloc: Global, matches: &ArgMatches<'a>) -> Result<Command<'a>
         "explain" => explain(file, matches),
         "outcome" => outcome(alloc, file, matches),
         "replay" => replay(alloc, file, matches),
+        "search" => search(alloc, file, matches),
         "trace" => trace(alloc, file, matches),
         _ => run(alloc, file, matches),
     }
@@ -145,7 +166,7 @@ fn command_of<'a>(alloc: Global, matches: &ArgMatches<'a>) -> Result<Command<'a>
 
 // The command if there are no words after the program's name.
 fn without_words<'a>() -> Command<'a>
-    ensures rounds { HasRounds result }
+    ensures rounds { IsInRange result }
     ensures none { IsWithoutWords result }
 {
     Command::Run {
@@ -158,11 +179,46 @@ fn without_words<'a>() -> Command<'a>
 
 // To ask for the version is a command.
 fn version_or<'a>(error: clap::Error) -> Result<Command<'a>, CommandError>
-    ensures { IfOk result HasRounds }
+    ensures { IfOk result IsInRange }
 {
     match error.kind() {
         ErrorKind::DisplayVersion => Ok(Command::Version),
         _ => Err(CommandError::from(error)),
+    }
+}
+
+// The error that reports a misuse, with the usage of the command.
+fn misuse_error<S: AsStr>(
+    alloc: Global,
+    grammar: &mut clap::Command<'_>,
+    words: &[S],
+    misuse: &Misuse<'_>,
+) -> CommandError {
+    let name = match words.get(1) {
+        Some(word) => word.as_str(),
+        None => "",
+    };
+    match usage_of(alloc, name) {
+        Ok(Some(mut own)) => misuse.error(alloc, &mut own),
+        Ok(None) => misuse.error(alloc, grammar),
+        Err(_) => CommandError::Memory,
+    }
+}
+
+// The words are refused by the grammar, or ask for the version.
+fn refused<'a, S: AsStr>(
+    alloc: Global,
+    grammar: &mut clap::Command<'_>,
+    words: &'a [S],
+    error: clap::Error,
+) -> Result<Command<'a>, CommandError>
+    ensures { IfOk result IsInRange }
+{
+    match (error.kind(), meant_by(words)) {
+        (ErrorKind::UnknownArgument | ErrorKind::InvalidSubcommand, Some(misuse)) => {
+            Err(misuse_error(alloc, grammar, words, &misuse))
+        }
+        _ => version_or(error),
     }
 }
 
@@ -176,7 +232,7 @@ pub fn read_command<'a, S: AsStr>(
     alloc: Global,
     words: &'a [S],
 ) -> Result<Command<'a>, CommandError>
-    ensures rounds { IfOk result HasRounds }
+    ensures rounds { IfOk result IsInRange }
     ensures none { length words.entry.now ≤ 1 → IfOk result IsWithoutWords }
     ensures some { length words.entry.now ≤ 1 → IsOk result }
 {
@@ -186,10 +242,10 @@ pub fn read_command<'a, S: AsStr>(
     let mut grammar = grammar(alloc)?;
     let matches = match grammar.try_get_matches_from_mut(words) {
         Ok(matches) => matches,
-        Err(error) => return version_or(error),
+        Err(error) => return refused(alloc, &mut grammar, words, error),
     };
     match command_of(alloc, &matches) {
         Ok(command) => Ok(command),
-        Err(misuse) => Err(misuse.error(alloc, &mut grammar)),
+        Err(misuse) => Err(misuse_error(alloc, &mut grammar, words, &misuse)),
     }
 }

@@ -31,7 +31,7 @@ pub(crate) fn explain<'a, H: Files + Input + Print, E: Write>(
         Explaining::First(Form::Dot) => draw_text(alloc, name, &mut text, &mut out, errors),
         Explaining::First(form) => explain_text(alloc, name, &mut text, form, &mut out),
         Explaining::All => explain_all_text(alloc, name, &mut text, &mut out),
-        Explaining::Object(extent) => explain_object(alloc, &mut text, extent, &mut out),
+        Explaining::Object(extent) => explain_object(alloc, name, &mut text, extent, &mut out),
     };
     let explained = match answer {
         Ok(explained) => explained,

@@ -90,7 +90,7 @@ pub(crate) struct Sources<F, I> {
 pub(crate) fn open_sources<'a, H: Files + Input>(
     rt: &H,
     alloc: Global,
-    file: &str,
+    file: &'a str,
     inputs: &Inputs<'a>,
 ) -> Result<Sources<H::File, H::Reader>, Failure<'a>> {
     let mut text = open(rt, file)?;

@@ -3,9 +3,10 @@
 //!
 //! - `perform`: which command does what.
 //! - `opening`: what a command reads, by name: a file, standard input, or bytes in memory.
-//! - `inputs`: the text and the inputs of a run.
-//! - `running`: checks, runs, outcomes, traces and replays. `explaining`: explanations.
-//! - `progress`: the round that is being made, on standard error.
+//! - `inputs`: the text and the inputs of a run. `locating`: where a text is refused.
+//! - `running`: checks, runs, outcomes, traces and replays. `searching`: searches. `explaining`:
+//!   explanations.
+//! - `progress`: how far a run or a search has come, on standard error.
 //! - `printing`: standard output. `status`: why a command has no result, and the exit statuses.
 //!
 //! `specs/Sources.antt` defines what is left to read.
@@ -13,11 +14,13 @@
 
 mod explaining;
 mod inputs;
+mod locating;
 mod opening;
 mod perform;
 mod printing;
 mod progress;
 mod running;
+mod searching;
 mod status;
 
 use crate::perform::perform;

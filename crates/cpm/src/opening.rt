@@ -78,14 +78,26 @@ pub(crate) fn open_named<'a, H: Files + Input>(
 ///
 /// # Errors
 ///
-/// I1 if a file can't be opened, M if memory runs out.
-pub(crate) fn open<H: Files + Input>(
+/// `NoFile` if a file can't be opened, M if memory runs out.
+pub(crate) fn open<'a, H: Files + Input>(
     rt: &H,
-    name: &str,
-) -> Result<Source<H::File, H::Reader>, Refusal> {
+    name: &'a str,
+) -> Result<Source<H::File, H::Reader>, Failure<'a>> {
     match open_named(rt, name) {
-        Ok(source) => Ok(source),
-        Err(Failure::Refused(refusal)) => Err(refusal),
-        Err(_) => Err(Refusal::Read),
+        Err(Failure::Unopened { file, error }) => Err(Failure::NoFile {
+            file,
+            reason: reason_of(error.kind()),
+        }),
+        opened => opened,
+    }
+}
+
+// Why a file can't be opened.
+fn reason_of(kind: ErrorKind) -> &'static str {
+    match kind {
+        ErrorKind::NotFound => "no such file",
+        ErrorKind::PermissionDenied => "permission denied",
+        ErrorKind::IsADirectory => "a directory",
+        _ => "can't be opened",
     }
 }

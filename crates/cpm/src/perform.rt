@@ -1,8 +1,10 @@
 //! Which command does what.
 
 use crate::explaining::explain;
+use crate::locating::located;
 use crate::printing::{print_page, print_version};
 use crate::running::{check, outcome, replay, run, trace};
+use crate::searching::search;
 use crate::status::Failure;
 use cp_cli::command::Command;
 use cp_outcome::status::status_of;
@@ -20,11 +22,12 @@ use std::thread::Threads;
 ///
 /// # Errors
 ///
-/// I1 if a file can't be opened, `Unopened` or `Unread` for the file of `explain` and the input of
+/// `NoFile` if a file can't be opened, `Unopened` or `Unread` for the file of `explain` and the input of
 /// one process, `Input` if such inputs make no input or the text lacks the process of `--out`,
-/// `NoMember` if a name of a trace is unknown, and the refusals of `execute` and `execute_order` of
-/// cp_execute, of `execute_outcome` and `execute_trace` of cp_execute_observe, and of `explain_text`,
-/// `explain_all_text` and `explain_object` of cp_explain.
+/// `NoMember` if a name of a trace is unknown, `Unsaved` if a schedule can't be saved, and the refusals
+/// of `execute` and `execute_order` of cp_execute, of `execute_outcome` and `execute_trace` of
+/// cp_execute_observe, of `execute_search`, and of `explain_text`, `explain_all_text` and
+/// `explain_object` of cp_explain.
 pub(crate) fn perform<
     'a,
     H: Clock + Eprint + Files + Input + Print + Threads + Wait + Sync,
@@ -48,8 +51,10 @@ pub(crate) fn perform<
             input,
             progress,
         } => {
-            let verdict = outcome(rt, alloc, file, input, how, *form, *progress)?;
-            return Ok(status_of(verdict));
+            return match outcome(rt, alloc, file, input, how, *form, *progress) {
+                Ok(verdict) => Ok(status_of(verdict)),
+                Err(failure) => Err(located(rt, alloc, file, failure)),
+            };
         }
         Command::Trace {
             file,
@@ -57,7 +62,23 @@ pub(crate) fn perform<
             only,
             input,
             progress,
-        } => trace(rt, alloc, file, only, input, how, *progress)?,
+        } => {
+            if let Err(failure) = trace(rt, alloc, file, only, input, how, *progress) {
+                return Err(located(rt, alloc, file, failure));
+            }
+        }
+        Command::Search {
+            file,
+            how,
+            save,
+            input,
+            progress,
+        } => {
+            return match search(rt, alloc, file, input, *how, *save, *progress) {
+                Ok(status) => Ok(status),
+                Err(failure) => Err(located(rt, alloc, file, failure)),
+            };
+        }
         Command::Replay {
             file,
             order,

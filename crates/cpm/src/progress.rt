@@ -1,24 +1,26 @@
-//! Progress: the round that is being made, on a line of standard error, once a second.
+//! Progress: the round that is being made, or how many states have been seen, on a line of standard
+//! error, once a second.
 
 use cp_rounds::gate::TurnGate;
+use cp_search::search::Watch;
 use std::io::{self, Write};
 use std::rt::Clock;
 use std::sync::atomic::{AtomicBool, AtomicU64, Ordering};
 
-// How often the round is shown, in milliseconds.
+// How often the line is shown, in milliseconds.
 const PERIOD: u64 = 1_000;
 
 /// A gate that counts rounds and shows the round that is being made, if that is asked for. An
-/// outcome may go back and make some rounds again, which count again.
+/// outcome may go back and make some rounds again, which count again. A search shows its states.
 #[derive(Drop)]
 pub(crate) struct Progress<'a, H> {
     rt: &'a H,
     is_asked_for: bool,
     /// The number of rounds that were begun.
     round: AtomicU64,
-    /// When the round is to be shown next, in milliseconds of the clock.
+    /// When the line is to be shown next, in milliseconds of the clock.
     next: AtomicU64,
-    /// Whether the line shows a round now.
+    /// Whether the line is shown now.
     is_shown: AtomicBool,
 }
 
@@ -47,15 +49,23 @@ impl<'a, H: Clock + Eprint> Progress<'a, H> {
         }
     }
 
+    // Whether it is time to show the line, which will then be shown.
+    fn is_due(&self) -> bool {
+        let now = now(self.rt);
+        if now < self.next.load(Ordering::SeqCst) {
+            return false;
+        }
+        self.next
+            .store(now.saturating_add(PERIOD), Ordering::SeqCst);
+        self.is_shown.store(true, Ordering::SeqCst);
+        true
+    }
+
     // A round begins. Only one thread begins rounds.
     #[inline(never)]
     fn count(&self) {
         let round = self.round.fetch_add(1, Ordering::SeqCst).saturating_add(1);
-        let now = now(self.rt);
-        if self.next.load(Ordering::SeqCst) <= now {
-            self.next
-                .store(now.saturating_add(PERIOD), Ordering::SeqCst);
-            self.is_shown.store(true, Ordering::SeqCst);
+        if self.is_due() {
             // Nobody misses what can't be written there.
             let _ = eprint!(self.rt; "\rround {round}");
         }
@@ -91,6 +101,14 @@ impl<H: Clock + Eprint + Sync> TurnGate for Progress<'_, H> {
     // No thread waits for these calls.
     fn allows_batching(&self) -> bool {
         true
+    }
+}
+
+impl<H: Clock + Eprint> Watch for Progress<'_, H> {
+    fn note(&self, expanded: usize, seen: usize) {
+        if self.is_asked_for && self.is_due() {
+            let _ = eprint!(self.rt; "\r{expanded} of {seen} states");
+        }
     }
 }
 

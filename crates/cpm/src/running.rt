@@ -43,21 +43,22 @@ fn print_job<H: Clock + Eprint + Print + Threads + Wait + Sync, R: Read, S: Read
 }
 
 /// Checks a text.
-pub(crate) fn check<H: Clock + Eprint + Files + Input + Print + Threads + Wait + Sync>(
+pub(crate) fn check<'a, H: Clock + Eprint + Files + Input + Print + Threads + Wait + Sync>(
     rt: &H,
     alloc: Global,
-    file: &str,
-) -> Result<(), Refusal> {
+    file: &'a str,
+) -> Result<(), Failure<'a>> {
     let mut text = open(rt, file)?;
     let mut input = b"".as_slice();
-    print_job(rt, alloc, &mut text, &mut input, &Job::Check, false)
+    print_job(rt, alloc, &mut text, &mut input, &Job::Check, false)?;
+    Ok(())
 }
 
 /// Runs a text, and prints the report.
 pub(crate) fn run<'a, H: Clock + Eprint + Files + Input + Print + Threads + Wait + Sync>(
     rt: &H,
     alloc: Global,
-    file: Option<&str>,
+    file: Option<&'a str>,
     input: &Inputs<'a>,
     run: Run,
     progress: bool,
@@ -119,7 +120,7 @@ fn print_outcome<H: Clock + Eprint + Print + Threads + Wait + Sync, R: Read, S: 
 pub(crate) fn outcome<'a, H: Clock + Eprint + Files + Input + Print + Threads + Wait + Sync>(
     rt: &H,
     alloc: Global,
-    file: &str,
+    file: &'a str,
     input: &Inputs<'a>,
     how: &UntilStill,
     form: OutcomeForm<&'a str>,
@@ -170,7 +171,7 @@ fn print_trace<H: Clock + Eprint + Print + Threads + Wait + Sync, R: Read, S: Re
 pub(crate) fn trace<'a, H: Clock + Eprint + Files + Input + Print + Threads + Wait + Sync>(
     rt: &H,
     alloc: Global,
-    file: &str,
+    file: &'a str,
     only: &[&'a str],
     input: &Inputs<'a>,
     how: &Tracing,
@@ -203,8 +204,8 @@ fn print_replay<H: Print, R: Read, S: Read, O: Read>(
 pub(crate) fn replay<'a, H: Files + Input + Print>(
     rt: &H,
     alloc: Global,
-    file: &str,
-    order: &str,
+    file: &'a str,
+    order: &'a str,
     input: &Inputs<'a>,
     replay: &Replay,
 ) -> Result<(), Failure<'a>> {

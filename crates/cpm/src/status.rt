@@ -10,7 +10,7 @@ use std::alloc::AllocFailed;
 use std::io;
 use thiserror::Error;
 
-// The exit status if a file can't be opened or read.
+// The exit status if a file can't be opened, read or written.
 const FAULT: u8 = 4;
 
 /// The exit status if the arguments are wrong or ask for help.
@@ -24,18 +24,46 @@ pub(crate) enum Failure<'a> {
     /// The text or the input is refused, memory ran out, or a read or a write failed.
     #[error("{0}")]
     Refused(Refusal),
+    /// The text of a file is refused, with the position in it.
+    #[error("{refusal}\n{file}:{line}:{column}: see cpm explain {file}")]
+    Located {
+        refusal: Refusal,
+        file: &'a str,
+        line: usize,
+        column: usize,
+    },
     /// The inputs of the processes that are named make no input.
     #[error("{0}")]
     Input(InputError<'a>),
     /// The text has no process and no monitor with this name.
     #[error("error: the text has no process or monitor {name}")]
-    NoMember { name: &'a str },
+    NoMember {
+        name: &'a str,
+    },
     /// The file of `explain` or of a named input can't be opened, with the system's reason.
     #[error("{file} can't be opened: {error}")]
-    Unopened { file: &'a str, error: io::Error },
+    Unopened {
+        file: &'a str,
+        error: io::Error,
+    },
+    /// The schedules that a search found can't be written to files whose names begin like this,
+    /// with the system's reason.
+    #[error("{name}.stuck and {name}.fault can't be written: {error}")]
+    Unsaved {
+        name: &'a str,
+        error: io::Error,
+    },
+    /// I1: a file can't be opened, and why.
+    #[error("fault I1\n{file}: {reason}")]
+    NoFile {
+        file: &'a str,
+        reason: &'static str,
+    },
     /// The file of `explain` can't be read.
     #[error("{file} can't be read")]
-    Unread { file: &'a str },
+    Unread {
+        file: &'a str,
+    },
 }
 
 impl<'a> Failure<'a> {
@@ -43,10 +71,13 @@ impl<'a> Failure<'a> {
     /// monitor that is named, 3 if memory runs out, 4 if opening, reading or writing fails.
     pub(crate) fn exit(&self) -> u8 {
         match self {
-            Failure::Refused(refusal) => exit_of(refusal),
+            Failure::Refused(refusal) | Failure::Located { refusal, .. } => exit_of(refusal),
             Failure::Input(error) => exit_of_input(error),
             Failure::NoMember { .. } => USAGE,
-            Failure::Unopened { .. } | Failure::Unread { .. } => FAULT,
+            Failure::Unopened { .. }
+            | Failure::NoFile { .. }
+            | Failure::Unsaved { .. }
+            | Failure::Unread { .. } => FAULT,
         }
     }
 }

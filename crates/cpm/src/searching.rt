@@ -1,0 +1,103 @@
+//! Searches: what all schedules of a text lead to, and the files of the schedules that are found.
+//! Everything that is read is opened before any of it is read.
+
+use crate::inputs::{Sources, open_sources};
+use crate::printing::flush;
+use crate::progress::Progress;
+use crate::status::Failure;
+use cp_base_config::search::Searching;
+use cp_cli::command::Inputs;
+use cp_execute_search::execute_search::{Searched, execute_search};
+use cp_execute_search::verdict::status_of;
+use cp_frontend::refusal::Refusal;
+use cp_outcome_schedule::findings::{Finding, Findings};
+use std::alloc::Global;
+use std::fs::{self, Files};
+use std::io::{self, Input, Print, Read};
+use std::rt::Clock;
+
+// The names of the files of the schedules that are found, by their kinds.
+#[derive(Drop)]
+struct Names<'a> {
+    name: &'a str,
+    stuck: String,
+    fault: String,
+}
+
+impl<'a> Names<'a> {
+    // The names of the files whose names begin like this.
+    fn of(alloc: Global, name: &'a str) -> Result<Names<'a>, Refusal> {
+        Ok(Names {
+            name,
+            stuck: format!(in alloc; "{name}.stuck")?,
+            fault: format!(in alloc; "{name}.fault")?,
+        })
+    }
+
+    // Writes the schedules that were found.
+    fn save<H: Files>(&self, rt: &H, findings: &Findings) -> Result<(), Failure<'a>> {
+        let saved = save(rt, self.stuck.as_str(), &findings.stuck);
+        match saved.and_then(|()| save(rt, self.fault.as_str(), &findings.fault)) {
+            Ok(()) => Ok(()),
+            Err(error) => Err(Failure::Unsaved {
+                name: self.name,
+                error,
+            }),
+        }
+    }
+}
+
+// Writes a schedule to a file with this name, if one was found.
+fn save<H: Files>(rt: &H, file: &str, finding: &Finding) -> io::Result<()> {
+    match finding {
+        Finding::Schedule(found) => fs::write(rt, file, found.schedule.order.as_slice()),
+        _ => Ok(()),
+    }
+}
+
+// Searches a text, prints what was found, and returns it.
+fn print_search<H: Clock + Eprint + Print, R: Read, S: Read>(
+    rt: &H,
+    alloc: Global,
+    text: &mut R,
+    input: &mut S,
+    how: Searching,
+    progress: bool,
+) -> Result<Searched, Refusal> {
+    let progress = Progress::of(rt, progress);
+    let mut out = progress.beside(io::writer(rt));
+    let done = execute_search(alloc, text, input, how, &progress, &mut out);
+    progress.erase();
+    let searched = done?;
+    flush(&mut out)?;
+    Ok(searched)
+}
+
+/// Searches a text, prints what was found, and returns the exit status. Then it writes each schedule
+/// that was found to a file, if names for these are asked for.
+///
+/// # Errors
+///
+/// Those of opening and joining inputs and of `execute_search`, and `Unsaved` if a file can't be
+/// written.
+pub(crate) fn search<'a, H: Clock + Eprint + Files + Input + Print>(
+    rt: &H,
+    alloc: Global,
+    file: &'a str,
+    input: &Inputs<'a>,
+    how: Searching,
+    save: Option<&'a str>,
+    progress: bool,
+) -> Result<u8, Failure<'a>> {
+    let names = match save {
+        Some(name) => Some(Names::of(alloc, name)?),
+        None => None,
+    };
+    let mut read = open_sources(rt, alloc, file, input)?;
+    let Sources { text, input } = &mut read;
+    let searched = print_search(rt, alloc, text, input, how, progress)?;
+    if let Some(names) = names {
+        names.save(rt, &searched.findings)?;
+    }
+    Ok(status_of(searched.verdict))
+}
