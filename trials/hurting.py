@@ -15,6 +15,11 @@ SPACES = b' ' * 4096
 TOO_LONG = (1, b'', b'refused S6 at 1048576\n')
 
 
+def unopened(file):
+    """The answer if a file can't be opened for a reason of its own."""
+    return (4, b'', f"fault I1\n{file}: can't be opened\n".encode())
+
+
 def closing(*files):
     """What closes these files before the program starts."""
     return lambda: [os.close(file) for file in files]
@@ -124,8 +129,8 @@ class Hurting:
         """One descriptor beside the standard streams, which the C library needs to start the program at all."""
         few = limiting(resource.RLIMIT_NOFILE, 4)
         self.expect('one descriptor', self.words, (0, self.due, b''), preexec_fn=few)
-        self.expect('none for the input', [*self.words, '--input', self.text], UNREAD, preexec_fn=few)
-        self.expect('none for the order', ['replay', self.text, '/dev/null'], UNREAD, preexec_fn=few)
+        self.expect('none for the input', [*self.words, '--input', self.text], unopened(self.text), preexec_fn=few)
+        self.expect('none for the order', ['replay', self.text, '/dev/null'], unopened('/dev/null'), preexec_fn=few)
 
     def try_many(self):
         """As many processes and threads as there can be, which draw single processes in every round."""

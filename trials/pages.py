@@ -19,7 +19,7 @@ TUTORIAL = DOCS / 'tutorial'
 # A page and the folder in which its commands are run.
 PAGES = [(ROOT / 'README.md', DOCS / 'examples'), (DOCS / 'book.md', TUTORIAL),
          *((page, TUTORIAL) for page in sorted(TUTORIAL.glob('**/*.md')))]
-COMMANDS = 58
+COMMANDS = 60
 
 
 def blocks(page, language):

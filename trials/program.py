@@ -1,5 +1,6 @@
 #!/usr/bin/env python3
-"""Tests the built program cpm from outside: the examples and the worked texts, texts and orders made here, each call refused in turn, and files that are made to hurt.
+"""Tests the built program cpm from outside: the examples and the worked texts, texts and orders made here, searches, each call refused in turn, and files that are
+made to hurt.
 It also looks at how names are hashed.
 
 `rt ci`, and `rt run < stdin` in crates/cpm, leave the program as crates/cpm/out/cpm; CPM names another. It needs a C compiler (`cc`).
@@ -19,6 +20,7 @@ from hashing import look_for_hashes
 from hurting import try_to_hurt
 from refusals import refuse_in_turn
 from running import EXAMPLES, ROOT, expect, expect_at_least, run, wrong
+from searches import try_searches
 
 RESUMED = 'monitors/the_resumed_process_goes_ahead_of_askers 1'
 # One worker, few and many, with the shortest and the longest chunks and waves.
@@ -80,6 +82,18 @@ def try_faults():
         expect(report.name, run(['run', text, *words], folder=EXAMPLES / 'faults'), (0, report.read_bytes(), b''))
         count += 1
     return count
+
+
+def try_deadlocks():
+    """Asks for the outcome of each text of docs/deadlocks.md, by the options of its section."""
+    statuses = {b'stuck': 5, b'fault': 6, b'running': 7}
+    page = (ROOT / 'docs' / 'deadlocks.md').read_text()
+    texts = re.findall(r'^`(\w+)\.cp`(?:, `([^`]*)`)?:', page, re.MULTILINE)
+    for name, options in texts:
+        answer = (EXAMPLES / 'deadlocks' / f'{name}.outcome').read_bytes()
+        found = run(['outcome', f'{name}.cp', *options.split()], folder=EXAMPLES / 'deadlocks')
+        expect(f'{name}.outcome', found, (statuses[answer.split()[0]], answer, b''))
+    return len(texts)
 
 
 def words_of(case, text, given, order):
@@ -146,7 +160,7 @@ def main():
     with concurrent.futures.ThreadPoolExecutor() as pool:
         refused = pool.submit(refuse_in_turn, resumed['text'], text_of_counters())
         tries = [('examples', 11, try_examples), ('orders', 3, try_orders), ('refused texts', 21, try_rules), ('explanations', 20, try_explanations),
-                 ('faults', 9, try_faults), ('worked texts', 500, try_worked, cases), ('beginnings of a text', 400, try_beginnings, resumed['text']),
+                 ('faults', 9, try_faults), ('deadlocks', 5, try_deadlocks), ('searches', 66, try_searches), ('worked texts', 500, try_worked, cases), ('beginnings of a text', 400, try_beginnings, resumed['text']),
                  ('lawful orders', 190, try_lawful_orders, resumed['text'], resumed['answer'].encode())]
         counts = {what: (least, pool.submit(*call)) for what, least, *call in tries}
         others = [pool.submit(*call) for call in ((try_counters, PLANS), (try_squarers, PLANS), (try_progress,), (try_long_chain,), (try_picture,))]
