@@ -2,6 +2,7 @@
 """Builds cpm without proving anything, in three minutes, to try or measure a change whose proofs are still to come.
 
     trials/unproved.py PROGRAM [--bare]      then CPM=PROGRAM python3 trials/answers.py
+    trials/unproved.py PROGRAM --tests CRATE builds the tests of a crate instead: PROGRAM MODULE::TEST runs one of them
 
 `rt try` compiles the sources, and hands a module to clang. A copy of the kit, of links but for that clang and the prover, keeps the module and ends there. The
 module is then compiled and linked as `rt run` does it. It has tests of all that is proved of a built program; --bare leaves them out, and inlines what the compiler of a proved
@@ -99,7 +100,8 @@ def main(program, *words):
         module, bare, objects = folder / 'module.bc', folder / 'bare.ll', folder / 'program.o'
         (folder / 'kit').mkdir()
         copy_kit(folder / 'kit', module)
-        tried = subprocess.run([folder / 'kit' / 'bin' / 'rt', 'try'], cwd=ROOT / 'crates' / 'cpm', stdin=subprocess.DEVNULL, capture_output=True, text=True)
+        crate, kind = (words[words.index('--tests') + 1], ['--test']) if '--tests' in words else ('cpm', [])
+        tried = subprocess.run([folder / 'kit' / 'bin' / 'rt', 'try', *kind], cwd=ROOT / 'crates' / crate, stdin=subprocess.DEVNULL, capture_output=True, text=True)
         if not module.exists() or module.stat().st_size < 100_000:
             raise SystemExit(tried.stdout + tried.stderr)
         if '--bare' in words:
