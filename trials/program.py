@@ -146,6 +146,17 @@ def try_progress():
     expect('no progress of a short run', run(['run', 'seven.cp', '--rounds', '2', '--progress'])[2], b'')
 
 
+def try_progress_of_search():
+    """Progress of a search that takes some seconds: two processes count to 2,000, each in a monitor of its own."""
+    with tempfile.TemporaryDirectory() as folder:
+        text = pathlib.Path(folder) / 'counting.cp'
+        text.write_text('type m = monitor; var x: integer; procedure entry e; begin x := (x + 1) mod 2000 end; begin end;'
+                        ' p = process(a: m); begin cycle a.e end end; var g, h: m; b, c: p; begin init g, h, b(g), c(h) end.')
+        status, _, error = run(['search', text, '--states', '1000000', '--progress'], timeout=300)
+    expect('progress of a search', (status, re.fullmatch(rb'(\r\d+ of \d+ states)+\r\x1b\[K', error) is not None), (7, True))
+    expect('no progress of a short search', run(['search', ROOT / 'docs' / 'tutorial' / 'slot.cp', '--progress'])[2], b'')
+
+
 def try_picture():
     picture = (ROOT / 'docs' / 'philosophers.svg').read_bytes()
     expect('a picture', run(['trace', 'philosophers.cp', '--rounds', '40', '--turn', '4', '--svg']), (0, picture, b''))
@@ -163,7 +174,7 @@ def main():
                  ('faults', 9, try_faults), ('deadlocks', 5, try_deadlocks), ('searches', 66, try_searches), ('worked texts', 500, try_worked, cases), ('beginnings of a text', 400, try_beginnings, resumed['text']),
                  ('lawful orders', 190, try_lawful_orders, resumed['text'], resumed['answer'].encode())]
         counts = {what: (least, pool.submit(*call)) for what, least, *call in tries}
-        others = [pool.submit(*call) for call in ((try_counters, PLANS), (try_squarers, PLANS), (try_progress,), (try_long_chain,), (try_picture,))]
+        others = [pool.submit(*call) for call in ((try_counters, PLANS), (try_squarers, PLANS), (try_progress,), (try_progress_of_search,), (try_long_chain,), (try_picture,))]
         for what, (least, count) in counts.items():
             expect_at_least(what, count.result(), least)
         for other in [refused, *others]:

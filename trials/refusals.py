@@ -23,6 +23,7 @@ LEAST_OF_SEARCH = {'ALLOCATION': 1150, 'THREAD': 0, 'READ': 700, 'WRITE': 530}
 LEAST_OF_NAMED = {'ALLOCATION': 380, 'THREAD': 1, 'READ': 350, 'WRITE': 80}
 LEAST_OF_EXPLANATION = {'ALLOCATION': 150, 'THREAD': 0, 'READ': 190, 'WRITE': 385}
 LEAST_AT_ONCE = 470
+LEAST_OF_SAVED = 150
 LEAST_OF_TRACE = {'READ': 300, 'WRITE': 255}
 
 # The tests of cp_test_rounds that look at a machine after a refusal, and the fewest times that they have to see one.
@@ -130,6 +131,31 @@ def refuse_rounds(refusing, test):
     return met
 
 
+def refuse_saving(refusing):
+    """Refuses the writes of a search that saves its schedule, one after another. Each says so, and leaves at most a beginning of the schedule.
+
+    Returns how many writes to the file were refused.
+    """
+    name = refusing.folder / 'found'
+    saved = name.with_suffix('.stuck')
+    words = ['search', ROOT / 'docs' / 'tutorial' / 'slot.cp', '--save', name]
+    answer, told = run(words), f'{name}.stuck and {name}.fault can\'t be written: '.encode()
+    whole, met = saved.read_bytes(), 0
+    for number in range(1, 100_000):
+        saved.unlink(missing_ok=True)
+        found, refused, _ = refusing.run(words, REFUSE_WRITE=number)
+        left = saved.read_bytes() if saved.exists() else b''
+        if not refused:
+            expect('a saved schedule', (found, left), (answer, whole))
+            return met
+        if found[1] == answer[1]:
+            met += 1
+            expect(f'write {number} of a saved schedule', (found[0], found[2].startswith(told), whole.startswith(left)), (4, True, True))
+        else:
+            judge('WRITE', f'write {number} of a search that saves', found, answer[1], answer[0])
+            expect(f'a schedule of a report that isn\'t written, {number}', saved.exists(), False)
+
+
 def told(what, counts):
     return (f'of {what} {counts["ALLOCATION"]} allocations, {counts["THREAD"]} thread starts, {counts["READ"]} reads '
             f'and {counts["WRITE"]} writes')
@@ -164,11 +190,13 @@ def refuse_in_turn(resumed, counters):
         at_once = refusals.begin_kinds(['run', counting, '--rounds', '40', '--turn', '2'], kinds=['ALLOCATION'])
         traced = refusals.begin_kinds(['trace', 'squarers.cp', '--rounds', '3', '--turn', '4'], kinds=LEAST_OF_TRACE)
         waves = [refusals.begin(refuse_each, 'THREAD', ['run', 'squarers.cp', '--rounds', '5', '--workers', '4', '--wave', wave], 0) for wave in '12']
+        saving = refusals.begin(refuse_saving)
         tests = [refusals.begin(refuse_rounds, test) for test in TESTS]
         tried = [told(what, counts_of(what, counts, least)) for what, least, counts in begun]
         counts_of('rounds made at once', at_once, {'ALLOCATION': LEAST_AT_ONCE})
         counts_of('a trace', traced, LEAST_OF_TRACE)
         expect_at_least('thread starts of 4 workers', sum(wave.result() for wave in waves), 3)
+        expect_at_least('writes of a saved schedule', saving.result(), LEAST_OF_SAVED)
         met = sum(test.result() for test in tests)
         for refused in refusals.begun:
             refused.result()
