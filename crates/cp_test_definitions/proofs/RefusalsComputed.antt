@@ -1,6 +1,6 @@
 -- The answers of refusals, computed. Written by worked/make_rows.py.
 use Rattle.std.proofs.Common.{refl}
-use Rattle.cp_test_definitions.specs.Refusals.{byte_1, character_ordinal_1, class_parameter_of_a_process_1, declared_wait_1, delay_in_a_process_1, empty_subrange_1, empty_text_1, first_of_two_names_1, large_negative_number_1, large_number_1, large_process_1, large_type_1, missing_point_1, nesting_of_201_levels_1, nesting_of_201_levels_2, nesting_of_parentheses_1, number_of_arguments_1, open_comment_1, process_256_1, recursion_1, routine_without_entry_1, token_behind_the_end_1, unknown_name_1, wait_in_a_monitor_1, word_of_65_letters_1}
+use Rattle.cp_test_definitions.specs.Refusals.{byte_1, character_ordinal_1, class_parameter_of_a_process_1, declared_wait_1, delay_in_a_process_1, empty_subrange_1, empty_text_1, first_of_two_names_1, large_negative_number_1, large_number_1, large_process_1, large_type_1, missing_point_1, nesting_of_201_levels_1, nesting_of_201_levels_2, nesting_of_parentheses_1, number_of_arguments_1, open_comment_1, process_256_1, recursion_1, routine_without_entry_1, token_behind_the_end_1, unknown_name_1, wait_in_a_class_1, wait_in_a_monitor_1, word_of_65_letters_1}
 use Rattle.cp_scan.specs.Pieces.{word, number, comment, coded_character, character, longer_mark, mark, piece, pieces}
 use Rattle.cp_model_grammar.specs.Declarations.{constant_definition_of, parameter_group_of, some_parameters_of, parameters_of, result_type_of, heading_from, heading_of, variable_group_of, some_variables_of, variables_of, body_of, routine_of, routines_of, system_from, system_type, enumeration_of, written_type, defined_by, defined_of, type_definition_of, section_by, section_of}
 use Rattle.cp_model_grammar.specs.Expressions.{operation_of, chain_from, term_of, signed_term, simple_of, expression_of, expressions_from, index_of, indices_from, field_of, indexed_of, selector_by, selector_of, designator_of, arguments_of, optional_arguments_of, call_or_part, named_of, parenthesized_of, not_of, factor_by, factor_of, inner_at}
@@ -102,6 +102,10 @@ token_behind_the_end_1-holds = refl
 pub unknown_name_1-holds : unknown_name_1
 unfolding word number comment coded_character character longer_mark mark piece pieces constant_definition_of parameter_group_of some_parameters_of parameters_of result_type_of heading_from heading_of variable_group_of some_variables_of variables_of body_of routine_of routines_of system_from system_type enumeration_of written_type defined_by defined_of type_definition_of section_by section_of operation_of chain_from term_of signed_term simple_of expression_of expressions_from index_of indices_from field_of indexed_of selector_by selector_of designator_of arguments_of optional_arguments_of call_or_part named_of parenthesized_of not_of factor_by factor_of inner_at is_symbol identifier_of names_of constant_of constants_of expect optional_symbol repeat direction_of statements_from arm_of else_part block_of compound_of if_of case_of while_of repeat_of for_of cycle_of assign_or_perform designated_of init_item_of init_of statement_by statement_of deeper_at tree_of text_of subrange_from named_or_subrange group_of array_of record_of type_by type_of inner_type_at
 unknown_name_1-holds = refl
+
+pub wait_in_a_class_1-holds : wait_in_a_class_1
+unfolding word number comment coded_character character longer_mark mark piece pieces constant_definition_of parameter_group_of some_parameters_of parameters_of result_type_of heading_from heading_of variable_group_of some_variables_of variables_of body_of routine_of routines_of system_from system_type enumeration_of written_type defined_by defined_of type_definition_of section_by section_of operation_of chain_from term_of signed_term simple_of expression_of expressions_from index_of indices_from field_of indexed_of selector_by selector_of designator_of arguments_of optional_arguments_of call_or_part named_of parenthesized_of not_of factor_by factor_of inner_at is_symbol identifier_of names_of constant_of constants_of expect optional_symbol repeat direction_of statements_from arm_of else_part block_of compound_of if_of case_of while_of repeat_of for_of cycle_of assign_or_perform designated_of init_item_of init_of statement_by statement_of deeper_at tree_of text_of subrange_from named_or_subrange group_of array_of record_of type_by type_of inner_type_at
+wait_in_a_class_1-holds = refl
 
 pub wait_in_a_monitor_1-holds : wait_in_a_monitor_1
 unfolding word number comment coded_character character longer_mark mark piece pieces constant_definition_of parameter_group_of some_parameters_of parameters_of result_type_of heading_from heading_of variable_group_of some_variables_of variables_of body_of routine_of routines_of system_from system_type enumeration_of written_type defined_by defined_of type_definition_of section_by section_of operation_of chain_from term_of signed_term simple_of expression_of expressions_from index_of indices_from field_of indexed_of selector_by selector_of designator_of arguments_of optional_arguments_of call_or_part named_of parenthesized_of not_of factor_by factor_of inner_at is_symbol identifier_of names_of constant_of constants_of expect optional_symbol repeat direction_of statements_from arm_of else_part block_of compound_of if_of case_of while_of repeat_of for_of cycle_of assign_or_perform designated_of init_item_of init_of statement_by statement_of deeper_at tree_of text_of subrange_from named_or_subrange group_of array_of record_of type_by type_of inner_type_at

@@ -75,6 +75,9 @@ token_behind_the_end_1 = check_answer (codes "begin end. x") ≡ (codes "refused
 abbrev pub unknown_name_1 : Type 0
 unknown_name_1 = check_answer (codes "begin a := 1 end.") ≡ (codes "refused C1 at 6")
 
+abbrev pub wait_in_a_class_1 : Type 0
+wait_in_a_class_1 = check_answer (codes "type c = class; procedure entry e; begin wait end; begin end; begin end.") ≡ (codes "refused C9 at 41")
+
 abbrev pub wait_in_a_monitor_1 : Type 0
 wait_in_a_monitor_1 = check_answer (codes "type m = monitor; procedure entry e; begin wait end; begin end; begin end.") ≡ (codes "refused C9 at 43")
 
@@ -82,4 +85,4 @@ abbrev pub word_of_65_letters_1 : Type 0
 word_of_65_letters_1 = check_answer (codes "var aaaaaaaaaaaaaaaaaaaaaaaaaaaaaaaaaaaaaaaaaaaaaaaaaaaaaaaaaaaaaaaaa: integer; begin end.") ≡ (codes "refused S5 at 4")
 
 abbrev pub Refusals : Type 0
-Refusals = byte_1 × character_ordinal_1 × class_parameter_of_a_process_1 × declared_wait_1 × delay_in_a_process_1 × empty_subrange_1 × empty_text_1 × first_of_two_names_1 × large_negative_number_1 × large_number_1 × large_process_1 × large_type_1 × missing_point_1 × nesting_of_201_levels_1 × nesting_of_201_levels_2 × nesting_of_parentheses_1 × number_of_arguments_1 × open_comment_1 × process_256_1 × recursion_1 × routine_without_entry_1 × token_behind_the_end_1 × unknown_name_1 × wait_in_a_monitor_1 × word_of_65_letters_1
+Refusals = byte_1 × character_ordinal_1 × class_parameter_of_a_process_1 × declared_wait_1 × delay_in_a_process_1 × empty_subrange_1 × empty_text_1 × first_of_two_names_1 × large_negative_number_1 × large_number_1 × large_process_1 × large_type_1 × missing_point_1 × nesting_of_201_levels_1 × nesting_of_201_levels_2 × nesting_of_parentheses_1 × number_of_arguments_1 × open_comment_1 × process_256_1 × recursion_1 × routine_without_entry_1 × token_behind_the_end_1 × unknown_name_1 × wait_in_a_class_1 × wait_in_a_monitor_1 × word_of_65_letters_1
