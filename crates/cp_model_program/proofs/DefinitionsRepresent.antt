@@ -19,7 +19,8 @@ use Rattle.cp_model_program.proofs.ScopesRepresent.{SystemKnown, UnitsThere}
 use Rattle.cp_model_program.proofs.UnitNeeds.{Short}
 use Rattle.cp_law_typing.specs.Systems.{systems_of}
 use Rattle.cp_model_program.specs.Layout.{most_arguments}
-use Rattle.cp_model_program.proofs.SystemsRepresent.{Begins, Good, Little, SystemHere, Within, system_represents, system_there, units_later, within_first}
+use Rattle.cp_model_program.proofs.Beginnings.{Begins}
+use Rattle.cp_model_program.proofs.SystemsRepresent.{Good, Little, SystemHere, Within, system_represents, system_there, units_later, within_first}
 
 -- ---- Lists
 

@@ -21,7 +21,8 @@ use Rattle.cp_model_program.specs.Scopes.{declared_type, groups_of, is_among, ty
 use Rattle.cp_model_program.specs.Known.{InOrder, NamesInOrder, Plannable, PlannableMembers, SystemKnown, TextFacts, TextKnown}
 use Rattle.cp_law_typing.proofs.ComponentNames.{IsNamed, each_found, is_named}
 use Rattle.cp_model_program.proofs.DefinitionsRepresent.{component_name}
-use Rattle.cp_model_program.proofs.SystemsRepresent.{get_seam, sound_plannable}
+use Rattle.cp_model_program.proofs.Beginnings.{get_seam}
+use Rattle.cp_model_program.proofs.SoundPlans.{sound_plannable}
 
 -- ---- Declared types
 

@@ -1,3 +1,4 @@
+mod Beginnings
 mod Environments
 mod Found
 mod Representing
@@ -24,10 +25,12 @@ mod PartsStart
 mod StartsRepresent
 mod ScopesRepresent
 mod UnitNeeds
+mod SoundPlans
 mod SystemsRepresent
 mod DefinitionsRepresent
 mod RowsRepresent
 mod UnitTexts
+mod SortedComponents
 mod TextsRepresent
 pub mod KnownRepresent
 mod FactsRepresent

@@ -1,11 +1,11 @@
 -- The units of a typed system type represent their texts, one after another.
-use Rattle.std.proofs.Common.{◌≡◌, ◌≤◌, ◌<◌, ◌⊎◌, inl, inr, ℕ, zero, suc, ◌+◌, List, [], ◌∷◌, ◌++◌, Option, Some, None, refl, ap, sym, subst, ◌∙◌, Bool, true, false, if◌then◌else◌, slice_get, length, arith, append_assoc, append-nil}
+use Rattle.std.proofs.Common.{◌≡◌, ◌≤◌, ◌<◌, ◌⊎◌, inl, inr, ℕ, suc, ◌+◌, List, [], ◌∷◌, ◌++◌, Option, Some, None, refl, ap, sym, subst, ◌∙◌, Bool, true, false, if◌then◌else◌, slice_get, length, arith, append_assoc}
 use Rattle.std.proofs.lemmas.List.{length-append}
 use Rattle.std.proofs.lemmas.Bool.{true≢false}
 use Rattle.std.specs.Prelude.{nat_lt}
 use Rattle.cp_model.specs.Abstract.{Class, Monitor, Name, Process, Routine, Sort, Statement, System}
 use Rattle.cp_model.specs.Names.{lookup}
-use Rattle.cp_model.specs.Types.{ArrayOf, ComponentOf, GlobalScope, Members, MoreMembers, NoMembers, NoType, Queue, RecordOf, ResolvedType, Simple}
+use Rattle.cp_model.specs.Types.{GlobalScope}
 use Rattle.cp_model.specs.Declarations.{Variable, declarations}
 use Rattle.cp_model.specs.Locations.{OfProcess, root}
 use Rattle.cp_model.specs.Components.{Component, component_named}
@@ -13,7 +13,6 @@ use Rattle.cp_law_typing.specs.Declared.{Each, RoutineVariable}
 use Rattle.cp_law_typing.specs.Needs as needs
 use Rattle.cp_law_typing.specs.Needs.{some_environment}
 use Rattle.cp_law_typing.specs.Words.{words, words_of_variables}
-use Rattle.cp_law_typing.specs.SoundTypes.{SoundMembers, SoundType}
 use Rattle.cp_law_typing.specs.WellTyped.{TypedRoutine}
 use Rattle.cp_model_program.specs.Programs.{CodeUnit, Done, Operation, Program, Return, StartPlan}
 use Rattle.cp_model_program.specs.Layout.{activation_words, component_words, has_room, locals_words, most_arguments, most_words}
@@ -24,78 +23,14 @@ use Rattle.cp_model_program.specs.Scopes.{Scope, activation_fits, component_fits
 use Rattle.cp_model_program.specs.Plans.{plan_of_routine}
 use Rattle.cp_model_program.specs.CodeNeeds.{Need, need_of, need_of_all}
 use Rattle.cp_model_program.specs.Compile.{Compiled, body_scope, code_unit, kept_text, kept_texts, left_out, routine_scope, unit_code, with_body, with_code, with_nothing, with_routine, with_routines, with_stub, with_system, with_unit}
-use Rattle.cp_model_program.specs.Known.{Plannable, PlannableMembers}
 use Rattle.cp_model_program.proofs.ScopesRepresent.{SystemKnown, UnitsThere, standing}
 use Rattle.cp_model_program.proofs.Room.{is_less, kept_get, kept_there, room_is}
 use Rattle.cp_model_program.proofs.Representing.{UnitThere, takes}
 use Rattle.cp_model_program.proofs.UnitNeeds.{Short, unit_needs}
 use Rattle.cp_model_program.proofs.StartsRepresent.{ByValue, routine_starts}
 use Rattle.cp_model_program.proofs.UnitsRepresent.{AllThere, unit_represents, words_needed}
-
--- ---- Lists that begin others
-
-pub record Begins {A : Type 0} (xs ys : List A) : Type 0 where
-  pub rest : List A
-  pub is : ys ≡ xs ++ rest
-
-pub begins_same : {A : Type 0} (xs : List A) → Begins xs xs
-begins_same xs = record { rest = []; is = sym (append-nil xs) }
-
-pub begins_first : {A : Type 0} (xs zs ys : List A) → Begins (xs ++ zs) ys → Begins xs ys
-begins_first xs zs ys h = record { rest = zs ++ h.rest; is = h.is ∙ append_assoc xs zs h.rest }
-
-pub begins_on : {A : Type 0} (xs ys zs : List A) → Begins xs ys → Begins ys zs → Begins xs zs
-begins_on xs ys zs h k = record { rest = h.rest ++ k.rest; is = k.is ∙ ap (λ l. l ++ k.rest) h.is ∙ append_assoc xs h.rest k.rest }
-
-get_first : {A : Type 0} (xs zs : List A) (n : ℕ) (x : A) → slice_get xs n ≡ Some x → slice_get (xs ++ zs) n ≡ Some x
-get_first [] zs n x h = absurd (cc)
-get_first (y ∷ xs) zs zero x h = h
-get_first (y ∷ xs) zs (suc n) x h = get_first xs zs n x h
-
-pub begins_get : {A : Type 0} (xs ys : List A) → Begins xs ys → (n : ℕ) (x : A) → slice_get xs n ≡ Some x → slice_get ys n ≡ Some x
-begins_get xs ys h n x e = ap (λ l. slice_get l n) h.is ∙ get_first xs h.rest n x e
-
-pub get_seam : {A : Type 0} (xs : List A) (x : A) (zs : List A) → slice_get (xs ++ x ∷ zs) (length xs) ≡ Some x
-get_seam [] x zs = refl
-get_seam (y ∷ xs) x zs = get_seam xs x zs
-
-pub get_some : {A : Type 0} (xs : List A) (n : ℕ) → n < length xs → (x : A) × (slice_get xs n ≡ Some x)
-get_some [] n h = absurd (omega (arith, h))
-get_some (x ∷ xs) zero h = (x, refl)
-get_some (x ∷ xs) (suc n) h = get_some xs n (omega (arith, h))
-
-pub get_less : {A : Type 0} (xs : List A) (n : ℕ) (x : A) → slice_get xs n ≡ Some x → n < length xs
-get_less [] n x h = absurd (cc)
-get_less (y ∷ xs) zero x h = omega arith
-get_less (y ∷ xs) (suc n) x h = omega (arith, get_less xs n x h)
-
-last_or_before : {A : Type 0} (xs : List A) (x : A) (n : ℕ) (y : A) → slice_get (xs ++ x ∷ []) n ≡ Some y → (slice_get xs n ≡ Some y) ⊎ ((n ≡ length xs) × (Some x ≡ Some y))
-last_or_before [] x zero y h = inr (refl, h)
-last_or_before [] x (suc n) y h = absurd (cc)
-last_or_before (z ∷ xs) x zero y h = inl h
-last_or_before (z ∷ xs) x (suc n) y h = elim (last_or_before xs x n y h) [
-  | inl k ↦ inl k
-  | inr k ↦ inr (ap suc k.0, k.1)
-]
-
--- ---- Sound types
-
-mutual
-  pub sound_plannable : (zeros : Bool) (t : ResolvedType) → SoundType t → Plannable zeros t
-  sound_plannable zeros (Simple b low high start) h = tt
-  sound_plannable zeros (ArrayOf low high t) h = (h.0, sound_plannable zeros t h.1)
-  sound_plannable zeros (RecordOf ms) h = sound_members zeros ms h
-  sound_plannable zeros Queue h = tt
-  sound_plannable zeros (ComponentOf s inner) h = absurd h
-  sound_plannable zeros NoType h = absurd h
-
-  sound_members : (zeros : Bool) (ms : Members) → SoundMembers ms → PlannableMembers zeros ms
-  sound_members zeros NoMembers h = tt
-  sound_members zeros (MoreMembers x t ms) h = (sound_plannable zeros t h.0, sound_members zeros ms h.2)
-
-variables_by_value : (g : GlobalScope) (vs : List (Name × Variable)) → Each (RoutineVariable g) vs → Each ByValue vs
-variables_by_value g [] h = tt
-variables_by_value g (v ∷ vs) h = ((h.0.2, sound_plannable false v.1.type h.0.0.0), variables_by_value g vs h.1)
+use Rattle.cp_model_program.proofs.Beginnings.{Begins, begins_first, begins_get, begins_on, begins_same, get_less, get_seam, get_some, last_or_before}
+use Rattle.cp_model_program.proofs.SoundPlans.{variables_by_value}
 
 -- ---- Units
 

@@ -9,7 +9,8 @@ use cp_model::tree::Tree;
 
 /// The program that the compiler makes of an accepted text represents it
 /// (`specs/IsProgramFor.antt`), provided that the numbers after a minus in its definitions are at
-/// most 65,535, and that its system types have few parameters. This function has an empty body: a caller obtains the law as a fact by calling it.
+/// most 65,535, and that its system types have few parameters. This function has an empty body: a
+/// caller obtains the law as a fact by calling it.
 pub fn accepted_texts_have_programs()
     ensures { AcceptedTextsHavePrograms }
 {}
