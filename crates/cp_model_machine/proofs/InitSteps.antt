@@ -1,6 +1,5 @@
--- Whole private steps of the `init` of a class: the arguments are passed beyond all activations and
--- moved to the words after the mark (`Settling`), the mark is a value that is stored, and the body
--- has the activations of its caller.
+-- Whole private steps of the `init` of a class. The arguments are passed beyond all activations and moved
+-- to the words after the mark (`Settling`). The mark is stored. The body has its caller's activations.
 use Rattle.cp_model_machine.proofs.OwnersFit.{component_room}
 use Rattle.std.proofs.Common.{Bool, List, None, Option, Some, [], ap, arith, false, inl, inr, length, pos, refl, subst, sym, true, ℕ, ℤ, ◌+◌, ◌<◌, ◌∙◌, ◌∷◌, ◌≡◌, ◌≤◌, ◌⊎◌}
 use Rattle.std.specs.Prelude.{if◌then◌else◌, not}
