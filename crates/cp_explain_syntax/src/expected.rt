@@ -5,8 +5,7 @@ use cp_output::page::Page;
 use cp_syntax::{SyntaxError, parse};
 use std::alloc::{AllocError, Global};
 
-/// If more tokens than this report the parser's state, none is tried, so that an explanation takes
-/// no longer than a check and some milliseconds.
+/// After more tokens than this, none is suggested: trying them would be too slow.
 const MAX_TRIED_TOKENS: usize = 4_000;
 
 /// A token that may be at a place.

@@ -2,6 +2,27 @@
 
 use cp_model::token::{Kind, Symbol, Token};
 
+// The words with which statements begin. A `begin` may be that of another text.
+const STATEMENT_WORDS: [Symbol; 7] = [
+    Symbol::If,
+    Symbol::While,
+    Symbol::Repeat,
+    Symbol::For,
+    Symbol::Case,
+    Symbol::Cycle,
+    Symbol::Init,
+];
+
+// What follows a name with which a statement begins.
+const AFTER_STATEMENT_NAMES: [Symbol; 6] = [
+    Symbol::Assign,
+    Symbol::Dot,
+    Symbol::OpenParenthesis,
+    Symbol::OpenBracket,
+    Symbol::Semicolon,
+    Symbol::End,
+];
+
 /// The tokens of a text, and the number of the one at the place. After the last token it is their
 /// count.
 #[derive(Clone, Copy)]
@@ -126,6 +147,34 @@ impl<'t> Front<'t> {
             }
         }
         None
+    }
+
+    // Whether a statement begins at the place. A name with `=`, `:` or `,` after it may be declared.
+    fn begins_statement(&self) -> bool {
+        match self.after(0) {
+            Some(Kind::Symbol(symbol)) => STATEMENT_WORDS.contains(symbol),
+            Some(Kind::Short(_) | Kind::Long(_)) => match self.after(1) {
+                Some(Kind::Symbol(symbol)) => AFTER_STATEMENT_NAMES.contains(symbol),
+                _ => false,
+            },
+            _ => false,
+        }
+    }
+
+    /// Whether the text is complete before the place: only its last `end` is followed by a `.`.
+    pub fn is_past_text(&self) -> bool {
+        self.follows(Symbol::Dot) && is_symbol(self.before(2), Symbol::End)
+    }
+
+    /// Whether the text is complete before the place, but its body continues with a statement there,
+    /// and ends once more.
+    pub fn continues_body(&self) -> bool {
+        let ends = match self.tokens {
+            [.., end, dot] => is_symbol(Some(end.kind()), Symbol::End)
+                && is_symbol(Some(dot.kind()), Symbol::Dot),
+            _ => false,
+        };
+        ends && self.is_past_text() && self.begins_statement()
     }
 
     // The place after the token with this number.

@@ -1,4 +1,4 @@
-//! What is reported of habits of other languages, after ``unexpected `=`: ``.
+//! Messages about habits of other languages. Each follows ``unexpected `=`: ``.
 
 use cp_output::message::Message;
 
@@ -92,6 +92,11 @@ pub const RESULT_TYPE: Message = Message {
 pub const ENDED: Message = Message {
     head: "the text has ended before it",
     advice: "The `end` before this place closes the whole text, so there is an `end` too many, or a `begin` is missing. Only `.` follows the last `end`.",
+};
+
+pub const PAST_DOT: Message = Message {
+    head: "the text has ended before it",
+    advice: "Only the last `end` of a text is followed by `.`. Write `;` after the one before this place, or leave out what follows.",
 };
 
 pub const LAST_DOT: Message = Message {

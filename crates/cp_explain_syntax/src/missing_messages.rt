@@ -1,5 +1,5 @@
-//! What is reported of a text that ends too soon or is nested too deeply, and of a token that is
-//! missing. The latter is reported after ``unexpected `=`: ``.
+//! Messages about a text that ends too soon or is nested too deeply, and about a missing token. The
+//! last ones follow ``unexpected `=`: ``.
 
 use cp_output::message::Message;
 

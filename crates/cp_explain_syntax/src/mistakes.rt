@@ -89,7 +89,7 @@ fn take_step(
     })
 }
 
-// The last error of a text, if this is one after which nothing is looked for.
+// The last error of a text: after one of these kinds the search ends.
 fn last_mistake(
     alloc: Global,
     text: &[u8],

@@ -13,15 +13,17 @@ pub enum Repair {
     Insert(Symbol),
     /// The text has ended too soon: its body is still open.
     Reopen,
+    /// The text has ended too soon, and its body continues with the statement at the place.
+    Continue,
     /// A `repeat` is closed by the statement with the error.
     CloseRepeat,
     /// A component is defined from the name before the place on.
     DefineComponent,
     /// The component that begins with this word has no name before it.
     NameComponent(Symbol),
-    /// All up to the word `coend` is passed over.
+    /// All tokens up to the word `coend` are skipped.
     PassCobegin,
-    /// The rest of a statement or a declaration is passed over.
+    /// The rest of a statement or a declaration is skipped.
     Pass,
 }
 
@@ -138,6 +140,10 @@ impl Outline {
                 return Ok(Some(first));
             }
             Repair::Reopen => self.reopen_text()?,
+            Repair::Continue => {
+                self.reopen_text()?;
+                return Ok(Some(first));
+            }
             Repair::CloseRepeat => self.close_repeat(),
             Repair::PassCobegin => first = error.past_coend().unwrap_or(first),
             Repair::DefineComponent => {

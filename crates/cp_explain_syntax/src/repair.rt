@@ -1,4 +1,4 @@
-//! A token that is missing before a place: one after which what is there can continue.
+//! A token that is missing before a place: with it, the text can continue there.
 
 use crate::expected::{Expected, begin_a_text, symbol_token};
 use crate::front::Front;

@@ -1,4 +1,4 @@
-//! What is reported of spelling.
+//! Messages about spelling.
 
 use cp_output::message::Message;
 

@@ -40,7 +40,7 @@ fn tokens_of(alloc: Global, text: &[u8]) -> Result<Vec<Token>, AllocError> {
     scan(alloc, text).map_err(|_| AllocError)
 }
 
-// Tokens after which the same tokens can be as after all of these, of which an outline is known.
+// Tokens that leave the parser in the same state as all of these, whose outline is known.
 fn state_after(
     alloc: Global,
     tokens: &[Token],
@@ -59,6 +59,9 @@ fn habit(front: &Front<'_>, expected: &Expected) -> Option<Message> {
     if expected.is_only(Symbol::Dot) {
         let is_last = front.token(1).is_none() && front.is_here(Symbol::Semicolon);
         return Some(if is_last { m::LAST_DOT } else { m::ENDED });
+    }
+    if front.is_past_text() {
+        return Some(m::PAST_DOT);
     }
     if expected.has_value() && front.follows_comment() {
         return Some(m::QUOTES);
@@ -156,6 +159,8 @@ impl Meant {
 fn repair_after(front: &Front<'_>, expected: &Expected, message: Message) -> Repair {
     if expected.is_only(Symbol::Dot) {
         Repair::Reopen
+    } else if front.continues_body() {
+        Repair::Continue
     } else if let Some(symbol) = front.component_word() {
         Repair::NameComponent(symbol)
     } else if message.head == m::COBEGIN.head {
@@ -167,7 +172,7 @@ fn repair_after(front: &Front<'_>, expected: &Expected, message: Message) -> Rep
     }
 }
 
-// What is meant by the token at a place, after which tokens can be as after `state`.
+// What is meant by the token at a place, if the tokens before it are as good as `state`.
 fn find_meant(
     alloc: Global,
     state: &mut Vec<Token>,
