@@ -169,9 +169,12 @@ impl<'t> Site<'t> {
 
     fn c1(&self) -> Message {
         match (self.role(), self.identifier(), self.owner_type()) {
+            (Some(NameRole::Declared(_)), _, _) if self.standard().is_some() => m::STANDARD_TWICE,
             (Some(NameRole::Declared(_)), _, _) => m::TWICE,
             (Some(NameRole::Member(..)), Some(x), Some(system)) => self.no_member(x, system),
             (Some(NameRole::Member(..)), _, _) => m::UNKNOWN_MEMBER,
+            _ if self.declaration().is_some() => m::LATER,
+            _ if self.hidden_declaration().is_some() => m::HIDDEN,
             _ => m::UNKNOWN,
         }
     }

@@ -85,6 +85,11 @@ fn push_count(page: &mut Page, name: &Identifier, takes: usize, given: usize) {
     page.number(given);
 }
 
+// How many arguments a routine takes, if a routine is declared.
+fn routine_takes(declared: Declaration<'_>) -> Option<usize> {
+    Some(count(&declared.routine?.parameters))
+}
+
 impl<'t> Site<'t> {
     // The number of arguments of the call or the `init` whose name is at the place.
     fn arguments(&self) -> Option<usize> {
@@ -149,6 +154,31 @@ impl<'t> Site<'t> {
             Some(takes) if takes != given => {
                 push_count(page, name, takes, given);
                 page.bytes(b".\n");
+            }
+            _ => {}
+        }
+    }
+
+    // How many arguments what is at the place takes, if that is known.
+    fn takes(&self) -> Option<usize> {
+        if let Some(system) = self.initialised() {
+            return Some(count(&system.parameters));
+        }
+        match self.declaration() {
+            Some(declared) => routine_takes(declared),
+            None => self.standard()?.count(),
+        }
+    }
+
+    /// Adds to the first line how many arguments what is at the place takes, if it was given
+    /// another number.
+    pub fn push_numbers(&self, page: &mut Page) {
+        match (self.takes(), self.arguments()) {
+            (Some(takes), Some(given)) if takes != given => {
+                page.text(": it takes ");
+                page.number(takes);
+                page.text(", not ");
+                page.number(given);
             }
             _ => {}
         }

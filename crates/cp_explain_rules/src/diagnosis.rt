@@ -3,6 +3,7 @@
 //! and where it is declared.
 
 use crate::finder::Finder;
+use crate::messages as m;
 use crate::site::{NameRole, Site};
 use cp_base_names::Key;
 use cp_explain_names::components::{Components, Systems};
@@ -55,9 +56,7 @@ fn push_hidden(page: &mut Page, text: &[u8], declared: Declaration<'_>) {
     page.name(declared.name);
     page.text(" is declared by the initial process at ");
     page.position(Position::of(text, declared.name.at));
-    page.text(
-        " and isn't visible here. Processes share only monitors: pass the right to one with `init`.\n",
-    );
+    page.text(".\n");
 }
 
 // The sort and the number of the component that a name declares.
@@ -105,7 +104,8 @@ impl<'t> Site<'t> {
         }
     }
 
-    // Adds the first line: what is wrong, and for a name that isn't declared what it means.
+    // Adds the first line: what is wrong, what a name that isn't declared means, and how many
+    // arguments a call takes.
     fn push_head(
         &self,
         alloc: Global,
@@ -117,6 +117,9 @@ impl<'t> Site<'t> {
         page.template(head, self.about());
         if rule == Rule::C1 && self.is_unknown() {
             self.push_meant(alloc, page, text)?;
+        }
+        if head == m::ARGUMENTS.head || head == m::INIT_ARGUMENTS.head {
+            self.push_numbers(page);
         }
         Ok(())
     }

@@ -10,6 +10,16 @@ pub const UNKNOWN: Message = Message {
     advice: "A name must be declared before it is used. Check its spelling, or declare it.",
 };
 
+pub const LATER: Message = Message {
+    head: "`$` is declared only after this place",
+    advice: "A name must be declared before it is used. Move the declaration of `$` to before this place.",
+};
+
+pub const HIDDEN: Message = Message {
+    head: "`$` belongs to the initial process",
+    advice: "Components share only monitors. Keep `$` in a monitor, and pass the right to it with `init`.",
+};
+
 pub const UNKNOWN_MEMBER: Message = Message {
     head: "there is no `$` in what comes before the `.`",
     advice: "A record's `.` is followed by a field of its type, a component's `.` by an entry routine of its type.",
@@ -18,6 +28,11 @@ pub const UNKNOWN_MEMBER: Message = Message {
 pub const TWICE: Message = Message {
     head: "`$` is already declared",
     advice: "Each name is declared once, and no name hides another. Rename one of the two.",
+};
+
+pub const STANDARD_TWICE: Message = Message {
+    head: "`$` is a standard name, which can't be declared again",
+    advice: "No name hides another. Choose another name.",
 };
 
 pub const OWN_VARIABLE: Message = Message {
@@ -225,7 +240,7 @@ pub const VAR_RIGHT: Message = Message {
 
 pub const SYSTEM_PARAMETER: Message = Message {
     head: "this can't be passed by `init`",
-    advice: "Processes and monitors can be given simple values and monitors; classes can be given classes too. Two processes can't share a class.",
+    advice: "Processes and monitors are given simple values and monitors, classes also classes. Make what processes share a monitor.",
 };
 
 pub const ROUTINE_PARAMETER: Message = Message {
