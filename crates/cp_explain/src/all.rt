@@ -1,5 +1,4 @@
-//! All that is wrong with a text: its violations in short, or what it uses of the book's language
-//! that this one hasn't.
+//! All violations of a text that has a tree, in short.
 
 use crate::explain::heading_of;
 use cp_base_names::Key;
@@ -14,15 +13,15 @@ use std::alloc::{AllocError, Global};
 /// The most violations that are reported.
 const MAX_VIOLATIONS: usize = 1_000;
 
-/// How many bytes are walked over: what is at a place is found by a walk over the whole text.
+/// The most bytes that are read to find what is at each place: each time the whole text is.
 const MAX_WALKED_BYTES: usize = 67_108_864;
 
-/// How many violations of a text are reported, so that a long one takes no longer than a short one.
+/// The most violations of a text that are reported: fewer for a long text, which takes longer.
 pub(crate) fn most(text: &[u8]) -> usize {
     (MAX_WALKED_BYTES / text.len().max(1)).min(MAX_VIOLATIONS)
 }
 
-// Adds where more is said than in short.
+// Adds the commands that say more.
 fn push_hint(page: &mut Page, file: &[u8], list: &[Violation]) {
     let Some(first) = list.first() else {
         return;
@@ -37,7 +36,7 @@ fn push_hint(page: &mut Page, file: &[u8], list: &[Violation]) {
     page.text("` how to fix the first violation.\n");
 }
 
-// Adds how many violations there are, of which so many are reported.
+// Adds how many violations there are, and how many of them are reported.
 fn push_count(page: &mut Page, count: usize, reported: usize) {
     page.number(count);
     page.text(if count == 1 {

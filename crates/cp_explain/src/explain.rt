@@ -94,7 +94,7 @@ pub(crate) fn heading_of(
     Ok(page)
 }
 
-// Explains a refusal: by its heading, and then by `reported`.
+// The explanation of a refusal: its heading, and then `reported`.
 fn explain_refusal(
     alloc: Global,
     file: &[u8],
@@ -197,7 +197,8 @@ fn of_tree(
     }
 }
 
-/// Explains a text: by the access graph if it is accepted, or else by as much of why it is refused.
+/// Explains a text: by the access graph if it is accepted, or else by as many of its violations as
+/// `extent` says.
 /// Fails only if memory runs out.
 pub fn explain(
     alloc: Global,
@@ -265,7 +266,7 @@ pub fn draw_text<R: Read, W: Write, E: Write>(
     Ok(refusal)
 }
 
-// Explains the text of a reader by as much as `extent` says.
+// Explains the text of a reader, with as many violations as `extent` says.
 fn explain_to<R: Read, W: Write>(
     alloc: Global,
     file: &[u8],

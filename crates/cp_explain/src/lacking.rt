@@ -33,7 +33,7 @@ struct Lacking {
     sets: Uses,
 }
 
-/// What begins some bytes: so many of them, which use a feature or none.
+/// The piece with which some bytes begin: its length, and the feature that it uses.
 #[derive(Clone, Copy)]
 struct Piece {
     length: usize,
@@ -107,8 +107,8 @@ fn character(bytes: &[u8]) -> usize {
     }
 }
 
-// What an apostrophe and these bytes begin. A string is closed in its line and has several
-// characters.
+// The piece that begins with an apostrophe before these bytes. A string has several characters, and
+// ends in its line.
 fn quoted(rest: &[u8]) -> Piece {
     let mut characters: usize = 0;
     let mut next: usize = 0;
@@ -161,7 +161,7 @@ fn scale(bytes: &[u8]) -> usize {
     }
 }
 
-// What a digit begins: a real, such as `1.5` or `2e-3`, or another number.
+// The piece that begins with a digit: a real, such as `1.5` or `2e-3`, or another number.
 fn number(bytes: &[u8]) -> Piece {
     let whole = digits(bytes);
     let point = whole.saturating_add(fraction(&bytes[whole..]));
@@ -215,7 +215,7 @@ fn word(bytes: &[u8]) -> Piece {
     }
 }
 
-// What begins these bytes. Where that is no token, it is a byte.
+// The piece with which these bytes begin: a token, or a byte if there is none.
 fn first_piece(bytes: &[u8]) -> Piece {
     match bytes {
         [b'"', rest @ ..] => Piece {

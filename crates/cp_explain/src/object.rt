@@ -32,7 +32,7 @@ use serde::Serialize;
 use std::alloc::{AllocError, Global};
 use std::io::{Read, Write};
 
-// Why a text is refused.
+// A violation or a syntax error.
 #[derive(Drop, Serialize)]
 struct ViolationObject {
     rule: String,
@@ -87,7 +87,7 @@ fn strings(alloc: Global, list: &[&[u8]]) -> Result<Vec<String>, AllocError> {
     Ok(all)
 }
 
-// Why a text is refused, where a page says so.
+// A violation, with the words of its page.
 fn violation_object(
     alloc: Global,
     text: &[u8],

@@ -2,7 +2,7 @@
 
 use std::alloc::{AllocError, Global};
 
-/// How many lines the place takes, after the first line.
+/// The number of lines that show the place, after the first line.
 const EXCERPT_LINES: usize = 2;
 
 const EXPECTED: &[u8] = b"  Expected one of: ";

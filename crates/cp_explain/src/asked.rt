@@ -1,0 +1,40 @@
+//! What is asked about a text: an explanation in one of its forms (`specs/Asked.antt`).
+
+ghost use Rattle.std.specs.Prelude.{IfErr, IfOk};
+ghost use Rattle.cp_explain.specs.Asked.{WroteAs};
+ghost use Rattle.cp_frontend.specs.KnownRefusals.{IsFault};
+
+use crate::explain::{draw_text, explain_all_text, explain_text};
+use crate::object::explain_object;
+use cp_base_config::explaining::{Explaining, Form};
+use cp_frontend::refusal::Refusal;
+use std::alloc::Global;
+use std::io::{Read, Write};
+
+/// Explains the text of a reader in the form that is asked for, and returns why it is refused,
+/// unless it is accepted. If a graph for Graphviz is asked for, an explanation in its place goes to
+/// `errors`.
+///
+/// # Errors
+///
+/// I1 if a read fails, M if memory runs out, and I2 if a write fails.
+pub fn explain_as<R: Read, W: Write, E: Write>(
+    alloc: Global,
+    file: &[u8],
+    text: &mut R,
+    what: Explaining,
+    out: &mut W,
+    errors: &mut E,
+) -> Result<Option<Refusal>, Refusal>
+    ensures explains { IfOk result
+        (λ e. WroteAs what file.now (R.remaining text.old) e (W.contents out.old)
+        (W.contents out.new) (E.contents errors.old) (E.contents errors.new)) }
+    ensures fault { IfErr result IsFault }
+{
+    match what {
+        Explaining::First(Form::Dot) => draw_text(alloc, file, text, out, errors),
+        Explaining::First(Form::Lines) => explain_text(alloc, file, text, Form::Lines, out),
+        Explaining::All => explain_all_text(alloc, file, text, out),
+        Explaining::Object(extent) => explain_object(alloc, file, text, extent, out),
+    }
+}
