@@ -1,4 +1,5 @@
 """Runs the program on files, streams and limits that are made to hurt. Each run ends with a status of the table of exits, and never by a signal."""
+import ctypes
 import os
 import pathlib
 import resource
@@ -11,13 +12,21 @@ from running import PROGRAM, expect, expect_at_least, expect_one_of, run
 # A report that no pipe holds, of a text that needs some memory, and the blanks that make a text too long.
 LONG = 'var v: array [0..19999] of integer; begin end.'
 MEMORY, UNREAD, UNWRITTEN = (3, b'', b'fault M\n'), (4, b'', b'fault I1\n'), (4, b'', b'fault I2\n')
+# The rights to read and search what the mode of a file refuses, and the call that drops one of them from what a program is given.
+OVERRIDING, DROP = (1, 2), 24
 SPACES = b' ' * 4096
 TOO_LONG = (1, b'', b'refused S6 at 1048576\n')
 
 
-def unopened(file):
-    """The answer if a file can't be opened for a reason of its own."""
-    return (4, b'', f"fault I1\n{file}: can't be opened\n".encode())
+def unopened(file, reason="can't be opened"):
+    """The answer if a file can't be opened for this reason, or one of its own."""
+    return (4, b'', f'fault I1\n{file}: {reason}\n'.encode())
+
+
+def without_rights():
+    """Drops the rights by which root reads any file, before the program starts. Nobody else has them."""
+    for right in OVERRIDING:
+        ctypes.CDLL(None).prctl(DROP, right, 0, 0, 0)
 
 
 def closing(*files):
@@ -51,9 +60,15 @@ class Hurting:
 
     def try_folders(self):
         """A folder in place of each file."""
-        self.expect('a folder as a text', ['check', '.'], UNREAD)
-        self.expect('a folder as an input', [*self.words, '--input', '.'], UNREAD)
-        self.expect('a folder as an order', ['replay', self.text, '.'], UNREAD)
+        for words in (['check', '.'], [*self.words, '--input', '.'], ['replay', self.text, '.']):
+            self.expect(f'a folder, {words[0]}', words, unopened('.', 'a directory'))
+
+    def try_locked(self):
+        """A file that may not be read, in place of each file."""
+        locked = self.folder / 'locked'
+        locked.touch(0)
+        for words in (['check', locked], [*self.words, '--input', locked], ['replay', self.text, locked]):
+            self.expect(f'a locked file, {words[0]}', words, unopened(locked, 'permission denied'), preexec_fn=without_rights)
 
     def try_devices(self):
         """Files that never end, and one that takes nothing."""
@@ -163,6 +178,7 @@ def try_to_hurt():
     with tempfile.TemporaryDirectory() as name:
         hurting = Hurting(pathlib.Path(name))
         hurting.try_folders()
+        hurting.try_locked()
         hurting.try_devices()
         hurting.try_pipes()
         hurting.try_growing()

@@ -1,7 +1,7 @@
 #!/usr/bin/env python3
 """Tests the built program cpm from outside: the examples and the worked texts, texts and orders made here, searches, each call refused in turn, and files that are
 made to hurt.
-It also looks at how names are hashed.
+It also runs the program on a terminal, and looks at how names are hashed.
 
 `rt ci`, and `rt run < stdin` in crates/cpm, leave the program as crates/cpm/out/cpm; CPM names another. It needs a C compiler (`cc`).
 It prints what is wrong and how much was tried, with --quiet only what is wrong, and ends with status 0 if nothing was wrong.
@@ -21,6 +21,7 @@ from hurting import try_to_hurt
 from refusals import refuse_in_turn
 from running import EXAMPLES, ROOT, expect, expect_at_least, run, wrong
 from searches import try_searches
+from terminal import try_terminal
 
 RESUMED = 'monitors/the_resumed_process_goes_ahead_of_askers 1'
 # One worker, few and many, with the shortest and the longest chunks and waves.
@@ -174,7 +175,7 @@ def main():
                  ('faults', 9, try_faults), ('deadlocks', 5, try_deadlocks), ('searches', 66, try_searches), ('worked texts', 500, try_worked, cases), ('beginnings of a text', 400, try_beginnings, resumed['text']),
                  ('lawful orders', 190, try_lawful_orders, resumed['text'], resumed['answer'].encode())]
         counts = {what: (least, pool.submit(*call)) for what, least, *call in tries}
-        others = [pool.submit(*call) for call in ((try_counters, PLANS), (try_squarers, PLANS), (try_progress,), (try_progress_of_search,), (try_long_chain,), (try_picture,))]
+        others = [pool.submit(*call) for call in ((try_counters, PLANS), (try_squarers, PLANS), (try_progress,), (try_progress_of_search,), (try_long_chain,), (try_picture,), (try_terminal,))]
         for what, (least, count) in counts.items():
             expect_at_least(what, count.result(), least)
         for other in [refused, *others]:

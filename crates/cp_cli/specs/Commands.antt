@@ -27,6 +27,7 @@ HasReplay turn tick chains replay = (replay.turn.steps ≡ turn) × (replay.tick
 -- search has limits within their ranges.
 abbrev pub IsInRange : Command → Type 0
 IsInRange command.Version = Unit {0}
+IsInRange (command.Completions shell) = Unit {0}
 IsInRange (command.Check file) = Unit {0}
 IsInRange (command.Explain file what) = Unit {0}
 IsInRange (command.ExplainRule page) = Unit {0}
@@ -40,6 +41,7 @@ IsInRange (command.Replay file order replay input) = Unit {0}
 -- The command if there are no words after the program's name.
 abbrev pub IsWithoutWords : Command → Type 0
 IsWithoutWords command.Version = ⊥
+IsWithoutWords (command.Completions shell) = ⊥
 IsWithoutWords (command.Check file) = ⊥
 IsWithoutWords (command.Explain file what) = ⊥
 IsWithoutWords (command.ExplainRule page) = ⊥

@@ -6,13 +6,13 @@ use std::alloc::{AllocError, Global};
 // How an argument is given.
 #[derive(Clone, Copy)]
 enum Form {
-    // By its place. It has to be there.
+    // By its place. It is required.
     Place,
     // By its name and a value of this kind.
     Value(&'static str),
-    // The same, and it has to be there.
+    // By its name and a value, which is required.
     Required(&'static str),
-    // The same, any number of times.
+    // By its name and a value, any number of times.
     Repeated(&'static str),
     // By its name alone.
     Flag,
@@ -24,7 +24,7 @@ pub(crate) struct Argument {
     name: &'static str,
     form: Form,
     about: &'static str,
-    // The arguments that can't be given beside it.
+    // The arguments that can't be given with it.
     without: &'static [&'static str],
 }
 
@@ -39,6 +39,13 @@ pub(crate) const TEXT_OR_RULE: Argument = Argument {
     name: "FILE",
     form: Form::Place,
     about: "the text, - for standard input, or a rule or fault such as C4 or F3",
+    without: &[],
+};
+
+pub(crate) const SHELL: Argument = Argument {
+    name: "SHELL",
+    form: Form::Place,
+    about: "the shell: bash, zsh or fish",
     without: &[],
 };
 
@@ -245,7 +252,40 @@ pub(crate) const SVG: Argument = Argument {
     without: &[],
 };
 
+pub(crate) const COLOR: Argument = Argument {
+    name: "color",
+    form: Form::Value("WHEN"),
+    about: "colours in what is written for people: auto, always or never (default auto, on a terminal)",
+    without: &[],
+};
+
 impl Argument {
+    pub(crate) fn name(&self) -> &'static str {
+        self.name
+    }
+
+    pub(crate) fn about(&self) -> &'static str {
+        self.about
+    }
+
+    /// Whether it is given by its place.
+    pub(crate) fn is_placed(&self) -> bool {
+        matches!(self.form, Form::Place)
+    }
+
+    /// Whether it can be given several times.
+    pub(crate) fn is_repeated(&self) -> bool {
+        matches!(self.form, Form::Repeated(_))
+    }
+
+    /// What its value is called, if it has one beside its name.
+    pub(crate) fn value(&self) -> Option<&'static str> {
+        match self.form {
+            Form::Value(value) | Form::Required(value) | Form::Repeated(value) => Some(value),
+            Form::Place | Form::Flag => None,
+        }
+    }
+
     pub(crate) fn has_name(&self, name: &str) -> bool {
         self.name == name
     }

@@ -4,12 +4,14 @@ ghost use Rattle.std.specs.Prelude.{◌≡◌};
 ghost use Rattle.cp_cli.specs.Commands.{ComesFrom};
 ghost use Rattle.cp_cli.specs.declared.command.CommandError.TheVariants as error;
 
+use crate::completions::Shell;
 use clap::error::ErrorKind;
 use cp_base_config::explaining::Explaining;
 use cp_base_config::outcome::{OutcomeForm, UntilStill};
 use cp_base_config::run::{Replay, Run};
 use cp_base_config::search::Searching;
 use cp_base_config::trace::Tracing;
+use cp_cli_terminal::colours::Colours;
 use std::alloc::AllocError;
 use thiserror::Error;
 
@@ -19,11 +21,34 @@ pub const STANDARD_INPUT: &str = "-";
 /// The version of cpm.
 pub const VERSION: &str = "0.1.0";
 
+/// A command, and when its lines for people are coloured.
+#[derive(Drop)]
+pub struct Invocation<'a> {
+    pub command: Command<'a>,
+    pub colours: Colours,
+}
+
+impl<'a> Invocation<'a> {
+    /// A command with coloured lines on a terminal.
+    pub fn of(command: Command<'a>) -> Invocation<'a>
+        ensures { result.command ≡ command.entry }
+    {
+        Invocation {
+            command,
+            colours: Colours::Auto,
+        }
+    }
+}
+
 /// What cpm is asked to do. A file's name may be that of standard input.
 #[derive(Drop)]
 pub enum Command<'a> {
     /// `--version`: prints the version.
     Version,
+    /// `completions SHELL`: prints the script by which a shell completes the words of a command line.
+    Completions {
+        shell: Shell,
+    },
     /// `check FILE`: judges the text of a file.
     Check {
         file: &'a str,

@@ -1,9 +1,10 @@
 //! The grammar of the command line: the commands, and which arguments each of them has.
 
 use crate::arguments::{
-    ALL, Argument, CHAINS, CHUNK, EXPLAIN_DOT, EXPLAIN_JSON, FROM, IN, INPUT, LIMIT, MEMORY, ONLY,
-    ORDER, OUT, OUTCOME_DOT, OUTCOME_JSON, PROGRESS, ROUNDS, SAVE, SEARCH_JSON, SEARCH_PROGRESS,
-    STATES, SVG, TEXT, TEXT_OR_RULE, TICK, TIMELINE, TO, TRACE_JSON, TURN, WAVE, WORKERS,
+    ALL, Argument, CHAINS, CHUNK, COLOR, EXPLAIN_DOT, EXPLAIN_JSON, FROM, IN, INPUT, LIMIT, MEMORY,
+    ONLY, ORDER, OUT, OUTCOME_DOT, OUTCOME_JSON, PROGRESS, ROUNDS, SAVE, SEARCH_JSON,
+    SEARCH_PROGRESS, SHELL, STATES, SVG, TEXT, TEXT_OR_RULE, TICK, TIMELINE, TO, TRACE_JSON, TURN,
+    WAVE, WORKERS,
 };
 use crate::command::VERSION;
 use clap::Arg;
@@ -23,12 +24,12 @@ Help and refusals go to standard error, results to standard output.";
 
 const SUBCOMMAND_EXITS: &str = "'cpm --help' lists the exits. Help goes to standard error.";
 
-// A command.
+/// A command.
 #[derive(Clone, Copy)]
-struct Words {
-    name: &'static str,
-    about: &'static str,
-    arguments: &'static [Argument],
+pub(crate) struct Words {
+    pub(crate) name: &'static str,
+    pub(crate) about: &'static str,
+    pub(crate) arguments: &'static [Argument],
 }
 
 const CHECK: Words = Words {
@@ -40,7 +41,7 @@ const CHECK: Words = Words {
 const EXPLAIN: Words = Words {
     name: "explain",
     about: "Explains what is wrong with a text, who has which right in an accepted text, or a rule",
-    arguments: &[TEXT_OR_RULE, EXPLAIN_DOT, EXPLAIN_JSON, ALL],
+    arguments: &[TEXT_OR_RULE, EXPLAIN_DOT, EXPLAIN_JSON, ALL, COLOR],
 };
 
 const RUN: Words = Words {
@@ -68,6 +69,7 @@ const OUTCOME: Words = Words {
         OUTCOME_DOT,
         OUTCOME_JSON,
         PROGRESS,
+        COLOR,
     ],
 };
 
@@ -98,7 +100,14 @@ const SEARCH: Words = Words {
         SAVE,
         SEARCH_JSON,
         SEARCH_PROGRESS,
+        COLOR,
     ],
+};
+
+const COMPLETIONS: Words = Words {
+    name: "completions",
+    about: "Prints a script by which a shell completes commands and options",
+    arguments: &[SHELL],
 };
 
 fn command<'a>(alloc: Global, words: &Words) -> Result<clap::Command<'a>, AllocError> {
@@ -111,9 +120,8 @@ fn command<'a>(alloc: Global, words: &Words) -> Result<clap::Command<'a>, AllocE
     Ok(command)
 }
 
-// Adds an argument, unless memory ran out for it. Arguments and commands are made before they are
-// added, and one at a time: one that is alive where memory runs out has to be given up there, which
-// makes proofs long.
+// Adds an argument, unless memory ran out for it. Arguments and commands are made one at a time,
+// before they are added: each one that is alive at a failure makes the proof longer.
 fn with_argument<'a>(
     command: clap::Command<'a>,
     argument: Result<Arg<'a>, AllocError>,
@@ -129,7 +137,17 @@ fn with_command<'a>(
     cpm.subcommand(command?)
 }
 
-const COMMANDS: [Words; 7] = [CHECK, EXPLAIN, RUN, OUTCOME, TRACE, SEARCH, REPLAY];
+/// The commands.
+pub(crate) const COMMANDS: [Words; 8] = [
+    CHECK,
+    EXPLAIN,
+    RUN,
+    OUTCOME,
+    TRACE,
+    SEARCH,
+    REPLAY,
+    COMPLETIONS,
+];
 
 fn words_of(command: &str) -> Option<Words> {
     for words in COMMANDS.as_slice() {
@@ -144,6 +162,7 @@ fn words_of(command: &str) -> Option<Words> {
 fn full_name(command: &str) -> &'static str {
     match command {
         "check" => "cpm check",
+        "completions" => "cpm completions",
         "explain" => "cpm explain",
         "outcome" => "cpm outcome",
         "replay" => "cpm replay",

@@ -40,7 +40,7 @@ fn all_named<'a>(alloc: Global, words: &[&'a str]) -> Result<Vec<NamedInput<'a>>
     Ok(all)
 }
 
-/// The inputs that the options report.
+/// The inputs that the options name.
 pub(crate) fn read_inputs<'a>(
     alloc: Global,
     matches: &ArgMatches<'a>,
@@ -67,8 +67,7 @@ impl<'a> Inputs<'a> {
         }
     }
 
-    /// Lets these inputs pass, unless standard input would be read twice, by them and by those who
-    /// read these files.
+    /// These inputs, unless they and these files would read standard input twice.
     pub(crate) fn beside(self, files: &[&str]) -> Result<Inputs<'a>, Misuse<'a>> {
         let others = files.iter().filter(|file| **file == STANDARD_INPUT).count();
         match self.from_standard_input().saturating_add(others) {

@@ -4,14 +4,16 @@
 //! - `reading`: parses the words by the `grammar`, and takes the command from what was parsed, with
 //!   the values of its `options`, which are `numbers` or `defaults`, and its `inputs`.
 //! - `arguments`: which arguments the grammar has, and what help says about them.
-//! - `misuse`: what is wrong with words that the grammar lets pass. `unknown`: what is meant by
-//!   words that it refuses.
+//! - `completions`: scripts by which shells complete words, from the same grammar.
+//! - `misuse`: what is wrong with words that the grammar accepts. `unknown`: what is meant by words
+//!   that it refuses.
 //!
 //! `specs/Commands.antt` and `specs/Numbers.antt` define what arguments mean.
 #![tactic(auto)]
 
 mod arguments;
 pub mod command;
+pub mod completions;
 pub mod defaults;
 mod grammar;
 mod inputs;

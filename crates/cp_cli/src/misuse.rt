@@ -1,4 +1,4 @@
-//! What is wrong with words that the grammar lets pass.
+//! What is wrong with words that the grammar accepts, and what was meant by others.
 
 ghost use Rattle.std.specs.Prelude.{◌≡◌};
 ghost use Rattle.cp_cli.specs.declared.misuse.Misuse.TheVariants as misuse;
@@ -9,7 +9,7 @@ use cp_explain_pages::rules::ALL;
 use std::alloc::{AllocError, AllocFailed, Global};
 use thiserror::Error;
 
-/// Why words that the grammar lets pass give no command.
+/// Why words give no command.
 #[derive(Clone, Copy, Debug, Error)]
 pub(crate) enum Misuse<'a> {
     #[error("--{name} takes decimal digits, from {low} to {most}, not {word}")]
@@ -48,6 +48,14 @@ pub(crate) enum Misuse<'a> {
     },
     #[error("--only takes names with commas between them, not {word}")]
     NoNames {
+        word: &'a str,
+    },
+    #[error("--color takes auto, always or never, not {word}")]
+    NoColours {
+        word: &'a str,
+    },
+    #[error("there are completions for bash, zsh and fish, not for {word}")]
+    NoShell {
         word: &'a str,
     },
     #[error("--from is above --to")]

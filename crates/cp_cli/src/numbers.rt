@@ -9,7 +9,7 @@ pub const MAX_OPTION_NUMBER: u32 = 10_000_000;
 /// The largest number of rounds, and of megabytes.
 pub const MAX_ROUNDS: u32 = 1_000_000;
 
-/// Parses a text of decimal digits alone, and returns its number if that is from `low` to `most`.
+/// The number that decimal digits represent, if it is from `low` to `most`.
 pub fn number(text: &[u8], low: u32, most: u32) -> Option<u32>
     requires small { most ≤ MAX_OPTION_NUMBER }
     ensures value { result ≡ number_within low most text.now }

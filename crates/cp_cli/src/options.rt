@@ -16,7 +16,19 @@ use cp_base_config::search::{SearchForm, Searching};
 use cp_base_config::tick::Tick;
 use cp_base_config::trace::{TraceForm, Tracing};
 use cp_base_config::turn::Turn;
+use cp_cli_terminal::colours::Colours;
 use std::alloc::Global;
+
+/// When the lines of a command are coloured.
+pub(crate) fn read_colours<'a>(matches: &ArgMatches<'a>) -> Result<Colours, Misuse<'a>> {
+    let Some(word) = matches.get_str("color") else {
+        return Ok(Colours::Auto);
+    };
+    match Colours::named(word) {
+        Some(colours) => Ok(colours),
+        None => Err(Misuse::NoColours { word }),
+    }
+}
 
 /// The run with these numbers.
 pub(crate) fn run_of(
@@ -97,7 +109,7 @@ pub(crate) fn read_run<'a>(
     Ok(run_of(rounds, turn, workers, chunk, wave, tick, chains))
 }
 
-/// The run until nothing can move that the options report.
+/// The run until nothing can move, with the numbers of the options.
 pub(crate) fn read_outcome<'a>(matches: &ArgMatches<'a>) -> Result<UntilStill, Misuse<'a>>
     ensures { IfOk result (λ how. how.limit ≤ MAX_ROUNDS) }
 {
@@ -106,7 +118,7 @@ pub(crate) fn read_outcome<'a>(matches: &ArgMatches<'a>) -> Result<UntilStill, M
     Ok(UntilStill { limit, plan, tick })
 }
 
-/// The form of an outcome that the options report. The grammar lets only one of them pass.
+/// The form of an outcome that the options choose. The grammar accepts only one of them.
 pub(crate) fn read_form<'a>(matches: &ArgMatches<'a>) -> OutcomeForm<&'a str> {
     match matches.get_str("out") {
         Some(process) => OutcomeForm::Transcript(process),
@@ -116,7 +128,7 @@ pub(crate) fn read_form<'a>(matches: &ArgMatches<'a>) -> OutcomeForm<&'a str> {
     }
 }
 
-// The form of a trace that the options report. The grammar lets only one of them pass.
+// The form of a trace that the options choose. The grammar accepts only one of them.
 fn read_trace_form<'a>(matches: &ArgMatches<'a>) -> TraceForm {
     if matches.get_flag("timeline") {
         TraceForm::Timeline
@@ -129,7 +141,7 @@ fn read_trace_form<'a>(matches: &ArgMatches<'a>) -> TraceForm {
     }
 }
 
-/// The trace that the options report. It ends with the last round that is reported.
+/// The trace with the numbers of the options. It ends with the last round that is reported.
 pub(crate) fn read_trace<'a>(matches: &ArgMatches<'a>) -> Result<Tracing, Misuse<'a>>
     ensures { IfOk result (λ how. how.rounds ≤ MAX_ROUNDS) }
 {
@@ -167,14 +179,14 @@ pub(crate) fn read_only<'a>(
     Ok(names)
 }
 
-/// The replay that the options report.
+/// The replay with the numbers of the options.
 pub(crate) fn read_replay<'a>(matches: &ArgMatches<'a>) -> Result<Replay, Misuse<'a>> {
     let turn = count(matches, "turn", 1, MAX_TURN_STEPS, defaults::TURN)?;
     let tick = count(matches, "tick", 1, MAX_TICK_ROUNDS, defaults::TICK)?;
     Ok(replay_of(turn, tick, matches.get_flag("chains")))
 }
 
-/// The search that the options report.
+/// The search with the numbers of the options.
 pub(crate) fn read_search<'a>(matches: &ArgMatches<'a>) -> Result<Searching, Misuse<'a>>
     ensures states { IfOk result (λ how. (1 ≤ how.states) × (how.states ≤ MAX_OPTION_NUMBER)) }
     ensures memory { IfOk result (λ how. (1 ≤ how.memory) × (how.memory ≤ MAX_ROUNDS)) }

@@ -3,15 +3,16 @@
 ghost use Rattle.std.specs.Prelude.{◌≡◌, ◌≤◌, IfOk, IsOk, length};
 ghost use Rattle.cp_cli.specs.Commands.{IsInRange, IsWithoutWords};
 
-use crate::command::{Command, CommandError, Inputs};
+use crate::command::{Command, CommandError, Inputs, Invocation};
+use crate::completions::Shell;
 use crate::defaults::{CHUNK, ROUNDS, TICK, TURN, WAVE, WORKERS};
 use crate::grammar::{grammar, usage_of};
 use crate::inputs::read_inputs;
 use crate::misuse::Misuse;
 use crate::numbers::MAX_ROUNDS;
 use crate::options::{
-    count, read_form, read_only, read_outcome, read_replay, read_run, read_search, read_trace,
-    run_of,
+    count, read_colours, read_form, read_only, read_outcome, read_replay, read_run, read_search,
+    read_trace, run_of,
 };
 use crate::unknown::meant_by;
 use clap::ArgMatches;
@@ -142,14 +143,30 @@ fn replay<'a>(
     })
 }
 
-// The command of parsed arguments. The grammar requires a command and its file, so neither is
-// missing.
-fn command_of<'a>(alloc: Global, matches: &ArgMatches<'a>) -> Result<Command<'a>, Misuse<'a>>
+// The command `completions` of parsed arguments.
+fn completions<'a>(matches: &ArgMatches<'a>) -> Result<Command<'a>, Misuse<'a>>
     ensures { IfOk result IsInRange }
 {
-    let Some((name, matches)) = matches.subcommand() else {
-        return Err(Misuse::Missing { what: "a command" });
+    let Some(word) = matches.get_str("SHELL") else {
+        return Err(Misuse::Missing { what: "SHELL" });
     };
+    match Shell::named(word) {
+        Some(shell) => Ok(Command::Completions { shell }),
+        None => Err(Misuse::NoShell { word }),
+    }
+}
+
+// The command with this name. The grammar requires its file, so that isn't missing.
+fn command_of<'a>(
+    alloc: Global,
+    name: &str,
+    matches: &ArgMatches<'a>,
+) -> Result<Command<'a>, Misuse<'a>>
+    ensures { IfOk result IsInRange }
+{
+    if name == "completions" {
+        return completions(matches);
+    }
     let Some(file) = matches.get_str("FILE") else {
         return Err(Misuse::Missing { what: "FILE" });
     };
@@ -162,6 +179,18 @@ fn command_of<'a>(alloc: Global, matches: &ArgMatches<'a>) -> Result<Command<'a>
         "trace" => trace(alloc, file, matches),
         _ => run(alloc, file, matches),
     }
+}
+
+// The command of parsed arguments, and its colours. The grammar requires a command.
+fn invocation_of<'a>(alloc: Global, matches: &ArgMatches<'a>) -> Result<Invocation<'a>, Misuse<'a>>
+    ensures { IfOk result (λ invocation. IsInRange invocation.command) }
+{
+    let Some((name, matches)) = matches.subcommand() else {
+        return Err(Misuse::Missing { what: "a command" });
+    };
+    let colours = read_colours(matches)?;
+    let command = command_of(alloc, name, matches)?;
+    Ok(Invocation { command, colours })
 }
 
 // The command if there are no words after the program's name.
@@ -177,12 +206,12 @@ fn without_words<'a>() -> Command<'a>
     }
 }
 
-// To ask for the version is a command.
-fn version_or<'a>(error: clap::Error) -> Result<Command<'a>, CommandError>
-    ensures { IfOk result IsInRange }
+// A request for the version is a command, and any other answer of clap an error.
+fn version_or<'a>(error: clap::Error) -> Result<Invocation<'a>, CommandError>
+    ensures { IfOk result (λ invocation. IsInRange invocation.command) }
 {
     match error.kind() {
-        ErrorKind::DisplayVersion => Ok(Command::Version),
+        ErrorKind::DisplayVersion => Ok(Invocation::of(Command::Version)),
         _ => Err(CommandError::from(error)),
     }
 }
@@ -205,14 +234,14 @@ fn misuse_error<S: AsStr>(
     }
 }
 
-// The words are refused by the grammar, or ask for the version.
+// The answer to words that the grammar refuses, or that ask for the version.
 fn refused<'a, S: AsStr>(
     alloc: Global,
     grammar: &mut clap::Command<'_>,
     words: &'a [S],
     error: clap::Error,
-) -> Result<Command<'a>, CommandError>
-    ensures { IfOk result IsInRange }
+) -> Result<Invocation<'a>, CommandError>
+    ensures { IfOk result (λ invocation. IsInRange invocation.command) }
 {
     match (error.kind(), meant_by(words)) {
         (ErrorKind::UnknownArgument | ErrorKind::InvalidSubcommand, Some(misuse)) => {
@@ -223,7 +252,8 @@ fn refused<'a, S: AsStr>(
 }
 
 /// Parses the words of a command line, the first of which is the program's name. If there are no
-/// others, the command is to run the text of standard input for 2 rounds.
+/// others, the command is to run the text of standard input for 2 rounds. With them come the
+/// colours that are asked for.
 ///
 /// # Errors
 ///
@@ -231,21 +261,22 @@ fn refused<'a, S: AsStr>(
 pub fn read_command<'a, S: AsStr>(
     alloc: Global,
     words: &'a [S],
-) -> Result<Command<'a>, CommandError>
-    ensures rounds { IfOk result IsInRange }
-    ensures none { length words.entry.now ≤ 1 → IfOk result IsWithoutWords }
+) -> Result<Invocation<'a>, CommandError>
+    ensures rounds { IfOk result (λ invocation. IsInRange invocation.command) }
+    ensures none { length words.entry.now ≤ 1
+        → IfOk result (λ invocation. IsWithoutWords invocation.command) }
     ensures some { length words.entry.now ≤ 1 → IsOk result }
 {
     if words.len() <= 1 {
-        return Ok(without_words());
+        return Ok(Invocation::of(without_words()));
     }
     let mut grammar = grammar(alloc)?;
     let matches = match grammar.try_get_matches_from_mut(words) {
         Ok(matches) => matches,
         Err(error) => return refused(alloc, &mut grammar, words, error),
     };
-    match command_of(alloc, &matches) {
-        Ok(command) => Ok(command),
+    match invocation_of(alloc, &matches) {
+        Ok(invocation) => Ok(invocation),
         Err(misuse) => Err(misuse_error(alloc, &mut grammar, words, &misuse)),
     }
 }

@@ -10,7 +10,7 @@ const ROUNDS: &str = "--rounds sets how many rounds are run";
 
 const ALL: &str = "explain --all reports all violations";
 
-/// Options that a command hasn't, and what to write instead.
+// Options that a command doesn't have, and what to write instead.
 const MEANT: [(&str, &str, &str); 17] = [
     (
         "outcome",

@@ -6,7 +6,6 @@
 //! - `inputs`: the text and the inputs of a run. `locating`: where a text is refused.
 //! - `running`: checks, runs, outcomes, traces and replays. `searching`: searches. `explaining`:
 //!   explanations.
-//! - `progress`: how far a run or a search has come, on standard error.
 //! - `printing`: standard output. `status`: why a command has no result, and the exit statuses.
 //!
 //! `specs/Sources.antt` defines what is left to read.
@@ -18,16 +17,17 @@ mod locating;
 mod opening;
 mod perform;
 mod printing;
-mod progress;
 mod running;
 mod searching;
 mod status;
 
 use crate::perform::perform;
 use crate::status::{Failure, USAGE};
-use cp_cli::command::CommandError;
+use cp_cli::command::{Command, CommandError};
 use cp_cli::reading::read_command;
 use cp_frontend::refusal::Refusal;
+use std::env::VarError;
+use std::io::IsTerminal;
 use std::process::ExitCode;
 use std::{env, io};
 
@@ -60,17 +60,40 @@ fn report_unread_arguments(rt: &HostRuntime, error: &io::Error) -> ExitCode {
     ExitCode::from(USAGE)
 }
 
+// Whether the environment refuses colours: the variable NO_COLOR isn't empty.
+fn refuses_colours(rt: &HostRuntime) -> bool {
+    match env::var(rt, "NO_COLOR") {
+        Ok(value) => !value.is_empty(),
+        Err(VarError::NotPresent) => false,
+        Err(_) => true,
+    }
+}
+
+// Says what a command without words waits for, to whoever would type it.
+fn announce(rt: &HostRuntime, command: &Command<'_>) {
+    if matches!(command, Command::Run { file: None, .. }) && rt.stdin().is_terminal() {
+        let _ = eprintln!(rt;
+            "cpm reads a text from standard input; 'cpm --help' lists the commands"
+        );
+    }
+}
+
 fn main(rt: HostRuntime) -> ExitCode {
     let arguments = match arguments(&rt) {
         Ok(arguments) => arguments,
         Err(error) => return report_unread_arguments(&rt, &error),
     };
-    let command = match read_command(rt.alloc(), arguments.as_slice()) {
-        Ok(command) => command,
+    let invocation = match read_command(rt.alloc(), arguments.as_slice()) {
+        Ok(invocation) => invocation,
         Err(CommandError::Memory) => return report_refusal(&rt, Refusal::Memory),
         Err(error) => return report_misuse(&rt, &error),
     };
-    match perform(&rt, rt.alloc(), &command, &mut rt.stderr()) {
+    announce(&rt, &invocation.command);
+    let colours = invocation
+        .colours
+        .are_shown(rt.stdout().is_terminal(), refuses_colours(&rt));
+    let mut errors = rt.stderr();
+    match perform(&rt, rt.alloc(), &invocation.command, colours, &mut errors) {
         Ok(status) => ExitCode::from(status),
         Err(failure) => report_failure(&rt, &failure),
     }

@@ -13,6 +13,9 @@ use std::alloc::Global;
 use std::fs::{self, Files};
 use std::io::{self, Cursor, ErrorKind, Input, Read};
 
+// Why a directory can't be read.
+const A_DIRECTORY: &str = "a directory";
+
 /// What is read.
 #[derive(Drop)]
 pub(crate) enum Source<F, I> {
@@ -74,15 +77,29 @@ pub(crate) fn open_named<'a, H: Files + Input>(
     }
 }
 
+// Whether a directory has this name.
+fn is_directory(files: &impl Files, name: &str) -> bool {
+    match fs::metadata(files, name) {
+        Ok(metadata) => metadata.is_dir(),
+        Err(_) => false,
+    }
+}
+
 /// Opens what has this name, where `-` is standard input.
 ///
 /// # Errors
 ///
-/// `NoFile` if a file can't be opened, M if memory runs out.
+/// `NoFile` if a file can't be opened or is a directory, M if memory runs out.
 pub(crate) fn open<'a, H: Files + Input>(
     rt: &H,
     name: &'a str,
 ) -> Result<Source<H::File, H::Reader>, Failure<'a>> {
+    if name != STANDARD_INPUT && is_directory(rt, name) {
+        return Err(Failure::NoFile {
+            file: name,
+            reason: A_DIRECTORY,
+        });
+    }
     match open_named(rt, name) {
         Err(Failure::Unopened { file, error }) => Err(Failure::NoFile {
             file,
@@ -97,7 +114,7 @@ fn reason_of(kind: ErrorKind) -> &'static str {
     match kind {
         ErrorKind::NotFound => "no such file",
         ErrorKind::PermissionDenied => "permission denied",
-        ErrorKind::IsADirectory => "a directory",
+        ErrorKind::IsADirectory => A_DIRECTORY,
         _ => "can't be opened",
     }
 }

@@ -2,7 +2,7 @@
 
 use crate::explaining::explain;
 use crate::locating::located;
-use crate::printing::{print_page, print_version};
+use crate::printing::{Screen, print_completions, print_page, print_version};
 use crate::running::{check, outcome, replay, run, trace};
 use crate::searching::search;
 use crate::status::Failure;
@@ -18,7 +18,8 @@ use std::thread::Threads;
 /// Carries out a command, and returns the exit status: 0, or that of a refusal that was explained
 /// or of a verdict. Opens the text, then the inputs and then the order before it reads any of them,
 /// and prints the result to standard output, which it flushes. An explanation in place of a graph
-/// for Graphviz is written to `errors`, and progress, if it is asked for, to standard error.
+/// for Graphviz is written to `errors`, and progress, if it is asked for, to standard error. What
+/// people read has colours if these are wanted.
 ///
 /// # Errors
 ///
@@ -32,11 +33,20 @@ pub(crate) fn perform<
     'a,
     H: Clock + Eprint + Files + Input + Print + Threads + Wait + Sync,
     E: Write,
->(rt: &H, alloc: Global, command: &Command<'a>, errors: &mut E) -> Result<u8, Failure<'a>> {
+>(
+    rt: &H,
+    alloc: Global,
+    command: &Command<'a>,
+    colours: bool,
+    errors: &mut E,
+) -> Result<u8, Failure<'a>> {
     match command {
         Command::Version => print_version(rt)?,
+        Command::Completions { shell } => print_completions(rt, alloc, *shell)?,
         Command::Check { file } => check(rt, alloc, file)?,
-        Command::Explain { file, what } => return explain(rt, alloc, file, *what, errors),
+        Command::Explain { file, what } => {
+            return explain(rt, alloc, file, *what, colours, errors);
+        }
         Command::ExplainRule { page } => print_page(rt, page)?,
         Command::Run {
             file,
@@ -51,7 +61,11 @@ pub(crate) fn perform<
             input,
             progress,
         } => {
-            return match outcome(rt, alloc, file, input, how, *form, *progress) {
+            let screen = Screen {
+                progress: *progress,
+                colours,
+            };
+            return match outcome(rt, alloc, file, input, how, *form, screen) {
                 Ok(verdict) => Ok(status_of(verdict)),
                 Err(failure) => Err(located(rt, alloc, file, failure)),
             };
@@ -74,7 +88,11 @@ pub(crate) fn perform<
             input,
             progress,
         } => {
-            return match search(rt, alloc, file, input, *how, *save, *progress) {
+            let screen = Screen {
+                progress: *progress,
+                colours,
+            };
+            return match search(rt, alloc, file, input, *how, *save, screen) {
                 Ok(status) => Ok(status),
                 Err(failure) => Err(located(rt, alloc, file, failure)),
             };

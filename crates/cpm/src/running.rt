@@ -4,14 +4,15 @@
 
 use crate::inputs::{Sources, open_inputs, open_sources};
 use crate::opening::{Source, open, read_bytes};
-use crate::printing::flush;
-use crate::progress::Progress;
+use crate::printing::{Screen, flush, flushed};
 use crate::status::Failure;
 use cp_base_config::outcome::{OutcomeForm, UntilStill};
 use cp_base_config::run::{Replay, Run};
 use cp_base_config::trace::Tracing;
 use cp_cli::command::{Inputs, STANDARD_INPUT};
 use cp_cli_inputs::named::{process_number, unknown_name};
+use cp_cli_progress::Progress;
+use cp_cli_terminal::painter::Painter;
 use cp_execute::execute::{Job, execute};
 use cp_execute::execute_order::execute_order;
 use cp_execute_observe::execute_outcome::execute_outcome;
@@ -38,8 +39,7 @@ fn print_job<H: Clock + Eprint + Print + Threads + Wait + Sync, R: Read, S: Read
     let mut out = progress.beside(io::writer(rt));
     let done = execute(rt, alloc, text, input, job, &progress, &mut out);
     progress.erase();
-    done?;
-    flush(&mut out)
+    flushed(done, &mut out)
 }
 
 /// Checks a text.
@@ -105,15 +105,14 @@ fn print_outcome<H: Clock + Eprint + Print + Threads + Wait + Sync, R: Read, S: 
     input: &mut S,
     how: &UntilStill,
     form: OutcomeForm<u32>,
-    progress: bool,
+    screen: Screen,
 ) -> Result<Verdict, Refusal> {
-    let progress = Progress::of(rt, progress);
-    let mut out = progress.beside(io::writer(rt));
+    let progress = Progress::of(rt, screen.progress);
+    let is_painting = screen.colours && matches!(form, OutcomeForm::Verdict);
+    let mut out = progress.beside(Painter::new(alloc, io::writer(rt), is_painting));
     let reported = execute_outcome(rt, alloc, text, input, how, form, &progress, &mut out);
     progress.erase();
-    let verdict = reported?;
-    flush(&mut out)?;
-    Ok(verdict)
+    flushed(reported, &mut out)
 }
 
 /// Runs a text until nothing can move, prints the outcome, and returns the verdict.
@@ -124,12 +123,12 @@ pub(crate) fn outcome<'a, H: Clock + Eprint + Files + Input + Print + Threads + 
     input: &Inputs<'a>,
     how: &UntilStill,
     form: OutcomeForm<&'a str>,
-    progress: bool,
+    screen: Screen,
 ) -> Result<Verdict, Failure<'a>> {
     let mut read = open_sources(rt, alloc, file, input)?;
     let form = numbered(alloc, &mut read.text, form)?;
     let Sources { text, input } = &mut read;
-    let verdict = print_outcome(rt, alloc, text, input, how, form, progress)?;
+    let verdict = print_outcome(rt, alloc, text, input, how, form, screen)?;
     Ok(verdict)
 }
 
@@ -196,8 +195,8 @@ fn print_replay<H: Print, R: Read, S: Read, O: Read>(
     replay: &Replay,
 ) -> Result<(), Refusal> {
     let mut out = io::writer(rt);
-    execute_order(alloc, text, input, order, replay, &mut out)?;
-    flush(&mut out)
+    let done = execute_order(alloc, text, input, order, replay, &mut out);
+    flushed(done, &mut out)
 }
 
 /// Replays a text in the order of a file, and prints the report.

@@ -2,11 +2,12 @@
 //! Everything that is read is opened before any of it is read.
 
 use crate::inputs::{Sources, open_sources};
-use crate::printing::flush;
-use crate::progress::Progress;
+use crate::printing::{Screen, flushed};
 use crate::status::Failure;
-use cp_base_config::search::Searching;
+use cp_base_config::search::{SearchForm, Searching};
 use cp_cli::command::Inputs;
+use cp_cli_progress::Progress;
+use cp_cli_terminal::painter::Painter;
 use cp_execute_search::execute_search::{Searched, execute_search};
 use cp_execute_search::verdict::status_of;
 use cp_frontend::refusal::Refusal;
@@ -62,15 +63,14 @@ fn print_search<H: Clock + Eprint + Print, R: Read, S: Read>(
     text: &mut R,
     input: &mut S,
     how: Searching,
-    progress: bool,
+    screen: Screen,
 ) -> Result<Searched, Refusal> {
-    let progress = Progress::of(rt, progress);
-    let mut out = progress.beside(io::writer(rt));
+    let progress = Progress::of(rt, screen.progress);
+    let is_painting = screen.colours && matches!(how.form, SearchForm::Lines);
+    let mut out = progress.beside(Painter::new(alloc, io::writer(rt), is_painting));
     let done = execute_search(alloc, text, input, how, &progress, &mut out);
     progress.erase();
-    let searched = done?;
-    flush(&mut out)?;
-    Ok(searched)
+    flushed(done, &mut out)
 }
 
 /// Searches a text, prints what was found, and returns the exit status. Then it writes each schedule
@@ -87,7 +87,7 @@ pub(crate) fn search<'a, H: Clock + Eprint + Files + Input + Print>(
     input: &Inputs<'a>,
     how: Searching,
     save: Option<&'a str>,
-    progress: bool,
+    screen: Screen,
 ) -> Result<u8, Failure<'a>> {
     let names = match save {
         Some(name) => Some(Names::of(alloc, name)?),
@@ -95,7 +95,7 @@ pub(crate) fn search<'a, H: Clock + Eprint + Files + Input + Print>(
     };
     let mut read = open_sources(rt, alloc, file, input)?;
     let Sources { text, input } = &mut read;
-    let searched = print_search(rt, alloc, text, input, how, progress)?;
+    let searched = print_search(rt, alloc, text, input, how, screen)?;
     if let Some(names) = names {
         names.save(rt, &searched.findings)?;
     }

@@ -1,5 +1,6 @@
 //! Progress: the round that is being made, or how many states have been seen, on a line of standard
 //! error, once a second.
+#![tactic(auto)]
 
 use cp_rounds::gate::TurnGate;
 use cp_search::search::Watch;
@@ -13,7 +14,7 @@ const PERIOD: u64 = 1_000;
 /// A gate that counts rounds and shows the round that is being made, if that is asked for. An
 /// outcome may go back and make some rounds again, which count again. A search shows its states.
 #[derive(Drop)]
-pub(crate) struct Progress<'a, H> {
+pub struct Progress<'a, H> {
     rt: &'a H,
     is_asked_for: bool,
     /// The number of rounds that were begun.
@@ -34,7 +35,7 @@ fn now(clock: &impl Clock) -> u64 {
 
 impl<'a, H: Clock + Eprint> Progress<'a, H> {
     /// The gate of a run that begins now.
-    pub(crate) fn of(rt: &'a H, is_asked_for: bool) -> Progress<'a, H> {
+    pub fn of(rt: &'a H, is_asked_for: bool) -> Progress<'a, H> {
         let next = if is_asked_for {
             now(rt).saturating_add(PERIOD)
         } else {
@@ -72,7 +73,7 @@ impl<'a, H: Clock + Eprint> Progress<'a, H> {
     }
 
     /// Erases the line.
-    pub(crate) fn erase(&self) {
+    pub fn erase(&self) {
         if self.is_shown.swap(false, Ordering::SeqCst) {
             let _ = eprint!(self.rt; "\r\x1b[K");
         }
@@ -80,7 +81,7 @@ impl<'a, H: Clock + Eprint> Progress<'a, H> {
 
     /// A writer that erases the line whenever it writes to another, since both may be shown
     /// on one terminal.
-    pub(crate) fn beside<'p, W: Write>(&'p self, out: W) -> Beside<'p, 'a, H, W> {
+    pub fn beside<'p, W: Write>(&'p self, out: W) -> Beside<'p, 'a, H, W> {
         Beside {
             progress: self,
             out,
@@ -114,7 +115,7 @@ impl<H: Clock + Eprint> Watch for Progress<'_, H> {
 
 /// A writer beside a line of progress.
 #[derive(Drop)]
-pub(crate) struct Beside<'p, 'a, H, W> {
+pub struct Beside<'p, 'a, H, W> {
     progress: &'p Progress<'a, H>,
     out: W,
 }
