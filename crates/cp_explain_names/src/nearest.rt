@@ -4,7 +4,7 @@ use cp_model::tree::{Fields, Identifier};
 use std::alloc::{AllocError, Global};
 use strsim::generic_levenshtein;
 
-/// The most names that are compared, so that an explanation stays quick.
+/// The most names that are compared: more would make an explanation slow.
 const MAX_NEARBY_NAMES: usize = 4_000;
 
 /// Of the names that were offered, the one that is spelled most like the wanted one.
@@ -17,7 +17,7 @@ pub struct Nearest<'t> {
     offered: usize,
 }
 
-// How many edits, and one, a name of this length may be away from another one.
+// One more than the edits by which a name of this length may differ from another one.
 fn limit(length: usize) -> usize {
     match length {
         0..=2 => 1,

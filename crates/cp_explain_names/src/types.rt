@@ -1,4 +1,4 @@
-//! The types of names, constants and expressions, as far as their declarations report them.
+//! The types of names, constants and expressions, as far as their declarations give them.
 
 use crate::scope::{Declaration, Kind, Scope, Wanted};
 use crate::standard::{StandardType, standard_value};

@@ -48,7 +48,7 @@ impl Flow {
     }
 }
 
-/// How often a statement runs, as far as constants report.
+/// How often a statement runs, as far as constants show.
 #[derive(Clone, Copy)]
 pub enum Times {
     Never,

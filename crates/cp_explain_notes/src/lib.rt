@@ -1,10 +1,10 @@
-//! Notes on accepted texts: what the rules allow, and what is doomed whatever.
+//! Notes on accepted texts: what the rules allow although it is doomed.
 //!
 //! `text` walks over declarations, `statements` over bodies and `expressions` over calls; `walk` is
 //! what they know on their way, and `flow` which ways lead to a place.
 //! Each kind of note is in a module: `initialisation`, `queues`, `queue_uses`, `ranges` and
-//! `results`, but for statements that never run, which `statements` notes. `note` orders and writes
-//! them in the words of `messages`.
+//! `results`. `statements` notes those that never run. `note` orders the notes, and writes them in
+//! the words of `messages`.
 //!
 //! A note claims only what holds whatever the values are. All of this is words, and tested.
 #![tactic(auto)]

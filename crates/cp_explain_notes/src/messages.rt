@@ -1,4 +1,4 @@
-//! The words of notes. `$` and `%` represent the names that a note reports of.
+//! The words of notes. `$` and `%` represent the names that a note is about.
 
 use crate::note::NoteKind;
 use cp_model::tree::Sort;

@@ -42,7 +42,7 @@ pub enum NoteKind {
     CounterSet,
 }
 
-/// A note, with the names that it reports of.
+/// A note, with the names that it is about.
 #[derive(Clone, Copy)]
 struct Note<'t> {
     at: usize,
@@ -77,7 +77,7 @@ impl<'t> Notes<'t> {
         self.push(at, note_kind, About::NOTHING)
     }
 
-    /// Adds a note that reports of a name.
+    /// Adds a note about a name.
     pub fn add_on(
         &mut self,
         at: usize,
@@ -91,7 +91,7 @@ impl<'t> Notes<'t> {
         self.push(at, note_kind, about)
     }
 
-    /// Adds a note that reports of two names.
+    /// Adds a note about two names.
     pub fn add_on_both(
         &mut self,
         at: usize,

@@ -32,7 +32,7 @@ pub struct QueueUses<'t> {
     calls: Vec<DelayingCall<'t>>,
     // The first process that comes to each queue.
     first: BTreeMap<QueueInstance<'t>, &'t [u8]>,
-    // The queues, by their numbers, of which a note reports already.
+    // The queues, by their numbers, that a note is about already.
     reported: BTreeSet<usize>,
 }
 
@@ -66,7 +66,7 @@ impl<'t> QueueUses<'t> {
         }
     }
 
-    // Whether a note reports of a queue already. From now on one does.
+    // Whether a note is about a queue already. From now on one is.
     fn report(&mut self, queue: usize) -> Result<bool, AllocError> {
         match self.reported.insert(queue) {
             Ok(is_new) => Ok(!is_new),

@@ -8,14 +8,14 @@ use cp_base_names::Key;
 use cp_model::tree::{Identifier, Sort, Tree};
 use std::alloc::{AllocError, Global};
 
-// How many instances are made, with all processes and monitors of a text that declares no class
+// The most instances that are made: enough for all processes and monitors, unless many classes come
 // before them.
 const MAX_INSTANCES: usize = 2_000;
 
-// How deep classes nest in what is made.
+// The depth to which classes are made inside classes.
 const MAX_LEVELS: usize = 16;
 
-// How many rights are made, and looked at.
+// The most rights that are made and looked at.
 const MAX_RIGHTS: usize = 100_000;
 
 /// A component of a program.

@@ -268,8 +268,8 @@ impl<'t> Site<'t> {
         }
     }
 
-    /// The second name that a message reports of: the component before a `.`, what is named after
-    /// it, or an enumeration.
+    /// The second name that a message is about: the component before a `.`, what is named after it,
+    /// or an enumeration.
     pub fn other(&self) -> Option<&'t Identifier> {
         match self.name {
             Some((_, NameRole::Root(d))) => first_field(d),
