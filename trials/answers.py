@@ -28,7 +28,7 @@ from typing import NamedTuple
 from running import PROGRAM, is_answer
 
 FOLDER = pathlib.Path(__file__).resolve().parent / 'answers'
-LEAST = 900
+LEAST = 1_200
 
 
 class Question(NamedTuple):
