@@ -1,9 +1,10 @@
--- The kernel step of the machine is that of the meaning, even if neither has one.
+-- The kernel step of the machine is that of the meaning, even if neither has one. So is a step of any
+-- kind, if there is one.
 --
 -- With the words of all monitors after its own, the private state is that of the process, so the
 -- step is one of those that are proved. After the step, the words are separated again. The kernel's
 -- gates and stages are right, since the effect is that of the meaning.
-use Rattle.std.proofs.Common.{◌≡◌, inr, ℕ, ◌+◌, ℤ, Bool, true, false, List, [], ◌∷◌, length, Option, Some, None, refl, ap, sym, subst, ◌∙◌, arith}
+use Rattle.std.proofs.Common.{◌≡◌, inr, ℕ, ◌+◌, Bool, true, false, List, [], ◌∷◌, length, Option, Some, None, refl, ap, sym, subst, ◌∙◌, arith}
 use Rattle.std.specs.Prelude.{◌||◌, drop, if◌then◌else◌, take}
 use Rattle.std.proofs.lemmas.Bool.{true≢false}
 use Rattle.cp_model.specs.Actions.{Action, Acts, Calls, Rests, action, is_kernel_action}
@@ -20,12 +21,11 @@ use Rattle.cp_model.specs.Parts as parts
 use Rattle.cp_model.specs.Parts.{HasBegun, PrivateStatus, private_status}
 use Rattle.cp_model.specs.States.{Setup, State, configuration, context, monitor_count, process_count, running_clock}
 use Rattle.cp_model.specs.Turns as meaning
-use Rattle.cp_model.specs.Turns.{after_step, if_kernel, kind, kind_of, step}
-use Rattle.cp_model.proofs.StateInvariant.{kernel_step_keeps}
+use Rattle.cp_model.specs.Turns.{after_step, if_kernel, if_private, kind, kind_of, step}
+use Rattle.cp_model.proofs.StateInvariant.{kernel_step_keeps, private_step_keeps}
 use Rattle.cp_model.proofs.StateMaps.{with_at_here}
 use Rattle.cp_model_program.specs.Programs.{Operation, Program}
 use Rattle.cp_model_program.specs.IsProgramFor.{IsProgramFor}
-use Rattle.cp_model_program.specs.TermsFor.{Knowns}
 use Rattle.cp_model_machine.specs.PrivateStates as machine
 use Rattle.cp_model_machine.specs.PrivateStates.{Acting, Activity, StepContext, PrivateState}
 use Rattle.cp_model_machine.specs.Steps as steps
@@ -36,7 +36,7 @@ use Rattle.cp_model_machine.specs.KernelOf.{KernelOf, StageMeans, is_shared, ker
 use Rattle.cp_model_machine.specs.KernelSteps as plain
 use Rattle.cp_model_machine.specs.KernelSteps.{Begun, Kernel, SchedulingState, Turning, apply_effect, is_begun, is_due, join_words, needs_kernel, outside, part_words, stage_of}
 use Rattle.cp_model_machine.specs.Laws.{TurningOf, ground_of}
-use Rattle.cp_model_machine.specs.Remaining.{Remaining, Running, innermost_gate, site}
+use Rattle.cp_model_machine.specs.Remaining.{innermost_gate, site}
 use Rattle.cp_model_machine.specs.PartOf.{DataMeans, IsActive, PartOf, RunsOn, status_of}
 use Rattle.cp_model_machine.proofs.Deciding.{Reaches, ready_steps}
 use Rattle.cp_model_machine.proofs.Effects.{HasFailed, HasFaulted, failed, private_after, private_by, unfailed}
@@ -61,25 +61,14 @@ use Rattle.cp_model_machine.proofs.Stopping.{Fails, Finishes, On, Stops, act_sto
 abbrev pub Due : List Task → Bool
 Due k = holds_gate stage.Ready k || is_kernel_action (action k)
 
--- A process at its end mark has no kernel step.
-no_end : (G : Ground) (temps : List ℤ) (limit : ℕ) (K : Knowns) (R : Running) (fs : List machine.Frame) (place low : ℕ) (k : List Task) → Remaining G temps limit K R fs place low k → Due k ≡ true → IsEnd (action k) → ⊥
-no_end G temps limit K R fs place low [] left due end = end
-no_end G temps limit K R fs place low (i ∷ k) left due end = by i left due (of_task (call_in_task (a.Literal 0) i) (procedure_call i) end)
+-- What is left to do, whose first task isn't a call.
+first_acts : (i : Task) (k : List Task) → IsEnd (action (i ∷ k)) → IsEnd (Acts i k)
+first_acts i k end = by (call_in_task (a.Literal 0) i) (procedure_call i) end
   where
-    of_task : (f : Option (UserCall × Task)) (u : Option UserCall) → IsEnd (elim f as (λ x. Action) [ Some v ↦ Calls v.0 (i ∷ k) | None ↦ elim u [ Some v ↦ Calls v k | None ↦ Acts i k ] ]) → IsEnd (Acts i k)
-    of_task None None h = h
-    of_task None (Some u) h = absurd h
-    of_task (Some f) u h = absurd h
-
-    by : (i : Task) → Remaining G temps limit K R fs place low (i ∷ k) → Due (i ∷ k) ≡ true → IsEnd (Acts i k) → ⊥
-    by EndProcess left due end =
-        true≢false (sym due ∙ ap (λ ms. (elim ms as (λ x. Bool) [ [] ↦ false | m ∷ rest ↦ true ]) || false) (ap marked_monitors left.1))
-    by (Do s env) left due end = end
-    by (WhileTest now e s env) left due end = end
-    by (RepeatTest now s e env) left due end = end
-    by (ForNext x down n last s env) left due end = end
-    by (EndCall env gate) left due end = end
-    by (EndBody gate) left due end = end
+    by : (f : Option (UserCall × Task)) (u : Option UserCall) → IsEnd (elim f as (λ x. Action) [ Some v ↦ Calls v.0 (i ∷ k) | None ↦ elim u [ Some v ↦ Calls v k | None ↦ Acts i k ] ]) → IsEnd (Acts i k)
+    by None None h = h
+    by None (Some u) h = absurd h
+    by (Some f) u h = absurd h
 
 -- ---- one step
 
@@ -267,8 +256,20 @@ module _ (program : Program) (setup : Setup) (F : IsProgramFor program setup) (p
       is_end (Acts EndProcess l) h = tt
       is_end (Acts i l) h = absurd (h (action_endless (context setup s p) (configuration s p) (Acts i l) (λ e. e)))
 
-      turned : Due (s.continuation p) ≡ true → TurningOf program setup F p own u before (part_words n x r)
-      turned due = by (act_stops program w (join_words x) S.operation running)
+      -- The end of a process leaves its activations as they are.
+      ended : (top base : ℕ) (fs : List machine.Frame) (k : List Task) → IsEnd (action k) → Stacked H top (activations base fs k)
+          → Stacked H top (activations base fs ((after_step s p (does H s (action k))).continuation p))
+      ended top base fs [] end stack = absurd end
+      ended top base fs (EndProcess ∷ k) end stack = subst (λ l. Stacked H top (activations base fs l)) (sym (with_at_here p k s.continuation)) stack
+      ended top base fs (Do t env ∷ k) end stack = absurd (first_acts (Do t env) k end)
+      ended top base fs (WhileTest now e t env ∷ k) end stack = absurd (first_acts (WhileTest now e t env) k end)
+      ended top base fs (RepeatTest now t e env ∷ k) end stack = absurd (first_acts (RepeatTest now t e env) k end)
+      ended top base fs (ForNext y down m last t env ∷ k) end stack = absurd (first_acts (ForNext y down m last t env) k end)
+      ended top base fs (EndCall env gate ∷ k) end stack = absurd (first_acts (EndCall env gate) k end)
+      ended top base fs (EndBody gate ∷ k) end stack = absurd (first_acts (EndBody gate) k end)
+
+      turned : TurningOf program setup F p own u before (part_words n x r)
+      turned = by (act_stops program w (join_words x) S.operation running)
         where
           by : Stops (join_words x) S.operation r.0 → TurningOf program setup F p own u before (part_words n x r)
           by (On goes) =
@@ -281,8 +282,22 @@ module _ (program : Program) (setup : Setup) (F : IsProgramFor program setup) (p
               top : ℕ
               top = o.base + (site H joins.running).words
           by (Finishes is e) =
-              absurd (no_end G o.temps o.limit _ R.running o.frames o.counter R.running.unit.temps (s.continuation p) R.left due
-              (is_end (action (s.continuation p)) (not_finished (does H s (action (s.continuation p))) (after.status ∙ ap status_of is))))
+              halves top
+              (subst (λ (T : Type 0). T) (λ i. Stacked H top (activations (sym base i) (sym frames i) (u.continuation p)))
+              (ended top o.base o.frames (s.continuation p) end (runs_stacked H s.store (join_words x) (s.continuation p) joins)))
+              (begun_still (join_words x) S.operation r.0 (Finishes is e)) (λ goes. absurd (subst IsActive is goes))
+            where
+              top : ℕ
+              top = o.base + (site H joins.running).words
+
+              base : r.0.base ≡ o.base
+              base = ap (λ y. (act program w (join_words x) y).0.base) e
+
+              frames : r.0.frames ≡ o.frames
+              frames = ap (λ y. (act program w (join_words x) y).0.frames) e
+
+              end : IsEnd (action (s.continuation p))
+              end = is_end (action (s.continuation p)) (not_finished (does H s (action (s.continuation p))) (after.status ∙ ap status_of is))
 
   -- ---- all statuses
 
@@ -302,6 +317,20 @@ module _ (program : Program) (setup : Setup) (F : IsProgramFor program setup) (p
       by true e = Step ready running e (defined true e) (λ i. if (due_is ready running ∙ e) i then part_words (length o.words) x (taken ready running i) else x)
       by false e = Rest (defined false e) (ap (λ c. if c then part_words (length o.words) x (step_with program w (join_words x)) else x) (due_is ready running ∙ e))
 
+  -- What the kernel says of a process.
+  known : (y : Status) → s.status p ≡ y → StageMeans (kernel_ground program F.texts setup) y (stage_of k.stages o.number)
+  known y is =
+      subst (λ z. StageMeans (kernel_ground program F.texts setup) y (stage_of k.stages z)) (sym P.number)
+      (subst (λ z. StageMeans (kernel_ground program F.texts setup) z (stage_of k.stages p)) is (K.gates_represent.stages p number.0 (omega (arith, number.1, K.gates_represent.stage_count))))
+
+  asks : (m : ℕ) (g : SchedulingState) → StageMeans (kernel_ground program F.texts setup) (stage.Asking m) g → is_begun g ≡ false
+  asks m (plain.Asking j) means = refl
+  asks m _ means = absurd means
+
+  waits : (m : ℕ) (q : Location) (g : SchedulingState) → StageMeans (kernel_ground program F.texts setup) (stage.Delayed m q) g → is_begun g ≡ false
+  waits m q (plain.Delayed j at) means = refl
+  waits m q _ means = absurd means
+
   pub which : Which
   which = by (s.status p) refl
     where
@@ -315,19 +344,6 @@ module _ (program : Program) (setup : Setup) (F : IsProgramFor program setup) (p
 
       still : (y : Status) → s.status p ≡ y → kind_of y (s.continuation p) ≡ meaning.NoStep → (IsRunning (private_status y) → ⊥) → Which
       still y is none idle = rests y is none (not_running o (λ h. idle (subst IsRunning (sym (same y is)) h)) program k)
-
-      known : (y : Status) → s.status p ≡ y → StageMeans (kernel_ground program F.texts setup) y (stage_of k.stages o.number)
-      known y is =
-          subst (λ z. StageMeans (kernel_ground program F.texts setup) y (stage_of k.stages z)) (sym P.number)
-          (subst (λ z. StageMeans (kernel_ground program F.texts setup) z (stage_of k.stages p)) is (K.gates_represent.stages p number.0 (omega (arith, number.1, K.gates_represent.stage_count))))
-
-      asks : (m : ℕ) (g : SchedulingState) → StageMeans (kernel_ground program F.texts setup) (stage.Asking m) g → is_begun g ≡ false
-      asks m (plain.Asking j) means = refl
-      asks m _ means = absurd means
-
-      waits : (m : ℕ) (q : Location) (g : SchedulingState) → StageMeans (kernel_ground program F.texts setup) (stage.Delayed m q) g → is_begun g ≡ false
-      waits m q (plain.Delayed j at) means = refl
-      waits m q _ means = absurd means
 
       by : (y : Status) → s.status p ≡ y → Which
       by stage.Ready is = ready_which is (running_is o.activity (subst IsRunning (same stage.Ready is) tt))
@@ -351,4 +367,47 @@ module _ (program : Program) (setup : Setup) (F : IsProgramFor program setup) (p
       by (Step ready running due defined computed) =
           subst (λ v. TurningOf program setup F p own v before (plain.kernel_step program clock x)) (sym defined)
           (subst (TurningOf program setup F p own (step setup s p) before) (sym computed)
-          (turned ready running (subst (λ (v : State). StoreInvariant v.store) defined (kernel_step_keeps setup s p I).store) due))
+          (turned ready running (subst (λ (v : State). StoreInvariant v.store) defined (kernel_step_keeps setup s p I).store)))
+
+  -- ---- a step of any kind
+
+  -- The process is ready if it runs and has begun.
+  ready_is : machine.is_running o.activity ≡ true → is_begun (stage_of k.stages o.number) ≡ true → s.status p ≡ stage.Ready
+  ready_is runs begins = by (s.status p) refl
+    where
+      still : (y : Status) → s.status p ≡ y → (IsRunning (private_status y) → ⊥) → ⊥
+      still y is idle =
+          true≢false (sym runs ∙ still_is o.activity (λ h. idle (subst IsRunning (sym (ap private_status (sym is) ∙ P.status)) h)))
+
+      by : (y : Status) → s.status p ≡ y → s.status p ≡ stage.Ready
+      by stage.Ready is = is
+      by stage.Unstarted is = absurd (still stage.Unstarted is (λ h. h))
+      by stage.Fresh is = absurd (still stage.Fresh is (λ h. h))
+      by stage.Ended is = absurd (still stage.Ended is (λ h. h))
+      by stage.Waiting is = absurd (still stage.Waiting is (λ h. h))
+      by (stage.Faulted m) is = absurd (still (stage.Faulted m) is (λ h. h))
+      by (stage.Asking m) is = absurd (true≢false (sym begins ∙ asks m (stage_of k.stages o.number) (known (stage.Asking m) is)))
+      by (stage.Delayed m q) is = absurd (true≢false (sym begins ∙ waits m q (stage_of k.stages o.number) (known (stage.Delayed m q) is)))
+
+  -- So the step leads to the state after the meaning's step, whatever its kind.
+  pub joined_step_turns : machine.is_running o.activity ≡ true → is_begun (stage_of k.stages o.number) ≡ true
+      → TurningOf program setup F p own (step setup s p) before (plain.joined_step program clock x) × Invariant (step setup s p)
+  joined_step_turns runs begins =
+      let ready = ready_is runs begins in
+      let running = running_is o.activity (subst IsRunning (ap private_status (sym ready) ∙ P.status) tt) in
+      let J = kept ready running in (
+        subst (TurningOf program setup F p own (step setup s p) before) (sym (ap (part_words (length o.words) x) (taken ready running)))
+            (turned ready running J.store),
+        J,
+      )
+    where
+      kept : s.status p ≡ stage.Ready → o.activity ≡ machine.Running → Invariant (step setup s p)
+      kept ready running = by (Due (s.continuation p)) refl
+        where
+          by : (b : Bool) → Due (s.continuation p) ≡ b → Invariant (step setup s p)
+          by true e =
+              subst Invariant (ap (λ z. if_kernel z (step setup s p) s) (kind_is ready running ∙ ap (λ c. if c then meaning.Kernel else meaning.Private) e))
+              (kernel_step_keeps setup s p I)
+          by false e =
+              subst Invariant (ap (λ z. if_private z (step setup s p) s) (kind_is ready running ∙ ap (λ c. if c then meaning.Kernel else meaning.Private) e))
+              (private_step_keeps setup s p I)

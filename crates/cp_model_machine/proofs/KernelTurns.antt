@@ -7,13 +7,16 @@ use Rattle.cp_model.specs.Turns as meaning
 use Rattle.cp_model.proofs.RoundCount.{kernel_turn_count}
 use Rattle.cp_model.proofs.StateInvariant.{kernel_step_keeps, private_step_keeps}
 use Rattle.cp_model_machine.specs.KernelSteps.{kernel_step, kernel_steps}
-use Rattle.cp_model_machine.specs.Laws.{KernelStepIsStep, KernelTurnIsTurn, KernelTurnKeepsParts, PrivateTurnKeepsKernel, PrivateTurnKeepsParts, TurningOf, ground_of}
+use Rattle.cp_model_machine.specs.Laws.{JoinedStepIsStep, KernelStepIsStep, KernelTurnIsTurn, KernelTurnKeepsParts, PrivateTurnKeepsKernel, PrivateTurnKeepsParts, TurningOf, ground_of}
 use Rattle.cp_model_machine.proofs.KernelBeside.{private_step_kernel}
-use Rattle.cp_model_machine.proofs.KernelTurning.{kernel_step_turns}
+use Rattle.cp_model_machine.proofs.KernelTurning.{joined_step_turns, kernel_step_turns}
 use Rattle.cp_model_machine.proofs.OthersParts.{kernel_step_beside, private_step_beside}
 
 pub kernel_step_is_step : KernelStepIsStep
 kernel_step_is_step program setup F p own s before x I low high T = kernel_step_turns program setup F p own s before x.own x.kernel I (low, high) T.part T.kernel
+
+pub joined_step_is_step : JoinedStepIsStep
+joined_step_is_step program setup F p own s before x I low high T = joined_step_turns program setup F p own s before x.own x.kernel I (low, high) T.part T.kernel
 
 pub kernel_turn_is_turn : KernelTurnIsTurn
 kernel_turn_is_turn program setup F p own zero s before x I low high T = T

@@ -120,10 +120,13 @@ is_due program x =
     then (if is_begun (stage_of x.kernel.stages x.own.number) then needs_kernel x.own (operation_of program x.own) else false)
     else false
 
+-- One step of any kind, with the words of all monitors in reach.
+abbrev pub joined_step : Program → ℕ → Turning → Turning
+joined_step program clock x = part_words (length x.own.words) x (step_with program (outside clock x) (join_words x))
+
 -- One step if the next one is a kernel step, and otherwise nothing.
 abbrev pub kernel_step : Program → ℕ → Turning → Turning
-kernel_step program clock x =
-    if is_due program x then part_words (length x.own.words) x (step_with program (outside clock x) (join_words x)) else x
+kernel_step program clock x = if is_due program x then joined_step program clock x else x
 
 -- At most `n` steps, as long as the next one is a kernel step.
 abbrev pub kernel_steps : Program → ℕ → ℕ → Turning → Turning

@@ -1,5 +1,5 @@
 -- The laws of steps, turns and starts, which the functions of `src/law.rt` state.
-use Rattle.std.specs.Prelude.{◌≡◌, ◌≢◌, ◌≤◌, ℕ, suc, ◌-◌, ◌%◌, ◌++◌, List, [], Some, length, slice_get}
+use Rattle.std.specs.Prelude.{◌≡◌, ◌≢◌, ◌≤◌, ℕ, suc, ◌-◌, ◌%◌, ◌++◌, List, [], Some, length, slice_get, true}
 use Rattle.cp_model.specs.Invariant.{Invariant}
 use Rattle.cp_model.specs.Operators.{realtime}
 use Rattle.cp_model.specs.Rounds.{wake}
@@ -9,11 +9,11 @@ use Rattle.cp_model.specs.Turns as meaning
 use Rattle.cp_model_program.specs.Programs as code
 use Rattle.cp_model_program.specs.Programs.{Program}
 use Rattle.cp_model_program.specs.IsProgramFor.{IsProgramFor}
-use Rattle.cp_model_machine.specs.PrivateStates.{PrivateState}
+use Rattle.cp_model_machine.specs.PrivateStates.{PrivateState, is_running}
 use Rattle.cp_model_machine.specs.Steps.{private_step, private_steps}
 use Rattle.cp_model_machine.specs.Addresses.{Ground, OwnWords}
 use Rattle.cp_model_machine.specs.PartOf.{PartOf}
-use Rattle.cp_model_machine.specs.KernelSteps.{Kernel, Turning, kernel_step, kernel_steps}
+use Rattle.cp_model_machine.specs.KernelSteps.{Kernel, Turning, is_begun, joined_step, kernel_step, kernel_steps, stage_of}
 use Rattle.cp_model_machine.specs.KernelOf.{KernelOf}
 use Rattle.cp_model_machine.specs.Machines.{first_machine, first_part, wake_one}
 use Rattle.cp_model_machine.specs.Beginning.{Begins}
@@ -82,6 +82,18 @@ KernelStepIsStep =
     → Invariant s → 1 ≤ p → p ≤ process_count setup → TurningOf program setup F p own s before x
     → TurningOf program setup F p own (meaning.kernel_step setup s p) before
     (kernel_step program (realtime (running_clock setup s)) x)
+
+-- If the process can make a step of any kind, the same holds for that step, with the words of all
+-- monitors in reach. The invariant holds again.
+abbrev pub JoinedStepIsStep : Type 0
+JoinedStepIsStep =
+    (program : Program) (setup : Setup) (F : IsProgramFor program setup) (p own : ℕ)
+    → (s : State) (before : List ℕ) (x : Turning)
+    → Invariant s → 1 ≤ p → p ≤ process_count setup → TurningOf program setup F p own s before x
+    → is_running x.own.activity ≡ true → is_begun (stage_of x.kernel.stages x.own.number) ≡ true
+    → TurningOf program setup F p own (meaning.step setup s p) before
+    (joined_step program (realtime (running_clock setup s)) x)
+    × Invariant (meaning.step setup s p)
 
 -- What `KernelStepIsStep` says, for a turn.
 abbrev pub KernelTurnIsTurn : Type 0

@@ -2,7 +2,7 @@
 //! and `specs/RoundLaws.antt` state them.
 
 ghost use Rattle.cp_model_machine.specs.Chains.{ChainIsChain, ReportHasChains, RunHasChains, StatesMakeHierarchies};
-ghost use Rattle.cp_model_machine.specs.Laws.{KernelStepIsStep, KernelTurnIsTurn, KernelTurnKeepsBegins, KernelTurnKeepsParts};
+ghost use Rattle.cp_model_machine.specs.Laws.{JoinedStepIsStep, KernelStepIsStep, KernelTurnIsTurn, KernelTurnKeepsBegins, KernelTurnKeepsParts};
 ghost use Rattle.cp_model_machine.specs.Laws.{PrivateStepIsStep, PrivateTurnIsTurn, PrivateTurnKeepsKernel, PrivateTurnKeepsParts};
 ghost use Rattle.cp_model_machine.specs.Laws.{OutputMoves, StartIsKernel, StartIsPart, WakingIsWaking};
 ghost use Rattle.cp_model_machine.specs.RoundLaws.{EndIsEnd, LawfulReplayIsRound, ReplayIsReplay, ReportIsReport, RoundIsRound, RoundsAreRun, RunIsReported, StartIsIn};
@@ -18,9 +18,11 @@ pub fn private_steps()
 
 /// If a kernel is that of a state with the invariant, and a private state is that of its process,
 /// then the machine's kernel step makes them those of the state after the meaning's kernel step.
-/// The same holds for turns of any number of steps.
+/// The same holds for turns of any number of steps, and for a step of any kind that is made with the
+/// words of all monitors in reach.
 pub fn kernel_steps()
     ensures step { KernelStepIsStep }
+    ensures joined { JoinedStepIsStep }
     ensures turn { KernelTurnIsTurn }
 {}
 
