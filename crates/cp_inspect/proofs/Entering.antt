@@ -31,27 +31,27 @@ no_more n = omega arith
 join : (a b d : ℕ) → a + (b + d) ≡ a + b + d
 join a b d = omega arith
 
-module _ (tables : Tables) (v : Visit) (n : ℕ) (old new : Walk) (out : Text) where
+module _ (tables : Tables) (v : Visit) (n : ℕ) (old new : Walk) (out after : Text) (same : after ≡ out) where
   pub array_enters : (low high : ℤ) (e : ℕ) → row_at tables.types n ≡ Some (row.Array low high e) → new.stack.items ≡ old.stack.items ++ cursor n 0 (length old.path.items) ∷ []
-      → new.path.items ≡ old.path.items → new.at ≡ old.at → Enters tables v n old new out out
+      → new.path.items ≡ old.path.items → new.at ≡ old.at → Enters tables v n old new out after
   array_enters low high e there stack path at g t p rest scope represents named text was =
       let A = array_is tables.types n t low high e there represents in
       let is = integers_from low (count_between low high) in
       let long = length_counted (count_between low high) low in
       let size = ap (words g) A.is in
-      opened g v tables.types old new n (ElementsRemaining p is A.of) rest out out (visit_type g v p old.at t ++ left_text g v rest (old.at + words g t)) 0 (old.at + words g t + left_words g rest)
-      stack path (at ∙ sym (no_more old.at)) refl (low, high, e, there, A.element, refl) named text was
+      opened g v tables.types old new n (ElementsRemaining p is A.of) rest out after (visit_type g v p old.at t ++ left_text g v rest (old.at + words g t)) 0 (old.at + words g t + left_words g rest)
+      stack path (at ∙ sym (no_more old.at)) same (low, high, e, there, A.element, refl) named text was
       ((λ i. visit_type g v p (no_more old.at i) (ArrayOf low high A.of) ++ left_text g v rest (no_more old.at i + long i * words g A.of))
       ∙ (λ i. visit_type g v p old.at (sym A.is i) ++ left_text g v rest (old.at + words g (sym A.is i))))
       ((λ i. no_more old.at i + (long i * words g A.of + left_words g rest)) ∙ (join old.at (words g (ArrayOf low high A.of)) (left_words g rest) ∙ ap (λ k. old.at + k + left_words g rest) (sym size)))
 
   pub record_enters : (fields : Vec Field Global) → row_at tables.types n ≡ Some (row.Record fields) → new.stack.items ≡ old.stack.items ++ cursor n 0 (length old.path.items) ∷ []
-      → new.path.items ≡ old.path.items → new.at ≡ old.at → Enters tables v n old new out out
+      → new.path.items ≡ old.path.items → new.at ≡ old.at → Enters tables v n old new out after
   record_enters fields there stack path at g t p rest scope represents named text was =
       let R = record_is tables.types n t fields there represents in
       let size = ap (words g) R.is in
-      opened g v tables.types old new n (MembersRemaining p R.members) rest out out (visit_type g v p old.at t ++ left_text g v rest (old.at + words g t)) 0 (old.at + words g t + left_words g rest)
-      stack path (at ∙ sym (no_more old.at)) refl (map entry fields.items, ap members_in there, R.represent) named text was
+      opened g v tables.types old new n (MembersRemaining p R.members) rest out after (visit_type g v p old.at t ++ left_text g v rest (old.at + words g t)) 0 (old.at + words g t + left_words g rest)
+      stack path (at ∙ sym (no_more old.at)) same (map entry fields.items, ap members_in there, R.represent) named text was
       ((λ i. visit_members g v p (no_more old.at i) R.members ++ left_text g v rest (no_more old.at i + words_of_members g R.members))
       ∙ (λ i. visit_type g v p old.at (sym R.is i) ++ left_text g v rest (old.at + words g (sym R.is i))))
       ((λ i. no_more old.at i + (words_of_members g R.members + left_words g rest)) ∙ (join old.at (words_of_members g R.members) (left_words g rest) ∙ ap (λ k. old.at + k + left_words g rest) (sym size)))
@@ -62,13 +62,13 @@ module _ (tables : Tables) (v : Visit) (n : ℕ) (old new : Walk) (out : Text) w
 
   -- A class, whose members come after its head.
   pub class_enters : (k head : ℕ) (members : Vec Field Global) → row_at tables.types n ≡ Some (row.Component k members) → Heads k (Some head)
-      → new.stack.items ≡ old.stack.items ++ cursor n 0 (length old.path.items) ∷ [] → new.path.items ≡ old.path.items → new.at ≡ old.at + head → Enters tables v n old new out out
+      → new.stack.items ≡ old.stack.items ++ cursor n 0 (length old.path.items) ∷ [] → new.path.items ≡ old.path.items → new.at ≡ old.at + head → Enters tables v n old new out after
   class_enters k head members there heads stack path at g t p rest scope represents named text was =
       let C = component_is tables.types n t k members there represents in
       by (component_is tables.types n t k members there represents) (erase.system (view.system C.system.now)).sort refl (heads g C.system scope C.there)
     where
       by : (C : IsComponent tables.types k (map entry members.items) t) (z : a.Sort) → (erase.system (view.system C.system.now)).sort ≡ z → HeadOf g (erase.system (view.system C.system.now)) z (Some head)
-          → Advances g v tables.types new out (out ++ (visit_type g v p old.at t ++ left_text g v rest (old.at + words g t))) (old.at + words g t + left_words g rest)
+          → Advances g v tables.types new after (out ++ (visit_type g v p old.at t ++ left_text g v rest (old.at + words g t))) (old.at + words g t + left_words g rest)
       by C Monitor sort h = absurd (nothing h)
         where
           nothing : Some head ≡ None → ⊥
@@ -82,8 +82,8 @@ module _ (tables : Tables) (v : Visit) (n : ℕ) (old new : Walk) (out : Text) w
           let ms = C.members in
           let front : head ≡ head_words g s = ap (λ o. elim o [ None ↦ head | Some m ↦ m ]) h in
           let all : old.at + head_words g s + words_of_members g ms ≡ old.at + (1 + rights_in g s + words_of_members g ms) = omega arith in
-          opened g v tables.types old new n (MembersRemaining p ms) rest out out (visit_type g v p old.at t ++ left_text g v rest (old.at + words g t)) head (old.at + words g t + left_words g rest)
-          stack path at refl (map entry members.items, ap members_in there, C.represent) named text was
+          opened g v tables.types old new n (MembersRemaining p ms) rest out after (visit_type g v p old.at t ++ left_text g v rest (old.at + words g t)) head (old.at + words g t + left_words g rest)
+          stack path at same (map entry members.items, ap members_in there, C.represent) named text was
           ((λ i. visit_members g v p (old.at + front i) ms ++ left_text g v rest (old.at + front i + words_of_members g ms))
           ∙ ((λ i. visit_members g v p (old.at + head_words g s) ms ++ left_text g v rest (all i))
           ∙ ((λ i. of_class_text (sym sort i) (visit_members g v p (old.at + head_words g s) ms) ++ left_text g v rest (old.at + component_words (sym sort i) (1 + rights_in g s + words_of_members g ms)))

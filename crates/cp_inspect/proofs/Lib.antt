@@ -8,3 +8,5 @@ pub mod MembersReported
 pub mod Listed
 pub mod QueuesReported
 pub mod ListedNames
+pub mod LeafCodes
+pub mod Sinks

@@ -54,3 +54,15 @@ went_on g v tables c w mid new out between after text end split path at same sco
       text_is = E.text_is ∙ ((λ i. same i ++ left_text g v (sym T.is i) (at i)) ∙ I.text_is);
       place = E.place ∙ ((λ i. at i + left_words g (sym T.is i)) ∙ I.place);
     }
+
+-- Nothing is left if the stack is empty.
+pub nothing_left : (g : GlobalScope) (v : Visit) (types : Types) (w new : Walk) (out after text : Text) (end : ℕ) → w.stack.items ≡ [] → new.at ≡ w.at → after ≡ out
+    → Advances g v types w out text end → (after ≡ text) × (new.at ≡ end)
+nothing_left g v types w new out after text end none at same I = by I.left (subst (λ cs. AllRepresent types w.path.items (reverse cs) I.left) none I.represents) I.text_is I.place
+  where
+    no_more : (k : ℕ) → k ≡ k + 0
+    no_more k = omega arith
+
+    by : (rest : List Remaining) → AllRepresent types w.path.items [] rest → out ++ left_text g v rest w.at ≡ text → w.at + left_words g rest ≡ end → (after ≡ text) × (new.at ≡ end)
+    by [] S text_is place = (same ∙ (sym (append-nil out) ∙ text_is), at ∙ (no_more w.at ∙ place))
+    by (left ∷ rest) S text_is place = absurd S

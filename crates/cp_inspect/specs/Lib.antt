@@ -4,3 +4,5 @@ pub mod WalkOutputs
 pub mod Lists
 pub mod Statuses
 pub mod Values
+pub mod LeafCodes
+pub mod Sinks

@@ -4,6 +4,7 @@ use Rattle.cp_model.specs.Decimal.{decimal}
 use Rattle.cp_model.specs.Locations.{Path}
 use Rattle.cp_model.specs.Report.{Text, line, occupant_text}
 use Rattle.cp_model_machine.specs.Reports.{Visit, lines_visit, queue_visit}
+use Rattle.cp_inspect.specs.LeafCodes.{leaf_visit}
 use Rattle.cp_inspect.specs.declared.place.Kind.{Kind}
 use Rattle.cp_inspect.specs.declared.place.Kind.TheVariants as kind
 use Rattle.cp_inspect.specs.declared.place.Value.{Value}
@@ -19,6 +20,12 @@ abbrev pub visit_of : WalkOutput → Visit
 visit_of (walk_output.Lines ws) = lines_visit ws.now
 visit_of (walk_output.PathOf at) = queue_visit at
 visit_of walk_output.Leaves = silent_visit
+
+-- What is kept as places.
+abbrev pub kept_visit : WalkOutput → Visit
+kept_visit (walk_output.Lines ws) = silent_visit
+kept_visit (walk_output.PathOf at) = silent_visit
+kept_visit walk_output.Leaves = leaf_visit
 
 abbrev pub report_leaf : Visit → Kind → Path → ℕ → Text
 report_leaf v kind.Simple path at = v.simple path at

@@ -3,7 +3,7 @@
 ghost use Rattle.std.specs.Prelude.{◌≡◌, OnOk, map};
 ghost use Rattle.cp_compile_symbols.specs.Representing.{entry};
 ghost use Rattle.cp_inspect.specs.Lists.{declared_member};
-ghost use Rattle.cp_inspect.specs.WalkOutputs.{visit_of};
+ghost use Rattle.cp_inspect.specs.Sinks.{FillsSinks};
 ghost use Rattle.cp_inspect.specs.Walks.{ReportsComponent, ReportsMembers};
 
 use crate::heads::head_words;
@@ -21,8 +21,10 @@ impl Walk {
         out: &mut Vec<u8>,
         members: &[Field],
     ) -> Result<(), AllocError>
-        ensures { OnOk result (ReportsMembers tables.now (visit_of walk_output.now)
-            (map entry members.now) self.old.at out.old.items out.new.items) }
+        ensures { OnOk result (
+            FillsSinks walk_output.now self.old self.new out.old.items out.new.items
+            (λ v before after. ReportsMembers tables.now v (map entry members.now)
+            self.old.at before after)) }
     {
         for member in members {
             self.variable(tables, walk_output, out, member.name, member.of)?;
@@ -44,8 +46,9 @@ impl Walk {
         row: usize,
         start: usize,
     ) -> Result<(), AllocError>
-        ensures { OnOk result (ReportsComponent tables.now (visit_of walk_output.now) row start
-            out.old.items out.new.items) }
+        ensures { OnOk result (
+            FillsSinks walk_output.now self.old self.new out.old.items out.new.items
+            (λ v before after. ReportsComponent tables.now v row start before after)) }
     {
         let Some(TypeRow::Component { system, members }) = tables.types.row(row) else {
             return Ok(());
@@ -63,8 +66,10 @@ impl Walk {
         out: &mut Vec<u8>,
         variables: &[Declared],
     ) -> Result<(), AllocError>
-        ensures { OnOk result (ReportsMembers tables.now (visit_of walk_output.now)
-            (map declared_member variables.now) self.old.at out.old.items out.new.items) }
+        ensures { OnOk result (
+            FillsSinks walk_output.now self.old self.new out.old.items out.new.items
+            (λ v before after. ReportsMembers tables.now v (map declared_member variables.now)
+            self.old.at before after)) }
     {
         for declared in variables {
             self.variable(tables, walk_output, out, declared.name, declared.of)?;
@@ -83,9 +88,10 @@ impl Walk {
         walk_output: &WalkOutput,
         out: &mut Vec<u8>,
     ) -> Result<(), AllocError>
-        ensures { OnOk result (ReportsMembers tables.now (visit_of walk_output.now)
-            (map declared_member tables.now.initial.variables.items) 1
-            out.old.items out.new.items) }
+        ensures { OnOk result (
+            FillsSinks walk_output.now self.old self.new out.old.items out.new.items
+            (λ v before after. ReportsMembers tables.now v
+            (map declared_member tables.now.initial.variables.items) 1 before after)) }
     {
         self.at = 1;
         self.variables(tables, walk_output, out, &tables.initial.variables)

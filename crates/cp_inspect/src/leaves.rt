@@ -1,6 +1,12 @@
 //! The places of the variables of a component, in the order of a report.
+//!
+//! A visit of the definition gives a place as its code (`specs/LeafCodes.antt`), which determines
+//! the path, the address and the kind of a place (`crate::law`).
 
-ghost use Rattle.std.specs.Prelude.{◌≡◌};
+ghost use Rattle.std.specs.Prelude.{◌≡◌, [], IfOk, map};
+ghost use Rattle.cp_inspect.specs.LeafCodes.{leaf_codes, leaf_visit};
+ghost use Rattle.cp_inspect.specs.Lists.{declared_member};
+ghost use Rattle.cp_inspect.specs.Walks.{ReportsComponent, ReportsMembers};
 
 use crate::place::{self, Kind, Owner};
 use crate::walk::Walk;
@@ -35,24 +41,32 @@ impl Leaf {
     }
 }
 
-/// The places of a component whose type has the number `row`.
+/// The places of a component whose type has the number `row`: exactly the parts that the
+/// definition's report visits.
 ///
 /// # Errors
 ///
 /// `AllocError` if memory runs out.
-pub fn leaves(alloc: Global, tables: &Tables, row: usize) -> Result<Vec<Leaf>, AllocError> {
+pub fn leaves(alloc: Global, tables: &Tables, row: usize) -> Result<Vec<Leaf>, AllocError>
+    ensures { IfOk result (λ places.
+        ReportsComponent tables.now leaf_visit row 0 [] (leaf_codes places.items)) }
+{
     let mut walk = Walk::new(alloc, 0);
     let mut nothing = Vec::new(alloc);
     walk.component(tables, &WalkOutput::Leaves, &mut nothing, row, 0)?;
     Ok(walk.into_leaves())
 }
 
-/// The places of the initial process.
+/// The places of the initial process, whose words begin with its mark: exactly the parts that the
+/// definition's report visits.
 ///
 /// # Errors
 ///
 /// `AllocError` if memory runs out.
-pub fn initial_leaves(alloc: Global, tables: &Tables) -> Result<Vec<Leaf>, AllocError> {
+pub fn initial_leaves(alloc: Global, tables: &Tables) -> Result<Vec<Leaf>, AllocError>
+    ensures { IfOk result (λ places. ReportsMembers tables.now leaf_visit
+        (map declared_member tables.now.initial.variables.items) 1 [] (leaf_codes places.items)) }
+{
     let mut walk = Walk::new(alloc, 0);
     let mut nothing = Vec::new(alloc);
     walk.initial(tables, &WalkOutput::Leaves, &mut nothing)?;

@@ -8,7 +8,7 @@
 //! - `listing`, `component_table`: the processes or monitors by number, and all of them by name.
 //! - `walk_output`, `walk`: what is reported of a part of a variable, and the walk over all parts.
 //! - `heads`, `components`: how many words come before members, and the parts of whole components.
-//! - `leaves`: the places of the variables of a component.
+//! - `leaves`, `law`: the places of the variables of a component, and what their codes mean.
 //! - `status`: the state of a process in words.
 //! - `inspect`: what a trace reads of a machine, which crates above define.
 //! - `text`: queues and bytes as text.
@@ -18,6 +18,7 @@ pub mod component_table;
 mod components;
 mod heads;
 pub mod inspect;
+pub mod law;
 pub mod leaves;
 pub mod listing;
 pub mod place;

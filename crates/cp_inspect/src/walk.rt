@@ -15,7 +15,9 @@ ghost use Rattle.cp_model.specs.View as view;
 ghost use Rattle.cp_model.specs.declared.tree.System.{System};
 ghost use Rattle.cp_compile_symbols.specs.Representing.{ScopeRepresents, entry, row_at, system_at};
 ghost use Rattle.cp_compile_symbols.specs.declared.types.TypeRow.TheVariants as row_case;
-ghost use Rattle.cp_inspect.specs.WalkOutputs.{report_leaf, visit_of};
+ghost use Rattle.cp_inspect.specs.LeafCodes.{leaf_codes, place_code};
+ghost use Rattle.cp_inspect.specs.Sinks.{FillsSinks};
+ghost use Rattle.cp_inspect.specs.WalkOutputs.{kept_visit, report_leaf};
 ghost use Rattle.cp_inspect.specs.Walks.{Continues, Enters, Finishes, Visits, cursor as cursor_of, members_in};
 
 use crate::heads::class_head;
@@ -63,7 +65,9 @@ fn index_at(low: i32, next: usize) -> i64
 
 impl Walk {
     /// The places that were kept.
-    pub(crate) fn into_leaves(self) -> Vec<Leaf> {
+    pub(crate) fn into_leaves(self) -> Vec<Leaf>
+        ensures { result ≡ self.leaves }
+    {
         let Walk {
             stack: _,
             path: _,
@@ -75,7 +79,8 @@ impl Walk {
 
     /// A walk that begins at an address.
     pub fn new(alloc: Global, at: usize) -> Walk
-        ensures { result.at ≡ at }
+        ensures place { result.at ≡ at }
+        ensures leaves { result.leaves.items ≡ [] }
     {
         Walk {
             stack: Vec::new(alloc),
@@ -90,6 +95,7 @@ impl Walk {
         ensures place { OnOk result (self.new.at ≡ self.old.at + count) }
         ensures stack { self.new.stack ≡ self.old.stack }
         ensures path { self.new.path ≡ self.old.path }
+        ensures leaves { self.new.leaves ≡ self.old.leaves }
     {
         self.at = self.at.checked_add(count).ok_or(AllocError)?;
         Ok(())
@@ -101,6 +107,7 @@ impl Walk {
             cursor_of row 0 (length self.old.path.items) ∷ []) }
         ensures path { self.new.path ≡ self.old.path }
         ensures place { self.new.at ≡ self.old.at }
+        ensures leaves { self.new.leaves ≡ self.old.leaves }
     {
         let path = self.path.len();
         self.stack.push(Cursor { row, next: 0, path })?;
@@ -108,7 +115,10 @@ impl Walk {
     }
 
     // Keeps the place of a part whose type has the number `row`.
-    fn keep(&mut self, kind: Kind, row: usize) -> Result<(), AllocError>
+    fn push_leaf(&mut self, kind: Kind, row: usize) -> Result<(), AllocError>
+        ensures kept { OnOk result (leaf_codes self.new.leaves.items
+            ≡ leaf_codes self.old.leaves.items
+            ++ place_code kind self.old.path.items self.old.at) }
         ensures stack { self.new.stack ≡ self.old.stack }
         ensures path { self.new.path ≡ self.old.path }
         ensures place { self.new.at ≡ self.old.at }
@@ -122,8 +132,24 @@ impl Walk {
         Ok(())
     }
 
-    // Reports a simple part or a queue, which has one word, or keeps its place. The number of its
-    // type is `row`.
+    // Keeps the place of a part, if places are asked for.
+    fn keep(&mut self, walk_output: &WalkOutput, kind: Kind, row: usize) -> Result<(), AllocError>
+        ensures kept { OnOk result ((p : Path) → path_text p ≡ self.old.path.items
+            → leaf_codes self.new.leaves.items ≡ leaf_codes self.old.leaves.items
+            ++ report_leaf (kept_visit walk_output.now) kind p self.old.at) }
+        ensures stack { self.new.stack ≡ self.old.stack }
+        ensures path { self.new.path ≡ self.old.path }
+        ensures place { self.new.at ≡ self.old.at }
+    {
+        match walk_output {
+            WalkOutput::Lines(_) => Ok(()),
+            WalkOutput::PathOf(_) => Ok(()),
+            WalkOutput::Leaves => self.push_leaf(kind, row),
+        }
+    }
+
+    // Reports a simple part or a queue, which has one word, and keeps its place if places are
+    // asked for. The number of its type is `row`.
     fn report(
         &mut self,
         walk_output: &WalkOutput,
@@ -132,15 +158,13 @@ impl Walk {
         row: usize,
     ) -> Result<(), AllocError>
         ensures reported { OnOk result ((p : Path) → path_text p ≡ self.old.path.items
-            → out.new.items
-            ≡ out.old.items ++ report_leaf (visit_of walk_output.now) kind p self.old.at) }
+            → FillsSinks walk_output.now self.old self.new out.old.items out.new.items
+            (λ v before after. after ≡ before ++ report_leaf v kind p self.old.at)) }
         ensures place { OnOk result (self.new.at ≡ self.old.at + 1) }
         ensures stack { self.new.stack ≡ self.old.stack }
         ensures path { self.new.path ≡ self.old.path }
     {
-        if let WalkOutput::Leaves = walk_output {
-            self.keep(kind, row)?;
-        }
+        self.keep(walk_output, kind, row)?;
         walk_output.report(out, kind, &self.path, self.at)?;
         self.pass(1)
     }
@@ -154,8 +178,9 @@ impl Walk {
         out: &mut Vec<u8>,
         row: usize,
     ) -> Result<(), AllocError>
-        ensures { OnOk result (Enters tables.now (visit_of walk_output.now) row self.old self.new
-            out.old.items out.new.items) }
+        ensures { OnOk result (
+            FillsSinks walk_output.now self.old self.new out.old.items out.new.items
+            (λ v before after. Enters tables.now v row self.old self.new before after)) }
     {
         match tables.types.row(row) {
             Some(TypeRow::Simple(_)) => self.report(walk_output, out, Kind::Simple, row),
@@ -180,6 +205,7 @@ impl Walk {
             ≡ take cursor.path self.old.path.items ++ (codes "." ++ name.now)) }
         ensures stack { self.new.stack ≡ self.old.stack }
         ensures place { self.new.at ≡ self.old.at }
+        ensures leaves { self.new.leaves ≡ self.old.leaves }
     {
         self.path.truncate(cursor.path);
         self.path.extend_from_slice(b".")?;
@@ -192,6 +218,7 @@ impl Walk {
             (codes "[" ++ (decimal index ++ codes "]"))) }
         ensures stack { self.new.stack ≡ self.old.stack }
         ensures place { self.new.at ≡ self.old.at }
+        ensures leaves { self.new.leaves ≡ self.old.leaves }
     {
         self.path.truncate(cursor.path);
         self.path.extend_from_slice(b"[")?;
@@ -206,6 +233,7 @@ impl Walk {
             cursor_of cursor.row (cursor.next + 1) cursor.path ∷ []) }
         ensures path { self.new.path ≡ self.old.path }
         ensures place { self.new.at ≡ self.old.at }
+        ensures leaves { self.new.leaves ≡ self.old.leaves }
     {
         self.stack.push(Cursor {
             next: cursor.next + 1,
@@ -225,8 +253,9 @@ impl Walk {
     ) -> Result<(), AllocError>
         requires { members_in (row_at tables.now.types cursor.row)
             ≡ Some (map entry members.now) }
-        ensures { OnOk result (Continues tables.now (visit_of walk_output.now) cursor self.old self.new
-            out.old.items out.new.items) }
+        ensures { OnOk result (
+            FillsSinks walk_output.now self.old self.new out.old.items out.new.items
+            (λ v before after. Continues tables.now v cursor self.old self.new before after)) }
     {
         let Some(member) = members.get(cursor.next) else {
             return Ok(());
@@ -248,8 +277,9 @@ impl Walk {
         element: usize,
     ) -> Result<(), AllocError>
         requires { row_at tables.now.types cursor.row ≡ Some (row_case.Array low high element) }
-        ensures { OnOk result (Continues tables.now (visit_of walk_output.now) cursor self.old self.new
-            out.old.items out.new.items) }
+        ensures { OnOk result (
+            FillsSinks walk_output.now self.old self.new out.old.items out.new.items
+            (λ v before after. Continues tables.now v cursor self.old self.new before after)) }
     {
         if count_between(low, high) <= cursor.next {
             return Ok(());
@@ -267,8 +297,9 @@ impl Walk {
         out: &mut Vec<u8>,
         cursor: Cursor,
     ) -> Result<(), AllocError>
-        ensures { OnOk result (Continues tables.now (visit_of walk_output.now) cursor self.old self.new
-            out.old.items out.new.items) }
+        ensures { OnOk result (
+            FillsSinks walk_output.now self.old self.new out.old.items out.new.items
+            (λ v before after. Continues tables.now v cursor self.old self.new before after)) }
     {
         match tables.types.row(cursor.row) {
             Some(TypeRow::Record(fields)) => self.member(tables, walk_output, out, cursor, fields),
@@ -292,8 +323,9 @@ impl Walk {
         walk_output: &WalkOutput,
         out: &mut Vec<u8>,
     ) -> Result<(), AllocError>
-        ensures { OnOk result (Finishes tables.now (visit_of walk_output.now) self.old self.new
-            out.old.items out.new.items) }
+        ensures { OnOk result (
+            FillsSinks walk_output.now self.old self.new out.old.items out.new.items
+            (λ v before after. Finishes tables.now v self.old self.new before after)) }
     {
         for _visit in 0..MAX_VISITS {
             let Some(cursor) = self.stack.pop() else {
@@ -317,8 +349,10 @@ impl Walk {
         name: &[u8],
         row: usize,
     ) -> Result<(), AllocError>
-        ensures { OnOk result (Visits tables.now (visit_of walk_output.now) name.now row self.old.at
-            self.new.at out.old.items out.new.items) }
+        ensures { OnOk result (
+            FillsSinks walk_output.now self.old self.new out.old.items out.new.items
+            (λ v before after. Visits tables.now v name.now row self.old.at
+            self.new.at before after)) }
     {
         self.stack.clear();
         self.path.clear();

@@ -7,6 +7,7 @@ use Rattle.cp_compile_symbols.specs.declared.types.Field.{Field}
 use Rattle.cp_program.specs.View as view
 use Rattle.cp_inspect.proofs.MembersReported.{drop_first}
 use Rattle.cp_inspect.proofs.QueuesReported.{QueuesToReport, one_searched}
+use Rattle.cp_inspect.specs.Sinks.{IntoText}
 use Rattle.cp_inspect.specs.Walks.{ReportsComponent}
 use Rattle.cp_inspect.proofs.status.push_queue.Goals as goal
 
@@ -26,6 +27,6 @@ loop-index-preserved c =
     let before = subst (λ es. QueuesToReport g program place tables.types (suc i) es out text) (drop_first entry xs i none below) (c.loop-index.invariant g vs scope h) in
     let next : suc i ≡ i + 1 = omega arith in
     let start : c.monitor_start-start.result ≡ plain.monitor_start program (suc i) = c.monitor_start-start.ensures.start ∙ ap (plain.monitor_start program) (sym next) in
-    let reports = subst (λ at. ReportsComponent tables (queue_visit place) (slice_index_or xs i none).of at out after) start c.in_ok-component.ensures in
+    let reports = subst (λ at. ReportsComponent tables (queue_visit place) (slice_index_or xs i none).of at out after) start (c.in_ok-component.ensures IntoText) in
     subst (λ n. QueuesToReport g program place tables.types (suc n) (map entry (drop n xs)) after text) next
     (one_searched g program place tables (suc i) (entry (slice_index_or xs i none)) (map entry (drop (suc i) xs)) out after text scope before reports)

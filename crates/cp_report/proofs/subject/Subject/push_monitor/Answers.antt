@@ -6,6 +6,7 @@ use Rattle.cp_private.specs.States.{holder}
 use Rattle.cp_model_machine.specs.KernelSteps.{gate_of}
 use Rattle.cp_model_machine.specs.Reports.{lines_visit, visit_component}
 use Rattle.cp_program.specs.View as view
+use Rattle.cp_inspect.specs.Sinks.{IntoText}
 use Rattle.cp_report.specs.Lines.{gate_line_of}
 use Rattle.cp_report.specs.Subjects.{machine_in}
 use Rattle.cp_report.proofs.MonitorsReported.{monitor_reported}
@@ -25,6 +26,6 @@ returns c =
     monitor_reported setup m n x t k (view.program c.program.result.now) (holder c.gate.result) c.askers-askers.result.now c.monitor_start-start.result out c.push_gate_line.new.out.items
     c.component.new.out.items is c.program.ensures (c.gate.ensures.part ∙ sym (ap (λ j. (gate_of j.gates n).holder) is))
     (c.askers-askers.ensures.part ∙ sym (ap (λ j. (gate_of j.gates n).askers) is)) c.monitor_start-start.ensures.start line
-    (reported (globals setup.tree) t of.0 represents
+    (reported IntoText (globals setup.tree) t of.0 represents
     ∙ ap (λ ws. c.push_gate_line.new.out.items ++ visit_component (globals setup.tree) (lines_visit ws) c.monitor_start-start.result t) c.all_words.ensures))
     c.component.ensures
