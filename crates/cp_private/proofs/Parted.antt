@@ -25,22 +25,20 @@ parted_as k x y input shared e same =
     }
 
 pub step_due : (program : Program) (clock : ℕ) (x : plain.Turning) → plain.is_due program x ≡ true
-    → plain.kernel_step program clock x ≡ plain.part_words (length x.own.words) x (step_with program (plain.outside clock x) (plain.join_words x))
+    → plain.kernel_step program clock x ≡ plain.joined_step program clock x
 step_due program clock x due = rw due refl
 
--- A step with the kernel's words in reach, parted again, is the kernel's step.
-pub kernel_step_made : (program : Program) (w : StepContext) (k : plain.Kernel) (x y : Private) (shared after : List ℤ) (e : Effect)
+-- A step with the kernel's words in reach, parted again, is the step of the kernel and the private state.
+pub joined_step_made : (program : Program) (w : StepContext) (k : plain.Kernel) (x y : Private) (shared after : List ℤ) (e : Effect)
     → (states.join y w.input.now after, e) ≡ step_with program (states.outside_of w (length x.memory.words.items)) (states.join x w.input.now shared)
     → length y.memory.words.items ≡ length x.memory.words.items
     → k.shared ≡ shared
     → states.outside_of w (length x.memory.words.items) ≡ plain.outside w.clock (beside k x w.input.now)
-    → plain.is_due program (beside k x w.input.now) ≡ true
     → beside (plain.apply_effect (length x.memory.words.items) x.number e (record k { shared = after })) y w.input.now
-    ≡ plain.kernel_step program w.clock (beside k x w.input.now)
-kernel_step_made program w k x y shared after e step same there known due =
+    ≡ plain.joined_step program w.clock (beside k x w.input.now)
+joined_step_made program w k x y shared after e step same there known =
     let own = length x.memory.words.items in
     let input = w.input.now in
     let back = sym there in
     sym (parted_as k x y input after e same)
-    ∙ (ap (plain.part_words own (beside k x input)) (step ∙ (λ i. step_with program (known i) (states.join x input (back i))))
-    ∙ sym (step_due program w.clock (beside k x input) due))
+    ∙ ap (plain.part_words own (beside k x input)) (step ∙ (λ i. step_with program (known i) (states.join x input (back i))))

@@ -10,9 +10,10 @@ use Rattle.cp_model.specs.Turns as meaning
 use Rattle.cp_model_program.specs.Programs as code
 use Rattle.cp_model_program.specs.IsProgramFor.{IsProgramFor}
 use Rattle.cp_model_machine.specs.Beginning.{Begins}
-use Rattle.cp_model_machine.specs.KernelSteps.{Kernel, Turning, apply_effect, is_due, outside}
+use Rattle.cp_model_machine.specs.KernelSteps.{Kernel, Turning, apply_effect, is_begun, outside, stage_of}
 use Rattle.cp_model_machine.specs.Laws.{TurningOf, ground_of}
 use Rattle.cp_model_machine.specs.PartOf.{PartOf}
+use Rattle.cp_model_machine.specs.PrivateStates.{is_running}
 use Rattle.cp_program.specs.declared.program.Program.{Program}
 use Rattle.cp_program.specs.View as view
 use Rattle.cp_private.specs.States.{effect, outside_of, private_of}
@@ -44,19 +45,20 @@ abbrev pub beside : Kernel → Private → List ℕ → Turning
 beside k x input = record { kernel = k; own = private_of x input }
 
 -- For every kernel with these shared words, of which the step reads what it reads of others: if both
--- are those of a state and the step is the kernel's, then the effect that is left to the kernel
--- makes them those of the state after the meaning's kernel step. The invariant holds again.
-abbrev pub MakesKernelStep : Program → StepContext → Private → List ℤ → Private → List ℤ → Effect → Type 0
-MakesKernelStep program w x shared y after e =
+-- are those of a state in which the process runs and has begun, then the effect that is left to the
+-- kernel makes them those of the state after the meaning's step, of whatever kind it is. The
+-- invariant holds again.
+abbrev pub MakesJoinedStep : Program → StepContext → Private → List ℤ → Private → List ℤ → Effect → Type 0
+MakesJoinedStep program w x shared y after e =
     (setup : Setup) (F : IsProgramFor (view.program program) setup) (p own : ℕ) (s : State) (before : List ℕ) (k : Kernel)
     → k.shared ≡ shared
     → outside_of w (length x.memory.words.items) ≡ outside w.clock (beside k x w.input.now)
-    → is_due (view.program program) (beside k x w.input.now) ≡ true
+    → is_running (private_of x w.input.now).activity ≡ true → is_begun (stage_of k.stages x.number) ≡ true
     → Invariant s → w.clock ≡ realtime (running_clock setup s) → 1 ≤ p → p ≤ process_count setup
     → TurningOf (view.program program) setup F p own s before (beside k x w.input.now)
-    → TurningOf (view.program program) setup F p own (meaning.kernel_step setup s p) before
+    → TurningOf (view.program program) setup F p own (meaning.step setup s p) before
     (beside (apply_effect (length x.memory.words.items) x.number (effect e) (record k { shared = after })) y w.input.now)
-    × Invariant (meaning.kernel_step setup s p)
+    × Invariant (meaning.step setup s p)
 
 -- Whatever text the program represents, x is the private state of process p at its start. It is
 -- ready to begin if p isn't the initial process.

@@ -2,7 +2,7 @@
 
 ghost use Rattle.std.specs.Prelude.{◌≡◌, ◌≢◌, ◌≤◌, ◌+◌, ◌*◌, None, IfSome, length, vec_capacity, vec_len};
 ghost use Rattle.cp_private.specs.Keeping.{IsAddressable, KeepsRest, KeepsRestButOutput};
-ghost use Rattle.cp_private.specs.Promises.{MakesKernelStep, MakesStep, MakesTurn};
+ghost use Rattle.cp_private.specs.Promises.{MakesJoinedStep, MakesStep, MakesTurn};
 ghost use Rattle.cp_private.specs.FastStep.{Makes, Stays, left_by};
 ghost use Rattle.cp_private.specs.declared.turns.FastKernelPath.TheVariants as fast_kernel_path_case;
 ghost use Rattle.cp_private.specs.Rooms.{HasRoomFor, KeepsRoom};
@@ -111,12 +111,11 @@ pub fn step(
     ensures step { let w = outside_of outside.now (length private.old.memory.words.items) in
         (join private.new outside.now.input.now shared.new, effect result) ≡ plain.step_with
         (view.program program.now) w (join private.old outside.now.input.now shared.old) }
-    ensures meaning { MakesKernelStep program.now outside.now private.old shared.old private.new
+    ensures meaning { MakesJoinedStep program.now outside.now private.old shared.old private.new
         shared.new result }
     ensures kept { KeepsRestButOutput private.old shared.old private.new shared.new }
 {
     law::kernel_steps();
-    invariant();
     act(program, private, shared, outside)
 }
 
