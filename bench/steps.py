@@ -25,6 +25,7 @@ GOAL_AT_REST = 60
 # What each text does in private steps.
 BESIDE_PLAIN = {
     'sorting': 'fills an array of 100 integers and sorts it, by a routine with a `var` parameter',
+    'records': 'fills an array of 60 records and sorts it, by routines with `var` parameters',
     'nested': 'moves points in arrays in records in an array, and calls a class that has a class',
     'calls': 'calls functions in expressions, five deep',
 }

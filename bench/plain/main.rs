@@ -7,7 +7,7 @@
 //! - `program`: terms and spots, operations, and units of code.
 //! - `memory`, `evaluation`: words, the values of terms and the places of spots.
 //! - `process`: steps and private turns. `kernel`: gates, kernel turns and rounds.
-//! - `assembly`, `sorting`, `nested`, `calls`, `classes`, `buffer`: the programs.
+//! - `assembly`, `sorting`, `records`, `nested`, `calls`, `classes`, `buffer`: the programs.
 
 mod assembly;
 mod buffer;
@@ -19,6 +19,7 @@ mod memory;
 mod nested;
 mod process;
 mod program;
+mod records;
 mod sorting;
 
 use kernel::Machine;
@@ -49,11 +50,12 @@ fn run(program: &Program, rounds: u32) -> ExitCode {
 fn main() -> ExitCode {
     let words: Vec<String> = env::args().skip(1).collect();
     let [text, rounds] = words.as_slice() else {
-        eprintln!("usage: plain sorting|nested|calls|classes|buffer ROUNDS");
+        eprintln!("usage: plain sorting|records|nested|calls|classes|buffer ROUNDS");
         return ExitCode::FAILURE;
     };
     let program = match text.as_str() {
         "sorting" => sorting::program(),
+        "records" => records::program(),
         "nested" => nested::program(),
         "calls" => calls::program(),
         "classes" => classes::program(),
