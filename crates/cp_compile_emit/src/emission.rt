@@ -3,13 +3,34 @@
 
 ghost use Rattle.std.specs.Prelude.{◌≡◌, [], ◌∷◌, ◌++◌, IfOk, OnOk, length, map};
 ghost use Rattle.cp_compile_emit.specs.Emission.{Emits, IsEmitted, calls_from, changed_at, operation_from, operations_of, origins_of_calls, place_of, with_body, with_repeated};
+ghost use Rattle.cp_model_program.specs.Terms as terms;
 ghost use Rattle.cp_program.specs.View as view;
 
 use crate::emitter::{CodedCall, Emitter};
 use crate::need::Need;
 use cp_compile_symbols::small_number;
-use cp_program::operation::Operation;
+use cp_program::operation::{Operation, Then};
 use std::alloc::AllocError;
+
+// Makes a test lead to `body` if its value is 1.
+fn complete_test(after: &mut Then, body: u32)
+    ensures { (value : terms.Term) → view.evaluation value after.new
+        ≡ with_body body (view.evaluation value after.old) }
+{
+    if let Then::Test { yes, .. } = after {
+        *yes = body;
+    }
+}
+
+// Makes a test lead to `body` if its value isn't 1.
+fn complete_repeated_test(after: &mut Then, body: u32)
+    ensures { (value : terms.Term) → view.evaluation value after.new
+        ≡ with_repeated body (view.evaluation value after.old) }
+{
+    if let Then::Test { no, .. } = after {
+        *no = body;
+    }
+}
 
 // Completes the operation that closes a loop, by making it lead to `body`, where the loop's body
 // begins.
@@ -19,7 +40,7 @@ fn complete(operation: &mut Operation, body: u32)
     match operation {
         Operation::Cycle { body: place } => *place = body,
         Operation::ForNext(counting) => counting.body = body,
-        Operation::Test { yes, .. } => *yes = body,
+        Operation::Evaluate { then, .. } => complete_test(then, body),
         _ => {}
     }
 }
@@ -28,8 +49,8 @@ fn complete(operation: &mut Operation, body: u32)
 fn complete_repeat(operation: &mut Operation, body: u32)
     ensures { view.operation operation.new ≡ with_repeated body (view.operation operation.old) }
 {
-    if let Operation::Test { no, .. } = operation {
-        *no = body;
+    if let Operation::Evaluate { then, .. } = operation {
+        complete_repeated_test(then, body);
     }
 }
 

@@ -24,7 +24,7 @@ use crate::types::{bounds_of, simple_bounds};
 use cp_compile_emit::{CodedCall, Emitter};
 use cp_compile_symbols::{Simple, is_part};
 use cp_model::tree::{Designator, Expression};
-use cp_program::operation::{Assignment, Operation};
+use cp_program::operation::Operation;
 use std::alloc::AllocError;
 
 impl<'s, 't> Translator<'s, 't> {
@@ -73,11 +73,7 @@ impl<'s, 't> Translator<'s, 't> {
         let bounds = bounds_of(self.scope.tables().types.simple(of));
         let mut calls = Vec::new(self.alloc);
         let made = self.term(expression, low, &mut calls)?;
-        let set = Operation::SetResult(Assignment {
-            value: made.term,
-            bounds,
-            next,
-        });
+        let set = Operation::set_result(made.term, bounds, next);
         emitter.emit(calls, set, designator.root.at)
     }
 
@@ -100,12 +96,8 @@ impl<'s, 't> Translator<'s, 't> {
     {
         let mut calls = calls;
         let made = self.term(expression, to.temps, &mut calls)?;
-        let assignment = Assignment {
-            value: made.term,
-            bounds: simple_bounds(simple),
-            next,
-        };
-        let set = Operation::set(to.place_expression, assignment);
+        let bounds = simple_bounds(simple);
+        let set = Operation::set(to.place_expression, made.term, bounds, next);
         emitter.emit(calls, set, origin)
     }
 

@@ -48,11 +48,7 @@ impl<'s, 't> Translator<'s, 't> {
     {
         let mut calls = Vec::new(self.alloc);
         let made = self.term(expression, low, &mut calls)?;
-        let test = Operation::Test {
-            value: made.term,
-            yes,
-            no,
-        };
+        let test = Operation::test(made.term, yes, no);
         emitter.emit(calls, test, expression.first_token())
     }
 

@@ -1,6 +1,6 @@
 //! Where an operation leads within its activation.
 
-use cp_program::operation::{Operation, Table};
+use cp_program::operation::{Operation, Table, Then};
 use cp_program::program::Program;
 use std::alloc::AllocError;
 
@@ -55,6 +55,22 @@ fn push_arms(
     }
 }
 
+// Adds the places to which an operation leads that evaluates a term.
+fn push_after_value(after: &Then, places: &mut Vec<u32>) -> Result<(), AllocError> {
+    match after {
+        Then::Set { assignment, .. }
+        | Then::SetLocal { assignment, .. }
+        | Then::SetMember { assignment, .. }
+        | Then::SetElement { assignment, .. }
+        | Then::SetResult(assignment) => places.push(assignment.next)?,
+        Then::Test { yes, no } => {
+            places.push(*yes)?;
+            places.push(*no)?;
+        }
+    }
+    Ok(())
+}
+
 /// Adds the places to which the operation at a place leads within its activation. Fails only if
 /// memory runs out.
 pub(crate) fn push_successors(
@@ -64,10 +80,7 @@ pub(crate) fn push_successors(
     places: &mut Vec<u32>,
 ) -> Result<(), AllocError> {
     match operation {
-        Operation::Set { assignment, .. }
-        | Operation::SetLocal { assignment, .. }
-        | Operation::SetMember { assignment, .. }
-        | Operation::SetResult(assignment) => places.push(assignment.next)?,
+        Operation::Evaluate { then, .. } => push_after_value(then, places)?,
         Operation::CopyWords { next, .. }
         | Operation::Procedure { next, .. }
         | Operation::Function { next, .. }
@@ -78,10 +91,6 @@ pub(crate) fn push_successors(
         | Operation::Accept { next, .. }
         | Operation::Delay { next, .. }
         | Operation::Wait { next } => places.push(*next)?,
-        Operation::Test { yes, no, .. } => {
-            places.push(*yes)?;
-            places.push(*no)?;
-        }
         Operation::Case { table, .. } => push_arms(program, at, table, places)?,
         Operation::For { counting, .. } | Operation::ForNext(counting) => {
             places.push(counting.body)?;

@@ -1,6 +1,7 @@
 //! Assignments, and the operations that choose which operation comes next.
 
 ghost use Rattle.std.specs.Prelude.{◌≡◌, ℕ, pos, List, if◌then◌else◌};
+ghost use Rattle.cp_model_program.specs.Programs as code;
 ghost use Rattle.cp_model_program.specs.Tables.{place_in};
 ghost use Rattle.cp_model_program.specs.Terms.{Rooted};
 ghost use Rattle.cp_model.specs.Integers.{same_integer};
@@ -16,7 +17,8 @@ use crate::effect::Effect;
 use crate::outside::StepContext;
 use crate::private::Private;
 use cp_model::state::Fault;
-use cp_program::operation::{Assignment, Table};
+use cp_program::element::Element;
+use cp_program::operation::{Assignment, Table, Then};
 use cp_program::term::{PlaceExpression, Root, Term};
 
 impl Private {
@@ -50,17 +52,39 @@ impl Private {
         shared: &mut [i32],
         outside: &StepContext,
         to: &PlaceExpression,
+        value: &Term,
         assignment: &Assignment,
     ) -> Result<Effect, Fault>
         requires { IsAddressable shared.old }
         ensures step { IsStep self.old shared.old outside.now self.new shared.new result
             (λ w o. plain.with_place w o (view.place_expression to.now) (λ at. plain.with_value w o
-            (view.term assignment.now.value) (λ n. assign assignment.now o at n))) }
+            (view.term value.now) (λ n. assign assignment.now o at n))) }
         ensures kept { KeepsRest self.old shared.old self.new shared.new }
         ensures represents { Represents self.old self.new }
     {
         let at = self.place(shared, outside, to)?;
-        let n = self.evaluate(shared, outside, &assignment.value)?;
+        let n = self.evaluate(shared, outside, value)?;
+        self.set_within(shared, at, n, assignment)
+    }
+
+    /// Sets an element whose place needs no loop.
+    #[inline(never)]
+    pub(crate) fn set_element(
+        &mut self,
+        shared: &mut [i32],
+        outside: &StepContext,
+        to: &Element,
+        value: &Term,
+        assignment: &Assignment,
+    ) -> Result<Effect, Fault>
+        requires { IsAddressable shared.old }
+        ensures step { IsStep self.old shared.old outside.now self.new shared.new result
+            (λ w o. plain.with_place w o (view.element to.now) (λ at. plain.with_value w o
+            (view.term value.now) (λ n. assign assignment.now o at n))) }
+        ensures kept { KeepsRest self.old shared.old self.new shared.new }
+    {
+        let at = self.element_place(shared, outside, to)?;
+        let n = self.evaluate(shared, outside, value)?;
         self.set_within(shared, at, n, assignment)
     }
 
@@ -71,16 +95,17 @@ impl Private {
         shared: &mut [i32],
         outside: &StepContext,
         root: Root,
+        value: &Term,
         assignment: &Assignment,
     ) -> Result<Effect, Fault>
         requires { IsAddressable shared.old }
         ensures step { IsStep self.old shared.old outside.now self.new shared.new result
             (λ w o. plain.with_place w o (Rooted (view.root root)) (λ at. plain.with_value w o
-            (view.term assignment.now.value) (λ n. assign assignment.now o at n))) }
+            (view.term value.now) (λ n. assign assignment.now o at n))) }
         ensures kept { KeepsRest self.old shared.old self.new shared.new }
     {
         let at = self.reach(shared, outside).root_place(root);
-        let n = self.evaluate(shared, outside, &assignment.value)?;
+        let n = self.evaluate(shared, outside, value)?;
         self.set_within(shared, at, n, assignment)
     }
 
@@ -89,15 +114,16 @@ impl Private {
         &mut self,
         shared: &mut [i32],
         outside: &StepContext,
+        value: &Term,
         assignment: &Assignment,
     ) -> Result<Effect, Fault>
         requires { IsAddressable shared.old }
         ensures step { IsStep self.old shared.old outside.now self.new shared.new result
-            (λ w o. plain.with_value w o (view.term assignment.now.value) (λ n.
+            (λ w o. plain.with_value w o (view.term value.now) (λ n.
             assign assignment.now o o.base n)) }
         ensures kept { KeepsRest self.old shared.old self.new shared.new }
     {
-        let n = self.evaluate(shared, outside, &assignment.value)?;
+        let n = self.evaluate(shared, outside, value)?;
         let at = self.memory.base;
         self.set_within(shared, at, n, assignment)
     }
@@ -142,6 +168,37 @@ impl Private {
         let n = self.evaluate(shared, outside, value)?;
         self.counter = if n == 1 { yes } else { no };
         Ok(Effect::None)
+    }
+
+    /// Evaluates a term, and does with the value what is to be done with it.
+    #[inline(always)]
+    pub(crate) fn evaluate_then(
+        &mut self,
+        shared: &mut [i32],
+        outside: &StepContext,
+        value: &Term,
+        after: &Then,
+    ) -> Result<Effect, Fault>
+        requires { IsAddressable shared.old }
+        ensures step { (program : code.Program) → IsStep self.old shared.old outside.now
+            self.new shared.new result (λ w o. plain.act program w o
+            (view.evaluation (view.term value.now) after.now)) }
+        ensures kept { KeepsRest self.old shared.old self.new shared.new }
+    {
+        match after {
+            Then::Set { to, assignment } => self.set(shared, outside, to, value, assignment),
+            Then::SetLocal { at, assignment } => {
+                self.set_root(shared, outside, Root::Local(*at), value, assignment)
+            }
+            Then::SetMember { at, assignment } => {
+                self.set_root(shared, outside, Root::Member(*at), value, assignment)
+            }
+            Then::SetElement { to, assignment } => {
+                self.set_element(shared, outside, to, value, assignment)
+            }
+            Then::SetResult(assignment) => self.set_result(shared, outside, value, assignment),
+            Then::Test { yes, no } => self.test(shared, outside, value, *yes, *no),
+        }
     }
 
     pub(crate) fn choose(

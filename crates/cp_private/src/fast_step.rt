@@ -3,16 +3,17 @@
 //! A step that isn't made here, because it faults or its terms go deeper, has changed nothing. It
 //! is then made like any other step. `W` says whether shared words are looked for.
 
-ghost use Rattle.std.specs.Prelude.{◌≡◌, ◌+◌, false, true, None, IfSome, pos, if◌then◌else◌};
+ghost use Rattle.std.specs.Prelude.{◌≡◌, ℕ, ◌+◌, false, true, None, IfSome, Ok};
 ghost use Rattle.cp_private.specs.Assigning.{assign};
 ghost use Rattle.cp_private.specs.Keeping.{IsAddressable, KeepsOwn, KeepsRest};
 ghost use Rattle.cp_private.specs.FastStep.{Makes, Stays};
 ghost use Rattle.cp_private.specs.States.{Represents};
 ghost use Rattle.cp_private.specs.declared.fast_step.FastPath.TheVariants as fast_path_case;
-ghost use Rattle.cp_model.specs.Integers.{same_integer};
 ghost use Rattle.cp_model_machine.specs.Calling as calling;
-ghost use Rattle.cp_model_machine.specs.PrivateStates.{Leaves, NoEffect, go_to, private_outcome};
+ghost use Rattle.cp_model_machine.specs.PrivateStates.{Leaves, NoEffect};
 ghost use Rattle.cp_model_machine.specs.Steps as plain;
+ghost use Rattle.cp_model_machine.specs.Values.{value_of};
+ghost use Rattle.cp_program.specs.Reaches.{view_with};
 ghost use Rattle.cp_program.specs.View as view;
 ghost use Rattle.cp_model_program.specs.Programs as code;
 ghost use Rattle.cp_model_program.specs.Starts.{word};
@@ -20,7 +21,7 @@ ghost use Rattle.cp_model_program.specs.Terms as terms;
 
 use crate::counting::next_counter;
 use crate::private::Private;
-use cp_program::operation::{Assignment, Counting, Operation};
+use cp_program::operation::{Assignment, Counting, Operation, Then};
 use cp_program::reach::Words;
 use cp_program::term::{PlaceExpression, Term};
 
@@ -72,114 +73,67 @@ impl Private {
         true
     }
 
+    // Does with the value `n` of a term what is to be done with it.
     #[inline(always)]
-    fn set_fast<W: Words>(
-        &mut self,
-        shared: &mut [i32],
-        to: &PlaceExpression,
-        assignment: &Assignment,
-    ) -> bool
+    fn use_fast<W: Words>(&mut self, shared: &mut [i32], n: i32, after: &Then) -> bool
         requires { IsAddressable shared.old }
-        ensures step { result ≡ true → Makes (λ w o. plain.with_place w o (view.place_expression to.now) (λ at.
-            plain.with_value w o (view.term assignment.now.value) (λ n.
-            assign assignment.now o at n)))
+        ensures step { result ≡ true → (value : terms.Term) (program : code.Program)
+            → ((clock : ℕ) → value_of (view_with self.old.memory shared.old clock) value ≡ Ok n)
+            → Makes (λ w o. plain.act program w o (view.evaluation value after.now))
             self.old shared.old self.new shared.new NoEffect }
         ensures same { result ≡ false → Stays self.old shared.old self.new shared.new }
         ensures kept { KeepsRest self.old shared.old self.new shared.new }
         ensures represents { Represents self.old self.new }
     {
-        // Both are found or nothing is done, so the place needn't be kept while the value is found.
-        let Some(n) = assignment.value.fast_value::<W>(&self.memory, shared) else {
-            return false;
-        };
-        let Some(at) = to.fast_place::<W>(&self.memory, shared) else {
-            return false;
-        };
-        self.write_within(shared, at, n, assignment)
+        match after {
+            Then::SetLocal { at, assignment } => {
+                let at = self.memory.local(*at);
+                self.write_within(shared, at, n, assignment)
+            }
+            Then::SetMember { at, assignment } => {
+                let at = self.memory.member(*at);
+                self.write_within(shared, at, n, assignment)
+            }
+            Then::SetElement { to, assignment } => {
+                let Some(at) = to.fast_place::<W>(&self.memory, shared) else {
+                    return false;
+                };
+                self.write_within(shared, at, n, assignment)
+            }
+            Then::Set { to, assignment } => {
+                let Some(at) = to.fast_place::<W>(&self.memory, shared) else {
+                    return false;
+                };
+                self.write_within(shared, at, n, assignment)
+            }
+            Then::SetResult(assignment) => {
+                let at = self.memory.base;
+                self.write_within(shared, at, n, assignment)
+            }
+            Then::Test { yes, no } => {
+                self.counter = if n == 1 { *yes } else { *no };
+                true
+            }
+        }
     }
 
+    // Evaluates a term, and does with the value what is to be done with it.
     #[inline(always)]
-    fn set_local_fast<W: Words>(
-        &mut self,
-        shared: &mut [i32],
-        at: &u32,
-        assignment: &Assignment,
-    ) -> bool
+    fn evaluate_fast<W: Words>(&mut self, shared: &mut [i32], value: &Term, after: &Then) -> bool
         requires { IsAddressable shared.old }
-        ensures step { result ≡ true
-            → Makes (λ w o. plain.with_place w o (terms.Rooted (terms.Local at.now)) (λ at.
-            plain.with_value w o (view.term assignment.now.value) (λ n.
-            assign assignment.now o at n)))
+        ensures step { result ≡ true → (program : code.Program)
+            → Makes (λ w o. plain.act program w o (view.evaluation (view.term value.now) after.now))
             self.old shared.old self.new shared.new NoEffect }
         ensures same { result ≡ false → Stays self.old shared.old self.new shared.new }
         ensures kept { KeepsRest self.old shared.old self.new shared.new }
         ensures represents { Represents self.old self.new }
     {
-        let Some(n) = assignment.value.fast_value::<W>(&self.memory, shared) else {
-            return false;
-        };
-        let at = self.memory.local(*at);
-        self.write_within(shared, at, n, assignment)
-    }
-
-    #[inline(always)]
-    fn set_member_fast<W: Words>(
-        &mut self,
-        shared: &mut [i32],
-        at: &u32,
-        assignment: &Assignment,
-    ) -> bool
-        requires { IsAddressable shared.old }
-        ensures step { result ≡ true
-            → Makes (λ w o. plain.with_place w o (terms.Rooted (terms.Member at.now)) (λ at.
-            plain.with_value w o (view.term assignment.now.value) (λ n.
-            assign assignment.now o at n)))
-            self.old shared.old self.new shared.new NoEffect }
-        ensures same { result ≡ false → Stays self.old shared.old self.new shared.new }
-        ensures kept { KeepsRest self.old shared.old self.new shared.new }
-        ensures represents { Represents self.old self.new }
-    {
-        let Some(n) = assignment.value.fast_value::<W>(&self.memory, shared) else {
-            return false;
-        };
-        let at = self.memory.member(*at);
-        self.write_within(shared, at, n, assignment)
-    }
-
-    #[inline(always)]
-    fn set_result_fast<W: Words>(&mut self, shared: &mut [i32], assignment: &Assignment) -> bool
-        requires { IsAddressable shared.old }
-        ensures step { result ≡ true
-            → Makes (λ w o. plain.with_value w o (view.term assignment.now.value) (λ n.
-            assign assignment.now o o.base n))
-            self.old shared.old self.new shared.new NoEffect }
-        ensures same { result ≡ false → Stays self.old shared.old self.new shared.new }
-        ensures kept { KeepsRest self.old shared.old self.new shared.new }
-        ensures represents { Represents self.old self.new }
-    {
-        let Some(n) = assignment.value.fast_value::<W>(&self.memory, shared) else {
-            return false;
-        };
-        let at = self.memory.base;
-        self.write_within(shared, at, n, assignment)
-    }
-
-    #[inline(always)]
-    fn test_fast<W: Words>(&mut self, shared: &[i32], value: &Term, yes: &u32, no: &u32) -> bool
-        requires { IsAddressable shared.now }
-        ensures step { result ≡ true
-            → Makes (λ w o. plain.with_value w o (view.term value.now) (λ n.
-            private_outcome (go_to (if same_integer n (pos 1) then yes.now else no.now) o)))
-            self.old shared.now self.new shared.now NoEffect }
-        ensures same { result ≡ false → Stays self.old shared.now self.new shared.now }
-        ensures kept { KeepsRest self.old shared.now self.new shared.now }
-        ensures represents { Represents self.old self.new }
-    {
+        // The value and the place are both found or nothing is done, so the place needn't be kept
+        // while the value is found.
         let Some(n) = value.fast_value::<W>(&self.memory, shared) else {
             return false;
         };
-        self.counter = if n == 1 { *yes } else { *no };
-        true
+        self.use_fast::<W>(shared, n, after)
     }
 
     #[inline(always)]
@@ -294,21 +248,9 @@ impl Private {
         ensures represents { Represents self.old self.new }
     {
         match operation {
-            Operation::Set { to, assignment } => {
-                fast_path_of(self.set_fast::<W>(shared, to, assignment))
+            Operation::Evaluate { value, then } => {
+                fast_path_of(self.evaluate_fast::<W>(shared, value, then))
             }
-            Operation::SetLocal { at, assignment } => {
-                fast_path_of(self.set_local_fast::<W>(shared, at, assignment))
-            }
-            Operation::SetMember { at, assignment } => {
-                fast_path_of(self.set_member_fast::<W>(shared, at, assignment))
-            }
-            Operation::SetResult(assignment) => {
-                fast_path_of(self.set_result_fast::<W>(shared, assignment))
-            }
-            Operation::Test { value, yes, no } => fast_path_of(self.test_fast::<W>(
-                shared, value, yes, no,
-            )),
             Operation::Cycle { body } => {
                 self.counter = *body;
                 FastPath::Made

@@ -13,6 +13,7 @@ use crate::outside::StepContext;
 use crate::private::Private;
 use crate::words;
 use cp_model::state::Fault;
+use cp_program::element::Element;
 use cp_program::reach::{OwnWords, Reach};
 use cp_program::term::{PlaceExpression, Term};
 
@@ -112,5 +113,20 @@ impl Private {
             Some(at) => Ok(at),
             None => self.deep_place(shared, outside, place_expression),
         }
+    }
+
+    /// The address of an element.
+    pub(crate) fn element_place(
+        &self,
+        shared: &[i32],
+        outside: &StepContext,
+        element: &Element,
+    ) -> Result<usize, Fault>
+        requires { IsAddressable shared.now }
+        ensures { (input : List ℕ) (own : ℕ) → result ≡ capped_result (place_of
+            (plain.view_of (outside_of outside.now own) (join self.now input shared.now))
+            (view.element element.now)) }
+    {
+        element.place(&self.reach(shared, outside))
     }
 }

@@ -20,7 +20,6 @@ use cp_model::state::Fault;
 use cp_program::operation::{Call, Operation, Target};
 use cp_program::program::Program;
 use cp_program::reach::OwnWords;
-use cp_program::term::Root;
 
 impl Private {
     // Makes the step of an operation. If it faults, nothing has changed except what was passed to a
@@ -40,21 +39,15 @@ impl Private {
         ensures kept { KeepsRestButOutput self.old shared.old self.new shared.new }
     {
         match operation {
-            Operation::Set { to, assignment } => self.set(shared, outside, to, assignment),
-            Operation::SetLocal { at, assignment } => {
-                self.set_root(shared, outside, Root::Local(*at), assignment)
+            Operation::Evaluate { value, then } => {
+                self.evaluate_then(shared, outside, value, then)
             }
-            Operation::SetMember { at, assignment } => {
-                self.set_root(shared, outside, Root::Member(*at), assignment)
-            }
-            Operation::SetResult(assignment) => self.set_result(shared, outside, assignment),
             Operation::CopyWords {
                 to,
                 from,
                 size,
                 next,
             } => self.copy_words(shared, outside, to, from, *size, *next),
-            Operation::Test { value, yes, no } => self.test(shared, outside, value, *yes, *no),
             Operation::Case { value, table } => self.choose(shared, outside, value, table),
             Operation::For {
                 counting,

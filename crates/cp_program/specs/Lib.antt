@@ -1,3 +1,4 @@
 pub mod Labels
+pub mod Shifts
 pub mod View
 pub mod Reaches

@@ -1,11 +1,16 @@
 -- Programs as the plain data of the definitions. Chains of operands become terms that group to
 -- the left, and indices become elements of elements. Numbers of plans become the plans, which parts
 -- and components share in the code.
-use Rattle.std.specs.Prelude.{ℕ, ℤ, List, [], ◌∷◌, ◌++◌, Option, Some, None, map, slice_get}
+use Rattle.std.specs.Prelude.{ℕ, ◌-◌, ℤ, List, [], ◌∷◌, ◌++◌, Option, Some, None, map, slice_get}
 use Rattle.cp_model.specs.Abstract as a
 use Rattle.cp_model.specs.Erase.{operator_of}
 use Rattle.cp_model_program.specs.Terms as plain
 use Rattle.cp_model_program.specs.Programs as code
+use Rattle.cp_program.specs.declared.element.Slot.{Slot}
+use Rattle.cp_program.specs.declared.element.Slot.TheVariants as slot_case
+use Rattle.cp_program.specs.declared.element.Step.{Step}
+use Rattle.cp_program.specs.declared.element.Step.TheVariants as step_case
+use Rattle.cp_program.specs.declared.element.Element.{Element}
 use Rattle.cp_program.specs.declared.term.Root.{Root}
 use Rattle.cp_program.specs.declared.term.Root.TheVariants as root_case
 use Rattle.cp_program.specs.declared.term.Function.{Function}
@@ -27,6 +32,8 @@ use Rattle.cp_program.specs.declared.operation.Table.{Table}
 use Rattle.cp_program.specs.declared.operation.Table.TheVariants as table_case
 use Rattle.cp_program.specs.declared.operation.Assignment.{Assignment}
 use Rattle.cp_program.specs.declared.operation.Counting.{Counting}
+use Rattle.cp_program.specs.declared.operation.Then.{Then}
+use Rattle.cp_program.specs.declared.operation.Then.TheVariants as then_case
 use Rattle.cp_program.specs.declared.operation.Operation.{Operation}
 use Rattle.cp_program.specs.declared.operation.Operation.TheVariants as operation_case
 use Rattle.cp_program.specs.declared.program.StartPiece.{StartPiece}
@@ -49,6 +56,27 @@ function function_case.Abs = plain.Abs
 function function_case.Ord = plain.Ord
 function function_case.Chr = plain.Chr
 function (function_case.Shift by low high) = plain.Shift by low high
+
+-- The root `n` words before another.
+abbrev pub root_before : ℕ → plain.Root → plain.Root
+root_before n (plain.Local at) = plain.Local (at - n)
+root_before n (plain.Member at) = plain.Member (at - n)
+root_before n (plain.Through parameter plus) = plain.Through parameter (plus - n)
+
+abbrev pub slot : Slot → plain.Root
+slot (slot_case.Local at) = plain.Local at
+slot (slot_case.Member at) = plain.Member at
+
+-- A term that a step changes.
+abbrev pub stepped : Step → plain.Term → plain.Term
+stepped step_case.Same e = e
+stepped (step_case.Add n) e = plain.Binary a.Add e (plain.Number n)
+stepped (step_case.Subtract n) e = plain.Binary a.Subtract e (plain.Number n)
+
+abbrev pub element : Element → plain.PlaceExpression
+element e =
+    plain.Element (plain.Rooted (root_before e.plus (root e.first))) e.bounds.low e.bounds.high e.size e.plus
+    (stepped e.step (plain.Item (plain.Rooted (slot e.slot))))
 
 -- An operator with one of its operands; the other one is the chain before it. A word can be the left operand.
 pub data PlainApplication : Type 0 where
@@ -82,6 +110,7 @@ operand_layer (Operand-F.Made temp) = plain.Made temp
 operand_layer (Operand-F.Local at) = plain.Item (plain.Rooted (plain.Local at))
 operand_layer (Operand-F.Member at) = plain.Item (plain.Rooted (plain.Member at))
 operand_layer (Operand-F.Through parameter plus) = plain.Item (plain.Rooted (plain.Through parameter plus))
+operand_layer (Operand-F.Element e) = plain.Item (element e.value)
 operand_layer (Operand-F.Item s) = plain.Item s.value
 operand_layer (Operand-F.Nested t) = t.value
 operand_layer (Operand-F.Not t) = plain.Not t.value
@@ -180,17 +209,22 @@ counting c = record {
   next = c.next;
 }
 
-abbrev pub assignment : plain.PlaceExpression → Assignment → code.Operation
-assignment to x = code.Set to x.bounds.low x.bounds.high (term x.value) x.next
+-- The assignment of a value to a place.
+abbrev pub assignment : plain.PlaceExpression → plain.Term → Assignment → code.Operation
+assignment to value x = code.Set to x.bounds.low x.bounds.high value x.next
+
+-- The operation that evaluates a term.
+abbrev pub evaluation : plain.Term → Then → code.Operation
+evaluation value (then_case.Set to x) = assignment (place_expression to) value x
+evaluation value (then_case.SetLocal at x) = assignment (plain.Rooted (plain.Local at)) value x
+evaluation value (then_case.SetMember at x) = assignment (plain.Rooted (plain.Member at)) value x
+evaluation value (then_case.SetElement to x) = assignment (element to) value x
+evaluation value (then_case.SetResult x) = code.SetResult x.bounds.low x.bounds.high value x.next
+evaluation value (then_case.Test yes' no') = code.Test value yes' no'
 
 abbrev pub operation : Operation → code.Operation
-operation (operation_case.Set to x) = assignment (place_expression to) x
-operation (operation_case.SetLocal at x) = assignment (plain.Rooted (plain.Local at)) x
-operation (operation_case.SetMember at x) = assignment (plain.Rooted (plain.Member at)) x
-operation (operation_case.SetResult x) =
-    code.SetResult x.bounds.low x.bounds.high (term x.value) x.next
+operation (operation_case.Evaluate value then') = evaluation (term value) then'
 operation (operation_case.CopyWords to from size next) = code.CopyWords (place_expression to) (place_expression from) size next
-operation (operation_case.Test value yes' no') = code.Test (term value) yes' no'
 operation (operation_case.Case value t) = code.Case (term value) (table t)
 operation (operation_case.For c first last) = code.For (counting c) (term first) (term last)
 operation (operation_case.ForNext c) = code.ForNext (counting c)

@@ -23,7 +23,7 @@ impl<'a> Reach<'a> {
     // The word at a place, or 0 if there is no such word. A place that is too large may be given as
     // the greatest `usize`.
     #[inline(always)]
-    fn word(&self, at: usize) -> i32
+    pub(crate) fn word(&self, at: usize) -> i32
         ensures word { result
             ≡ starts.word (self.now.memory.now.words.items ++ self.now.shared.now) at }
         ensures capped { (place : ℕ) → cap_place place ≡ at
@@ -53,7 +53,7 @@ impl<'a> Reach<'a> {
 
     // A word of the activation.
     #[inline(always)]
-    fn local_word(&self, at: u32) -> i32
+    pub(crate) fn local_word(&self, at: u32) -> i32
         ensures { values.value_of (view_of self.now) (view.local at) ≡ Ok result }
     {
         self.word(self.local(at))
@@ -61,7 +61,7 @@ impl<'a> Reach<'a> {
 
     // A word of the component.
     #[inline(always)]
-    fn member_word(&self, at: u32) -> i32
+    pub(crate) fn member_word(&self, at: u32) -> i32
         ensures { values.value_of (view_of self.now) (view.member at) ≡ Ok result }
     {
         self.word(self.member(at))
@@ -118,6 +118,7 @@ impl Operand {
     {
         match self {
             Operand::Made(temp) => Ok(reach.temp(*temp)),
+            Operand::Element(e) => e.word(reach),
             Operand::Item(s) => s.word(reach),
             _ => self.deeper_value(reach),
         }
@@ -129,6 +130,7 @@ impl Operand {
         ensures { result ≡ values.value_of (view_of reach.now) (view.operand self.now) }
     {
         match self {
+            Operand::Element(e) => e.word(reach),
             Operand::Item(s) => s.word(reach),
             Operand::Nested(t) => t.value(reach),
             Operand::Not(t) => Ok(truth(t.value(reach)? == 0)),

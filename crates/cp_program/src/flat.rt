@@ -2,7 +2,7 @@
 //!
 //! A flat operand is a number or a word of a variable, so a flat term is evaluated without a call.
 //! The indices of a flat place expression are flat terms. A near operand is flat, a flat term in
-//! parentheses or its negation, the word at a flat place expression or of a `var` parameter, or the
+//! parentheses or its negation, the word of an element or at a flat place expression or of a `var` parameter, or the
 //! value of a call.
 //!
 //! These functions find what those of `evaluation` find, in a result that fits registers. They find
@@ -55,6 +55,7 @@ impl Operand {
             (view_with memory.now shared.now clock) (view.operand self.now) ≡ Ok n) }
     {
         match self {
+            Operand::Element(e) => e.fast_word::<W>(memory, shared),
             Operand::Item(s) => s.flat_word::<W>(memory, shared),
             Operand::Nested(t) => t.flat_value::<W>(memory, shared),
             Operand::Made(temp) => Some(memory.made(*temp)),

@@ -3,6 +3,7 @@
 //!
 //! - `term`, `divisor`: expressions, which are chains of operands, and place expressions, which are
 //!   places of variables.
+//! - `element`, `elements`: elements by one index that is a word, or a word and a number.
 //! - `operation`: operations, each of which is one step and holds the places to which it leads.
 //! - `bounds`: the numbers that a variable may hold.
 //! - `arm`, `arms`, `search`: where a `case` leads.
@@ -23,6 +24,8 @@ pub mod arm;
 pub mod arms;
 pub mod bounds;
 pub mod divisor;
+pub mod element;
+mod elements;
 pub mod evaluation;
 mod exact;
 pub mod flat;

@@ -3,10 +3,12 @@
 
 ghost use Rattle.std.specs.Prelude.{◌≡◌};
 ghost use Rattle.cp_model_program.specs.Programs as code;
+ghost use Rattle.cp_model_program.specs.Terms as terms;
 ghost use Rattle.cp_program.specs.View as view;
 
 use crate::arms::Arms;
 use crate::bounds::Bounds;
+use crate::element::Element;
 use crate::term::{PlaceExpression, Root, Term};
 
 /// The component whose routine is called.
@@ -81,17 +83,16 @@ pub struct Counting {
     pub next: u32,
 }
 
-/// What an assignment writes, which must be within the bounds, and where it leads.
-#[derive(Drop)]
+/// The bounds of the variable that an assignment writes, and where the assignment leads.
+#[derive(Clone, Copy)]
 pub struct Assignment {
-    pub value: Term,
     pub bounds: Bounds,
     pub next: u32,
 }
 
-/// The work of one step. Bounds are those of the type of the variable that is written.
+/// What is done with a value.
 #[derive(Drop)]
-pub enum Operation {
+pub enum Then {
     Set {
         to: PlaceExpression,
         assignment: Assignment,
@@ -106,18 +107,34 @@ pub enum Operation {
         at: u32,
         assignment: Assignment,
     },
+    /// Sets an element whose place needs no loop.
+    SetElement {
+        to: Element,
+        assignment: Assignment,
+    },
     /// Sets the result of the running function.
     SetResult(Assignment),
+    /// Leads to `yes` if the value is 1, or else to `no`.
+    Test {
+        yes: u32,
+        no: u32,
+    },
+}
+
+/// The work of one step. Bounds are those of the type of the variable that is written.
+#[derive(Drop)]
+pub enum Operation {
+    /// Evaluates a term. All assignments and tests are one case, so that the loop over steps has the
+    /// evaluation in registers, which is long, only once.
+    Evaluate {
+        value: Term,
+        then: Then,
+    },
     CopyWords {
         to: PlaceExpression,
         from: PlaceExpression,
         size: u32,
         next: u32,
-    },
-    Test {
-        value: Term,
-        yes: u32,
-        no: u32,
     },
     Case {
         value: Term,
@@ -185,16 +202,55 @@ pub enum Operation {
 }
 
 impl Operation {
-    /// The assignment to a variable. One to a whole variable of the activation or of the component
-    /// has a form of its own, since most are.
-    pub fn set(to: PlaceExpression, assignment: Assignment) -> Operation
-        ensures { view.operation result ≡ code.Set (view.place_expression to) assignment.bounds.low
-            assignment.bounds.high (view.term assignment.value) assignment.next }
+    /// The assignment to a variable. One to a whole variable of the activation or of the component,
+    /// or to an element whose place needs no loop, has a form of its own, since most are.
+    pub fn set(to: PlaceExpression, value: Term, bounds: Bounds, next: u32) -> Operation
+        ensures { view.operation result ≡ code.Set (view.place_expression to) bounds.low
+            bounds.high (view.term value) next }
     {
+        Operation::Evaluate {
+            value,
+            then: Then::set(to, Assignment { bounds, next }),
+        }
+    }
+
+    /// The assignment to the result of the running function.
+    pub fn set_result(value: Term, bounds: Bounds, next: u32) -> Operation
+        ensures { view.operation result ≡ code.SetResult bounds.low bounds.high
+            (view.term value) next }
+    {
+        Operation::Evaluate {
+            value,
+            then: Then::SetResult(Assignment { bounds, next }),
+        }
+    }
+
+    /// A test, which leads to `yes` or `no`.
+    pub fn test(value: Term, yes: u32, no: u32) -> Operation
+        ensures { view.operation result ≡ code.Test (view.term value) yes no }
+    {
+        Operation::Evaluate {
+            value,
+            then: Then::Test { yes, no },
+        }
+    }
+}
+
+impl Then {
+    fn set(to: PlaceExpression, assignment: Assignment) -> Then
+        ensures { (value : terms.Term) → view.evaluation value result
+            ≡ view.assignment (view.place_expression to) value assignment }
+    {
+        if let Some(element) = to.as_element() {
+            return Then::SetElement {
+                to: element,
+                assignment,
+            };
+        }
         match (to.root, to.indices.is_empty()) {
-            (Root::Local(at), true) => Operation::SetLocal { at, assignment },
-            (Root::Member(at), true) => Operation::SetMember { at, assignment },
-            _ => Operation::Set { to, assignment },
+            (Root::Local(at), true) => Then::SetLocal { at, assignment },
+            (Root::Member(at), true) => Then::SetMember { at, assignment },
+            _ => Then::Set { to, assignment },
         }
     }
 }

@@ -11,6 +11,7 @@ ghost use Rattle.cp_model.specs.Erase.{operator_of};
 ghost use Rattle.cp_program.specs.View as view;
 
 use crate::divisor::Divisor;
+use crate::element::Element;
 use cp_model::tree::Operator;
 use std::alloc::{AllocError, Global};
 
@@ -50,7 +51,9 @@ pub enum Operand {
     /// The word `plus` words after the one to which the reference in word `parameter` of the
     /// activation points.
     Through { parameter: u32, plus: u32 },
-    /// The word at a place.
+    /// The word of an element whose place needs no loop.
+    Element(Box<Element>),
+    /// The word at any other place.
     Item(Box<PlaceExpression>),
     Nested(Box<Term>),
     Not(Box<Term>),
@@ -308,7 +311,11 @@ impl Term {
         if place_expression.indices.is_empty() {
             return Ok(Term::variable(alloc, place_expression.root));
         }
-        Ok(Term::lone(alloc, Operand::Item(Box::new(alloc, place_expression)?)))
+        let operand = match place_expression.as_element() {
+            Some(element) => Operand::Element(Box::new(alloc, element)?),
+            None => Operand::Item(Box::new(alloc, place_expression)?),
+        };
+        Ok(Term::lone(alloc, operand))
     }
 
     /// Whether a queue is empty.

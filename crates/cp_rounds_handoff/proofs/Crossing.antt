@@ -14,6 +14,7 @@ use Rattle.cp_program.proofs.program.Process.TheSendSync as process
 use Rattle.cp_program.specs.contracts.operation.Argument as argument
 use Rattle.cp_program.specs.contracts.operation.Call as call
 use Rattle.cp_program.specs.contracts.operation.Operation as operation
+use Rattle.cp_program.specs.contracts.operation.Then as following
 use Rattle.cp_program.specs.contracts.program.Program as program
 use Rattle.cp_base_config.proofs.tick.Tick.TheSendSync as tick
 use Rattle.cp_rounds_handoff.specs.contracts.config.MachineConfig as config
@@ -24,12 +25,16 @@ argument_sync = search (sendable, crosses, terms.crosses, target.the_field_sync)
 call_sync : IsSync call.the_row
 call_sync = search (sendable, crosses, argument_sync, target.the_field_sync) depth 40 fits 4000
 
-ruleset shared = (sendable, crosses, terms.crosses, argument_sync, call_sync, counting.the_sync, counting.the_field_sync, table.the_sync, table.the_field_sync)
+then_sync : IsSync following.the_row
+then_sync =
+    variants_sync following.enum (search (sendable, crosses, terms.crosses) depth 40 fits 4000, (search (sendable, crosses, terms.crosses) depth 40 fits 4000, (search (sendable, crosses, terms.crosses) depth 40 fits 4000, (search (sendable, crosses, terms.crosses) depth 40 fits 4000, (search (sendable, crosses, terms.crosses) depth 40 fits 4000, (search (sendable, crosses, terms.crosses) depth 40 fits 4000, tt))))))
 
--- Each of the 23 kinds by itself.
+ruleset shared = (sendable, crosses, terms.crosses, argument_sync, call_sync, then_sync, counting.the_sync, counting.the_field_sync, table.the_sync, table.the_field_sync)
+
+-- Each of the 19 kinds by itself.
 operation_sync : IsSync operation.the_row
 operation_sync =
-    variants_sync operation.enum (search shared depth 40 fits 4000, (search shared depth 40 fits 4000, (search shared depth 40 fits 4000, (search shared depth 40 fits 4000, (search shared depth 40 fits 4000, (search shared depth 40 fits 4000, (search shared depth 40 fits 4000, (search shared depth 40 fits 4000, (search shared depth 40 fits 4000, (search shared depth 40 fits 4000, (search shared depth 40 fits 4000, (search shared depth 40 fits 4000, (search shared depth 40 fits 4000, (search shared depth 40 fits 4000, (search shared depth 40 fits 4000, (search shared depth 40 fits 4000, (search shared depth 40 fits 4000, (search shared depth 40 fits 4000, (search shared depth 40 fits 4000, (search shared depth 40 fits 4000, (search shared depth 40 fits 4000, (search shared depth 40 fits 4000, (search shared depth 40 fits 4000, tt)))))))))))))))))))))))
+    variants_sync operation.enum (search shared depth 40 fits 4000, (search shared depth 40 fits 4000, (search shared depth 40 fits 4000, (search shared depth 40 fits 4000, (search shared depth 40 fits 4000, (search shared depth 40 fits 4000, (search shared depth 40 fits 4000, (search shared depth 40 fits 4000, (search shared depth 40 fits 4000, (search shared depth 40 fits 4000, (search shared depth 40 fits 4000, (search shared depth 40 fits 4000, (search shared depth 40 fits 4000, (search shared depth 40 fits 4000, (search shared depth 40 fits 4000, (search shared depth 40 fits 4000, (search shared depth 40 fits 4000, (search shared depth 40 fits 4000, (search shared depth 40 fits 4000, tt)))))))))))))))))))
 
 program_sync : IsSync program.the_row
 program_sync = search (sendable, crosses, operation_sync, unit.the_sync, monitor.the_sync, process.the_sync, plan.the_sync) depth 40 fits 4000

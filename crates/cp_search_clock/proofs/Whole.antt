@@ -1,12 +1,18 @@
 -- Lists of which each item has been tested, one after another.
 use Rattle.std.specs.Prelude.{Bool, List, None, Some, [], drop, false, if◌then◌else◌, length, refl, slice_get, suc, true, zero, ℕ, ◌+◌, ◌∷◌, ◌≡◌, ◌≤◌}
-use Rattle.std.proofs.Common.{ap, arith, subst, sym, ◌∙◌}
+use Rattle.std.proofs.Common.{Box, Global, ap, arith, subst, sym, ◌∙◌}
 use Rattle.cp_model_program.specs.Terms as plain
 use Rattle.cp_model_program.specs.Programs as code
 use Rattle.cp_law_cores.specs.Clocks.{are_timeless, argument_is_timeless, arguments_are_timeless, operation_is_timeless, place_expression_is_timeless, term_is_timeless}
 use Rattle.cp_law_cores.proofs.Parts.{none_is}
 use Rattle.cp_model.proofs.Options.{same_some}
-use Rattle.cp_program.specs.View.{After, Before, PlainApplication, PlainIndex, chain_of, elements_of}
+use Rattle.cp_program.specs.declared.element.Element.{Element}
+use Rattle.cp_program.specs.declared.element.Step.{Step}
+use Rattle.cp_program.specs.declared.element.Step.TheVariants as step_case
+use Rattle.cp_program.specs.View as view
+use Rattle.cp_program.specs.declared.term.Application.TheFolds.{fold-roll-Operand}
+use Rattle.cp_program.specs.declared.term.Operand.TheVariants as operand_case
+use Rattle.cp_program.specs.View.{After, Before, PlainApplication, PlainIndex, application_layer, chain_of, elements_of, index_layer, operand_layer, place_expression_layer, term_layer}
 use Rattle.cp_search_clock.specs.Chains.{application_is_timeless, applications_are_timeless, indices_are_timeless}
 
 module _ {X : Type 0} (test : X → Bool) (all : List X → Bool) (none : all [] ≡ true) (more : (x : X) (xs : List X) → test x ≡ true → all xs ≡ true → all (x ∷ xs) ≡ true) where
@@ -67,3 +73,17 @@ elements_pass s [] h all = h
 elements_pass s (i ∷ is) h all =
     let split = parts (term_is_timeless i.value) (indices_are_timeless is) all in
     elements_pass (plain.Element s i.low i.high i.size i.plus i.value) is (both (place_expression_is_timeless s) (term_is_timeless i.value) h split.0) split.1
+
+-- An element reads no clock.
+stepped_passes : (s : Step) (e : plain.Term) → term_is_timeless e ≡ true → term_is_timeless (view.stepped s e) ≡ true
+stepped_passes step_case.Same e h = h
+stepped_passes (step_case.Add n) e h = both (term_is_timeless e) true h refl
+stepped_passes (step_case.Subtract n) e h = both (term_is_timeless e) true h refl
+
+pub element_passes : (e : Element) → place_expression_is_timeless (view.element e) ≡ true
+element_passes e = stepped_passes e.step (plain.Item (plain.Rooted (view.slot e.slot))) refl
+
+pub element_operand : (e : Box Element Global) → view.operand (operand_case.Element e) ≡ plain.Item (view.element e.value)
+element_operand e =
+    ap view.operand (sym (operand_case.rolls-Element e))
+    ∙ fold-roll-Operand PlainApplication plain.Term PlainIndex plain.PlaceExpression plain.Term application_layer operand_layer index_layer place_expression_layer term_layer _

@@ -13,6 +13,7 @@ fn operand_is_timeless(x: &Operand) -> bool
     ensures { result ≡ true → plain.term_is_timeless (view.operand x.now) ≡ true }
 {
     match x {
+        Operand::Element(_) => true,
         Operand::Item(s) => place_expression_is_timeless(s),
         Operand::Nested(t) => term_is_timeless(t),
         Operand::Not(t) => term_is_timeless(t),

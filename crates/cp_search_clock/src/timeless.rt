@@ -5,8 +5,9 @@ ghost use Rattle.cp_law_cores.specs.Clocks as plain;
 ghost use Rattle.cp_program.specs.View as view;
 
 use crate::terms::{place_expression_is_timeless, term_is_timeless};
-use cp_program::operation::{Argument, Operation};
+use cp_program::operation::{Argument, Operation, Then};
 use cp_program::program::Program;
+use cp_program::term::Term;
 
 fn argument_is_timeless(x: &Argument) -> bool
     ensures { result ≡ true → plain.argument_is_timeless (view.argument x.now) ≡ true }
@@ -31,19 +32,27 @@ fn arguments_are_timeless(xs: &[Argument]) -> bool
     true
 }
 
+fn evaluation_is_timeless(value: &Term, after: &Then) -> bool
+    ensures { result ≡ true → plain.operation_is_timeless
+        (view.evaluation (view.term value.now) after.now) ≡ true }
+{
+    match after {
+        Then::Set { to, .. } => place_expression_is_timeless(to) && term_is_timeless(value),
+        Then::SetLocal { .. } => term_is_timeless(value),
+        Then::SetMember { .. } => term_is_timeless(value),
+        Then::SetElement { .. } => term_is_timeless(value),
+        Then::SetResult(_) => term_is_timeless(value),
+        Then::Test { .. } => term_is_timeless(value),
+    }
+}
+
 fn operation_is_timeless(x: &Operation) -> bool
     ensures { result ≡ true → plain.operation_is_timeless (view.operation x.now) ≡ true }
 {
     match x {
-        Operation::Set { to, assignment } => {
-            place_expression_is_timeless(to) && term_is_timeless(&assignment.value)
-        }
-        Operation::SetLocal { assignment, .. } => term_is_timeless(&assignment.value),
-        Operation::SetMember { assignment, .. } => term_is_timeless(&assignment.value),
-        Operation::SetResult(assignment) => term_is_timeless(&assignment.value),
+        Operation::Evaluate { value, then } => evaluation_is_timeless(value, then),
         Operation::CopyWords { to, from, .. } => place_expression_is_timeless(to)
             && place_expression_is_timeless(from),
-        Operation::Test { value, .. } => term_is_timeless(value),
         Operation::Case { value, .. } => term_is_timeless(value),
         Operation::For { first, last, .. } => term_is_timeless(first) && term_is_timeless(last),
         Operation::ForNext(_) => true,

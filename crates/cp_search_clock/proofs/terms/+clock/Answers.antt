@@ -9,7 +9,7 @@ use Rattle.cp_program.specs.declared.term.Term.{out-Term}
 use Rattle.cp_program.specs.View.{PlainIndex}
 use Rattle.cp_program.proofs.Chains.{index_is, place_expression_is, term_is}
 use Rattle.cp_search_clock.specs.Chains.{application_is_timeless, applications_are_timeless, indices_are_timeless}
-use Rattle.cp_search_clock.proofs.Whole.{chain_passes, elements_pass, left_more, left_past, more_applications, more_indices}
+use Rattle.cp_search_clock.proofs.Whole.{chain_passes, element_operand, element_passes, elements_pass, left_more, left_past, more_applications, more_indices}
 use Rattle.cp_search_clock.proofs.terms.+clock.Goals as goal
 
 pub chain_is_timeless-loop-x-preserved : goal.chain_is_timeless-loop-x-preserved
@@ -58,3 +58,8 @@ term_is_timeless-returns t c = λ e.
     let all = ap (λ xs. applications_are_timeless (map view.application xs)) (sym c.deref.ensures.value) ∙ c.chain_is_timeless.ensures e in
     ap term_is_timeless (term_is s)
     ∙ chain_passes (view.operand (out-Term s).first) (map view.application (out-Term s).rest.items) (c.operand_is_timeless.ensures c.if-not-operand_is_timeless.false) all
+
+pub operand_is_timeless-returns-in-Element : goal.operand_is_timeless-returns-in-Element
+operand_is_timeless-returns-in-Element t c = λ e.
+    let x = c.in-Element.field-0 in
+    ap (λ y. term_is_timeless (view.operand y)) c.in-Element.is ∙ (ap term_is_timeless (element_operand x) ∙ element_passes x.value)

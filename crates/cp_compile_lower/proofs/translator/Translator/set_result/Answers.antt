@@ -1,8 +1,8 @@
+use Rattle.std.proofs.Common.{◌∙◌}
 use Rattle.cp_model.specs.Erase as erase
 use Rattle.cp_model.specs.View as tree
 use Rattle.cp_model_program.specs.CodedTerms.{coded_term}
 use Rattle.cp_model_program.specs.Programs as op
-use Rattle.cp_program.specs.declared.operation.Operation.TheVariants as operation
 use Rattle.cp_compile_lower.proofs.Answered.{both_ok}
 use Rattle.cp_compile_lower.proofs.Emitting.{entered}
 use Rattle.cp_law_typing.specs.StaticTypes.{place_type}
@@ -19,7 +19,8 @@ returns c =
     let made = rw c.new-calls.ensures.items at (c.in_ok-made.ensures s scope) in
     let of = (rw c.tables.ensures at c.simple.ensures) t (c.place_type-of.ensures s scope) in
     entered c.args.emitter.now c.emit.new.self place c.term.new.calls.items d.calls
-    (operation.SetResult (record { value = c.in_ok-made.made.term; bounds = c.bounds_of-bounds.result; next = c.args.next }))
+    c.set_result-set.result
     (op.SetResult (low_of t) (high_of t) d.term c.args.next) made.calls
-    (λ i. op.SetResult (c.bounds_of-bounds.ensures.low t of i) (c.bounds_of-bounds.ensures.high t of i) (made.term i) c.args.next) at emits)
+    (c.set_result-set.ensures
+    ∙ (λ i. op.SetResult (c.bounds_of-bounds.ensures.low t of i) (c.bounds_of-bounds.ensures.high t of i) (made.term i) c.args.next)) at emits)
     c.emit.ensures.entry c.emit.ensures.emits

@@ -12,7 +12,7 @@ returns c =
     both_ok c.emit.result
     (λ place at emits s to f scope there.
     let x = c.args.simple in
-    let bounds = c.simple_bounds.ensures in
+    let bounds = c.simple_bounds-bounds.ensures in
     let d = coded_term s (erase.expression (tree.expression c.args.expression.now)) c.args.to.temps in
     let made = c.in_ok-made.ensures s scope in
     entered c.args.emitter.now c.emit.new.self place c.term.new.calls.items (to.calls ++ d.calls)
