@@ -9,3 +9,4 @@ pub mod Transcripts
 pub mod Begins
 pub mod Copies
 pub mod Meant
+pub mod Assigned

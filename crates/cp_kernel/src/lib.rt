@@ -11,9 +11,11 @@
 //! - `closing`: the end of a round.
 //! - `copying`, `sameness`, `hashing`: copies of kernels, kernels with the same content, and hashes
 //!   of it.
+//! - `assigning`: kernels that are made the same as others.
 //! - `room`: room for what kernel turns add.
 #![tactic(auto)]
 
+mod assigning;
 pub mod chain;
 pub mod closing;
 mod copying;

@@ -66,3 +66,7 @@ still_kept x y before after c b k h =
 pub length-frames : (n : ℕ) (fs : List Frame) → length (frames_in n fs) ≡ n
 length-frames zero fs = refl
 length-frames (suc n) fs = ap suc (length-frames n fs)
+
+-- A frame that is written above those in use is then the innermost one.
+pub frames_more : (fs : List Frame) (n : ℕ) (f : Frame) → n < length fs → frames_in (suc n) (slice_set fs n f) ≡ frame f ∷ frames_in n fs
+frames_more fs n f h = λ i. frame_or_none (get_set fs n f h i) ∷ frames_below n fs n f (omega arith) i

@@ -10,3 +10,4 @@ pub mod KindsMeant
 pub mod Parted
 pub mod Started
 pub mod CarriedOut
+pub mod Assigned

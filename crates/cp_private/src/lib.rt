@@ -18,11 +18,13 @@
 //!   `initialisation`: the steps of operations.
 //! - `fast_step`: the commonest steps, made in registers.
 //! - `sameness`, `hashing`: private states with the same content, and hashes of it.
+//! - `assigning`: private states that are made the same as others.
 //! - `step`, `turns`, `kind`, `resting`: a step of any operation, turns, whether the next step
 //!   is private or the kernel's, and processes that have no private step to make.
 #![tactic(auto)]
 
 mod alone;
+mod assigning;
 mod assignments;
 mod called;
 mod calls;
