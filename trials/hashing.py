@@ -6,8 +6,6 @@ from running import ROOT, expect
 # The kit's maps and hashers that hash. The maps of std that don't are sorted.
 HASHES = re.compile(r'\b(?:(?:Hash|Index)(?:Map|Set)|RandomState|\w*Hasher|BuildHasherDefault)\b')
 TABLES = 'cp_base_names'
-# A search finds states by numbers, and no name of a program is a key of its map.
-STATES = 'cp_search'
 
 
 def code_of(file):
@@ -20,9 +18,7 @@ def look_for_hashes():
     crates = [line.split() for line in (ROOT / 'crates.txt').read_text().splitlines()]
     expect('crates with a map that hashes', [words[0] for words in crates if 'indexmap' in words], [f'{TABLES}:'])
     sources = {file: code_of(file) for file in ROOT.glob('crates/*/src/**/*.rt')}
-    expect('crates that hash', {file.relative_to(ROOT / 'crates').parts[0] for file, code in sources.items() if HASHES.search(code)}, {TABLES, STATES})
-    keys = [key for file, code in sources.items() if f'/{STATES}/' in str(file) for key in re.findall(r'\bHashMap<(\w+),', code)]
-    expect('keys of the map of a search', keys, ['u64'])
+    expect('crates that hash', {file.relative_to(ROOT / 'crates').parts[0] for file, code in sources.items() if HASHES.search(code)}, {TABLES})
     maps = [hasher for code in sources.values() for hasher in re.findall(r'\bIndexMap<.*, (\w+)>', code)]
     expect('hashers of maps', maps, ['Key'])
     makers = [maker for code in sources.values() for maker in re.findall(r'\bIndexMap::(\w+)', code)]

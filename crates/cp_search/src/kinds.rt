@@ -1,8 +1,10 @@
 //! The first states of each kind. A schedule that leads to one of them is replayed, so no clause
 //! mentions them.
 
+use crate::space::Space;
 use cp_program::program::Program;
 use cp_search_states::state::SearchState;
+use std::alloc::AllocError;
 
 /// The indices of the first states of each kind.
 #[derive(Clone, Copy)]
@@ -39,11 +41,17 @@ impl Kinds {
     }
 }
 
-/// The first states of each kind in a list.
-pub(crate) fn kinds_of(program: &Program, states: &[SearchState]) -> Kinds {
+/// The first states of each kind, of those that were seen.
+///
+/// # Errors
+///
+/// `AllocError` if memory runs out.
+pub(crate) fn kinds_of(program: &Program, space: &mut Space) -> Result<Kinds, AllocError> {
     let mut kinds = Kinds::none();
-    for (index, state) in states.iter().enumerate() {
-        kinds.note(program, index, state);
+    for index in 0..space.store.len() {
+        if space.store.restore(index, &mut space.state)? {
+            kinds.note(program, index, &space.state);
+        }
     }
-    kinds
+    Ok(kinds)
 }

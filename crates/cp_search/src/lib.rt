@@ -1,9 +1,9 @@
 //! A search by calls: the state space of a program, breadth first. A step of the search is a late
 //! step of a process, which calls a monitor, with the eager steps that follow it.
 //!
-//! - `search`: expands states until each late step of each leads to a state of the list.
-//! - `states`: the list of states, without those that are seen to be known.
-//! - `kinds`: the first states of the list that have ended, are stuck, or have a fault.
+//! - `search`: expands states until each late step of each leads to a state that was seen.
+//! - `space`: the states that were seen, and what is noted of them.
+//! - `kinds`: the first states that have ended, are stuck, or have a fault.
 //!
 //! `specs/SearchResults.antt` defines what a search shows.
 #![tactic(auto)]
@@ -11,4 +11,4 @@
 mod kinds;
 pub mod notes;
 pub mod search;
-mod states;
+mod space;

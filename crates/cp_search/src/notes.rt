@@ -1,18 +1,11 @@
-//! What a search notes besides its list of states. No clause rests on it: hashes are hints, and a
-//! schedule that is found is replayed.
+//! What a search notes besides its states. No clause rests on it: a schedule that is found is
+//! replayed.
 
 use cp_program::program::Program;
 use cp_search_states::settling::StepLimit;
 use cp_search_states::state::SearchState;
+use cp_search_store::store::{Full, Room};
 use std::alloc::{AllocError, Global};
-use std::collections::HashMap;
-
-/// How many hashes are tried for a state. A state that finds no room is kept without a hash.
-pub(crate) const MAX_PROBES: u64 = 16;
-
-/// The bytes that a state takes for its hash, its origin, and its place in tables that have room to
-/// grow. It also takes its content and an eighth of that, the most that memory management takes.
-const STATE_OVERHEAD: usize = 160;
 
 /// How far a search goes.
 #[derive(Clone, Copy)]
@@ -23,6 +16,16 @@ pub struct Limits {
     pub states: u32,
     /// How many bytes the states take at most, about.
     pub memory: usize,
+}
+
+impl Limits {
+    /// How much is kept of the states.
+    pub(crate) fn room(self) -> Room {
+        Room {
+            states: self.states,
+            memory: self.memory,
+        }
+    }
 }
 
 /// Why a search stopped before all states were seen.
@@ -43,9 +46,9 @@ pub enum Stop {
 /// Which call led to a state: the index of the state before it, and the number of the process. The
 /// first state has the process 0.
 #[derive(Clone, Copy)]
-pub struct Origin {
-    pub parent: usize,
-    pub process: usize,
+pub(crate) struct Origin {
+    pub(crate) parent: u32,
+    pub(crate) process: u32,
 }
 
 impl Origin {
@@ -54,25 +57,23 @@ impl Origin {
         parent: 0,
         process: 0,
     };
-}
 
-/// Where a hash leads.
-pub(crate) enum Probe {
-    /// To the state with this index.
-    State(usize),
-    /// To none: it is free.
-    Free,
+    /// A call of a process from the state with an index.
+    pub(crate) fn of(parent: usize, process: usize) -> Origin {
+        let most = u32::MAX as usize;
+        Origin {
+            parent: parent.min(most) as u32,
+            process: process.min(most) as u32,
+        }
+    }
 }
 
 /// What a search notes.
 #[derive(Drop)]
 pub struct Notes {
     pub(crate) limits: Limits,
-    /// The indices of states by their hashes.
-    indices: HashMap<u64, usize>,
     /// How each state was reached, by its index.
     origins: Vec<Origin>,
-    bytes: usize,
     /// How many calls were tried.
     pub transitions: u64,
     /// Why the search stopped, if it did before all states were seen.
@@ -83,49 +84,25 @@ impl Notes {
     pub(crate) fn new(alloc: Global, limits: Limits) -> Notes {
         Notes {
             limits,
-            indices: HashMap::new(alloc),
             origins: Vec::new(alloc),
-            bytes: 0,
             transitions: 0,
             stop: None,
         }
     }
 
-    /// Where a hash leads, if it leads anywhere.
-    pub(crate) fn probe(&self, hash: u64) -> Probe {
-        match self.indices.get(&hash) {
-            Some(index) => Probe::State(*index),
-            None => Probe::Free,
-        }
-    }
-
-    /// Whether another state of this size is beyond a limit. Notes which one.
-    pub(crate) fn is_full(&mut self, size: usize) -> bool {
-        let whole = size.saturating_add(size / 8).saturating_add(STATE_OVERHEAD);
-        let bytes = self.bytes.saturating_add(whole);
-        if self.limits.states as usize <= self.origins.len() {
-            self.stop = Some(Stop::States);
-            return true;
-        }
-        if self.limits.memory < bytes {
-            self.stop = Some(Stop::Memory);
-            return true;
-        }
-        self.bytes = bytes;
-        false
-    }
-
-    /// Notes how the next state was reached, and its hash, if it has one.
-    pub(crate) fn note_state(
-        &mut self,
-        origin: Origin,
-        hash: Option<u64>,
-    ) -> Result<(), AllocError> {
-        if let Some(hash) = hash {
-            self.indices.insert(hash, self.origins.len())?;
-        }
+    /// Notes how the next state was reached.
+    pub(crate) fn note_state(&mut self, origin: Origin) -> Result<(), AllocError> {
         self.origins.push(origin)?;
         Ok(())
+    }
+
+    /// Notes why a state wasn't added.
+    pub(crate) fn note_full(&mut self, full: Option<Full>) {
+        self.stop = Some(match full {
+            Some(Full::States) => Stop::States,
+            Some(Full::Memory) => Stop::Memory,
+            None => Stop::Defect,
+        });
     }
 
     pub(crate) fn note_transition(&mut self) {
@@ -151,8 +128,8 @@ impl Notes {
         for _ in 0..self.origins.len() {
             match self.origins.get(at) {
                 Some(origin) if origin.process != 0 => {
-                    callers.push(origin.process)?;
-                    at = origin.parent;
+                    callers.push(origin.process as usize)?;
+                    at = origin.parent as usize;
                 }
                 _ => break,
             }

@@ -1,16 +1,17 @@
 //! Searches all schedules, breadth first.
 
-ghost use Rattle.std.specs.Prelude.{◌≡◌, ◌≤◌, ◌<◌, ◌+◌, IfOk, [], length, false, true};
+ghost use Rattle.std.specs.Prelude.{◌≡◌, ◌≤◌, ◌<◌, ◌+◌, ℕ, List, IfOk, [], false, true};
 ghost use Rattle.cp_program.specs.View as view;
 ghost use Rattle.cp_law_calls.specs.Ways as plain;
 ghost use Rattle.cp_law_cores.specs.Clocks.{is_timeless};
-ghost use Rattle.cp_law_exploring.specs.Exploring.{AreQuiescent, count};
+ghost use Rattle.cp_law_exploring.specs.Exploring.{count};
 ghost use Rattle.cp_search_states.specs.SearchStates.{input_of, way_view};
-ghost use Rattle.cp_search.specs.SearchResults.{HasExplored, HasExpanded, IsCoveredNow, NothingIsStuck, cores_of};
+ghost use Rattle.cp_search_store.specs.States.{cores_of, state_count, IsSound};
+ghost use Rattle.cp_search.specs.SearchResults.{HasExplored, HasExpanded, IsCoveredNow, IsReady, NothingIsStuck};
 
 use crate::kinds::{Kinds, kinds_of};
 use crate::notes::{Limits, Notes, Origin, Stop};
-use crate::states::{add, are_fine};
+use crate::space::{Space, are_fine};
 use cp_law_exploring::law;
 use cp_program::program::Program;
 use cp_search_clock::timeless::is_timeless;
@@ -49,33 +50,32 @@ fn cover_process(
     alloc: Global,
     program: &Program,
     inputs: &[Vec<u8>],
-    states: &mut Vec<SearchState>,
-    notes: &mut Notes,
+    space: &mut Space,
     i: usize,
     p: usize,
 ) -> Result<bool, AllocError>
     requires timeless { is_timeless (view.program program.now) ≡ true }
-    requires rest { AreQuiescent (cores_of (input_of inputs.now) states.old.items) }
-    requires within { i < length states.old.items }
+    requires ready { IsReady (input_of inputs.now) space.old.store }
+    requires within { i < state_count space.old.store }
     requires first { 1 ≤ p }
     requires last { p ≤ count (view.program program.now) }
     ensures { IfOk result (λ done. done ≡ true → IsCoveredNow (view.program program.now)
-        (input_of inputs.now) i p states.old.items states.new.items) }
+        (input_of inputs.now) i p space.old.store space.new.store) }
 {
-    if !is_late(states[i].way(program, p)) {
-        return Ok(true);
-    }
-    notes.note_transition();
-    let mut state = states[i].copy(alloc)?;
-    if !advance(program, inputs, &mut state, p, notes.limits.step_limit)? {
-        notes.note_unsettled(program, &state);
+    if !space.store.restore(i, &mut space.state)? {
+        space.notes.stop = Some(Stop::Defect);
         return Ok(false);
     }
-    let origin = Origin {
-        parent: i,
-        process: p,
-    };
-    add(states, notes, state, origin)
+    if !is_late(space.state.way(program, p)) {
+        return Ok(true);
+    }
+    space.notes.note_transition();
+    let step_limit = space.notes.limits.step_limit;
+    if !advance(program, inputs, &mut space.state, p, step_limit)? {
+        space.notes.note_unsettled(program, &space.state);
+        return Ok(false);
+    }
+    space.add(alloc, Origin::of(i, p))
 }
 
 // Makes the late steps of all processes from the state at an index.
@@ -83,45 +83,43 @@ fn expand(
     alloc: Global,
     program: &Program,
     inputs: &[Vec<u8>],
-    states: &mut Vec<SearchState>,
-    notes: &mut Notes,
+    space: &mut Space,
     i: usize,
 ) -> Result<bool, AllocError>
     requires timeless { is_timeless (view.program program.now) ≡ true }
-    requires rest { AreQuiescent (cores_of (input_of inputs.now) states.old.items) }
-    requires within { i < length states.old.items }
+    requires ready { IsReady (input_of inputs.now) space.old.store }
+    requires within { i < state_count space.old.store }
     ensures { IfOk result (λ done. done ≡ true → HasExpanded (view.program program.now)
-        (input_of inputs.now) i states.old.items states.new.items) }
+        (input_of inputs.now) i space.old.store space.new.store) }
 {
     for k in 0..program.processes() {
-        if !cover_process(alloc, program, inputs, states, notes, i, k + 1)? {
+        if !cover_process(alloc, program, inputs, space, i, k + 1)? {
             return Ok(false);
         }
     }
     Ok(true)
 }
 
-// Expands the states of the list, one after another, with those that are added. Returns whether
+// Expands the states that were seen, one after another, with those that are added. Returns whether
 // that came to an end.
 fn explore<W: Watch>(
     alloc: Global,
     program: &Program,
     inputs: &[Vec<u8>],
-    states: &mut Vec<SearchState>,
-    notes: &mut Notes,
+    space: &mut Space,
     watch: &W,
 ) -> Result<bool, AllocError>
     requires timeless { is_timeless (view.program program.now) ≡ true }
-    requires rest { AreQuiescent (cores_of (input_of inputs.now) states.old.items) }
+    requires ready { IsReady (input_of inputs.now) space.old.store }
     ensures { IfOk result (λ done. done ≡ true → HasExplored (view.program program.now)
-        (input_of inputs.now) states.old.items states.new.items) }
+        (input_of inputs.now) space.old.store space.new.store) }
 {
     for i in 0..u32::MAX as usize {
-        if states.len() <= i {
+        if space.store.len() <= i {
             return Ok(true);
         }
-        watch.note(i, states.len());
-        if !expand(alloc, program, inputs, states, notes, i)? {
+        watch.note(i, space.store.len());
+        if !expand(alloc, program, inputs, space, i)? {
             return Ok(false);
         }
     }
@@ -134,31 +132,32 @@ fn search_all<W: Watch>(
     alloc: Global,
     program: &Program,
     inputs: &[Vec<u8>],
-    states: &mut Vec<SearchState>,
-    notes: &mut Notes,
+    space: &mut Space,
     watch: &W,
 ) -> Result<bool, AllocError>
-    requires none { states.old.items ≡ [] }
+    requires sound { IsSound space.old.store }
+    requires none { (inputs : ℕ → List ℕ) → cores_of inputs space.old.store ≡ [] }
     ensures { IfOk result (λ fine. fine ≡ true
         → NothingIsStuck (view.program program.now) (input_of inputs.now)) }
 {
     law::expanding();
     if !is_timeless(program) {
-        notes.stop = Some(Stop::Clock);
+        space.notes.stop = Some(Stop::Clock);
         return Ok(false);
     }
-    let mut first = SearchState::first(alloc, program)?;
-    if !settle(program, inputs, &mut first, notes.limits.step_limit)? {
-        notes.note_unsettled(program, &first);
+    space.state = SearchState::first(alloc, program)?;
+    let step_limit = space.notes.limits.step_limit;
+    if !settle(program, inputs, &mut space.state, step_limit)? {
+        space.notes.note_unsettled(program, &space.state);
         return Ok(false);
     }
-    if !add(states, notes, first, Origin::START)? {
+    if !space.add(alloc, Origin::START)? {
         return Ok(false);
     }
-    if !explore(alloc, program, inputs, states, notes, watch)? {
+    if !explore(alloc, program, inputs, space, watch)? {
         return Ok(false);
     }
-    Ok(are_fine(program, states))
+    are_fine(program, &space.store, &mut space.state)
 }
 
 /// Searches all schedules, breadth first. `inputs` has the inputs of the processes by number, from
@@ -177,13 +176,12 @@ pub fn search<W: Watch>(
     ensures { IfOk result (λ explored. explored.is_fine ≡ true
         → NothingIsStuck (view.program program.now) (input_of inputs.now)) }
 {
-    let mut notes = Notes::new(alloc, limits);
-    let mut states = Vec::new(alloc);
-    let is_fine = search_all(alloc, program, inputs, &mut states, &mut notes, watch)?;
+    let mut space = Space::new(alloc, program, limits);
+    let is_fine = search_all(alloc, program, inputs, &mut space, watch)?;
     Ok(Explored {
-        states: states.len(),
+        states: space.store.len(),
         is_fine,
-        kinds: kinds_of(program, &states),
-        notes,
+        kinds: kinds_of(program, &mut space)?,
+        notes: space.notes,
     })
 }

@@ -1,97 +1,74 @@
-//! Lists of states.
+//! The states that a search has seen, and what it notes of them.
 
-ghost use Rattle.std.specs.Prelude.{◌≡◌, ℕ, List, Contains, IfOk, true};
+ghost use Rattle.std.specs.Prelude.{◌≡◌, ℕ, List, IfOk, [], true};
 ghost use Rattle.cp_program.specs.View as view;
 ghost use Rattle.cp_law_cores.specs.Laws.{AreFine};
 ghost use Rattle.cp_law_exploring.specs.Exploring.{count};
-ghost use Rattle.cp_search.specs.SearchResults.{IsAdded, IsKnown, cores_of};
-ghost use Rattle.cp_search.specs.declared.states.Sighting.TheVariants as sightings;
+ghost use Rattle.cp_search_store.specs.States.{cores_of, IsAdded, IsSound};
 
-use crate::notes::{MAX_PROBES, Notes, Origin, Probe};
+use crate::notes::{Limits, Notes, Origin};
 use cp_program::program::Program;
 use cp_search_states::state::SearchState;
-use std::alloc::AllocError;
+use cp_search_store::store::Store;
+use std::alloc::{AllocError, Global};
 
-// Whether a state is in the list, as far as it is seen.
-enum Sighting {
-    Known,
-    // It is new, and has this hash.
-    New(u64),
-    // It is new, and has no hash of its own.
-    Unhashed,
+/// The states that were seen, what is noted of them, and the state that is at work.
+#[derive(Drop)]
+pub(crate) struct Space {
+    pub(crate) store: Store,
+    pub(crate) notes: Notes,
+    pub(crate) state: SearchState,
 }
 
-// Whether the state with an index has the same content. Only the answer `true` is proved to be
-// right.
-fn is_at(states: &[SearchState], index: usize, state: &SearchState) -> bool
-    ensures { result ≡ true → IsKnown states.now state.now }
-{
-    match states.get(index) {
-        Some(known) => state.is_same(known),
-        None => false,
-    }
-}
-
-// Looks for a state by its hash and those after it.
-fn look_up(states: &[SearchState], notes: &Notes, state: &SearchState) -> Sighting
-    ensures { result ≡ sightings.Known → IsKnown states.now state.now }
-{
-    let hash = state.hash();
-    for i in 0..MAX_PROBES {
-        let probed = hash.wrapping_add(i);
-        match notes.probe(probed) {
-            Probe::State(index) if is_at(states, index, state) => return Sighting::Known,
-            Probe::State(_) => {}
-            Probe::Free => return Sighting::New(probed),
+impl Space {
+    /// A space without states.
+    pub(crate) fn new(alloc: Global, program: &Program, limits: Limits) -> Space
+        ensures sound { IsSound result.store }
+        ensures none { (inputs : ℕ → List ℕ) → cores_of inputs result.store ≡ [] }
+    {
+        Space {
+            store: Store::new(alloc, program.processes(), limits.room()),
+            notes: Notes::new(alloc, limits),
+            state: SearchState::empty(alloc),
         }
     }
-    Sighting::Unhashed
-}
 
-// Adds a state at the end, unless a limit is reached. Returns whether it was added.
-fn push(
-    states: &mut Vec<SearchState>,
-    notes: &mut Notes,
-    state: SearchState,
-    origin: Origin,
-    hash: Option<u64>,
-) -> Result<bool, AllocError>
-    ensures { IfOk result (λ added. added ≡ true → IsAdded states.old.items state states.new.items) }
-{
-    if notes.is_full(state.size()) {
-        return Ok(false);
-    }
-    notes.note_state(origin, hash)?;
-    states.push(state)?;
-    Ok(true)
-}
-
-/// Adds a state at the end, unless it is known or a limit is reached. Returns whether the list has
-/// it.
-pub(crate) fn add(
-    states: &mut Vec<SearchState>,
-    notes: &mut Notes,
-    state: SearchState,
-    origin: Origin,
-) -> Result<bool, AllocError>
-    ensures { IfOk result (λ added. added ≡ true → IsAdded states.old.items state states.new.items) }
-{
-    match look_up(states, notes, &state) {
-        Sighting::Known => Ok(true),
-        Sighting::New(hash) => push(states, notes, state, origin, Some(hash)),
-        Sighting::Unhashed => push(states, notes, state, origin, None),
+    /// Adds the state that is at work, unless it is known or a limit is reached. Returns whether the
+    /// store has it.
+    pub(crate) fn add(&mut self, alloc: Global, origin: Origin) -> Result<bool, AllocError>
+        requires { IsSound self.old.store }
+        ensures { IfOk result
+            (λ added. added ≡ true → IsAdded self.old.store self.old.state self.new.store) }
+    {
+        let count = self.store.len();
+        if !self.store.add(alloc, &self.state)? {
+            self.notes.note_full(self.store.full());
+            return Ok(false);
+        }
+        if count < self.store.len() {
+            self.notes.note_state(origin)?;
+        }
+        Ok(true)
     }
 }
 
-/// Whether no state has a fault or is stuck. Only the answer `true` is proved to be right.
-pub(crate) fn are_fine(program: &Program, states: &[SearchState]) -> bool
-    ensures { result ≡ true → (inputs : ℕ → List ℕ)
-        → AreFine (count (view.program program.now)) (cores_of inputs states.now) }
+/// Whether no state has a fault or is stuck. Only the answer `true` is proved to be right. It works
+/// on `state`.
+pub(crate) fn are_fine(
+    program: &Program,
+    store: &Store,
+    state: &mut SearchState,
+) -> Result<bool, AllocError>
+    ensures { IfOk result (λ fine. fine ≡ true → (inputs : ℕ → List ℕ)
+        → AreFine (count (view.program program.now)) (cores_of inputs store.now)) }
 {
-    for state in states {
+    for i in 0..store.len() {
+        if !store.restore(i, state)? {
+            return Ok(false);
+        }
         if !state.is_acceptable(program) {
-            return false;
+            return Ok(false);
         }
     }
-    true
+    Ok(true)
 }

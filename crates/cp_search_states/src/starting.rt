@@ -30,6 +30,14 @@ fn first_privates(alloc: Global, program: &Program) -> Result<Vec<PrivateBox>, A
 }
 
 impl SearchState {
+    /// A state without processes. It takes no memory.
+    pub fn empty(alloc: Global) -> SearchState {
+        SearchState {
+            privates: Vec::new(alloc),
+            kernel: Kernel::empty(alloc),
+        }
+    }
+
     /// The state at the start.
     ///
     /// # Errors

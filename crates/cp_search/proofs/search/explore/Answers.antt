@@ -1,25 +1,48 @@
-use Rattle.std.proofs.Common.{◌<◌, length, arith}
+use Rattle.std.proofs.Common.{◌≡◌, ◌<◌, arith}
 use Rattle.cp_program.specs.View as view
 use Rattle.cp_search_states.specs.SearchStates.{input_of}
-use Rattle.cp_search.specs.SearchResults.{cores_of}
-use Rattle.cp_search.proofs.Lists.{grows_more}
-use Rattle.cp_search.proofs.Searched.{explored_one, longer_by}
+use Rattle.cp_search_store.specs.States.{cores_of, state_count}
+use Rattle.cp_search.proofs.Lists.{expanded_none, grows_more, grows_not}
+use Rattle.cp_search.proofs.Searched.{explored_all, explored_one, longer_by}
 use Rattle.cp_search.proofs.search.explore.Goals as goal
+
+pub loop-i-init : goal.loop-i-init
+loop-i-init g c =
+    let program = view.program c.args.program.now in
+    let inputs = input_of c.args.inputs.now in
+    let store = c.args.space.now.store in
+    record {
+      grows = grows_not (cores_of inputs store);
+      ready = c.requires.ready;
+      within = omega arith;
+      expanded = expanded_none program (cores_of inputs store);
+    }
 
 pub loop-i-preserved : goal.loop-i-preserved
 loop-i-preserved g c =
     let program = view.program c.args.program.now in
     let inputs = input_of c.args.inputs.now in
     let i = c.loop-i.i in
-    let old = c.loop-i.states.items in
-    let new = c.expand.new.states.items in
+    let old = c.loop-i.space.store in
+    let new = c.expand.new.space.store in
     let was = c.loop-i.invariant in
     let done = c.in_ok-expand.ensures c.if-not-branch.false in
-    let within : i < length old = omega (arith, c.if-len-i.false) in
+    let within : i < state_count old = omega (arith, c.if-len-i.false, c.len.ensures) in
     let longer = longer_by program inputs old new done.grows in
     record {
-      grows = grows_more (cores_of inputs c.args.states.now.items) (cores_of inputs old) (cores_of inputs new) was.grows done.grows;
-      rest = done.rest;
+      grows = grows_more (cores_of inputs c.args.space.now.store) (cores_of inputs old) (cores_of inputs new) was.grows done.grows;
+      ready = done.ready;
       within = omega (arith, longer, within);
       expanded = explored_one program inputs i old new within was.expanded done;
     }
+
+pub returns-then-len-i : goal.returns-then-len-i
+returns-then-len-i g c = λ e.
+    let program = view.program c.args.program.now in
+    let inputs = input_of c.args.inputs.now in
+    let i = c.loop-i.i in
+    let store = c.loop-i.space.store in
+    let was = c.loop-i.invariant in
+    let within = was.within in
+    let end : i ≡ state_count store = omega (arith, c.if-len-i.true, c.len.ensures, within) in
+    explored_all program inputs i c.args.space.now.store store was.grows was.expanded end
