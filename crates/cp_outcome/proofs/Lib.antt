@@ -1,4 +1,2 @@
 pub mod Testing
 pub mod Transcripts
-pub mod Sections
-pub mod Ends

@@ -1,20 +1,18 @@
 //! What became of the processes of a machine.
 
 ghost use Rattle.std.specs.Prelude.{◌≡◌};
-ghost use Rattle.cp_law_cores.specs.Verdicts.{has_no_fault};
-ghost use Rattle.cp_outcome.specs.Verdicts.{EndedMeansDone, IsVerdictOn, ReportsAll, ReportsDone, done, sound};
+ghost use Rattle.cp_outcome.specs.Verdicts.{IsVerdictOn, ReportsAll, ended, has_ended, has_no_fault, sound};
 
 use cp_inspect::state::ProcState;
-use cp_law_servers::law;
 use cp_rounds::machine::Machine;
 use cp_rounds_still::stillness::is_still;
 
 /// What became of the processes of a machine.
 #[derive(Clone, Copy)]
 pub enum Verdict {
-    /// All are done: each has ended, or is a server and is delayed.
+    /// All have ended.
     Ended,
-    /// None can move, and none has faulted, but not all are done.
+    /// None can move, and none has faulted, but not all have ended.
     Stuck,
     /// None can move, and some have faulted.
     Fault,
@@ -28,15 +26,10 @@ fn is_sound(state: ProcState) -> bool
     !matches!(state, ProcState::Faulted(_))
 }
 
-// Whether a process in a state has ended, or is a server and is delayed.
-fn is_done(servers: &[u32], process: u32, state: ProcState) -> bool
-    ensures { result ≡ done servers.now process state }
+fn is_ended(state: ProcState) -> bool
+    ensures { result ≡ ended state }
 {
-    match state {
-        ProcState::Ended => true,
-        ProcState::Delayed { .. } => servers.contains(&process),
-        _ => false,
-    }
+    matches!(state, ProcState::Ended)
 }
 
 /// Whether nobody has a fault.
@@ -51,38 +44,29 @@ pub fn none_has_faulted(machine: &Machine) -> bool
     true
 }
 
-fn all_are_done(machine: &Machine, servers: &[u32]) -> bool
-    ensures { ReportsDone servers.now machine.now result }
+fn all_have_ended(machine: &Machine) -> bool
+    ensures { ReportsAll has_ended machine.now result }
 {
     for i in 0..machine.processes() {
-        let number = i as u32 + 1;
-        if !is_done(servers, number, machine.state(number)) {
+        if !is_ended(machine.state(i as u32 + 1)) {
             return false;
         }
     }
     true
 }
 
-fn judge(machine: &Machine, servers: &[u32]) -> Verdict
-    ensures { IsVerdictOn servers.now machine.now result }
+/// The verdict on a machine: whether its processes can move, and if none can, whether one
+/// has faulted or all have ended.
+pub fn verdict_on(machine: &Machine) -> Verdict
+    ensures { IsVerdictOn machine.now result }
 {
     if !is_still(machine) {
         Verdict::Running
     } else if !none_has_faulted(machine) {
         Verdict::Fault
-    } else if all_are_done(machine, servers) {
+    } else if all_have_ended(machine) {
         Verdict::Ended
     } else {
         Verdict::Stuck
     }
-}
-
-/// The verdict on a machine: whether its processes can move, and if none can, whether one has
-/// faulted or all are done. The servers, by their numbers, may wait forever.
-pub fn verdict_on(machine: &Machine, servers: &[u32]) -> Verdict
-    ensures verdict { IsVerdictOn servers.now machine.now result }
-    ensures ended { EndedMeansDone servers.now machine.now result }
-{
-    law::states();
-    judge(machine, servers)
 }

@@ -1,6 +1,5 @@
 //! The components that calls and rights refer to, as far as they are known.
 
-use crate::passages::Passages;
 use crate::rights::Rights;
 use crate::words::{Address, Words};
 use cp_program::operation::{Argument, Call, Target};
@@ -16,7 +15,6 @@ pub(crate) struct Walker<'r> {
     /// The monitors by their first shared word.
     monitors: BTreeMap<usize, u32>,
     pub(crate) rights: Rights,
-    pub(crate) passages: Passages<'r>,
 }
 
 // The address at a distance from another one.
@@ -59,7 +57,6 @@ impl<'r> Walker<'r> {
             program,
             monitors: monitors_of(alloc, program)?,
             rights: Rights::new(alloc),
-            passages: Passages::new(alloc, program),
         })
     }
 

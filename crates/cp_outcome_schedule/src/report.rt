@@ -66,9 +66,8 @@ impl Names<'_, '_> {
             tree: self.subject.tree,
             tables: self.subject.tables,
             snapshot: &found.snapshot,
-            servers: self.subject.servers,
         };
-        page.bytes(&reasons(self.alloc, source, None, &[])?);
+        page.bytes(&reasons(self.alloc, source)?);
         Ok(())
     }
 

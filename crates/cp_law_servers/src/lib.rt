@@ -1,4 +1,0 @@
-//! Servers: processes that may wait forever, so that a run may end while they wait.
-#![tactic(auto)]
-
-pub mod law;
